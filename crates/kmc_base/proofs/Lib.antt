@@ -1,0 +1,7 @@
+pub mod Steps
+pub mod Orders
+pub mod Stretching
+pub mod Subwords
+pub mod Ranges
+pub mod Table
+pub mod Counted

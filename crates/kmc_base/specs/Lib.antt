@@ -1,0 +1,11 @@
+pub mod Words
+pub mod Packed
+pub mod Packing
+pub mod Packs
+pub mod Powers
+pub mod Strands
+pub mod Rolling
+pub mod Keys
+pub mod Stretches
+pub mod Segments
+pub mod Places

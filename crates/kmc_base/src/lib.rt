@@ -1,0 +1,13 @@
+//! Words over the four bases: the code of a base, words packed two bits a symbol with their reverse
+//! complement and canonical form, and the stretches of bases of a read. It stands on std alone. The layers
+//! above see a k-mer as the list of its codes, and cite the definitions of `specs/` for everything else.
+#![tactic(auto)]
+
+pub mod base;
+pub mod keys;
+pub mod kmer;
+pub mod laws;
+pub mod segment;
+pub mod strands;
+pub mod stretch;
+pub mod word;

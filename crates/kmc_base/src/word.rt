@@ -1,0 +1,138 @@
+//! Numbers that hold a packed word: 64 bits where k is at most 32, and 128 bits above.
+ghost use Rattle.std.specs.Prelude.{◌≡◌, ℕ, ◌+◌, ◌-◌, ◌*◌, ◌/◌, ◌%◌, ◌^◌, ◌<◌, ◌≤◌, ◌↔◌, IsTrue, map, min};
+ghost use Rattle.std.specs.List.Sorted.{IsSorted, IsPermutation};
+ghost use Rattle.std.specs.Ordering.{nat_cmp};
+
+/// An unsigned number in which k codes lie, two bits each, the last one lowest.
+pub trait Word: Copy {
+    ghost number: { Self → ℕ };
+
+    ghost most: { ℕ };
+
+    /// No code but A.
+    fn zero() -> Self
+        ensures { number result ≡ 0 };
+
+    /// The weight of the first of k codes.
+    fn top(k: usize) -> Self
+        requires some { 1 ≤ k }
+        requires most { k ≤ most }
+        ensures { number result ≡ 4 ^ (k - 1) };
+
+    /// k codes T.
+    fn ones(k: usize) -> Self
+        requires some { 1 ≤ k }
+        requires most { k ≤ most }
+        ensures { number result + 1 ≡ 4 ^ k };
+
+    /// The window with its first code dropped and one more at its end.
+    fn ahead(self, code: u8, top: Self) -> Self
+        requires code { code < 4 }
+        requires top { (j : ℕ) × (j < most) × (number top ≡ 4 ^ j) }
+        ensures { number result ≡ number self % number top * 4 + code };
+
+    /// The reverse complement of that window, from the one before.
+    fn behind(self, code: u8, top: Self) -> Self
+        requires code { code < 4 }
+        requires top { (j : ℕ) × (j < most) × (number top ≡ 4 ^ j) }
+        requires back { number self / 4 < number top }
+        ensures { number result ≡ number self / 4 + (3 - code) * number top };
+
+    fn lesser(self, other: Self) -> Self
+        ensures { number result ≡ min (number self) (number other) };
+
+    fn is_same(self, other: Self) -> bool
+        ensures { IsTrue result ↔ (number self ≡ number other) };
+
+    fn widen(self) -> u128
+        ensures { result ≡ number self };
+
+    /// Sorts in place, rising.
+    fn sort(words: &mut [Self])
+        ensures moved { IsPermutation (map number words.old) (map number words.new) }
+        ensures sorted { IsSorted nat_cmp (map number words.new) };
+}
+
+impl Word for u64 {
+    ghost number = { λ n. n };
+
+    ghost most = { 32 };
+
+    fn zero() -> u64 {
+        0
+    }
+
+    fn top(k: usize) -> u64 {
+        1 << (2 * (k - 1))
+    }
+
+    fn ones(k: usize) -> u64 {
+        4 * (Self::top(k) - 1) + 3
+    }
+
+    fn ahead(self, code: u8, top: u64) -> u64 {
+        (self & (top - 1)) * 4 + u64::from(code)
+    }
+
+    fn behind(self, code: u8, top: u64) -> u64 {
+        self / 4 + u64::from(3 - code) * top
+    }
+
+    fn lesser(self, other: u64) -> u64 {
+        self.min(other)
+    }
+
+    fn is_same(self, other: u64) -> bool {
+        self == other
+    }
+
+    fn widen(self) -> u128 {
+        u128::from(self)
+    }
+
+    fn sort(words: &mut [u64]) {
+        words.sort_unstable();
+    }
+}
+
+impl Word for u128 {
+    ghost number = { λ n. n };
+
+    ghost most = { 64 };
+
+    fn zero() -> u128 {
+        0
+    }
+
+    fn top(k: usize) -> u128 {
+        1 << (2 * (k - 1))
+    }
+
+    fn ones(k: usize) -> u128 {
+        4 * (Self::top(k) - 1) + 3
+    }
+
+    fn ahead(self, code: u8, top: u128) -> u128 {
+        (self & (top - 1)) * 4 + u128::from(code)
+    }
+
+    fn behind(self, code: u8, top: u128) -> u128 {
+        self / 4 + u128::from(3 - code) * top
+    }
+
+    fn lesser(self, other: u128) -> u128 {
+        self.min(other)
+    }
+
+    fn is_same(self, other: u128) -> bool {
+        self == other
+    }
+
+    fn widen(self) -> u128 {
+        self
+    }
+
+    fn sort(words: &mut [u128]) {
+        words.sort_unstable();
+    }
+}
