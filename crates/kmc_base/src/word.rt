@@ -48,9 +48,9 @@ pub trait Word: Copy {
         ensures { result ≡ number self };
 
     /// Sorts in place, rising.
-    fn sort(words: &mut [Self])
-        ensures moved { IsPermutation (map number words.old) (map number words.new) }
-        ensures sorted { IsSorted nat_cmp (map number words.new) };
+    fn sort(words: &mut Vec<Self>)
+        ensures moved { IsPermutation (map number words.old.items) (map number words.new.items) }
+        ensures sorted { IsSorted nat_cmp (map number words.new.items) };
 }
 
 impl Word for u64 {
@@ -90,7 +90,7 @@ impl Word for u64 {
         u128::from(self)
     }
 
-    fn sort(words: &mut [u64]) {
+    fn sort(words: &mut Vec<u64>) {
         words.sort_unstable();
     }
 }
@@ -132,7 +132,7 @@ impl Word for u128 {
         self
     }
 
-    fn sort(words: &mut [u128]) {
+    fn sort(words: &mut Vec<u128>) {
         words.sort_unstable();
     }
 }

@@ -1,0 +1,13 @@
+use Rattle.std.proofs.Common.{◌≡◌, ◌≤◌, ◌++◌, List, ℕ, length, take}
+use Rattle.std.specs.Io.KnownBytes.{Appends}
+use Rattle.kmc_count.specs.Dump.{text_of}
+use Rattle.kmc_count.specs.Device.{WritesOut}
+use Rattle.kmc_count.proofs.dump.write_dump.Given as goal
+
+-- the lines so far are out but for those that are gathered
+abbrev pub invariant-loop-word : goal.invariant-loop-word
+invariant-loop-word g l = record {
+  within : l.filled ≤ length l.room;
+  kept : l.writer.failures ≡ l.initial.writer.failures;
+  out : WritesOut (g.W.Write.contents l.initial.writer.inner) (g.W.Write.contents l.writer.inner) (text_of (take l.word-index l.pairs)) (take l.filled l.room);
+}

@@ -1,0 +1,14 @@
+use Rattle.std.proofs.Common.{◌≡◌, ◌≤◌, ◌<◌, ◌^◌, ◌+◌, ◌++◌, drop, map}
+use Rattle.kmc_base.specs.Packed.{unpack}
+use Rattle.kmc_count.proofs.Runs.{runs_from}
+use Rattle.kmc_count.proofs.Listing.{kept_pairs}
+use Rattle.kmc_count.proofs.tally.tally.Given as goal
+
+-- the dump is the pairs so far, the run that is open, and the runs of the rest
+abbrev pub invariant-loop-next : goal.invariant-loop-next
+invariant-loop-next g l = record {
+  few : l.count ≤ l.next-index + 1;
+  fits : g.W.Word.number l.word < 4 ^ l.k;
+  whole : l.pairs.items ++ kept_pairs l.limits (runs_from (unpack l.k (g.W.Word.number l.word)) l.count (drop l.next-index (map (unpack l.k) (map g.W.Word.number l.rest))))
+      ≡ l.initial.pairs.items ++ kept_pairs l.limits (runs_from (unpack l.k (g.W.Word.number l.initial.word)) 1 (map (unpack l.k) (map g.W.Word.number l.rest)));
+}

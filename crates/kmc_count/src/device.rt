@@ -1,0 +1,135 @@
+//! A reader or a writer whose failures are counted, so that a contract can say that the device failed.
+ghost use Rattle.std.specs.Prelude.{◌≡◌, ℕ, ◌+◌, ◌<◌, ◌≤◌, ◌∷◌, List, length, take, MatchResult, OnOk, OnErr, IfOk, IsErr};
+ghost use Rattle.std.specs.Io.{ReadsAtMost, WritesAtMost};
+ghost use Rattle.std.specs.Io.KnownBytes.{Keeps, ReadConsumes, WriteAppends};
+ghost use Rattle.kmc_count.specs.Device.{Watched, RisesByOne};
+
+use std::io;
+use std::io::{Read, Write};
+use std::marker::Model;
+
+/// A reader or a writer, how many of its calls failed, and how many of its reads gave bytes. A call fails where
+/// it answers an error, of whatever kind, or where a write of bytes takes none of them. Both numbers stay at
+/// their greatest value. Each call is passed on to the device.
+#[derive(Drop)]
+pub struct Counted<T> {
+    inner: T,
+    failures: u64,
+    reads: u64,
+}
+
+impl<T> Model for Counted<T> {
+    ghost Value = { Watched T };
+
+    ghost view = { λ c. record { inner = c.inner; failures = c.failures; reads = c.reads } };
+}
+
+impl<T> Counted<T> {
+    /// The device with no failure yet.
+    pub fn new(inner: T) -> Counted<T>
+        ensures { result ≡ record { inner = inner; failures = 0; reads = 0 } }
+    {
+        Counted {
+            inner,
+            failures: 0,
+            reads: 0,
+        }
+    }
+
+    /// How many calls failed, as far as a `u64` tells.
+    pub fn failures(&self) -> u64
+        ensures { result ≡ self.now.failures }
+    {
+        self.failures
+    }
+
+    /// How many reads gave bytes, as far as a `u64` tells.
+    pub fn reads(&self) -> u64
+        ensures { result ≡ self.now.reads }
+    {
+        self.reads
+    }
+
+    /// The device.
+    pub fn into_inner(self) -> T
+        ensures { result ≡ self.inner }
+    {
+        let Counted {
+            inner,
+            failures: _,
+            reads: _,
+        } = self;
+        inner
+    }
+
+    fn note(&mut self)
+        ensures inner { self.new.inner ≡ self.old.inner }
+        ensures failures { RisesByOne self.old.failures self.new.failures }
+        ensures reads { self.new.reads ≡ self.old.reads }
+    {
+        self.failures = self.failures.saturating_add(1);
+    }
+}
+
+impl<R: Read> Read for Counted<R> {
+    ghost remaining = { λ c. R.remaining c.inner };
+
+    fn read(&mut self, buf: &mut [u8]) -> io::Result<usize>
+        ensures bound { ReadsAtMost result buf.new }
+        ensures bytes { ReadConsumes (R.remaining self.old.inner) (R.remaining self.new.inner) result buf.new }
+        ensures ok { OnOk result (self.new.failures ≡ self.old.failures) }
+        ensures counted { IfOk result (λ n. 0 < n → RisesByOne self.old.reads self.new.reads) }
+        ensures failed { OnErr result (RisesByOne self.old.failures self.new.failures) }
+    {
+        match self.inner.read(buf) {
+            Ok(n) => {
+                if n > 0 {
+                    self.reads = self.reads.saturating_add(1);
+                }
+                Ok(n)
+            }
+            Err(e) => {
+                self.note();
+                Err(e)
+            }
+        }
+    }
+}
+
+impl<W: Write> Write for Counted<W> {
+    ghost contents = { λ c. W.contents c.inner };
+
+    fn write(&mut self, buf: &[u8]) -> io::Result<usize>
+        ensures bound { WritesAtMost result buf.now }
+        ensures bytes { WriteAppends (W.contents self.old.inner) (W.contents self.new.inner) result buf.now }
+        ensures ok { IfOk result (λ n. 0 < n → self.new.failures ≡ self.old.failures) }
+        ensures empty { OnOk result (length buf.now ≡ 0 → self.new.failures ≡ self.old.failures) }
+        ensures stuck { IfOk result (λ n. n ≡ 0 → 0 < length buf.now → RisesByOne self.old.failures self.new.failures) }
+        ensures failed { OnErr result (RisesByOne self.old.failures self.new.failures) }
+    {
+        match self.inner.write(buf) {
+            Ok(n) => {
+                if n == 0 && !buf.is_empty() {
+                    self.note();
+                }
+                Ok(n)
+            }
+            Err(e) => {
+                self.note();
+                Err(e)
+            }
+        }
+    }
+
+    fn flush(&mut self) -> io::Result<()>
+        ensures bytes { Keeps (W.contents self.old.inner) (W.contents self.new.inner) }
+        ensures ok { OnOk result (self.new.failures ≡ self.old.failures) }
+        ensures failed { OnErr result (RisesByOne self.old.failures self.new.failures) }
+    {
+        let answer = self.inner.flush();
+        if answer.is_err() {
+            self.note();
+        }
+        answer
+    }
+}

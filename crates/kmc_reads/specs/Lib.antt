@@ -1,0 +1,5 @@
+pub mod Lines
+pub mod Answer
+pub mod Fastq
+pub mod Fasta
+pub mod Reads

@@ -1,0 +1,17 @@
+-- What a run does.
+use Rattle.std.specs.Prelude.{◌≡◌, ℕ, List, length, Ok}
+use Rattle.kmc_base.specs.declared.strands.Strands.{Strands}
+use Rattle.kmc_reads.specs.declared.format.Format.{Format}
+use Rattle.kmc_reads.specs.Reads.{reads_of}
+use Rattle.kmc_count.specs.declared.limits.Limits.{Limits}
+use Rattle.kmc_count.specs.Occurrences.{count_of}
+use Rattle.kmc_count.specs.Dump.{IsDump, text_of}
+
+-- the text is the dump of the direct count of the reads of these bytes, and has so many lines
+pub record IsDumpOf (format : Format) (bytes : List ℕ) (strands : Strands) (k : ℕ) (limits : Limits) (text : List ℕ) (lines : ℕ) : Type 0 where
+  pub reads : List (List ℕ)
+  pub are_reads : reads_of format bytes ≡ Ok reads
+  pub pairs : List (List ℕ × ℕ)
+  pub is_dump : IsDump (count_of strands k reads) limits pairs
+  pub is_text : text ≡ text_of pairs
+  pub is_count : lines ≡ length pairs
