@@ -79,6 +79,8 @@ impl<R: Read> Read for Counted<R> {
         ensures bytes { ReadConsumes (R.remaining self.old.inner) (R.remaining self.new.inner) result buf.new }
         ensures ok { OnOk result (self.new.failures ≡ self.old.failures) }
         ensures counted { IfOk result (λ n. 0 < n → RisesByOne self.old.reads self.new.reads) }
+        ensures at_end { IfOk result (λ n. n ≡ 0 → self.new.reads ≡ self.old.reads) }
+        ensures failed_reads { OnErr result (self.new.reads ≡ self.old.reads) }
         ensures failed { OnErr result (RisesByOne self.old.failures self.new.failures) }
     {
         match self.inner.read(buf) {
@@ -104,6 +106,7 @@ impl<W: Write> Write for Counted<W> {
         ensures bytes { WriteAppends (W.contents self.old.inner) (W.contents self.new.inner) result buf.now }
         ensures ok { IfOk result (λ n. 0 < n → self.new.failures ≡ self.old.failures) }
         ensures empty { OnOk result (length buf.now ≡ 0 → self.new.failures ≡ self.old.failures) }
+        ensures reads { self.new.reads ≡ self.old.reads }
         ensures stuck { IfOk result (λ n. n ≡ 0 → 0 < length buf.now → RisesByOne self.old.failures self.new.failures) }
         ensures failed { OnErr result (RisesByOne self.old.failures self.new.failures) }
     {
@@ -123,6 +126,7 @@ impl<W: Write> Write for Counted<W> {
 
     fn flush(&mut self) -> io::Result<()>
         ensures bytes { Keeps (W.contents self.old.inner) (W.contents self.new.inner) }
+        ensures reads { self.new.reads ≡ self.old.reads }
         ensures ok { OnOk result (self.new.failures ≡ self.old.failures) }
         ensures failed { OnErr result (RisesByOne self.old.failures self.new.failures) }
     {

@@ -1,0 +1,23 @@
+//! Why a run gave up.
+use kmc_reads::error::ReadsError;
+use thiserror::Error;
+
+/// Why a run gave up. Of several causes the one that is met first is answered.
+#[derive(Clone, Copy, Debug, PartialEq, Eq, Error)]
+pub enum RunError {
+    /// A growth was refused.
+    #[error("out of memory")]
+    Memory,
+    /// A read failed, of whatever kind.
+    #[error("read failed")]
+    Read,
+    /// A write or the flush failed, or a write took nothing of what was left.
+    #[error("write failed")]
+    Write,
+    /// The text is no list of reads; never for want of memory.
+    #[error("{0}")]
+    Input(ReadsError),
+    /// 2^32 reads gave bytes.
+    #[error("input too long")]
+    TooLong,
+}

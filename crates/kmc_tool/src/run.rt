@@ -1,0 +1,69 @@
+//! A run: from the bytes of a reader to the dump on a writer.
+ghost use Rattle.std.specs.Prelude.{◌≡◌, ◌≢◌, ℕ, ◌+◌, ◌-◌, ◌^◌, ◌<◌, ◌≤◌, List, length, IfOk, IfErr, IsErrOf, Ok, Err};
+ghost use Rattle.std.specs.Io.KnownBytes.{Appends, Consumes};
+ghost use Rattle.kmc_count.specs.Device.{GaveAll, AppendsFront};
+ghost use Rattle.kmc_reads.specs.Reads.{reads_of};
+ghost use Rattle.kmc_tool.specs.Run.{IsDumpOf};
+
+use crate::error::RunError;
+use crate::input::{ReadFault, read_text};
+use crate::params::Params;
+use kmc_count::device::Counted;
+use kmc_count::direct::count_direct;
+use kmc_count::dump::write_dump;
+use kmc_reads::error::ReadsError;
+use kmc_reads::read_all::read_all;
+use std::alloc::Global;
+use std::io::{Read, Write};
+
+/// Reads all that the reader gives, and writes the dump of its direct count and nothing else. Nothing is
+/// written before all was read and counted, so after every refusal but `Write` nothing was written. The
+/// answer is the number of lines.
+pub fn run<R: Read, W: Write>(
+    alloc: Global,
+    reader: &mut Counted<R>,
+    writer: &mut Counted<W>,
+    params: &Params,
+) -> Result<u64, RunError>
+    requires reader { reader.old.failures < 2 ^ 64 - 1 }
+    requires writer { writer.old.failures < 2 ^ 64 - 1 }
+    requires reads { reader.old.reads + 2 ^ 32 < 2 ^ 64 }
+
+    // What was written is the dump of what the reader gave to its end, and the answer is its number of lines.
+    ensures ok { IfOk result (λ lines. (bytes text : List ℕ) × GaveAll (R.remaining reader.old.inner) (R.remaining reader.new.inner) bytes
+        × IsDumpOf params.now.format bytes params.now.strands params.now.k params.now.limits text lines × Appends (W.contents writer.old.inner) (W.contents writer.new.inner) text) }
+    ensures sound { IfOk result (λ lines. (reader.new.failures ≡ reader.old.failures) × (writer.new.failures ≡ writer.old.failures) × (reader.new.reads < reader.old.reads + 2 ^ 32)) }
+
+    // Each refusal has its cause.
+    ensures read { IsErrOf result RunError.Read → (reader.new.failures ≡ reader.old.failures + 1) × (reader.new.reads < reader.old.reads + 2 ^ 32) }
+    ensures write { IsErrOf result RunError.Write → (writer.new.failures ≡ writer.old.failures + 1)
+        × (bytes text : List ℕ) × (lines : ℕ) × GaveAll (R.remaining reader.old.inner) (R.remaining reader.new.inner) bytes
+        × IsDumpOf params.now.format bytes params.now.strands params.now.k params.now.limits text lines × AppendsFront (W.contents writer.old.inner) (W.contents writer.new.inner) text }
+    ensures input { (e : ReadsError) → IsErrOf result (RunError.Input e) → (bytes : List ℕ) × GaveAll (R.remaining reader.old.inner) (R.remaining reader.new.inner) bytes × (reads_of params.now.format bytes ≡ Err e) }
+    ensures long { IsErrOf result RunError.TooLong → (reader.new.reads ≡ reader.old.reads + 2 ^ 32)
+        × (bytes : List ℕ) × Consumes (R.remaining reader.old.inner) (R.remaining reader.new.inner) bytes × (2 ^ 32 ≤ length bytes) }
+
+    // Only a failed write leaves anything written, and no other refusal passes over a failure.
+    ensures silent { IfErr result (λ e. e ≢ RunError.Write → writer.new ≡ writer.old) }
+    ensures reader_kept { IfErr result (λ e. e ≢ RunError.Read → reader.new.failures ≡ reader.old.failures) }
+    ensures reads_most { reader.new.reads ≤ reader.old.reads + 2 ^ 32 }
+{
+    let text = match read_text(alloc, reader) {
+        Ok(text) => text,
+        Err(ReadFault::Memory) => return Err(RunError::Memory),
+        Err(ReadFault::Device) => return Err(RunError::Read),
+        Err(ReadFault::TooLong) => return Err(RunError::TooLong),
+    };
+    let reads = match read_all(alloc, &text, params.format) {
+        Ok(reads) => reads,
+        Err(ReadsError::Memory) => return Err(RunError::Memory),
+        Err(e) => return Err(RunError::Input(e)),
+    };
+    let Ok(pairs) = count_direct(alloc, &reads, params.k, params.strands, &params.limits) else {
+        return Err(RunError::Memory);
+    };
+    match write_dump(writer, &pairs) {
+        Ok(lines) => Ok(lines),
+        Err(_) => Err(RunError::Write),
+    }
+}
