@@ -1,0 +1,30 @@
+# The k-mer counter: `make count` builds it and counts the example, `make check` is the gate.
+KMC := ./kmc
+
+.PHONY: all count check hostile bench clean
+
+all: count
+
+$(KMC): crates.txt $(shell find crates -path '*/out' -prune -o -type f -name '*.rt' -print -o -type f -name '*.antt' -print)
+	@echo "make: proving and building the program (some minutes the first time)"
+	@cd crates/kmc_tool && rt run < stdin > /dev/null 2> out.log || { cat out.log; rm -f out.log; exit 1; }
+	@rm -f crates/kmc_tool/out.log
+	@cp crates/kmc_tool/out/kmc_tool $(KMC)
+
+count: $(KMC)
+	@$(KMC) < examples/reads.fastq > examples/.counted
+	@cmp examples/.counted examples/reads.dump
+	@rm -f examples/.counted
+	@echo "make: examples/reads.fastq has $$(wc -l < examples/reads.dump) k-mers, as examples/reads.dump lists them"
+
+check:
+	rt ci
+
+hostile:
+	bench/refuse_memory.sh
+
+bench: $(KMC)
+	bench/compare.sh
+
+clean:
+	rm -rf crates/*/out $(KMC)
