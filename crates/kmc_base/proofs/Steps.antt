@@ -1,31 +1,11 @@
 -- Steps of the loops over a word.
-use Rattle.std.proofs.Common.{◌≡◌, ℕ, zero, suc, ◌+◌, ◌*◌, ◌-◌, ◌/◌, ◌%◌, ◌^◌, ◌<◌, ◌≤◌, List, [], ◌∷◌, ◌++◌, length, refl, sym, ap, ◌∙◌, arith, reverse, map, Option, None, Some, drop, get_or, append_assoc, add-one, true, false, Bool, cond, if◌then◌else◌}
+use Rattle.std.proofs.Common.{◌≡◌, ℕ, ◌+◌, ◌*◌, ◌-◌, ◌/◌, ◌%◌, ◌^◌, ◌<◌, ◌≤◌, List, ◌++◌, length, sym, ap, ◌∙◌, arith, map, append_assoc, true, false, Bool, cond}
 use Rattle.std.proofs.lemmas.List.{length-reverse, length-map}
-use Rattle.std.proofs.Math.Seq.{drop-cons}
 use Rattle.std.proofs.lemmas.Bool.Decides.{nat_tests}
-use Rattle.std.specs.Option.{option_map, option_and_then}
 use Rattle.std.specs.Ordering.{nat_cmp, is_lt}
-use Rattle.std.specs.Io.KnownBytes.{prepend_known}
-use Rattle.kmc_base.specs.Words.{code_of, codes_of, complement, rev_comp, word_cmp, canonical}
+use Rattle.kmc_base.specs.Words.{complement, rev_comp, word_cmp, canonical}
 use Rattle.kmc_base.specs.Packed.{unpack}
 use Rattle.kmc_base.specs.Packing.{length_unpack, unpack_more, rev_comp_more, cmp_unpack}
-
-prepend_more : (xs : List ℕ) (c : ℕ) (o : Option (List ℕ)) → prepend_known (xs ++ c ∷ []) o ≡ prepend_known xs (option_map (λ cs. c ∷ cs) o)
-prepend_more xs c None = refl
-prepend_more xs c (Some ys) = ap Some (append_assoc xs (c ∷ []) ys)
-
--- a base is read
-pub base_read : (xs bytes : List ℕ) (i c : ℕ) → i < length bytes → code_of (get_or bytes i 0) ≡ Some c
-    → prepend_known (xs ++ c ∷ []) (codes_of (drop (i + 1) bytes)) ≡ prepend_known xs (codes_of (drop i bytes))
-base_read xs bytes i c inside is =
-    let split : drop i bytes ≡ get_or bytes i 0 ∷ drop (i + 1) bytes = rw (add-one, drop-cons bytes i 0) in
-    prepend_more xs c (codes_of (drop (i + 1) bytes)) ∙ ap (prepend_known xs) (rw (split, is) refl)
-
--- what is read is no base
-pub no_base : (xs bytes : List ℕ) (i : ℕ) → i < length bytes → code_of (get_or bytes i 0) ≡ None → prepend_known xs (codes_of (drop i bytes)) ≡ None
-no_base xs bytes i inside is =
-    let split : drop i bytes ≡ get_or bytes i 0 ∷ drop (i + 1) bytes = rw (add-one, drop-cons bytes i 0) in
-    rw (split, is) refl
 
 -- a code of the reverse complement is made
 pub code_made : (n i p rest : ℕ) (whole : List ℕ) → i < n → unpack i p ++ rev_comp (unpack (n - i) rest) ≡ whole

@@ -1,12 +1,12 @@
 -- An open stretch before the stretches of what follows it.
-use Rattle.std.proofs.Common.{◌≡◌, ℕ, zero, suc, ◌+◌, ◌-◌, ◌<◌, ◌≤◌, ◌==◌, Bool, true, false, cond, nat_le, List, [], ◌∷◌, ◌++◌, length, drop, get_or, Option, None, Some, refl, sym, ap, subst, ◌∙◌, arith, append_assoc, append-nil, add-one, add-zero, length-append, drop_of_length-le}
+use Rattle.std.proofs.Common.{◌≡◌, ℕ, suc, ◌+◌, ◌-◌, ◌<◌, ◌≤◌, ◌==◌, Bool, true, false, cond, nat_le, List, [], ◌∷◌, ◌++◌, length, drop, get_or, Option, None, Some, refl, sym, ap, subst, ◌∙◌, arith, append_assoc, append-nil, add-one, add-zero, length-append, drop_of_length-le}
 use Rattle.std.proofs.lemmas.Bool.{eq-eqb, ne_eqb}
 use Rattle.std.proofs.lemmas.Bool.Decides.{nat_tests}
 use Rattle.std.proofs.lemmas.List.Elements.{filter-append}
 use Rattle.std.proofs.Math.Seq.{drop-cons}
 use Rattle.std.specs.List.{filter}
 use Rattle.kmc_base.specs.Words.{code_of}
-use Rattle.kmc_base.specs.Stretches.{Stretch, with_place, stretches_from, segments_of}
+use Rattle.kmc_base.specs.Stretches.{Stretch, with_place, stretches_from}
 
 abbrev pub long_enough : ℕ → List Stretch → List Stretch
 long_enough k ss = filter (λ s. nat_le k (length s.codes)) ss

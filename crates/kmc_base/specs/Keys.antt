@@ -7,7 +7,7 @@ use Rattle.std.specs.Option.{option_map, option_and_then}
 use Rattle.std.specs.List.{range_with_len, filter_map, cons_option, AllByRecursion}
 use Rattle.kmc_base.specs.declared.strands.Strands.{Strands}
 use Rattle.kmc_base.specs.declared.strands.Strands.TheVariants.{Joined, Apart}
-use Rattle.kmc_base.specs.Words.{code_of, codes_of, canonical, window}
+use Rattle.kmc_base.specs.Words.{code_of, codes_of, window}
 use Rattle.kmc_base.specs.Packed.{unpack, pack}
 use Rattle.kmc_base.specs.Packs.{AreCodes, codes_canonical, length_canonical, unpack_pack, pack_fits}
 use Rattle.kmc_base.specs.Rolling.{codes_part}

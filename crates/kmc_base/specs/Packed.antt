@@ -1,5 +1,5 @@
 -- How a word lies in a number: two bits a code, the last code lowest.
-use Rattle.std.specs.Prelude.{◌≡◌, ℕ, ◌+◌, ◌*◌, ◌/◌, ◌%◌, ◌^◌, ◌<◌, ◌≤◌, List, [], ◌∷◌, ◌++◌, length}
+use Rattle.std.specs.Prelude.{ℕ, ◌+◌, ◌*◌, ◌/◌, ◌%◌, ◌^◌, ◌<◌, ◌≤◌, List, [], ◌∷◌, ◌++◌}
 use Rattle.std.proofs.Common.{zero, suc}
 use Rattle.kmc_base.specs.declared.kmer.TheConstants.{MAX_K}
 use Rattle.kmc_base.specs.declared.kmer.Kmer.TheInside.{Inside}

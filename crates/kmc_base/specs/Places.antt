@@ -1,6 +1,6 @@
 -- The counted places of a read.
 use Rattle.std.specs.Prelude.{ℕ, ◌+◌, ◌-◌, if◌then◌else◌, nat_lt, List, length, map, Option, None, option_map}
-use Rattle.std.specs.List.{filter_map, flat_map, range_with_len}
+use Rattle.std.specs.List.{filter_map, range_with_len}
 use Rattle.kmc_base.specs.Words.{codes_of, window}
 use Rattle.kmc_base.specs.Stretches.{Stretch}
 

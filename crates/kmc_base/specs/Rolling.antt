@@ -1,15 +1,15 @@
 -- The window of k codes that rolls over a list of codes, from k zeros in front of them on.
-use Rattle.std.proofs.Common.{◌≡◌, ℕ, zero, suc, ◌+◌, ◌*◌, ◌-◌, ◌/◌, ◌%◌, ◌^◌, ◌<◌, ◌≤◌, min, List, [], ◌∷◌, ◌++◌, length, map, get_or, take, drop, replicate, refl, sym, ap, subst, ◌∙◌, arith, append_assoc, add-one, length-append, length-drop}
+use Rattle.std.proofs.Common.{◌≡◌, ℕ, zero, suc, ◌+◌, ◌*◌, ◌-◌, ◌/◌, ◌%◌, ◌^◌, ◌<◌, ◌≤◌, min, List, [], ◌∷◌, ◌++◌, length, map, get_or, take, drop, replicate, refl, sym, ap, ◌∙◌, arith, append_assoc, add-one, length-append, length-drop}
 use Rattle.std.proofs.lemmas.List.{drop_more, take_more, take_at, drop_at, drop-drop, get_or-drop, get_or-append-add, length-replicate, length-take-le, map_push}
 use Rattle.std.proofs.lemmas.List.FromFn.{map-range_with_len_more}
 use Rattle.std.proofs.Math.Nat.{pow-succ'}
 use Rattle.kmc_base.specs.Powers.{pow_some}
 use Rattle.std.specs.List.{range_with_len}
-use Rattle.kmc_base.specs.Words.{complement, rev_comp, canonical, window}
+use Rattle.kmc_base.specs.Words.{rev_comp, canonical, window}
 use Rattle.kmc_base.specs.declared.strands.Strands.{Strands}
 use Rattle.kmc_base.specs.declared.strands.Strands.TheVariants.{Joined, Apart}
 use Rattle.kmc_base.specs.Strands.{key, packed_key}
-use Rattle.kmc_base.specs.Packed.{pack_after, pack}
+use Rattle.kmc_base.specs.Packed.{pack}
 use Rattle.kmc_base.specs.Packing.{pack_after_append}
 use Rattle.kmc_base.specs.Packs.{AreCodes, codes_append, codes_rev_comp, length_rev_comp, rev_comp_cons, pack_fits, forward_step, back_step, pack_canonical}
 

@@ -1,5 +1,5 @@
 -- Words over the four bases, as lists of codes.
-use Rattle.std.specs.Prelude.{◌≡◌, ℕ, ◌+◌, ◌-◌, ◌<◌, ◌≤◌, ◌==◌, ◌||◌, Bool, cond, if◌then◌else◌, List, [], ◌∷◌, length, map, take, drop, reverse, Option, Some, None, option_map, option_and_then, slice_index, All}
+use Rattle.std.specs.Prelude.{ℕ, ◌+◌, ◌-◌, ◌<◌, ◌≤◌, ◌==◌, ◌||◌, if◌then◌else◌, List, [], ◌∷◌, length, map, take, drop, reverse, Option, Some, None, option_map, option_and_then, slice_index, All}
 use Rattle.std.specs.List.{range_with_len}
 use Rattle.std.specs.Ordering.{nat_cmp, is_lt, then_cmp, on}
 use Rattle.std.specs.Cmp.Lexicographic.{slice_cmp}

@@ -8,7 +8,6 @@ ghost use Rattle.kmc_base.specs.Words.{IsKmer, codes_of, rev_comp, canonical, le
 ghost use Rattle.kmc_base.specs.Strands.{key};
 ghost use Rattle.kmc_base.specs.Packed.{unpack};
 
-use crate::base::code;
 use crate::strands::Strands;
 use crate::word::Word;
 use std::alloc::AllocError;
@@ -19,7 +18,7 @@ use std::marker::Model;
 pub const MAX_K: usize = 64;
 
 /// A word of 1 to [`MAX_K`] codes, which contracts see as the list of its codes.
-#[derive(Clone, Copy)]
+#[derive(Clone, Copy, Debug)]
 pub struct Kmer {
     k: u8,
     packed: u128,
@@ -110,24 +109,6 @@ impl Kmer {
         }
         Some(Kmer {
             k: codes.len() as u8,
-            packed,
-        })
-    }
-
-    /// The word of these bytes, where each is a base.
-
-    pub fn of_bases(bytes: &[u8]) -> Option<Kmer>
-        requires some { 1 ≤ length bytes.now }
-        requires most { length bytes.now ≤ MAX_K }
-        ensures { result ≡ codes_of bytes.now }
-    {
-        let mut packed: u128 = 0;
-        for b in bytes {
-            let c = code(*b)?;
-            packed = packed * 4 + u128::from(c);
-        }
-        Some(Kmer {
-            k: bytes.len() as u8,
             packed,
         })
     }

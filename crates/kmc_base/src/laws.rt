@@ -16,14 +16,12 @@ pub fn segments_are_counted()
 /// The keys of the segments' words, one after another, are those of the words at the counted places.
 pub fn keys_of_segments()
     ensures { (strands : Strands) (k : ℕ) (read : List ℕ) → 1 ≤ k → flat_map (λ s. keys strands k s.codes) (segments_of k read) ≡ map (placed_key strands) (counted_words k read) }
-{
-}
+{}
 
 /// The keys of a list of codes, packed, fit 2 k bits and unpack to themselves.
 pub fn keys_unpack()
     ensures { (strands : Strands) (k : ℕ) (w : List ℕ) → All (λ c. c < 4) w → (map (unpack k) (map pack (keys strands k w)) ≡ keys strands k w) × All (λ n. n < 4 ^ k) (map pack (keys strands k w)) }
-{
-}
+{}
 
 /// A word and its reverse complement have one canonical form.
 pub fn one_canonical_form()

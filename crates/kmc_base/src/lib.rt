@@ -10,4 +10,6 @@ pub mod laws;
 pub mod segment;
 pub mod strands;
 pub mod stretch;
+#[cfg(test)]
+mod tests;
 pub mod word;

@@ -1,6 +1,5 @@
-use Rattle.std.proofs.Common.{◌≡◌, ℕ, ◌+◌, ◌-◌, ◌*◌, ◌<◌, ◌≤◌, ◌++◌, List, [], ◌∷◌, length, get_or, map, ap, sym, ◌∙◌, arith, append-nil}
+use Rattle.std.proofs.Common.{◌≡◌, ◌+◌, ◌-◌, ◌++◌, length, get_or, map, ap, sym, ◌∙◌, arith, append-nil}
 use Rattle.std.proofs.lemmas.List.{map_push}
-use Rattle.kmc_base.specs.Packs.{AreCodes}
 use Rattle.kmc_base.specs.Rolling.{roll_start, roll_key, step_at, fits_at, keys_upto, one_more}
 use Rattle.kmc_base.proofs.Ranges.{codes_each}
 use Rattle.kmc_base.proofs.keys.push_keys.Goals as goal

@@ -1,4 +1,4 @@
-use Rattle.std.proofs.Common.{◌≡◌, ◌+◌, ◌*◌, ◌<◌, ◌≤◌, ◌-◌, ◌∙◌, ap, sym, arith, bit_and, ◌/◌, ◌^◌, length, List, ℕ}
+use Rattle.std.proofs.Common.{◌≡◌, ◌*◌, ◌-◌, ◌∙◌, ap, sym, arith, bit_and, ◌/◌, ◌^◌, length, List, ℕ}
 use Rattle.kmc_base.specs.Words.{window}
 use Rattle.kmc_base.specs.Packed.{unpack}
 use Rattle.kmc_base.specs.Packing.{length_unpack}

@@ -1,4 +1,4 @@
-use Rattle.std.proofs.Common.{◌≡◌, ◌+◌, ◌-◌, ◌*◌, ◌/◌, ◌≤◌, arith, ap, subst, sym, ℕ}
+use Rattle.std.proofs.Common.{◌*◌, arith, ap, ℕ}
 use Rattle.kmc_base.specs.Powers.{top_fits_wide, pow_most_wide}
 use Rattle.kmc_base.proofs.word.U128Word.behind.Goals as goal
 

@@ -1,4 +1,4 @@
-use Rattle.std.proofs.Common.{◌≡◌, ◌-◌, arith}
+use Rattle.std.proofs.Common.{◌-◌, arith}
 use Rattle.kmc_base.specs.Powers.{pow_some, pow_most_wide}
 use Rattle.kmc_base.specs.Rolling.{all_ones}
 use Rattle.kmc_base.proofs.word.U128Word.ones.Goals as goal

@@ -1,5 +1,5 @@
-use Rattle.std.proofs.Common.{◌≡◌, ◌%◌, ◌*◌, ◌+◌, ◌-◌, ap, ◌∙◌, arith, bit_and}
-use Rattle.kmc_base.specs.Powers.{masked, low_fits, room_low, pow_some}
+use Rattle.std.proofs.Common.{arith}
+use Rattle.kmc_base.specs.Powers.{masked, room_low, pow_some}
 use Rattle.kmc_base.proofs.word.U64Word.ahead.Goals as goal
 
 pub overflow_sub-result : goal.overflow_sub-result

@@ -1,4 +1,4 @@
-use Rattle.std.proofs.Common.{◌≡◌, ◌-◌, arith}
+use Rattle.std.proofs.Common.{◌-◌, arith}
 use Rattle.kmc_base.specs.Powers.{pow_some, pow_most}
 use Rattle.kmc_base.specs.Rolling.{all_ones}
 use Rattle.kmc_base.proofs.word.U64Word.ones.Goals as goal

@@ -1,0 +1,137 @@
+use crate::base::code;
+use crate::keys::push_keys;
+use crate::kmer::{Kmer, MAX_K};
+use crate::strands::Strands;
+use crate::stretch::segments;
+use std::alloc::{AllocError, Global};
+use std::test::Fail;
+
+/// The codes of a text of bases.
+fn codes_of(alloc: Global, text: &[u8]) -> Result<Vec<u8>, AllocError> {
+    let mut codes = Vec::new(alloc);
+    for b in text {
+        if let Some(c) = code(*b) {
+            codes.push(c)?;
+        }
+    }
+    Ok(codes)
+}
+
+fn word(alloc: Global, text: &[u8]) -> Result<Option<Kmer>, AllocError> {
+    let codes = codes_of(alloc, text)?;
+    Ok(Kmer::new(&codes))
+}
+
+fn text_of(alloc: Global, w: Option<Kmer>) -> Result<Vec<u8>, AllocError> {
+    let mut text = Vec::new(alloc);
+    if let Some(w) = w {
+        w.push_text(&mut text)?;
+    }
+    Ok(text)
+}
+
+#[test]
+fn codes_of_all_bytes(rt: HostRuntime) {
+    let bases = (0..=255).filter(|b| code(*b).is_some()).count();
+    assert_eq!(rt; bases, 8);
+    assert_eq!(rt; code(b'A'), Some(0));
+    assert_eq!(rt; code(b'c'), Some(1));
+    assert_eq!(rt; code(b'g'), Some(2));
+    assert_eq!(rt; code(b'T'), Some(3));
+    assert_eq!(rt; code(b'N'), None);
+    assert_eq!(rt; code(b'U'), None);
+}
+
+#[test]
+fn refuses_words_out_of_range(rt: HostRuntime) {
+    assert!(rt; Kmer::new(&[]).is_none());
+    assert!(rt; Kmer::new(&[4]).is_none());
+    assert!(rt; Kmer::new(&[0; MAX_K]).is_some());
+    assert!(rt; Kmer::new(&[0; 65]).is_none());
+}
+
+#[test]
+fn reverse_complement_at_the_edges_of_the_widths(rt: HostRuntime) -> Result<(), Fail> {
+    let text = b"ACGTTGCAACCGGTTAGATTACAGATTACACCGGTCATCATGGGACCATTTAACGCGTATCCGAT";
+    let other = b"ATCGGATACGCGTTAAATGGTCCCATGATGACCGGTGTAATCTGTAATCTAACCGGTTGCAACGT";
+    for k in [1, 2, 31, 32, 33, 63, 64] {
+        let w = word(rt.alloc(), &text[..k])?;
+        let Some(w) = w else {
+            return Err(Fail::from("no word"));
+        };
+        assert_eq!(rt; w.k(), k);
+        let turned = text_of(rt.alloc(), Some(w.rev_comp()))?;
+        assert_eq!(rt; turned.as_slice(), &other[65 - k..]);
+        assert!(rt; w.rev_comp().rev_comp() == w);
+        assert!(rt; w.canon() == w.rev_comp().canon());
+        assert!(rt; w.canon() <= w);
+        assert!(rt; w.key(Strands::Joined) == w.canon());
+        assert!(rt; w.key(Strands::Apart) == w);
+    }
+    Ok(())
+}
+
+#[test]
+fn orders_words_by_length_and_then_by_symbols(rt: HostRuntime) -> Result<(), Fail> {
+    let alloc = rt.alloc();
+    let t = word(alloc, b"T")?;
+    let aa = word(alloc, b"AA")?;
+    let ac = word(alloc, b"AC")?;
+    let ca = word(alloc, b"CA")?;
+    assert!(rt; t < aa && aa < ac && ac < ca);
+    assert!(rt; aa != t);
+    Ok(())
+}
+
+#[test]
+fn takes_a_word_out_of_a_word(rt: HostRuntime) -> Result<(), Fail> {
+    let text = b"ACGTTGCAACCGGTTAGATTACAGATTACACCGGTCATCATGGGACCATTTAACGCGTATCCGA";
+    let alloc = rt.alloc();
+    let Some(w) = word(alloc, text)? else {
+        return Err(Fail::from("no word"));
+    };
+    assert_eq!(rt; w.k(), 64);
+    for m in [1, 5, 9, 63, 64] {
+        let last = 64 - m;
+        let inner = text_of(alloc, Some(w.sub(last, m)))?;
+        assert_eq!(rt; inner.as_slice(), &text[last..]);
+        let first = text_of(alloc, Some(w.sub(0, m)))?;
+        assert_eq!(rt; first.as_slice(), &text[..m]);
+    }
+    assert_eq!(rt; w.code_at(0), 0);
+    assert_eq!(rt; w.code_at(3), 3);
+    assert_eq!(rt; w.code_at(63), 0);
+    Ok(())
+}
+
+#[test]
+fn finds_the_maximal_stretches(rt: HostRuntime) -> Result<(), Fail> {
+    let found = segments(rt.alloc(), b"NNACGTNacgN-TTTTT", 4)?;
+    assert_eq!(rt; found.len(), 2);
+    assert_eq!(rt; found[0].start, 2);
+    assert_eq!(rt; found[0].codes.as_slice(), [0, 1, 2, 3].as_slice());
+    assert_eq!(rt; found[1].start, 12);
+    assert_eq!(rt; found[1].codes.as_slice(), [3, 3, 3, 3, 3].as_slice());
+    let short = segments(rt.alloc(), b"NNACGTNacgN-TTTTT", 3)?;
+    assert_eq!(rt; short.len(), 3);
+    let none = segments(rt.alloc(), b"ACGT", 100)?;
+    assert!(rt; none.is_empty());
+    Ok(())
+}
+
+#[test]
+fn rolls_the_keys_at_either_width(rt: HostRuntime) -> Result<(), Fail> {
+    let alloc = rt.alloc();
+    let found = segments(alloc, b"ACGTACGT", 4)?;
+    assert_eq!(rt; found.len(), 1);
+    let codes = &found[0].codes;
+    let mut narrow: Vec<u64> = Vec::new(alloc);
+    push_keys(&mut narrow, codes, 4, Strands::Joined)?;
+    assert_eq!(rt; narrow.as_slice(), [27, 108, 177, 108, 27].as_slice());
+    let mut wide: Vec<u128> = Vec::new(alloc);
+    push_keys(&mut wide, codes, 4, Strands::Apart)?;
+    assert_eq!(rt; wide.as_slice(), [27, 108, 177, 198, 27].as_slice());
+    push_keys(&mut wide, codes, 9, Strands::Apart)?;
+    assert_eq!(rt; wide.len(), 5);
+    Ok(())
+}

@@ -1,0 +1,6 @@
+pub mod Limits
+pub mod History
+pub mod State
+pub mod Legal
+pub mod CoreState
+pub mod Laws
