@@ -13,6 +13,14 @@ use Rattle.kmc_base.specs.Packed.{pack}
 use Rattle.kmc_base.specs.Packing.{pack_after_append}
 use Rattle.kmc_base.specs.Packs.{AreCodes, codes_append, codes_rev_comp, length_rev_comp, rev_comp_cons, pack_fits, forward_step, back_step, pack_canonical}
 
+-- one code more in a packed window, and in its packed reverse complement
+abbrev pub ahead : ℕ → ℕ → ℕ → ℕ
+ahead top forward c = forward % top * 4 + c
+
+abbrev pub behind : ℕ → ℕ → ℕ → ℕ
+behind top back c = back / 4 + (3 - c) * top
+
+-- where k zeros stand in front of the codes, the window that ends before place i
 abbrev pub trail : ℕ → List ℕ → ℕ → List ℕ
 trail k s i = take k (drop i (replicate k 0 ++ s))
 
@@ -171,3 +179,17 @@ all_ones (suc k) top some t =
     let less : suc k - 1 ≡ k = omega arith in
     let p : top ≡ 4 ^ k = t ∙ ap (λ n. 4 ^ n) less in
     omega (arith, p, pow_some k, pow-succ' 4 k)
+
+-- four codes more
+pub byte_step : (k : ℕ) → 1 ≤ k → (s : List ℕ) (i a b c d f g top x y : ℕ) → AreCodes s → i + 3 < length s
+    → a ≡ get_or s i 0 → b ≡ get_or s (i + 1) 0 → c ≡ get_or s (i + 2) 0 → d ≡ get_or s (i + 3) 0 → top ≡ 4 ^ (k - 1)
+    → x ≡ ahead top (ahead top (ahead top (ahead top f a) b) c) d → y ≡ behind top (behind top (behind top (behind top g a) b) c) d
+    → IsRolling k s i f g → IsRolling k s (i + 4) x y
+byte_step k some s i a b c d f g top x y h inside ea eb ec ed t ex ey rolling =
+    let one : (i + 1) + 1 ≡ i + 2 = omega arith in
+    let two : (i + 2) + 1 ≡ i + 3 = omega arith in
+    let three : (i + 3) + 1 ≡ i + 4 = omega arith in
+    let r1 = step_at k some s i a f g (ahead top f a) (behind top g a) top h (omega arith) ea t refl refl rolling in
+    let r2 = step_at k some s (i + 1) b _ _ (ahead top (ahead top f a) b) (behind top (behind top g a) b) top h (omega arith) eb t refl refl r1 in
+    let r3 = step_at k some s (i + 2) c _ _ (ahead top (ahead top (ahead top f a) b) c) (behind top (behind top (behind top g a) b) c) top h (omega arith) ec t refl refl (rw one at r2) in
+    rw three at (step_at k some s (i + 3) d _ _ x y top h (omega arith) ed t ex ey (rw two at r3))

@@ -60,13 +60,7 @@ pub struct NarrowWriter {
 }
 
 impl NarrowWriter {
-    pub fn new(
-        out: Vec<u8>,
-        width: usize,
-        left: usize,
-        full: Full,
-        flushes: bool,
-    ) -> NarrowWriter {
+    pub fn new(out: Vec<u8>, width: usize, left: usize, full: Full, flushes: bool) -> NarrowWriter {
         NarrowWriter {
             out,
             width,
@@ -76,8 +70,16 @@ impl NarrowWriter {
         }
     }
 
-    pub fn as_slice(&self) -> &[u8] {
-        &self.out
+    /// What it took.
+    pub fn into_bytes(self) -> Vec<u8> {
+        let NarrowWriter {
+            out,
+            width: _,
+            left: _,
+            full: _,
+            flushes: _,
+        } = self;
+        out
     }
 }
 

@@ -1,0 +1,65 @@
+-- A word and its reverse complement offer the same signatures.
+use Rattle.std.proofs.Common.{◌≡◌, ℕ, ◌+◌, ◌-◌, ◌^◌, ◌<◌, ◌≤◌, Bool, true, false, cond, List, length, map, get_or, drop, min, refl, sym, ap, ◌∙◌, arith}
+use Rattle.std.specs.Ordering.{is_lt}
+use Rattle.std.proofs.lemmas.List.{same_lists, get_or-take, get_or-drop, get_or-reverse, get_or-map, length-map}
+use Rattle.kmc_base.specs.Words.{complement, rev_comp, canonical, word_cmp, window}
+use Rattle.kmc_base.specs.Packed.{pack}
+use Rattle.kmc_base.specs.Packs.{AreCodes, length_rev_comp, length_canonical, canonical_rev_comp}
+use Rattle.kmc_base.specs.Rolling.{codes_part}
+use Rattle.kmc_split.specs.Signature.{is_allowed, signature_of}
+use Rattle.kmc_split.specs.Offers.{offer}
+use Rattle.kmc_split.proofs.Lowest.{low_back}
+use Rattle.kmc_split.proofs.Least.{length_window, signature_is}
+
+-- the code at a place of the reverse complement
+code_back : (w : List ℕ) (i : ℕ) (d : ℕ) → i < length w → get_or (rev_comp w) i d ≡ complement (get_or w (length w - 1 - i) 0)
+code_back w i d inside =
+    let long = length-map w complement in
+    let last : length (map complement w) - 1 - i ≡ length w - 1 - i = omega (arith, long) in
+    get_or-reverse (map complement w) i d (omega (arith, long)) ∙ ap (λ j. get_or (map complement w) j d) last
+    ∙ get_or-map complement w (length w - 1 - i) 0 d (omega arith)
+
+-- a window of the reverse complement is the reverse complement of the window at the mirrored place
+pub window_back : (m j : ℕ) (w : List ℕ) → j + m ≤ length w → window m (rev_comp w) j ≡ rev_comp (window m w (length w - m - j))
+window_back m j w inside =
+    let other = length w - m - j in
+    let long : length (window m (rev_comp w) j) ≡ m = length_window m j (rev_comp w) (omega (arith, length_rev_comp w)) in
+    let long2 : length (window m w other) ≡ m = length_window m other w (omega arith) in
+    same_lists (window m (rev_comp w) j) (rev_comp (window m w other)) (long ∙ sym long2 ∙ sym (length_rev_comp (window m w other)))
+    (λ i d less.
+    let few : i < m = omega arith in
+    let place : length w - 1 - (j + i) ≡ other + (m - 1 - i) = omega arith in
+    let mirrored : length (window m w other) - 1 - i ≡ m - 1 - i = omega arith in
+    get_or-take m (drop j (rev_comp w)) i d few ∙ get_or-drop j (rev_comp w) i d
+    ∙ code_back w (j + i) d (omega arith)
+    ∙ ap (λ p. complement (get_or w p 0)) place
+    ∙ ap complement (sym (get_or-take m (drop other w) (m - 1 - i) 0 (omega arith) ∙ get_or-drop other w (m - 1 - i) 0))
+    ∙ ap (λ p. complement (get_or (window m w other) p 0)) (sym mirrored)
+    ∙ sym (code_back (window m w other) i d (omega arith)))
+
+offer_same : (m : ℕ) (v : List ℕ) → AreCodes v → offer m (rev_comp v) ≡ offer m v
+offer_same m v h =
+    let e = canonical_rev_comp v h in
+    (λ i. cond (is_allowed (e i)) (pack (e i)) (4 ^ m))
+
+pub strands_share : (m : ℕ) (w : List ℕ) → m ≤ length w → AreCodes w → signature_of m (rev_comp w) ≡ signature_of m w
+strands_share m w within h =
+    let n = length w - m in
+    let at : ℕ → ℕ = λ j. min (4 ^ m) (offer m (window m w j)) in
+    let bt : ℕ → ℕ = λ j. min (4 ^ m) (offer m (window m (rev_comp w) j)) in
+    sym (signature_is m n (rev_comp w) bt (omega (arith, length_rev_comp w)) (λ j less. refl))
+    ∙ low_back at bt n
+    (λ j less. ap (λ v. min (4 ^ m) (offer m v)) (window_back m j w (omega arith)) ∙ ap (min (4 ^ m)) (offer_same m (window m w (n - j)) (codes_part m (n - j) w h)))
+    ∙ signature_is m n w at (omega arith) (λ j less. refl)
+
+canonical_shares : (m : ℕ) (w : List ℕ) → m ≤ length w → AreCodes w → signature_of m (canonical w) ≡ signature_of m w
+canonical_shares m w within h = go (is_lt (word_cmp (rev_comp w) w))
+  where
+    go : (b : Bool) → signature_of m (cond b (rev_comp w) w) ≡ signature_of m w
+    go true = strands_share m w within h
+    go false = refl
+
+pub canonical_fixes : (m : ℕ) (v w : List ℕ) → m ≤ length w → AreCodes v → AreCodes w → canonical v ≡ canonical w → signature_of m v ≡ signature_of m w
+canonical_fixes m v w within hv hw e =
+    let long : length v ≡ length w = sym (length_canonical v) ∙ ap length e ∙ length_canonical w in
+    sym (canonical_shares m v (omega arith) hv) ∙ ap (signature_of m) e ∙ canonical_shares m w within hw

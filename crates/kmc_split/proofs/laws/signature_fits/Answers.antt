@@ -1,0 +1,5 @@
+use Rattle.kmc_split.proofs.Least.{signature_le}
+use Rattle.kmc_split.proofs.laws.signature_fits.Goals as goal
+
+pub returns : goal.returns
+returns c = signature_le

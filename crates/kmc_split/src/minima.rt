@@ -1,0 +1,47 @@
+//! The least value of each window.
+ghost use Rattle.std.specs.Prelude.{◌≡◌, ℕ, ◌+◌, ◌<◌, ◌≤◌, length, slice_index, min, OnOk};
+ghost use Rattle.kmc_split.specs.Minima.{low};
+
+use std::alloc::AllocError;
+use std::mem;
+
+/// The lesser of the values at each place and d places on.
+fn lower(values: &[u32], d: usize, out: &mut [u32])
+    requires { length out.old + d ≤ length values.now }
+    ensures { (i : ℕ) → i < length out.new → slice_index out.new i ≡ min (slice_index values.now i) (slice_index values.now (i + d)) }
+{
+    for i in 0..out.len() {
+        out[i] = values[i].min(values[i + d]);
+    }
+}
+
+/// The least of each w values in a row takes their place: windows double, so that each pass is vector code.
+pub(crate) fn lows(values: &mut Vec<u32>, spare: &mut Vec<u32>, w: usize) -> Result<(), AllocError>
+    requires some { 1 ≤ w }
+    requires most { w ≤ length values.old.items }
+    ensures long { OnOk result (length values.new.items + w ≡ length values.old.items + 1) }
+    ensures each { OnOk result ((i : ℕ) → i < length values.new.items → slice_index values.new.items i ≡ low (slice_index values.old.items) w i) }
+{
+    let mut width = 1;
+    while width < w {
+        let d = width.min(w - width);
+        let n = values.len() - d;
+        spare.resize(n, 0)?;
+        lower(values, d, spare);
+        mem::swap(values, spare);
+        width += d;
+    }
+    Ok(())
+}
+
+/// The least of these values.
+pub(crate) fn lowest(values: &[u32]) -> u32
+    requires { 1 ≤ length values.now }
+    ensures { result ≡ low (slice_index values.now) (length values.now) 0 }
+{
+    let mut least = values[0];
+    for i in 1..values.len() {
+        least = least.min(values[i]);
+    }
+    least
+}
