@@ -17,11 +17,11 @@ Placed = List (ℕ × List ℕ)
 
 -- ---- the codes of the bases that a text begins with
 
-abbrev led_by : Option ℕ → List ℕ → List ℕ
+abbrev pub led_by : Option ℕ → List ℕ → List ℕ
 led_by None r = []
 led_by (Some c) r = c ∷ r
 
-abbrev run : List ℕ → List ℕ
+abbrev pub run : List ℕ → List ℕ
 run [] = []
 run (b ∷ bs) = led_by (code_of b) (run bs)
 
@@ -136,10 +136,10 @@ record Split (k a : ℕ) (t : List ℕ) : Type 0 where
   without : flat_map (placed_words k) (stretches_from (a + 1) t) ≡ placed k (a + 1) (run t) ++ after
   with_one : (c : ℕ) → flat_map (placed_words k) (with_place a (Some c) (stretches_from (a + 1) t)) ≡ placed k a (c ∷ run t) ++ after
 
-abbrev IsLed : ℕ → List ℕ → List Stretch → Type 0
+abbrev pub IsLed : ℕ → List ℕ → List Stretch → Type 0
 IsLed a r ss = ((r ≡ []) × Apart a ss) ⊎ ((rest : List Stretch) × (ss ≡ record { start = a; codes = r } ∷ rest))
 
-led : (a : ℕ) (bs : List ℕ) → IsLed a (run bs) (stretches_from a bs)
+pub led : (a : ℕ) (bs : List ℕ) → IsLed a (run bs) (stretches_from a bs)
 led a [] = inl (refl, tt)
 led a (b ∷ bs) = go (code_of b) (stretches_from (a + 1) bs) (apart_from (a + 1) a bs (omega arith)) (led (a + 1) bs)
   where

@@ -5,3 +5,4 @@ pub mod Subwords
 pub mod Ranges
 pub mod Table
 pub mod Counted
+pub mod Maximal

@@ -117,6 +117,7 @@ impl Kmer {
     #[tactic(auto, using(crate::specs::Packing::length_unpack))]
     pub fn k(&self) -> usize
         ensures is { result ≡ length self.now }
+        ensures some { 1 ≤ result }
         ensures most { result ≤ MAX_K }
     {
         self.k as usize

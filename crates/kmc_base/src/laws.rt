@@ -6,11 +6,16 @@ ghost use Rattle.kmc_base.specs.declared.strands.Strands.{Strands};
 ghost use Rattle.kmc_base.specs.Packed.{pack, unpack};
 ghost use Rattle.kmc_base.specs.Strands.{placed_key, keys};
 ghost use Rattle.kmc_base.specs.Stretches.{segments_of};
-ghost use Rattle.kmc_base.specs.Places.{counted_words, placed_words};
+ghost use Rattle.kmc_base.specs.Places.{IsSegment, counted_words, placed_words};
 
 /// The places of the segments, with their words, are the counted places of the read, in order.
 pub fn segments_are_counted()
     ensures { (k : ℕ) (read : List ℕ) → 1 ≤ k → flat_map (placed_words k) (segments_of k read) ≡ counted_words k read }
+{}
+
+/// Each segment is a maximal stretch of bases of the read: none stands right before it or right behind.
+pub fn segments_are_maximal()
+    ensures { (k : ℕ) (read : List ℕ) → All (IsSegment k read) (segments_of k read) }
 {}
 
 /// The keys of the segments' words, one after another, are those of the words at the counted places.
