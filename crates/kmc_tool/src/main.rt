@@ -1,45 +1,56 @@
-//! The program: reads on standard input, the dump on standard output.
+//! The program `kmc`: reads on standard input, their dump on standard output, by KMC's options. On a fault it
+//! writes one line to standard error and ends with the fault's status. What the options mean is decided in
+//! `options`, what is counted and written in `run`, what a fault shows in `fault`.
 #![tactic(auto)]
 
 #[cfg(test)]
 mod devices;
 mod error;
+mod fault;
 mod input;
+mod options;
 mod params;
 mod run;
 mod setting;
 #[cfg(test)]
 mod tests;
 
-use crate::params::Params;
-use crate::run::run;
+use fault::Fault;
 use kmc_count::device::Counted;
+use options::error::ParamsError;
+use params::Params;
+use run::run;
+use std::alloc::Global;
 use std::process::ExitCode;
 use std::rt::Env;
 use std::{env, io};
 
-const USAGE: &str =
-    "usage: kmc [-fa|-fq|-fm] [-k<len>] [-p<len>] [-ci<n>] [-cx<n>] [-cs<n>] [-n<bins>] [-sp<n>] [-sr<n>] [-b]";
-
-fn has_arguments(rt: &(impl Env + AllocGlobal)) -> bool {
-    match env::args(rt) {
-        Ok(words) => words.count() > 1,
-        Err(_) => true,
+fn main(rt: HostRuntime) -> ExitCode {
+    let params = match asked(&rt) {
+        Ok(params) => params,
+        Err(error) => return refused(&rt, Fault::from(error)),
+    };
+    let mut reader = Counted::new(rt.stdin());
+    let mut writer = Counted::new(io::writer(&rt));
+    match run(rt.alloc(), &mut reader, &mut writer, &params) {
+        Ok(_) => ExitCode::SUCCESS,
+        Err(error) => refused(&rt, Fault::from(error)),
     }
 }
 
-fn main(rt: HostRuntime) -> ExitCode {
-    if has_arguments(&rt) {
-        let _ = eprintln!(rt; "{USAGE}");
-        return ExitCode::from(2);
-    }
-    let mut reader = Counted::new(rt.stdin());
-    let mut writer = Counted::new(io::writer(&rt));
-    match run(rt.alloc(), &mut reader, &mut writer, &Params::default()) {
-        Ok(_) => ExitCode::SUCCESS,
-        Err(fault) => {
-            let _ = eprintln!(rt; "kmc: {fault}");
-            ExitCode::from(1)
-        }
-    }
+/// Shows the fault, and gives its status. A line that cannot be written changes nothing of the status.
+fn refused(rt: &impl Eprint, fault: Fault) -> ExitCode {
+    let _ = rt.eprintln(fault);
+    ExitCode::from(fault.status())
+}
+
+/// The settings that the process's arguments give. Arguments that cannot be read are no usage.
+fn asked<R: Env + Alloc<A = Global>>(rt: &R) -> Result<Params, ParamsError> {
+    let Ok(mut arguments) = env::args(rt) else {
+        return Err(ParamsError::Usage);
+    };
+    let _program = arguments.next();
+    let argv = arguments.collect(rt.alloc())?;
+    let words = options::words(rt.alloc(), argv)?;
+    options::params(rt.alloc(), words)
 }

@@ -53,7 +53,7 @@ pub struct Params {
 }
 
 impl Params {
-    ghost use Rattle.kmc_tool.specs.Kept.{KeepsNumbers, KeepsOptions, KeepsQueue};
+    ghost use Rattle.kmc_tool.specs.Kept.{HasUsualQueue, KeepsOptions, KeepsQueue};
 
     /// The settings of the command line, where they are in range. The strands are joined, and the
     /// queue has its usual size.
@@ -68,8 +68,7 @@ impl Params {
     ) -> Option<Params>
         ensures { MatchOption result (AreSettings k p n sp sr → ⊥)
             (λ r. (r.format ≡ format) × (r.strands ≡ Joined) × (r.limits ≡ limits) × (r.k ≡ k)
-            × (r.p ≡ p) × (r.n ≡ n) × (r.sp ≡ sp) × (r.sr ≡ sr) × (r.readers ≡ READERS)
-            × (r.per_writer ≡ PER_WRITER) × (r.batch ≡ BATCH)) }
+            × (r.p ≡ p) × (r.n ≡ n) × (r.sp ≡ sp) × (r.sr ≡ sr) × HasUsualQueue r) }
     {
         let in_range = Setting::K.takes(k as u64)
             && Setting::P.takes(p as u64)
@@ -149,3 +148,6 @@ impl Default for Params {
         }
     }
 }
+
+#[cfg(test)]
+mod tests;

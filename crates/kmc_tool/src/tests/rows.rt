@@ -189,21 +189,3 @@ fn reads_both_formats(rt: HostRuntime) -> Result<(), Fail> {
     assert_dump!(rt, several, fasta, b"ACGT\t2\n");
     Ok(())
 }
-
-#[test]
-fn settings_at_their_edges(rt: HostRuntime) -> Result<(), Fail> {
-    let limits = Limits::new(2, BILLION, 255).ok_or("in range")?;
-    let made = |k, p, n, sp, sr| Params::new(Format::Fastq, k, p, n, sp, sr, limits).is_some();
-    assert!(rt; made(1, 5, 1, 1, 1));
-    assert!(rt; made(64, 11, 2000, 16, 16));
-    assert!(rt; !made(0, 9, 512, 2, 2) && !made(65, 9, 512, 2, 2));
-    assert!(rt; !made(25, 4, 512, 2, 2) && !made(25, 12, 512, 2, 2));
-    assert!(rt; !made(25, 9, 0, 2, 2) && !made(25, 9, 2001, 2, 2));
-    assert!(rt; !made(25, 9, 512, 0, 2) && !made(25, 9, 512, 17, 2));
-    assert!(rt; !made(25, 9, 512, 2, 0) && !made(25, 9, 512, 2, 17));
-    let queue = |r, w, b| Params::default().with_queue(r, w, b).is_some();
-    assert!(rt; queue(1, 1, 1) && queue(8, 64, 65536));
-    assert!(rt; !queue(0, 8, 1024) && !queue(9, 8, 1024) && !queue(1, 0, 1024));
-    assert!(rt; !queue(1, 65, 1024) && !queue(1, 8, 0) && !queue(1, 8, 65537));
-    Ok(())
-}
