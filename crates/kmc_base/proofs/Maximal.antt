@@ -1,14 +1,13 @@
 -- The segments are maximal stretches of bases.
-use Rattle.std.proofs.Common.{◌≡◌, ℕ, zero, suc, ◌+◌, ◌-◌, ◌<◌, ◌≤◌, ◌==◌, ◌⊎◌, inl, inr, Bool, true, false, cond, nat_le, All, List, [], ◌∷◌, length, take, drop, get_or, Option, None, Some, refl, sym, ap, subst, ◌∙◌, arith, add-one, add-zero, zero-add}
+use Rattle.std.proofs.Common.{◌≡◌, ℕ, zero, suc, ◌+◌, ◌<◌, ◌≤◌, ◌==◌, inl, inr, Bool, true, false, cond, nat_le, All, List, [], ◌∷◌, length, get_or, Option, None, Some, refl, sym, ap, subst, ◌∙◌, arith, add-one, add-zero}
 use Rattle.std.proofs.lemmas.Bool.{eq-eqb, ne_eqb}
 use Rattle.std.proofs.lemmas.Bool.Decides.{nat_tests}
 use Rattle.std.proofs.lemmas.List.Elements.{All-from_recursion}
-use Rattle.std.specs.Option.{option_map, option_and_then}
 use Rattle.std.specs.List.{filter, AllByRecursion}
 use Rattle.kmc_base.specs.Words.{code_of, codes_of, window}
 use Rattle.kmc_base.specs.Stretches.{Stretch, with_place, stretches_from, segments_of}
 use Rattle.kmc_base.specs.Places.{IsSegment}
-use Rattle.kmc_base.proofs.Stretching.{Apart, apart_from}
+use Rattle.kmc_base.proofs.Stretching.{Apart}
 use Rattle.kmc_base.proofs.Counted.{IsLed, led_by, run, led}
 
 -- ---- stretches rise

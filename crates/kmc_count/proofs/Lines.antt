@@ -1,5 +1,5 @@
 -- A line that is put behind the bytes that stand in a buffer.
-use Rattle.std.proofs.Common.{◌≡◌, ℕ, suc, ◌+◌, ◌-◌, ◌<◌, ◌≤◌, List, [], ◌∷◌, ◌++◌, length, take, drop, set, refl, sym, ap, subst, ◌∙◌, arith, append_assoc, add-one, length-take, length-drop, length-append}
+use Rattle.std.proofs.Common.{◌≡◌, ℕ, ◌+◌, ◌-◌, ◌<◌, ◌≤◌, List, [], ◌∷◌, ◌++◌, length, take, drop, set, refl, sym, ap, ◌∙◌, arith, append_assoc, add-one, length-drop, length-append}
 use Rattle.std.proofs.Math.Seq.{take-suc-set, take-append-add}
 use Rattle.std.proofs.lemmas.List.{length-take-le, take-take, length-set}
 use Rattle.std.proofs.lemmas.Slice.{take-put_mid}

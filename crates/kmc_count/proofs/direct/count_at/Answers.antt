@@ -5,7 +5,7 @@ use Rattle.std.proofs.lemmas.List.{length-map, get_or-map, take_more}
 use Rattle.kmc_base.specs.Packed.{pack, unpack}
 use Rattle.kmc_base.specs.Places.{counted_words}
 use Rattle.kmc_base.specs.Strands.{placed_key}
-use Rattle.kmc_count.specs.Occurrences.{occurrences, count_of}
+use Rattle.kmc_count.specs.Occurrences.{occurrences}
 use Rattle.kmc_count.specs.Dump.{IsDump}
 use Rattle.kmc_count.proofs.KeysOfReads.{keys_of_reads, keys_of_reads_are_words, read_added, sorted_fit, sorted_occurrences, of_reads}
 use Rattle.kmc_count.proofs.direct.count_at.Goals as goal

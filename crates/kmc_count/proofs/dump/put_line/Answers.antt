@@ -1,4 +1,4 @@
-use Rattle.std.proofs.Common.{◌≡◌, ℕ, ◌+◌, ◌-◌, ◌<◌, ◌≤◌, List, [], ◌∷◌, ◌++◌, length, take, drop, set, map, sym, ap, ◌∙◌, arith, decimal}
+use Rattle.std.proofs.Common.{◌≡◌, ◌+◌, ◌-◌, [], ◌∷◌, ◌++◌, length, take, set, map, sym, ap, ◌∙◌, arith, decimal}
 use Rattle.std.proofs.lemmas.List.{take_at, length-map}
 use borrow.Rule.Slice.PartMut.{put_mid}
 use Rattle.kmc_base.specs.Words.{letter}

@@ -1,5 +1,4 @@
-use Rattle.std.proofs.Common.{◌≡◌, ◌≤◌, ◌++◌, List, ℕ, length, take}
-use Rattle.std.specs.Io.KnownBytes.{Appends}
+use Rattle.std.proofs.Common.{◌≡◌, ◌≤◌, length, take}
 use Rattle.kmc_count.specs.Dump.{text_of}
 use Rattle.kmc_count.specs.Device.{WritesOut}
 use Rattle.kmc_count.proofs.dump.write_dump.Given as goal

@@ -1,4 +1,4 @@
-use Rattle.std.proofs.Common.{arith, rules, length-take, length-drop}
+use Rattle.std.proofs.Common.{arith, rules, length-drop}
 use Rattle.kmc_count.proofs.Devices.{rest_is, piece_out, front_out, none_out}
 use Rattle.kmc_count.proofs.dump.write_text.Goals as goal
 

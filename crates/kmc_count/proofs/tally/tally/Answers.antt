@@ -1,8 +1,7 @@
-use Rattle.std.proofs.Common.{◌≡◌, ℕ, ◌+◌, ◌≤◌, ◌<◌, ◌^◌, List, [], ◌∷◌, ◌++◌, All, length, map, drop, get_or, sym, ap, ◌∙◌, subst, arith, refl, drop_of_length-le}
+use Rattle.std.proofs.Common.{◌≡◌, ℕ, ◌+◌, ◌<◌, ◌^◌, List, [], ◌++◌, length, map, drop, get_or, sym, ap, ◌∙◌, subst, arith, drop_of_length-le}
 use Rattle.std.proofs.lemmas.List.{length-map, get_or-map}
-use Rattle.std.proofs.lemmas.List.Elements.{All-rest, All-get_or}
+use Rattle.std.proofs.lemmas.List.Elements.{All-rest}
 use Rattle.kmc_base.specs.Packed.{unpack}
-use Rattle.kmc_count.specs.Occurrences.{occurrences}
 use Rattle.kmc_count.proofs.Listing.{kept_pairs}
 use Rattle.kmc_count.proofs.Runs.{runs_from}
 use Rattle.kmc_count.proofs.PackedRuns.{goes_on, ends, sorted_words}

@@ -1,0 +1,16 @@
+pub mod Sums
+pub mod Turns
+pub mod OneLane
+pub mod Frame
+pub mod Places
+pub mod WriterSteps
+pub mod ReaderSteps
+pub mod Dealing
+pub mod Kept
+pub mod Allowed
+pub mod WriterCalls
+pub mod DealCalls
+pub mod ReaderCalls
+pub mod Counted
+pub mod Final
+pub mod Moving

@@ -1,0 +1,31 @@
+-- The two laws of the steps.
+use Rattle.std.specs.Prelude.{ℕ, zero, suc, ◌+◌, ◌*◌, [], ◌∷◌, ◌++◌, replicate, Option, None}
+use Rattle.atomic_table.specs.Table.{State, opening}
+use Rattle.kmc_partcore.specs.declared.shape.QueueShape.{QueueShape}
+use Rattle.kmc_partcore.specs.History.{History}
+use Rattle.kmc_partcore.specs.State.{state_of}
+use Rattle.kmc_partcore.specs.Legal.{IsLegal}
+use Rattle.kmc_partqueue.specs.declared.views.View.{View}
+use Rattle.kmc_partqueue.specs.Rule.{LanesRule}
+use Rattle.kmc_partqueue.specs.Dealing.{all_seats}
+use Rattle.kmc_partqueue.specs.Shown.{IsShown}
+use Rattle.kmc_partqueue.specs.Steps.{IsStep, AreSteps, was_registered}
+
+-- each step keeps the rule, and moves the state that the lanes show by its entry, as a legal history may, or not at all
+abbrev pub StepLaw : Type 0 → Type 0
+StepLaw T = (k : QueueShape) (s s' : State (Option T) (View T)) (e : History T) → LanesRule k s → IsStep k s s' e
+    → LanesRule k s' × ((h : History T) → IsLegal k h → IsShown k s (state_of h) → IsLegal k (e ++ h) × IsShown k s' (state_of (e ++ h)))
+
+-- the entries that register the writers below n, the newest first
+abbrev pub registers : {T : Type 0} → ℕ → History T
+registers zero = []
+registers (suc n) = was_registered n ∷ registers n
+
+-- all words are 0, all slots are empty, and one seat has all writers and all readers
+abbrev pub opened : {T : Type 0} → QueueShape → State (Option T) (View T)
+opened k = opening (replicate (2 * k.writers + k.writers * k.per_writer) 0) (replicate (k.writers * k.per_writer) None) (all_seats k)
+
+-- the registers of all writers, and then the entries of any list of steps of any seats from the opening state, are a legal history, and the lanes show its state
+abbrev pub StepsLaw : Type 0 → Type 0
+StepsLaw T = (k : QueueShape) (s : State (Option T) (View T)) (e : History T) → AreSteps k (opened k) s e
+    → LanesRule k s × IsLegal k (e ++ registers k.writers) × IsShown k s (state_of (e ++ registers k.writers))

@@ -1,0 +1,12 @@
+pub mod Counts
+pub mod Lane
+pub mod Rule
+pub mod Dealing
+pub mod Plays
+pub mod Seats
+pub mod Refusals
+pub mod Answers
+pub mod Gathered
+pub mod Shown
+pub mod Steps
+pub mod Laws

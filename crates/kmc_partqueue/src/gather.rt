@@ -1,0 +1,116 @@
+//! All seats come back, and what was sent was got once.
+ghost use Rattle.std.specs.Prelude.{◌≡◌, ℕ, ◌+◌, ◌*◌, ◌-◌, ◌<◌, ◌≤◌, List, [], ◌∷◌, ◌++◌, length, Some, None, slice_get, Option};
+ghost use Rattle.std.specs.Slots.{slots_items, slots_filled, slots_len, IsFull};
+ghost use Rattle.atomic_table.specs.Table.{State, Seen};
+ghost use Rattle.kmc_partqueue.specs.Rule.{LanesRule};
+ghost use Rattle.kmc_partqueue.specs.declared.views.View.{View};
+ghost use Rattle.kmc_partqueue.specs.Counts.{Each, Among, total_of, same};
+ghost use Rattle.kmc_partqueue.specs.Seats.{ReaderState, AllEnded, IsWriterOf, IsReaderOf};
+ghost use Rattle.kmc_partqueue.specs.Counts.{Among};
+ghost use Rattle.kmc_partqueue.specs.Gathered.{Pairs, WriterPairs, IsGathered};
+
+use crate::lanes::Lanes;
+use crate::reader::ReaderSeat;
+use crate::steps::JoinSeats;
+use crate::views::View;
+use crate::writer::DoneSeat;
+use atomic_table::{Closed, Seat};
+use kmc_partcore::Totals;
+use std::alloc::Global;
+
+/// Drops what lies in the slots, and frees the table.
+fn drain<T: Drop>(mut closed: Closed<Option<T>, Global>)
+    requires { IsFull closed.slots }
+{
+    let mut i = 0;
+    while i < closed.slot_count() {
+        drop(closed.take(i));
+        i += 1;
+    }
+    closed.free();
+}
+
+/// The first seat that has seen each lane at its end.
+fn first_finished<T>(readers: &[ReaderSeat<T>]) -> usize
+    requires { (s : ReaderState T) × Among s readers.now × AllEnded s.writers s.totals }
+    ensures { (s : ReaderState T) × (slice_get readers.now result ≡ Some s) × AllEnded s.writers s.totals }
+{
+    for i in 0..readers.len() {
+        if readers[i].finished() {
+            return i;
+        }
+    }
+    unreachable!()
+}
+
+impl<T: Drop> Lanes<T> {
+    /// What the last state shows beside the seat's view.
+    fn close(self, seat: Seat<Option<T>, View<T>>)
+        requires { seat.table_id ≡ self.table.shared.table_id }
+        ensures { (s : State (Option T) (View T)) × Seen (LanesRule self.table.shared.key) seat.id seat.me.0 s }
+    {
+        let Lanes { table, shape: _ } = self;
+        drain(table.close_with(seat));
+    }
+
+    fn join_readers(&self, seat: &mut Seat<Option<T>, View<T>>, mut readers: Vec<ReaderSeat<T>>)
+        requires queue { (seat.old.table_id ≡ self.now.table.shared.table_id) × Each (IsReaderOf self.now.table.shared.table_id self.now.shape) readers.items }
+        ensures queue { (seat.new.table_id ≡ seat.old.table_id) × (seat.new.id ≡ seat.old.id) × (seat.new.me.1 ≡ seat.old.me.1) }
+        ensures joined { (seat.new.me.0.writers ≡ seat.old.me.0.writers) × ((bs : List _) × (seat.new.me.0.readers ≡ bs ++ seat.old.me.0.readers) × Pairs bs readers.items) }
+    {
+        while let Some(s) = readers.pop() {
+            let ReaderSeat {
+                seat: own,
+                number: _,
+                per_writer: _,
+                writers: _,
+                next: _,
+                totals: _,
+            } = s;
+            self.table.shared.join_seat::<JoinSeats>(seat, own);
+        }
+    }
+
+    fn join_writers(&self, seat: &mut Seat<Option<T>, View<T>>, mut writers: Vec<DoneSeat<T>>)
+        requires queue { (seat.old.table_id ≡ self.now.table.shared.table_id) × Each (IsWriterOf self.now.table.shared.table_id self.now.shape) writers.items }
+        ensures queue { (seat.new.table_id ≡ seat.old.table_id) × (seat.new.id ≡ seat.old.id) × (seat.new.me.1 ≡ seat.old.me.1) }
+        ensures joined { (seat.new.me.0.readers ≡ seat.old.me.0.readers) × ((ws : List _) × (seat.new.me.0.writers ≡ ws ++ seat.old.me.0.writers) × WriterPairs ws writers.items) }
+    {
+        while let Some(s) = writers.pop() {
+            let DoneSeat {
+                seat: own,
+                number: _,
+                per_writer: _,
+                count: _,
+            } = s;
+            self.table.shared.join_seat::<JoinSeats>(seat, own);
+        }
+    }
+
+    /// All seats of the queue come back, each number once, in any order, one of the readers having seen each lane at its end. Each part that was put was got once, by one reader, and nothing else was. It answers how many parts each writer put.
+    pub fn gather(self, writers: Vec<DoneSeat<T>>, mut readers: Vec<ReaderSeat<T>>) -> Totals
+        requires queue { Each (IsWriterOf self.table.shared.table_id self.shape) writers.items × Each (IsReaderOf self.table.shared.table_id self.shape) readers.items }
+        requires writers { (w : ℕ) → w < self.shape.writers → total_of (λ s. same s.number w) writers.items ≡ 1 }
+        requires readers { (q : ℕ) → q < self.shape.readers → total_of (λ s. same s.number q) readers.items ≡ 1 }
+        requires finished { (s : ReaderState T) × Among s readers.items × AllEnded s.writers s.totals }
+        ensures gathered { IsGathered writers.items readers.items }
+        ensures totals { (length result ≡ self.shape.writers) × Each (λ s. slice_get result s.number ≡ Some (length s.sent)) writers.items }
+    {
+        let totals = readers[first_finished(readers.as_slice())].all_totals();
+        let Some(first) = readers.pop() else {
+            unreachable!()
+        };
+        let ReaderSeat {
+            seat: mut base,
+            number: _,
+            per_writer: _,
+            writers: _,
+            next: _,
+            totals: _,
+        } = first;
+        self.join_readers(&mut base, readers);
+        self.join_writers(&mut base, writers);
+        self.close(base);
+        totals
+    }
+}

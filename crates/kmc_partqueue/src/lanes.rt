@@ -1,0 +1,95 @@
+//! The queue, and how it opens with a seat for each writer and each reader.
+ghost use Rattle.std.specs.Prelude.{◌≡◌, ℕ, ◌+◌, ◌*◌, ◌-◌, ◌<◌, ◌≤◌, [], ◌∷◌, ◌++◌, length, Option, None, IfOk, replicate};
+
+use crate::reader::ReaderSeat;
+use crate::rule::Kept;
+use crate::steps::{SplitReader, SplitWriter};
+use crate::views::View;
+use crate::writer::WriterSeat;
+use atomic_table::{Seat, Table};
+use kmc_partcore::{MAX_WRITERS, QueueShape};
+use std::alloc::{AllocError, Global};
+
+/// A queue of parts without a lock: one lane of slots for each writer, read by any reader, in single atomic steps.
+///
+/// What the readers got together is known once all seats are back (`gather`); a caller that never gathers its seats learns what each of them knows, and no more.
+#[derive(Drop)]
+pub struct Lanes<T> {
+    pub(crate) table: Table<Option<T>, View<T>, QueueShape, Kept, Global>,
+    pub(crate) shape: QueueShape,
+    ghost shaped: { table.shared.key ≡ shape },
+    ghost sized: { (table.shared.table_id.words ≡ 2 * shape.writers + shape.writers * shape.per_writer) × (table.shared.table_id.slots ≡ shape.writers * shape.per_writer) },
+}
+
+impl<T: Drop> Lanes<T> {
+    ghost use Rattle.kmc_partqueue.specs.Dealing.{row_from, fresh_writer, fresh_reader};
+    ghost use Rattle.kmc_partqueue.specs.Seats.{new_writer, new_reader};
+
+    /// Splits off a seat for each writer.
+    fn deal_writers(
+        &self,
+        alloc: Global,
+        seat: &mut Seat<Option<T>, View<T>>,
+    ) -> Result<Vec<WriterSeat<T>>, AllocError>
+        requires queue { seat.old.table_id ≡ self.now.table.shared.table_id }
+        requires fresh { seat.old.me ≡ (record { writers = row_from (fresh_writer self.now.table.shared.key) 0 self.now.shape.writers; readers = row_from (fresh_reader self.now.table.shared.key) 0 self.now.shape.readers }, []) }
+        ensures queue { IfOk result (λ _. seat.new.table_id ≡ seat.old.table_id) }
+        ensures left { IfOk result (λ _. seat.new.me ≡ (record { writers = []; readers = row_from (fresh_reader self.now.table.shared.key) 0 self.now.shape.readers }, [])) }
+        ensures seats { IfOk result (λ v. v.items ≡ row_from (new_writer self.now.table.shared.table_id self.now.shape) 0 self.now.shape.writers) }
+    {
+        let mut seats = Vec::new(alloc);
+        for number in 0..self.shape.writers {
+            let own = self.table.shared.split_seat::<SplitWriter>(seat);
+            seats.push(WriterSeat {
+                seat: own,
+                number,
+                per_writer: self.shape.per_writer,
+                count: 0,
+            })?;
+        }
+        Ok(seats)
+    }
+
+    /// Splits off a seat for each reader.
+    fn deal_readers(
+        &self,
+        alloc: Global,
+        seat: &mut Seat<Option<T>, View<T>>,
+    ) -> Result<Vec<ReaderSeat<T>>, AllocError>
+        requires queue { seat.old.table_id ≡ self.now.table.shared.table_id }
+        requires fresh { seat.old.me ≡ (record { writers = []; readers = row_from (fresh_reader self.now.table.shared.key) 0 self.now.shape.readers }, []) }
+        ensures seats { IfOk result (λ v. v.items ≡ row_from (new_reader self.now.table.shared.table_id self.now.shape) 0 self.now.shape.readers) }
+    {
+        let mut seats = Vec::new(alloc);
+        for number in 0..self.shape.readers {
+            let own = self.table.shared.split_seat::<SplitReader>(seat);
+            seats.push(ReaderSeat {
+                seat: own,
+                number,
+                per_writer: self.shape.per_writer,
+                writers: self.shape.writers,
+                next: 0,
+                totals: [None; MAX_WRITERS],
+            })?;
+        }
+        Ok(seats)
+    }
+
+    /// The queue, and its seats in the order of their numbers. Every writer is registered. All words and slots are made here; no other call of the queue takes memory.
+    pub fn new(
+        alloc: Global,
+        shape: QueueShape,
+    ) -> Result<(Lanes<T>, Vec<WriterSeat<T>>, Vec<ReaderSeat<T>>), AllocError>
+        ensures shape { IfOk result (λ q. q.0.shape ≡ shape) }
+        ensures writers { IfOk result (λ q. q.1.items ≡ row_from (new_writer q.0.table.shared.table_id shape) 0 shape.writers) }
+        ensures readers { IfOk result (λ q. q.2.items ≡ row_from (new_reader q.0.table.shared.table_id shape) 0 shape.readers) }
+    {
+        let slots = shape.writers * shape.per_writer;
+        let words = Vec::from_elem(alloc, 0u64, 2 * shape.writers + slots)?;
+        let (table, mut seat) = Table::vacant(alloc, words.as_slice(), slots, &shape)?;
+        let lanes = Lanes { table, shape };
+        let writer_seats = lanes.deal_writers(alloc, &mut seat)?;
+        let reader_seats = lanes.deal_readers(alloc, &mut seat)?;
+        Ok((lanes, writer_seats, reader_seats))
+    }
+}

@@ -1,0 +1,24 @@
+//! The queue of parts that threads share, without a lock: one lane of slots for each writer, read by any reader,
+//! in single atomic steps on a table of words and slots. It stands on `atomic_table` for the steps and on
+//! `kmc_partcore` for the shape of a queue, what a take gives, the totals, and what a legal history is. The layer
+//! above opens a queue with a seat for each writer and each reader (`Lanes::new`), hands the seats to its threads,
+//! and gathers them at the end, when it learns that what was sent was got once. The laws of the steps are in `laws`.
+#![tactic(auto)]
+
+mod gate;
+mod gather;
+mod lanes;
+pub mod laws;
+mod reader;
+mod rule;
+mod steps;
+#[cfg(test)]
+mod tests;
+mod views;
+mod writer;
+
+pub use gate::{Gate, NoGate, Point};
+pub use lanes::Lanes;
+pub use reader::{ReaderSeat, TryTaken};
+pub use views::{Ending, Reading, View, Writing};
+pub use writer::{DoneSeat, TryPutError, WriterSeat};

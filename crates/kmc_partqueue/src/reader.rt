@@ -1,0 +1,210 @@
+//! What a reader does with its seat.
+ghost use Rattle.std.specs.Prelude.{◌≡◌, ℕ, ◌+◌, ◌*◌, ◌-◌, ◌/◌, ◌%◌, ◌^◌, ◌<◌, ◌≤◌, ◌↔◌, [], ◌∷◌, ◌++◌, MatchOption, Option, Some, None, slice_get, true, false};
+ghost use Rattle.kmc_partqueue.specs.Seats.{IsReaderOf, KeepsNotes, AllEnded, AreTotals};
+ghost use Rattle.kmc_partqueue.specs.Answers.{Answers, IsFinished, TakeAnswers, IsLast};
+
+use crate::gate::{Gate, Point};
+use crate::lanes::Lanes;
+use crate::steps::{ClaimPart, ReadEnd, ReadHead, ReleaseSlot, SeePublishedPart};
+use crate::views::View;
+use atomic_table::Seat;
+use kmc_partcore::{MAX_WRITERS, Received, Taken, Totals};
+use std::marker::Model;
+use std::sync::Wait;
+use std::thread;
+
+/// The seat of a reader. It keeps the total of each lane that it has seen at its end.
+#[derive(Drop)]
+pub struct ReaderSeat<T> {
+    pub(crate) seat: Seat<Option<T>, View<T>>,
+    pub(crate) number: usize,
+    pub(crate) per_writer: usize,
+    pub(crate) writers: usize,
+    pub(crate) next: usize,
+    pub(crate) totals: [Option<u64>; MAX_WRITERS],
+}
+
+impl<T> Model for ReaderSeat<T> {
+    ghost use Rattle.kmc_partqueue.specs.Seats.{ReaderState, got_of, Between};
+
+    ghost Value = { ReaderState T };
+
+    ghost view = { λ s. record { table = s.seat.table_id; number = s.number; per_writer = s.per_writer; writers = s.writers; got = got_of s.seat.me.0; totals = s.totals } };
+
+    ghost invariant = { λ s. Between s.seat.me s.number s.per_writer s.next s.writers s.totals };
+}
+
+/// What a try to take answers.
+#[derive(Drop)]
+pub enum TryTaken<T> {
+    /// A part, which is no longer in the queue.
+    Got(Received<T>),
+    /// This round took nothing, and the seat has not seen all lanes at their end. It does not say that all lanes were empty at one moment.
+    NotNow,
+    /// The seat has seen each lane at its end, with these totals: there will be no part.
+    Finished(Totals),
+}
+
+impl<T> ReaderSeat<T> {
+    /// The number of the reader, from 0.
+    pub fn number(&self) -> usize
+        ensures { result ≡ self.now.number }
+    {
+        self.number
+    }
+
+    /// The lane after the one that it last took from.
+    fn next_lane(&self) -> usize
+        ensures { result < self.now.writers }
+    {
+        self.next
+    }
+
+    /// No total of the lane was seen.
+    fn is_open(&self, lane: usize) -> bool
+        requires { (lane < self.now.writers) × (lane < 16) }
+        ensures open { result ≡ true → slice_get self.now.totals lane ≡ Some None }
+        ensures ended { result ≡ false → (t : ℕ) × (slice_get self.now.totals lane ≡ Some (Some t)) }
+    {
+        match self.totals[lane] {
+            None => true,
+            Some(_) => false,
+        }
+    }
+
+    /// Whether the seat has seen each lane at its end: a take was then answered, or will be, that the queue is finished.
+    pub fn finished(&self) -> bool
+        ensures { (result ≡ true) ↔ AllEnded self.now.writers self.now.totals }
+    {
+        for lane in 0..self.writers {
+            if self.is_open(lane) {
+                return false;
+            }
+        }
+        true
+    }
+
+    /// The total of each lane.
+    pub(crate) fn all_totals(&self) -> Totals
+        requires { AllEnded self.now.writers self.now.totals }
+        ensures { AreTotals self.now.writers self.now.totals result }
+    {
+        let mut counts = [0u64; MAX_WRITERS];
+        for lane in 0..self.writers {
+            match self.totals[lane] {
+                Some(total) => counts[lane] = total,
+                None => unreachable!(),
+            }
+        }
+        Totals::new(&counts[..self.writers])
+    }
+}
+
+impl<T> Lanes<T> {
+    /// Moves the part out of the slot that the seat holds.
+    fn move_out(&self, seat: &mut Seat<Option<T>, View<T>>, slot: usize) -> T
+        requires queue { seat.old.table_id ≡ self.now.table.shared.table_id }
+        requires holds { (x : T) × (seat.old.me.1 ≡ (slot, Some x) ∷ []) }
+        ensures { (seat.new.table_id ≡ seat.old.table_id) × (seat.new.id ≡ seat.old.id) × (seat.old.me.1 ≡ (slot, Some result) ∷ []) × (seat.new.me ≡ (seat.old.me.0, (slot, None) ∷ [])) }
+    {
+        match self.table.shared.exchange(seat, slot, None) {
+            Some(item) => item,
+            None => unreachable!(),
+        }
+    }
+
+    /// Tries the head of one lane, once.
+    fn try_lane<G: Gate>(&self, s: &mut ReaderSeat<T>, lane: usize, gate: &G) -> Option<Received<T>>
+        requires queue { IsReaderOf self.now.table.shared.table_id self.now.shape s.old }
+        requires lane { (lane < self.now.shape.writers) × (slice_get s.old.totals lane ≡ Some None) }
+        ensures seat { (s.new.table ≡ s.old.table) × (s.new.number ≡ s.old.number) × (s.new.per_writer ≡ s.old.per_writer) × (s.new.writers ≡ s.old.writers) }
+        ensures got { MatchOption result (s.new.got ≡ s.old.got) (λ x. (s.new.got ≡ s.old.got ++ x ∷ []) × (s.new.totals ≡ s.old.totals)) }
+        ensures notes { KeepsNotes s.old s.new }
+    {
+        let words = &self.table.shared;
+        let per_writer = self.shape.per_writer as u64;
+        let head = words.load::<ReadHead>(&mut s.seat, self.shape.writers + lane);
+        let slot = lane * self.shape.per_writer + (head % per_writer) as usize;
+        let mark = 2 * self.shape.writers + slot;
+        let turn = 2 * (head / per_writer) + 1;
+        let seen = words.load::<SeePublishedPart>(&mut s.seat, mark);
+        if seen == turn {
+            let was = words.compare_exchange::<ClaimPart>(
+                &mut s.seat,
+                self.shape.writers + lane,
+                head,
+                head + 1,
+            );
+            if was != head {
+                return None;
+            }
+            gate.pass(Point::PartClaimed(s.number, lane, head));
+            let item = self.move_out(&mut s.seat, slot);
+            words.store::<ReleaseSlot>(&mut s.seat, mark, turn + 1);
+            s.next = if lane + 1 < self.shape.writers {
+                lane + 1
+            } else {
+                0
+            };
+            return Some(Received {
+                writer: lane,
+                number: head,
+                item,
+            });
+        }
+        let end = words.load::<ReadEnd>(&mut s.seat, lane);
+        if end == head + 1 {
+            s.totals[lane] = Some(head);
+            return None;
+        }
+        None
+    }
+
+    /// Takes a part, if it finds one, at once. It goes once round the lanes, from the one after that it last took from, and tries each head once; a lane that it has seen at its end is passed over.
+    pub fn try_take<G: Gate>(&self, s: &mut ReaderSeat<T>, gate: &G) -> TryTaken<T>
+        requires { IsReaderOf self.now.table.shared.table_id self.now.shape s.old }
+        ensures seat { (s.new.table ≡ s.old.table) × (s.new.number ≡ s.old.number) × (s.new.per_writer ≡ s.old.per_writer) × (s.new.writers ≡ s.old.writers) }
+        ensures answer { Answers s.old s.new result }
+        ensures notes { KeepsNotes s.old s.new }
+        ensures again { AllEnded s.old.writers s.old.totals → (s.new ≡ s.old) × IsFinished result }
+    {
+        let mut lane = s.next_lane();
+        for _ in 0..self.shape.writers {
+            if s.is_open(lane) {
+                match self.try_lane(s, lane, gate) {
+                    Some(part) => return TryTaken::Got(part),
+                    None => {}
+                }
+            }
+            lane = if lane + 1 < self.shape.writers {
+                lane + 1
+            } else {
+                0
+            };
+        }
+        if s.finished() {
+            TryTaken::Finished(s.all_totals())
+        } else {
+            TryTaken::NotNow
+        }
+    }
+
+    /// Takes a part, or is told that there will be none. It tries again, and yields between two tries, for as long as a round takes nothing.
+    pub fn take<R: Wait, G: Gate>(&self, rt: &R, s: &mut ReaderSeat<T>, gate: &G) -> Taken<T>
+        requires { IsReaderOf self.now.table.shared.table_id self.now.shape s.old }
+        ensures seat { (s.new.table ≡ s.old.table) × (s.new.number ≡ s.old.number) × (s.new.per_writer ≡ s.old.per_writer) × (s.new.writers ≡ s.old.writers) }
+        ensures answer { TakeAnswers s.old s.new result }
+        ensures notes { KeepsNotes s.old s.new }
+        ensures again { AllEnded s.old.writers s.old.totals → (s.new ≡ s.old) × IsLast result }
+    {
+        for _ in rt.forever() {
+            match self.try_take(s, gate) {
+                TryTaken::Got(part) => return Taken::Got(part),
+                TryTaken::NotNow => {}
+                TryTaken::Finished(totals) => return Taken::Finished(totals),
+            }
+            thread::yield_now();
+        }
+        unreachable!()
+    }
+}

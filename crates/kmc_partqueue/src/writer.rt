@@ -1,0 +1,180 @@
+//! What a writer does with its seat.
+ghost use Rattle.std.specs.Prelude.{◌≡◌, ℕ, ◌+◌, ◌*◌, ◌-◌, ◌/◌, ◌%◌, ◌^◌, ◌<◌, ◌≤◌, ◌↔◌, [], ◌∷◌, ◌++◌, length, MatchResult, IfErr, true, false, Option, Some, None, Err};
+ghost use Rattle.kmc_partqueue.specs.Seats.{IsWriterOf};
+ghost use Rattle.kmc_partqueue.specs.Refusals.{Refused};
+ghost use Rattle.kmc_partqueue.specs.declared.writer.TryPutError.TheVariants.{NumbersSpent};
+
+use crate::gate::{Gate, Point};
+use crate::lanes::Lanes;
+use crate::steps::{ClaimFreeSlot, CloseLane, PublishPart};
+use crate::views::View;
+use atomic_table::Seat;
+use kmc_partcore::MAX_ITEMS;
+use std::marker::Model;
+use std::sync::Wait;
+use std::thread;
+
+/// The seat of a writer. One that is dropped before it has completed leaves its lane open for good, and no reader is ever answered that the queue is finished.
+#[derive(Drop)]
+pub struct WriterSeat<T> {
+    pub(crate) seat: Seat<Option<T>, View<T>>,
+    pub(crate) number: usize,
+    pub(crate) per_writer: usize,
+    pub(crate) count: u64,
+}
+
+impl<T> Model for WriterSeat<T> {
+    ghost use Rattle.std.specs.Prelude.{false};
+    ghost use Rattle.kmc_partqueue.specs.Seats.{WriterState, sent_of, AtRest};
+
+    ghost Value = { WriterState T };
+
+    ghost view = { λ s. record { table = s.seat.table_id; number = s.number; per_writer = s.per_writer; sent = sent_of s.seat.me.0 } };
+
+    ghost invariant = { λ s. AtRest s.seat.me s.number s.per_writer s.count false };
+}
+
+impl<T> WriterSeat<T> {
+    /// The number of the writer, from 0.
+    pub fn number(&self) -> usize
+        ensures { result ≡ self.now.number }
+    {
+        self.number
+    }
+}
+
+/// The seat of a writer that has completed.
+#[derive(Drop)]
+pub struct DoneSeat<T> {
+    pub(crate) seat: Seat<Option<T>, View<T>>,
+    pub(crate) number: usize,
+    pub(crate) per_writer: usize,
+    pub(crate) count: u64,
+}
+
+impl<T> Model for DoneSeat<T> {
+    ghost use Rattle.std.specs.Prelude.{true};
+    ghost use Rattle.kmc_partqueue.specs.Seats.{WriterState, sent_of, AtRest};
+
+    ghost Value = { WriterState T };
+
+    ghost view = { λ s. record { table = s.seat.table_id; number = s.number; per_writer = s.per_writer; sent = sent_of s.seat.me.0 } };
+
+    ghost invariant = { λ s. AtRest s.seat.me s.number s.per_writer s.count true };
+}
+
+impl<T> DoneSeat<T> {
+    /// The number of the writer, from 0.
+    pub fn number(&self) -> usize
+        ensures { result ≡ self.now.number }
+    {
+        self.number
+    }
+}
+
+/// Why a part was not put. NumbersSpent is tested first, before any step.
+#[derive(Drop, Clone, Copy, PartialEq, Eq, Debug)]
+pub enum TryPutError {
+    /// The next slot of the lane is not yet free again.
+    Full,
+    /// The writer has put as many parts as have numbers.
+    NumbersSpent,
+}
+
+impl<T> Lanes<T> {
+    /// Moves a part into the slot that the seat holds.
+    fn move_in(&self, seat: &mut Seat<Option<T>, View<T>>, slot: usize, part: T)
+        requires { (seat.old.table_id ≡ self.now.table.shared.table_id) × (seat.old.me.1 ≡ (slot, None) ∷ []) }
+        ensures { (seat.new.table_id ≡ seat.old.table_id) × (seat.new.id ≡ seat.old.id) × (seat.new.me ≡ (seat.old.me.0, (slot, Some part) ∷ [])) }
+    {
+        match self.table.shared.exchange(seat, slot, Some(part)) {
+            None => {}
+            Some(_) => unreachable!(),
+        }
+    }
+
+    /// Puts a part, or hands it back, at once: it answers the number that the part got among the writer's.
+    /// The first `per_writer` puts of a seat are never refused as Full.
+    pub fn try_put<G: Gate>(
+        &self,
+        s: &mut WriterSeat<T>,
+        part: T,
+        gate: &G,
+    ) -> Result<u64, (TryPutError, T)>
+        requires { IsWriterOf self.now.table.shared.table_id self.now.shape s.old }
+        ensures seat { (s.new.table ≡ s.old.table) × (s.new.number ≡ s.old.number) × (s.new.per_writer ≡ s.old.per_writer) }
+        ensures put { MatchResult result (λ n. (n ≡ length s.old.sent) × (s.new.sent ≡ s.old.sent ++ part ∷ [])) (λ e. (e.1 ≡ part) × (s.new.sent ≡ s.old.sent)) }
+        ensures refused { IfErr result (λ e. Refused (length s.old.sent) s.old.per_writer e.0) }
+        ensures spent { length s.old.sent ≡ MAX_ITEMS → result ≡ Err (NumbersSpent, part) }
+    {
+        if s.count == MAX_ITEMS {
+            return Err((TryPutError::NumbersSpent, part));
+        }
+        let count = s.count;
+        let per_writer = self.shape.per_writer as u64;
+        let slot = s.number * self.shape.per_writer + (count % per_writer) as usize;
+        let mark = 2 * self.shape.writers + slot;
+        let turn = 2 * (count / per_writer);
+        let found = self.table.shared.load::<ClaimFreeSlot>(&mut s.seat, mark);
+        if found != turn {
+            return Err((TryPutError::Full, part));
+        }
+        gate.pass(Point::SlotHeld(s.number, count));
+        self.move_in(&mut s.seat, slot, part);
+        self.table
+            .shared
+            .store::<PublishPart>(&mut s.seat, mark, turn + 1);
+        s.count = count + 1;
+        Ok(count)
+    }
+
+    /// The writer puts no more: its seat is consumed.
+    pub fn complete(&self, mut s: WriterSeat<T>) -> DoneSeat<T>
+        requires { IsWriterOf self.now.table.shared.table_id self.now.shape s }
+        ensures { result ≡ s }
+    {
+        self.table
+            .shared
+            .store::<CloseLane>(&mut s.seat, s.number, s.count + 1);
+        let WriterSeat {
+            seat,
+            number,
+            per_writer,
+            count,
+        } = s;
+        DoneSeat {
+            seat,
+            number,
+            per_writer,
+            count,
+        }
+    }
+
+    /// Puts a part. It tries again, and yields between two tries, for as long as the next slot is not free.
+    pub fn put<R: Wait, G: Gate>(
+        &self,
+        rt: &R,
+        s: &mut WriterSeat<T>,
+        part: T,
+        gate: &G,
+    ) -> Result<u64, (TryPutError, T)>
+        requires { IsWriterOf self.now.table.shared.table_id self.now.shape s.old }
+        ensures seat { (s.new.table ≡ s.old.table) × (s.new.number ≡ s.old.number) × (s.new.per_writer ≡ s.old.per_writer) }
+        ensures put { MatchResult result (λ n. (n ≡ length s.old.sent) × (s.new.sent ≡ s.old.sent ++ part ∷ [])) (λ e. (e ≡ (NumbersSpent, part)) × (s.new.sent ≡ s.old.sent)) }
+        ensures spent { (result ≡ Err (NumbersSpent, part)) ↔ (length s.old.sent ≡ MAX_ITEMS) }
+    {
+        let mut part = part;
+        for _ in rt.forever() {
+            match self.try_put(s, part, gate) {
+                Ok(number) => return Ok(number),
+                Err((TryPutError::NumbersSpent, back)) => return Err((
+                    TryPutError::NumbersSpent,
+                    back,
+                )),
+                Err((TryPutError::Full, back)) => part = back,
+            }
+            thread::yield_now();
+        }
+        unreachable!()
+    }
+}

@@ -1,0 +1,68 @@
+-- Bodies of one bin, record by record.
+use Rattle.std.proofs.Common.{◌≡◌, ℕ, ◌+◌, ◌-◌, ◌%◌, ◌<◌, ◌≤◌, List, [], ◌++◌, length, take, drop, refl, sym, ap, subst, ◌∙◌, arith, length-append, append_assoc}
+use Rattle.std.proofs.lemmas.List.{take_at, take-append-drop, length-take-le}
+use Rattle.std.specs.List.{All}
+use Rattle.kmc_base.specs.Words.{windows}
+use Rattle.kmc_split.specs.Signature.{signature_of}
+use Rattle.kmc_split.specs.SuperKmer.{Stretch, words_of}
+use Rattle.kmc_record.specs.Record.{spelling, IsSpelled}
+use Rattle.kmc_record.specs.Shapes.{Sizes}
+use Rattle.kmc_record.specs.Parts.{Parcel, IsPart, capped}
+use Rattle.kmc_record.specs.Bodies.{AreRecordsOfBin, Belong}
+use Rattle.kmc_record.proofs.Parcels.{part_grown}
+
+pub part_none : (bin : ℕ) (shape : Sizes) → bin < shape.n → IsPart bin shape [] 0
+part_none bin shape h = record {
+  within = h;
+  super_kmers = [];
+  records = record { each = tt; is = refl };
+  belong = λ i d l. absurd (omega arith);
+  count = omega arith;
+}
+
+pub records_of_part : (bin : ℕ) (shape : Sizes) (body : List ℕ) (words : ℕ) → IsPart bin shape body words → AreRecordsOfBin bin shape body
+records_of_part bin shape body words h = record { super_kmers = h.super_kmers; records = h.records; belong = h.belong }
+
+front_joined : (body w rest : List ℕ) (offset next : ℕ) → offset ≤ length body → drop offset body ≡ w ++ rest → next ≡ length body - length rest → take next body ≡ take offset body ++ w
+front_joined body w rest offset next inside is at =
+    let front = take offset body in
+    let whole : body ≡ (front ++ w) ++ rest = sym (take-append-drop offset body) ∙ ap (λ (t : List ℕ). front ++ t) is ∙ sym (append_assoc front w rest) in
+    let long : length (front ++ w) ≡ next = omega (arith, ap length whole, length-append (front ++ w) rest, at) in
+    ap (take next) whole ∙ take_at (front ++ w) rest next long
+
+-- where the next record begins
+pub next_within : (body w rest : List ℕ) (offset next : ℕ) → offset ≤ length body → drop offset body ≡ w ++ rest → 0 < length w → next ≡ length body - length rest → (offset < next) × (next ≤ length body)
+next_within body w rest offset next inside is some at =
+    let front = take offset body in
+    let long = length-take-le offset body inside in
+    let whole = ap length (take-append-drop offset body) in
+    (omega (arith, long, whole, length-append front (drop offset body), ap length is, length-append w rest, at), omega (arith, at))
+
+pub part_more : (bin : ℕ) (shape : Sizes) (body rest codes : List ℕ) (k offset next words n more : ℕ) → k ≡ shape.k → IsPart bin shape (take offset body) words → offset ≤ length body
+    → IsSpelled k codes → drop offset body ≡ spelling k codes ++ rest → next ≡ length body - length rest → Belong bin shape (windows shape.k codes) → n ≡ length (windows shape.k codes)
+    → more ≡ capped (words + n) → IsPart bin shape (take next body) more
+part_more bin shape body rest codes k offset next words n more same h inside spelled is at belong count total =
+    let v : Parcel = record { chunk = 0; bin = bin; shape = shape; body = take offset body; words = words } in
+    part_grown v v refl codes (take next body) k n more h (subst (λ j. IsSpelled j codes) same spelled) belong count same (front_joined body (spelling k codes) rest offset next inside is at) total
+
+-- ---- what is asked of a super-k-mer, and of its codes
+
+same_stretch : (shape : Sizes) (k : ℕ) (s t : Stretch) → k ≡ shape.k → s.k ≡ k → t ≡ s → t ≡ record { k = shape.k; codes = s.codes }
+same_stretch shape k s t ek sk ts = ts ∙ (λ i. record { k = (sk ∙ ek) i; codes = s.codes })
+
+pub belongs_here : (bin : ℕ) (shape : Sizes) (k m n : ℕ) (s t : Stretch) → k ≡ shape.k → m ≡ shape.m → n ≡ shape.n → s.k ≡ k → t ≡ s
+    → All (λ w. signature_of m w % n ≡ bin) (words_of t) → Belong bin shape (windows shape.k s.codes)
+belongs_here bin shape k m n s t ek em en sk ts h =
+    let path = same_stretch shape k s t ek sk ts in
+    subst (λ (x : Sizes). Belong bin x (windows shape.k s.codes)) (λ i. record { k = ek i; m = em i; n = en i })
+    (subst (λ (x : Stretch). All (λ w. signature_of m w % n ≡ bin) (words_of x)) path h)
+
+pub asked_here : (bin : ℕ) (shape : Sizes) (k m n : ℕ) (s t : Stretch) → k ≡ shape.k → m ≡ shape.m → n ≡ shape.n → s.k ≡ k → t ≡ s
+    → Belong bin shape (windows shape.k s.codes) → All (λ w. signature_of m w % n ≡ bin) (words_of t)
+asked_here bin shape k m n s t ek em en sk ts h =
+    let path = sym (same_stretch shape k s t ek sk ts) in
+    subst (λ (x : Stretch). All (λ w. signature_of m w % n ≡ bin) (words_of x)) path
+    (subst (λ (x : Sizes). Belong bin x (windows shape.k s.codes)) (λ i. record { k = sym ek i; m = sym em i; n = sym en i }) h)
+
+pub counted_here : (shape : Sizes) (k c : ℕ) (s t : Stretch) → k ≡ shape.k → s.k ≡ k → t ≡ s → c ≡ length (words_of t) → c ≡ length (windows shape.k s.codes)
+counted_here shape k c s t ek sk ts h = h ∙ ap (λ (x : Stretch). length (words_of x)) (same_stretch shape k s t ek sk ts)

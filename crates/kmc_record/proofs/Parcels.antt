@@ -1,0 +1,148 @@
+-- Parts while they grow.
+use Rattle.std.proofs.Common.{◌≡◌, ◌≢◌, ℕ, ◌+◌, ◌-◌, ◌%◌, ◌^◌, ◌<◌, ◌≤◌, nat_eq, Bool, true, false, cond, List, [], ◌∷◌, ◌++◌, length, map, get_or, set, take, drop, refl, sym, ap, subst, ◌∙◌, arith, append_assoc, append-nil, length-append}
+use Rattle.std.proofs.lemmas.List.{get_or-set_same, get_or-set_other, length-set, map-append}
+use Rattle.std.proofs.lemmas.List.Elements.{All-append, All-take, All-drop, filter_more, recursion_from_All}
+use Rattle.std.proofs.lemmas.List.Concat.{flat_map-append}
+use Rattle.std.proofs.lemmas.Bool.Decides.{nat_tests}
+use Rattle.std.specs.List.{All, flat_map, filter}
+use Rattle.kmc_base.specs.Words.{windows}
+use Rattle.kmc_base.specs.Stretches.{Stretch}
+use Rattle.kmc_split.specs.declared.runs.Run.{Run}
+use Rattle.kmc_split.specs.Cut.{IsRunOf, run_codes}
+use Rattle.kmc_split.specs.Signature.{signature_of}
+use Rattle.kmc_split.proofs.Bins.{length_windows}
+use Rattle.kmc_split.proofs.Least.{length_window}
+use Rattle.kmc_record.specs.Record.{spelling, IsSpelled, IsBodyOf}
+use Rattle.kmc_record.specs.Shapes.{Sizes}
+use Rattle.kmc_record.specs.Parts.{Parcel, IsPart, all_windows, capped, grown, bin_runs, AreCuts, bin_super_kmers}
+use Rattle.kmc_record.specs.Growing.{AreForBins, HaveGrown}
+use Rattle.kmc_record.proofs.Whole.{body_push, flat_push}
+
+-- ---- one part
+
+pub part_grown : (v p : Parcel) → v ≡ p → (codes new : List ℕ) (k n w : ℕ) → IsPart v.bin v.shape v.body v.words → IsSpelled p.shape.k codes
+    → All (λ u. signature_of p.shape.m u % p.shape.n ≡ p.bin) (windows p.shape.k codes) → n ≡ length (windows p.shape.k codes) → k ≡ v.shape.k
+    → new ≡ v.body ++ spelling k codes → w ≡ capped (v.words + n) → IsPart v.bin v.shape new w
+part_grown v p is codes new k n w h spelled belong count same more words =
+    let fits = subst (λ (q : Parcel). IsSpelled q.shape.k codes × All (λ u. signature_of q.shape.m u % q.shape.n ≡ q.bin) (windows q.shape.k codes) × (n ≡ length (windows q.shape.k codes))) (sym is) (spelled, belong, count) in
+    let ss = h.super_kmers in
+    let all : all_windows v.shape.k (ss ++ codes ∷ []) ≡ all_windows v.shape.k ss ++ windows v.shape.k codes = flat_push (windows v.shape.k) ss codes in
+    let body : new ≡ v.body ++ spelling v.shape.k codes = more ∙ ap (λ m. v.body ++ spelling m codes) same in
+    let P : List ℕ → Type 0 = λ u. signature_of v.shape.m u % v.shape.n ≡ v.bin in
+    record {
+      within = h.within;
+      super_kmers = ss ++ codes ∷ [];
+      records = subst (IsBodyOf v.shape.k (ss ++ codes ∷ [])) (sym body) (body_push v.shape.k ss codes v.body (spelling v.shape.k codes) h.records fits.0 refl);
+      belong = subst (All P) (sym all) (All-append P (all_windows v.shape.k ss) (windows v.shape.k codes) h.belong fits.1);
+      count = omega (arith, words, h.count, fits.2, ap length all, length-append (all_windows v.shape.k ss) (windows v.shape.k codes));
+    }
+
+grown_none : (k : ℕ) (p : Parcel) → p.words ≤ 2 ^ 64 - 1 → grown k [] p ≡ p
+grown_none k p h =
+    let e : capped (p.words + 0) ≡ p.words = omega arith in
+    (λ i. record p { body = append-nil p.body i; words = e i })
+
+grown_twice : (k : ℕ) (f g : List (List ℕ)) (p : Parcel) → grown k g (grown k f p) ≡ grown k (f ++ g) p
+grown_twice k f g p =
+    let body : (p.body ++ flat_map (spelling k) f) ++ flat_map (spelling k) g ≡ p.body ++ flat_map (spelling k) (f ++ g) =
+    append_assoc p.body (flat_map (spelling k) f) (flat_map (spelling k) g) ∙ ap (λ (t : List ℕ). p.body ++ t) (sym (flat_map-append (spelling k) f g)) in
+    let words : capped (capped (p.words + length (all_windows k f)) + length (all_windows k g)) ≡ capped (p.words + length (all_windows k (f ++ g))) =
+    omega (arith, ap length (flat_map-append (windows k) f g), length-append (all_windows k f) (all_windows k g)) in
+    (λ i. record p { body = body i; words = words i })
+
+-- ---- one part for each bin
+
+pub grown_start : (shape : Sizes) (k : ℕ) (parts : List Parcel) → AreForBins shape parts → HaveGrown k (λ j. []) parts parts
+grown_start shape k parts are = record {
+  count = refl;
+  each = λ j d h. sym (grown_none k (get_or parts j d) (are.most j d (omega (arith, are.count))));
+}
+
+pub grown_as : (k : ℕ) (f g : ℕ → List (List ℕ)) (a b : List Parcel) → ((j : ℕ) → f j ≡ g j) → HaveGrown k f a b → HaveGrown k g a b
+grown_as k f g a b same h = record {
+  count = h.count;
+  each = λ j d l. h.each j d l ∙ ap (λ ss. grown k ss (get_or a j d)) (same j);
+}
+
+pub grown_more : (k : ℕ) (f g : ℕ → List (List ℕ)) (a b c : List Parcel) → HaveGrown k f a b → HaveGrown k g b c → HaveGrown k (λ j. f j ++ g j) a c
+grown_more k f g a b c h more = record {
+  count = more.count ∙ h.count;
+  each = λ j d l. more.each j d (omega (arith, h.count)) ∙ ap (grown k (g j)) (h.each j d l) ∙ grown_twice k (f j) (g j) (get_or a j d);
+}
+
+pub grown_for_bins : (shape : Sizes) (k : ℕ) (f : ℕ → List (List ℕ)) (a b : List Parcel) → AreForBins shape a → HaveGrown k f a b → AreForBins shape b
+grown_for_bins shape k f a b are h = record {
+  count = h.count ∙ are.count;
+  bin = λ j d l. ap (λ (p : Parcel). p.bin) (h.each j d (omega (arith, are.count))) ∙ are.bin j d l;
+  shaped = λ j d l. ap (λ (p : Parcel). p.shape) (h.each j d (omega (arith, are.count))) ∙ are.shaped j d l;
+  most = λ j d l. omega (arith, ap (λ (p : Parcel). p.words) (h.each j d (omega (arith, are.count))));
+}
+
+-- ---- one run
+
+pub run_grown : (shape : Sizes) (k n b : ℕ) (codes : List ℕ) (r : Run) (parts : List Parcel) (v : Parcel) → AreForBins shape parts → b ≡ r.signature % n → b < length parts
+    → ((d : Parcel) → v ≡ grown k (run_codes k codes r ∷ []) (get_or parts b d)) → HaveGrown k (λ j. bin_runs k n j codes (r ∷ [])) parts (set parts b v)
+run_grown shape k n b codes r parts v are at inside is = record {
+  count = length-set parts b v;
+  each = λ j d l. go j d l (nat_eq (r.signature % n) j) refl;
+}
+  where
+    go : (j : ℕ) (d : Parcel) → j < length parts → (t : Bool) → nat_eq (r.signature % n) j ≡ t
+        → get_or (set parts b v) j d ≡ grown k (map (run_codes k codes) (cond t (r ∷ []) [])) (get_or parts j d)
+    go j d l true e =
+        let same : b ≡ j = at ∙ grind (arith, nat_tests) in
+        let here : get_or (set parts b v) b d ≡ grown k (run_codes k codes r ∷ []) (get_or parts b d) = get_or-set_same parts b v d inside ∙ is d in
+        ap (λ i. get_or (set parts b v) i d) (sym same) ∙ here ∙ ap (λ i. grown k (run_codes k codes r ∷ []) (get_or parts i d)) same
+    go j d l false e =
+        let other : r.signature % n ≢ j = grind (arith, nat_tests) in
+        let ne : j ≢ b = λ s. other (sym at ∙ sym s) in
+        get_or-set_other parts b j v d ne ∙ sym (grown_none k (get_or parts j d) (are.most j d (omega (arith, are.count))))
+
+pub runs_more : (k n j : ℕ) (codes : List ℕ) (rs : List Run) (i : ℕ) (r : Run) → i < length rs → r ≡ get_or rs i r
+    → bin_runs k n j codes (take i rs) ++ bin_runs k n j codes (r ∷ []) ≡ bin_runs k n j codes (take (i + 1) rs)
+runs_more k n j codes rs i r inside is =
+    let test : Run → Bool = λ x. nat_eq (x.signature % n) j in
+    sym (map-append (run_codes k codes) (filter test (take i rs)) (filter test (r ∷ [])))
+    ∙ ap (map (run_codes k codes)) (ap (λ (x : Run). filter test (take i rs) ++ cond (test x) (x ∷ []) []) is ∙ sym (filter_more test rs i r inside))
+
+-- ---- segment after segment
+
+pub cuts_append : (k m : ℕ) (ss ts : List Stretch) (cs ds : List (List Run)) → AreCuts k m ss cs → AreCuts k m ts ds → AreCuts k m (ss ++ ts) (cs ++ ds)
+cuts_append k m [] ts [] ds h g = g
+cuts_append k m [] ts (c ∷ cs) ds h g = absurd h
+cuts_append k m (s ∷ ss) ts [] ds h g = absurd h
+cuts_append k m (s ∷ ss) ts (c ∷ cs) ds h g = (h.0, cuts_append k m ss ts cs ds h.1 g)
+
+pub super_kmers_append : (k m n j : ℕ) (ss ts : List Stretch) (cs ds : List (List Run)) → AreCuts k m ss cs
+    → bin_super_kmers k n j ss cs ++ bin_super_kmers k n j ts ds ≡ bin_super_kmers k n j (ss ++ ts) (cs ++ ds)
+super_kmers_append k m n j [] ts [] ds h = refl
+super_kmers_append k m n j [] ts (c ∷ cs) ds h = absurd h
+super_kmers_append k m n j (s ∷ ss) ts [] ds h = absurd h
+super_kmers_append k m n j (s ∷ ss) ts (c ∷ cs) ds h =
+    append_assoc (bin_runs k n j s.codes c) (bin_super_kmers k n j ss cs) (bin_super_kmers k n j ts ds)
+    ∙ ap (λ (t : List (List ℕ)). bin_runs k n j s.codes c ++ t) (super_kmers_append k m n j ss ts cs ds h.1)
+
+-- ---- a run is a record of its bin
+
+pub run_words : (k m : ℕ) (codes x : List ℕ) (r : Run) → 1 ≤ k → IsRunOf k m codes r → x ≡ run_codes k codes r → r.words ≡ length (windows k x)
+run_words k m codes x r some h is = omega (arith, length_windows k x, ap length is, length_window (r.words + (k - 1)) r.start codes h.inside)
+
+pub run_spelled : (k m : ℕ) (codes x : List ℕ) (r : Run) → 1 ≤ k → IsRunOf k m codes r → All (λ c. c < 4) codes → x ≡ run_codes k codes r → IsSpelled k x
+run_spelled k m codes x r some h small is =
+    let long = length_window (r.words + (k - 1)) r.start codes h.inside in
+    let P : ℕ → Type 0 = λ c. c < 4 in
+    record {
+      least = omega (arith, ap length is, long, h.some);
+      most = omega (arith, ap length is, long, h.most);
+      codes = recursion_from_All P x (subst (All P) (sym is) (All-take P (r.words + (k - 1)) (drop r.start codes) (All-drop P r.start codes small)));
+    }
+
+pub run_belongs : (k m n b : ℕ) (codes x : List ℕ) (r : Run) → IsRunOf k m codes r → b ≡ r.signature % n → x ≡ run_codes k codes r → All (λ w. signature_of m w % n ≡ b) (windows k x)
+run_belongs k m n b codes x r h at is =
+    let one : All (λ w. signature_of m w ≡ r.signature) (windows k x) = subst (λ (t : List ℕ). All (λ w. signature_of m w ≡ r.signature) (windows k t)) (sym is) h.one in
+    λ i d l. ap (λ s. s % n) (one i d l) ∙ sym at
+
+pub slice_of_run : (k kr : ℕ) (codes : List ℕ) (r : Run) → kr ≡ k → take (r.start + (r.words + (kr - 1)) - r.start) (drop r.start codes) ≡ run_codes k codes r
+slice_of_run k kr codes r is =
+    let count : r.start + (r.words + (kr - 1)) - r.start ≡ r.words + (k - 1) = omega arith in
+    ap (λ n. take n (drop r.start codes)) count

@@ -1,0 +1,67 @@
+-- Records, byte by byte.
+use Rattle.std.proofs.Common.{◌≡◌, ℕ, zero, suc, ◌+◌, ◌*◌, ◌-◌, ◌<◌, ◌≤◌, List, [], ◌∷◌, ◌++◌, length, get_or, take, drop, set, refl, sym, ap, ◌∙◌, arith}
+use Rattle.std.proofs.lemmas.List.{get_or-drop, take_more, take_more_set, take_all}
+use Rattle.std.proofs.lemmas.List.Elements.{recursion_from_All, All-from_recursion}
+use Rattle.kmc_base.specs.Packs.{AreCodes}
+use Rattle.kmc_base.specs.declared.kmer.TheConstants.{MAX_K}
+use Rattle.kmc_split.specs.SuperKmer.{IsSuperKmer}
+use Rattle.kmc_record.specs.Record.{packed_codes, spelling, IsSpelled, size_of}
+use Rattle.kmc_record.proofs.Spelled.{length_packed}
+
+pub code_small : (w : List ℕ) (i : ℕ) → AreCodes w → get_or w i 0 < 4
+code_small [] i h = omega arith
+code_small (c ∷ w) zero h = h.0
+code_small (c ∷ w) (suc i) h = code_small w i h.1
+
+pub super_kmer_spelled : (k : ℕ) (w : List ℕ) → IsSuperKmer k w → IsSpelled k w
+super_kmer_spelled k w h = record { least = h.long; most = h.most; codes = recursion_from_All (λ (c : ℕ). c < 4) w h.codes }
+
+pub spelled_super_kmer : (k : ℕ) (w : List ℕ) → 1 ≤ k → k ≤ MAX_K → IsSpelled k w → IsSuperKmer k w
+spelled_super_kmer k w some limit h = record { some = some; limit = limit; long = h.least; most = h.most; codes = All-from_recursion (λ (c : ℕ). c < 4) w h.codes }
+
+head_byte : (w : List ℕ) → 0 < length w → get_or (packed_codes w) 0 0 ≡ get_or w 0 0 * 64 + get_or w 1 0 * 16 + get_or w 2 0 * 4 + get_or w 3 0
+head_byte [] h = absurd (omega arith)
+head_byte (a ∷ []) h = omega arith
+head_byte (a ∷ b ∷ []) h = omega arith
+head_byte (a ∷ b ∷ c ∷ []) h = omega arith
+head_byte (a ∷ b ∷ c ∷ d ∷ w) h = refl
+
+length_dropped : (i : ℕ) (w : List ℕ) → i < length w → 0 < length (drop i w)
+length_dropped zero w h = h
+length_dropped (suc i) [] h = absurd (omega arith)
+length_dropped (suc i) (c ∷ w) h = length_dropped i w (omega arith)
+
+pub byte_is : (w : List ℕ) (i a b c d : ℕ) → i < length w → a ≡ get_or w i 0 → b ≡ get_or w (i + 1) 0 → c ≡ get_or w (i + 2) 0 → d ≡ get_or w (i + 3) 0
+    → a * 64 + b * 16 + c * 4 + d ≡ get_or (packed_codes (drop i w)) 0 0
+byte_is w i a b c d h ea eb ec ed =
+    let none : i + 0 ≡ i = omega arith in
+    omega (arith, head_byte (drop i w) (length_dropped i w h), ea, eb, ec, ed, get_or-drop i w 0 0 ∙ ap (λ n. get_or w n 0) none, get_or-drop i w 1 0, get_or-drop i w 2 0, get_or-drop i w 3 0)
+
+pub byte_place : (w : List ℕ) (j : ℕ) → 4 * j < length w → get_or (packed_codes w) j 0 ≡ get_or (packed_codes (drop (4 * j) w)) 0 0
+byte_place w zero h = refl
+byte_place [] (suc j) h = absurd (omega arith)
+byte_place (a ∷ []) (suc j) h = absurd (omega arith)
+byte_place (a ∷ b ∷ []) (suc j) h = absurd (omega arith)
+byte_place (a ∷ b ∷ c ∷ []) (suc j) h = absurd (omega arith)
+byte_place (a ∷ b ∷ c ∷ d ∷ w) (suc j) h =
+    let e : 4 * suc j ≡ suc (suc (suc (suc (4 * j)))) = omega arith in
+    rw e (byte_place w j (omega arith))
+
+-- the bytes written so far are those of the record
+pub written_more : (k : ℕ) (w bytes : List ℕ) (j v : ℕ) → 4 * j < length w → 1 + size_of (length w) ≤ length bytes → v ≡ get_or (packed_codes (drop (4 * j) w)) 0 0
+    → take (1 + j) bytes ≡ take (1 + j) (spelling k w) → take (1 + (j + 1)) (set bytes (1 + j) v) ≡ take (1 + (j + 1)) (spelling k w)
+written_more k w bytes j v inside long is before =
+    let up : 1 + (j + 1) ≡ (1 + j) + 1 = omega arith in
+    let place : get_or (spelling k w) (1 + j) 0 ≡ v =
+    (let e : 1 + j ≡ suc j = omega arith in ap (λ n. get_or (spelling k w) n 0) e) ∙ byte_place w j inside ∙ sym is in
+    let back = sym place in
+    ap (λ n. take n (set bytes (1 + j) v)) up ∙ take_more_set bytes (1 + j) v (omega arith)
+    ∙ (λ i. before i ++ back i ∷ [])
+    ∙ sym (take_more (spelling k w) (1 + j) 0 (omega (arith, length_packed w))) ∙ ap (λ n. take n (spelling k w)) (sym up)
+
+pub written_first : (k v : ℕ) (w bytes : List ℕ) → 0 < length bytes → v ≡ length w - k → take (1 + 0) (set bytes 0 v) ≡ take (1 + 0) (spelling k w)
+written_first k v w [] h e = absurd (omega arith)
+written_first k v w (b ∷ bytes) h e = ap (λ x. x ∷ []) e
+
+pub written_all : (k n : ℕ) (w bytes : List ℕ) → n ≡ 1 + size_of (length w) → take n bytes ≡ take n (spelling k w) → take n bytes ≡ spelling k w
+written_all k n w bytes e h = h ∙ take_all n (spelling k w) (omega (arith, length_packed w))

@@ -1,0 +1,30 @@
+use Rattle.std.proofs.Common.{◌≡◌, ◌+◌, ◌-◌, ◌/◌, ◌++◌, [], ◌∷◌, length, map, take, drop, ap, ◌∙◌, arith, length-drop}
+use Rattle.std.proofs.lemmas.List.{take_rest}
+use Rattle.kmc_base.specs.Packed.{pack}
+use Rattle.kmc_base.specs.Strands.{keys}
+use Rattle.kmc_record.specs.Record.{codes_in}
+use Rattle.kmc_record.proofs.Spelled.{bytes_each}
+use Rattle.kmc_record.proofs.Whole.{next_body, next_keys, first_codes}
+use Rattle.kmc_record.proofs.body.push_body.Goals as goal
+
+pub loop-offset-preserved : goal.loop-offset-preserved
+loop-offset-preserved g c =
+    let num = g.W.Word.number in
+    let body = c.args.body.now in
+    let offset = c.loop-offset.offset in
+    let n = c.in-Ok.symbols in
+    let size = (n + 3) / 4 in
+    let rest = take (length body - offset) (drop offset body) in
+    let is : rest ≡ drop offset body = take_rest body offset in
+    let long : length rest ≡ length body - offset = ap length is ∙ length-drop offset body in
+    let h = c.loop-offset.invariant.records in
+    let same : 1 + size - 1 ≡ size = omega arith in
+    record {
+      inside = omega (arith, long, c.in-Ok.ensures.inside);
+      records = (
+        h.0 ++ first_codes n rest ∷ [],
+        next_body c.args.k n offset _ h.0 body rest (bytes_each body (λ i. omega (arith, c.type_inv.body i))) is h.1 (λ _. offset + (1 + size)) c.in-Ok.ensures.count c.in-Ok.ensures.inside c.in-Ok.ensures.rest,
+        next_keys c.args.strands c.args.k h.0 (first_codes n rest) _ _ (map num c.args.words.now.items) h.2
+            (c.in-Ok-push_record.ensures ∙ ap (λ m. map num c.loop-offset.words.items ++ map pack (keys c.args.strands c.args.k (take n (codes_in (take m (drop 1 rest)))))) same),
+      );
+    }

@@ -1,0 +1,9 @@
+pub mod Record
+pub mod Faults
+pub mod RecordWords
+pub mod Refusals
+pub mod Laws
+pub mod Shapes
+pub mod Parts
+pub mod Growing
+pub mod Bodies

@@ -1,0 +1,19 @@
+-- Why no record was read.
+use Rattle.std.specs.Prelude.{◌≡◌, ℕ, List, ◌++◌}
+use Rattle.kmc_record.specs.Record.{spelling, IsSpelled}
+use Rattle.kmc_record.specs.Faults.{IsShort, IsPadded}
+use Rattle.kmc_record.specs.declared.fault.RecordError.{RecordError}
+use Rattle.kmc_record.specs.declared.fault.RecordError.TheVariants.{Short, Padding, Memory}
+
+-- the bytes are the record of a super-k-mer and a rest
+pub record BeginsRecord (k : ℕ) (bytes : List ℕ) : Type 0 where
+  pub codes : List ℕ
+  pub rest : List ℕ
+  pub spelled : IsSpelled k codes
+  pub is : bytes ≡ spelling k codes ++ rest
+
+-- when each refusal comes
+abbrev pub IsRefused : ℕ → RecordError → List ℕ → Type 0
+IsRefused k Short bytes = IsShort k bytes
+IsRefused k Padding bytes = IsPadded k bytes
+IsRefused k Memory bytes = BeginsRecord k bytes

@@ -1,0 +1,44 @@
+//! The words of a body.
+ghost use Rattle.std.specs.Prelude.{◌≡◌, ℕ, ◌<◌, ◌≤◌, ◌++◌, List, map, OnOk, IsErrOf};
+ghost use Rattle.kmc_base.specs.Packed.{pack};
+ghost use Rattle.kmc_record.specs.Record.{IsBodyOf};
+ghost use Rattle.kmc_record.specs.RecordWords.{record_keys};
+ghost use Rattle.kmc_record.specs.Faults.{IsFirstFault};
+ghost use Rattle.kmc_record.specs.declared.fault.RecordFault.{RecordFault};
+
+use crate::fault::BodyError;
+use crate::record::{first_symbols, push_record};
+use kmc_base::kmer::MAX_K;
+use kmc_base::strands::Strands;
+use kmc_base::word::Word;
+
+/// Appends the packed keys of all words of a body, record by record, in the order of their places. The walk
+/// makes no super-k-mer: it rolls a window along the symbols where they lie.
+pub fn push_body<W: Word + Drop>(
+    words: &mut Vec<W>,
+    body: &[u8],
+    k: usize,
+    strands: Strands,
+) -> Result<(), BodyError>
+    requires some { 1 ≤ k }
+    requires most { k ≤ W.most }
+    requires limit { k ≤ MAX_K }
+    ensures ok { OnOk result ((ss : List (List ℕ)) × IsBodyOf k ss body.now × (map W.number words.new.items ≡ map W.number words.old.items ++ map pack (record_keys strands k ss))) }
+    ensures damaged { (fault : RecordFault) (offset : ℕ) → IsErrOf result (BodyError.Damaged fault offset) → IsFirstFault k fault offset body.now }
+{
+    let mut offset = 0;
+    while offset < body.len() {
+        let rest = &body[offset..];
+        let symbols = match first_symbols(rest, k) {
+            Ok(symbols) => symbols,
+            Err(fault) => return Err(BodyError::Damaged(fault, offset)),
+        };
+        let size = (symbols + 3) / 4;
+        let codes = &rest[1..1 + size];
+        match push_record(words, codes, symbols, k, strands) {
+            Ok(()) => offset += 1 + size,
+            Err(_) => return Err(BodyError::Memory),
+        }
+    }
+    Ok(())
+}

@@ -1,0 +1,75 @@
+//! How reads are cut into parts.
+ghost use Rattle.std.specs.Prelude.{◌≡◌, ℕ, ◌≤◌, min, MatchOption};
+ghost use Rattle.kmc_record.specs.Shapes.{Sizes, AreWithinLimits, IsShape};
+
+use kmc_base::kmer::MAX_K;
+use kmc_split::signature::MAX_M;
+use std::marker::Model;
+
+/// The least and the most that may be asked for as m, and the most bins.
+const LEAST_P: usize = 5;
+
+const MOST_P: usize = MAX_M;
+
+const MOST_BINS: usize = 2000;
+
+/// The number k of symbols of a word, the number m of symbols of the m-mers that signatures are made of, and the
+/// number n of bins.
+#[derive(Clone, Copy)]
+pub struct Shape {
+    k: usize,
+    m: usize,
+    n: usize,
+}
+
+impl Model for Shape {
+    ghost use Rattle.kmc_record.specs.Shapes.{Sizes, IsShape};
+
+    ghost Value = { Sizes };
+
+    ghost view = { λ a. record { k = a.k; m = a.m; n = a.n } };
+
+    ghost invariant = { λ a. IsShape a.k a.m a.n };
+
+    ghost inverse = { λ s. record { k = s.k; m = s.m; n = s.n } };
+}
+
+impl Shape {
+    /// The shape for words of 1 to 64 symbols, m-mers of p symbols, 5 to 11, or of k where that is less, and 1 to 2000
+    /// bins; none beyond these limits.
+    pub fn new(k: usize, p: usize, n: usize) -> Option<Shape>
+        ensures { MatchOption result (¬ (AreWithinLimits k p n)) (λ s. (s.k ≡ k) × (s.m ≡ min p k) × (s.n ≡ n) × AreWithinLimits k p n) }
+    {
+        let words = 1 <= k && k <= MAX_K;
+        let mmers = LEAST_P <= p && p <= MOST_P;
+        if words && mmers && 1 <= n && n <= MOST_BINS {
+            Some(Shape { k, m: p.min(k), n })
+        } else {
+            None
+        }
+    }
+
+    /// How many symbols a word has.
+    pub fn k(&self) -> usize
+        ensures is { result ≡ self.now.k }
+        ensures shape { IsShape self.now.k self.now.m self.now.n }
+    {
+        self.k
+    }
+
+    /// How many symbols the m-mers have that signatures are made of.
+    pub fn m(&self) -> usize
+        ensures is { result ≡ self.now.m }
+        ensures shape { IsShape self.now.k self.now.m self.now.n }
+    {
+        self.m
+    }
+
+    /// How many bins there are.
+    pub fn n(&self) -> usize
+        ensures is { result ≡ self.now.n }
+        ensures shape { IsShape self.now.k self.now.m self.now.n }
+    {
+        self.n
+    }
+}
