@@ -81,7 +81,7 @@ module _ {T : Type 0} where
       cell_of : (n : ℕ) → CellOk c head l.sent l.held (n % c) (mark (n % c)) (home (n % c)) (l.cells (n % c))
       cell_of n = ok.each_cell (n % c) (mod-lt n pos)
 
-      -- S1: the mark of the next part's slot shows that it is free
+      -- the mark of the next part's slot shows that it is free
       pub free_found : l.held ≡ false → mark (len % c) ≡ 2 * (len / c) → (l.cells (len % c) ≡ (len, free)) × (home (len % c) ≡ some (some None))
       free_found empty found = let i : ℕ = len % c in let k = cell_of len in let q : ℕ = (l.cells i).0 in let u : ℕ = up (l.cells i).1 in let e = shows head l.sent (mark i) (home i) q (l.cells i).1 k.phase in let lt = at_most_one (l.cells i).1 in
           let x : ℕ = q / c in let y : ℕ = len / c in let e' : 2 * y ≡ 2 * x + u = sym found ∙ e in let is : q ≡ len = one_number c len q k.lies (let g : x ≡ y = omega arith in g) in
@@ -124,14 +124,14 @@ module _ {T : Type 0} where
         writes = writes;
       }
 
-      -- S1
+      -- a free slot is claimed
       pub lane_holds : (home' : ℕ → maybe.Option (Home T)) → l.cells (len % c) ≡ (len, free) → mark (len % c) ≡ 2 * (len / c) → ((j : ℕ) → j < c → j ≢ len % c → home' j ≡ home j)
           → LaneOk c (lane_of l.sent true l.done (put l.cells (len % c) (len, writing))) head ending mark home'
       lane_holds home' at found eo = let i : ℕ = len % c in let k = subst (CellOk c head l.sent l.held i (mark i) (home i)) at (cell_of len) in
           lane_moves l.sent true l.done head ending mark home' i (len, writing) ok.ended (le_refl head) (le_refl len) (λ p x e. e) ok.behind ok.within ok.limit (λ q n e. e) (λ q n e. e) (λ q n e. e) (λ q n e h. refl) (λ j _ _. refl) eo
           record { lies = refl; freed = k.freed; waits = k.waits; phase = (found, refl); in_hand = λ _. refl } (λ _. put_here l.cells i (len, writing))
 
-      -- S2
+      -- a part is published
       pub lane_puts : (x : T) (mark' : ℕ → ℕ) (home' : ℕ → maybe.Option (Home T)) → l.held ≡ true → l.done ≡ false → len < 4294967295 → mark' (len % c) ≡ 2 * (len / c) + 1 → home' (len % c) ≡ some (some (Some x))
           → ((j : ℕ) → j < c → j ≢ len % c → mark' j ≡ mark j) → ((j : ℕ) → j < c → j ≢ len % c → home' j ≡ home j) → LaneOk c (lane_of (l.sent ++ x ∷ []) false l.done (put l.cells (len % c) (len, full))) head ending mark' home'
       lane_puts x mark' home' held going small em₀ eo₀ em eo = let i : ℕ = len % c in let k = subst (CellOk c head l.sent l.held i (mark i) (home i)) (ok.writes held) (cell_of len) in
@@ -140,11 +140,11 @@ module _ {T : Type 0} where
           (omega arith) (omega arith) (omega arith) (λ q other le. let ne : q ≢ n = λ e. other (ap (λ (z : ℕ). z % c) e) in omega arith) (λ q _ le. le) (λ q other e. absurd (other (ap (λ (z : ℕ). z % c) e))) (λ q other e _. absurd (other (ap (λ (z : ℕ). z % c) e))) em eo
           record { lies = refl; freed = k.freed; waits = (let g : n' ≤ n + c = omega arith in g); phase = (em₀, ok.behind, (let g : n < n' = omega arith in g), (x, at_last l.sent x len refl, eo₀)); in_hand = λ e. let e' : full ≡ writing = e in cc } (λ e. let e' : false ≡ true = e in cc)
 
-      -- S3
+      -- the lane is closed
       pub lane_ends : (ending' : ℕ) → ending' ≡ suc len → LaneOk c (lane_of l.sent l.held true l.cells) head ending' mark home
       lane_ends ending' e = record { ended = e; behind = ok.behind; within = ok.within; limit = ok.limit; each_cell = ok.each_cell; writes = ok.writes }
 
-      -- S5: the mark of the slot of the number h shows that the part was put
+      -- the mark of the slot of the number h shows that the part was put
       pub ready_found : (h : ℕ) → h ≤ head → mark (h % c) ≡ 2 * (h / c) + 1 → h < len
       ready_found h le found = let i : ℕ = h % c in let k = cell_of h in let q : ℕ = (l.cells i).0 in let u : ℕ = up (l.cells i).1 in let e = shows head l.sent (mark i) (home i) q (l.cells i).1 k.phase in let lt = at_most_one (l.cells i).1 in
           let x : ℕ = q / c in let y : ℕ = h / c in let e' : 2 * y + 1 ≡ 2 * x + u = sym found ∙ e in let is : q ≡ h = one_number c h q k.lies (let g : x ≡ y = omega arith in g) in
@@ -159,7 +159,7 @@ module _ {T : Type 0} where
       abbrev pub IsFull : ℕ → Type 0
       IsFull h = (l.cells (h % c) ≡ (h, full)) × (mark (h % c) ≡ 2 * (h / c) + 1) × ((x : T) × (get_elem? l.sent h ≡ some x) × (home (h % c) ≡ some (some (Some x))))
 
-      -- S6: the part at the head is at home
+      -- the part at the head is at home
       pub full_found : (h : ℕ) → head ≡ h → h < len → IsFull h
       full_found h at lt = let i : ℕ = h % c in let k = cell_of h in let q : ℕ = (l.cells i).0 in let f : q < head + c = k.freed in let w : len ≤ q + c = k.waits in
           let is : q ≡ h = near_one c h q (omega arith) (omega arith) k.lies in go (l.cells i) refl is k.phase
@@ -181,7 +181,7 @@ module _ {T : Type 0} where
           clash : {A : Type 0} → l.held ≡ true → h % c ≡ len % c → l.cells (h % c) ≡ (h, full) → A
           clash e is fl = let p : full ≡ writing = ap (λ (x : Cell). x.1) (sym fl ∙ ap l.cells is ∙ ok.writes e) in cc
 
-      -- S7
+      -- the slot is released
       pub lane_frees : (h r : ℕ) (mark' : ℕ → ℕ) (home' : ℕ → maybe.Option (Home T)) → l.cells (h % c) ≡ (h, reading r) → mark' (h % c) ≡ 2 * (h / c) + 2 → home' (h % c) ≡ some (some None)
           → ((j : ℕ) → j < c → j ≢ h % c → mark' j ≡ mark j) → ((j : ℕ) → j < c → j ≢ h % c → home' j ≡ home j) → LaneOk c (lane_of l.sent l.held l.done (put l.cells (h % c) (h + c, free))) head ending mark' home'
       lane_frees h r mark' home' at em₀ eo₀ em eo = let i : ℕ = h % c in let k = subst (CellOk c head l.sent l.held i (mark i) (home i)) at (cell_of h) in let u = next_use c pos h in let a : ℕ = (h + c) / c in let b : ℕ = h / c in let u' : a ≡ b + 1 = u in let below : h < head = k.phase.1 in
