@@ -1,4 +1,6 @@
-//! Worked rows, both directions.
+//! Worked records and parts, both directions, and a table from an independent program.
+mod rows;
+
 use crate::decode::decode;
 use crate::fault::{PartError, RecordError, RecordFault};
 use crate::laws;
@@ -7,7 +9,9 @@ use crate::parts::{Chunk, parts_of};
 use crate::shape::Shape;
 use crate::spell::encode;
 use kmc_base::stretch::segments;
-use kmc_split::super_kmer::SuperKmer;
+use kmc_split::signature::signature;
+use kmc_split::super_kmer::{SuperKmer, super_kmers};
+use rows::ROWS;
 use std::alloc::{AllocError, Global};
 use std::process::Abort;
 use std::test::Fail;
@@ -98,31 +102,74 @@ fn m_is_the_lesser_of_p_and_k(rt: HostRuntime) {
     assert!(rt; Shape::new(25, 9, 2001).is_none());
 }
 
-/// The parts of the reads, as bin, words and body of each.
-fn parts_text(
-    rt: &impl Abort,
-    alloc: Global,
-    reads: &[&str],
-    k: usize,
-    p: usize,
-) -> Result<String, Fail> {
-    let shape = Shape::new(k, p, 7).expect(rt, "a shape");
+/// The chunk of these reads, behind each of which stands a comma.
+fn chunk_of(alloc: Global, reads: &str) -> Result<Chunk, AllocError> {
     let mut chunk = Chunk {
         number: 3,
         reads: Vec::new(alloc),
     };
-    for read in reads {
+    for read in reads.split(',') {
         chunk.reads.push(read.as_bytes().to_vec(alloc)?)?;
     }
+    Ok(chunk)
+}
+
+/// A part as its bin, its number of words and its body.
+fn push_part(
+    text: &mut String,
+    alloc: Global,
+    bin: usize,
+    words: u64,
+    body: &[u8],
+) -> Result<(), Fail> {
+    text.push_str(format!(in alloc; "{bin} {words} ")?.as_str())?;
+    for byte in body {
+        text.push_str(format!(in alloc; "{:02x}", *byte)?.as_str())?;
+    }
+    text.push(';')?;
+    Ok(())
+}
+
+/// The parts of the reads.
+fn parts_text(rt: &impl Abort, alloc: Global, reads: &str, shape: Shape) -> Result<String, Fail> {
+    let chunk = chunk_of(alloc, reads)?;
     let mut text = String::new(alloc);
     for part in &parts_of(alloc, &chunk, shape)? {
         assert_eq!(rt; part.chunk(), 3);
-        assert_eq!(rt; part.shape().k(), k);
-        text.push_str(format!(in alloc; "{}:{}:", part.bin(), part.words())?.as_str())?;
-        for byte in part.body() {
-            text.push_str(format!(in alloc; "{:02X}", *byte)?.as_str())?;
+        assert_eq!(rt; part.shape().k(), shape.k());
+        push_part(&mut text, alloc, part.bin(), part.words(), part.body())?;
+    }
+    Ok(text)
+}
+
+/// The same by a plain body: super-k-mer by super-k-mer, each by the signature of its first word.
+fn plain_text(rt: &impl Abort, alloc: Global, reads: &str, shape: Shape) -> Result<String, Fail> {
+    let (k, m, n) = (shape.k(), shape.m(), shape.n());
+    let mut bodies = Vec::new(alloc);
+    let mut counts = Vec::new(alloc);
+    for _ in 0..n {
+        bodies.push(Vec::new(alloc))?;
+        counts.push(0_u64)?;
+    }
+    for read in &chunk_of(alloc, reads)?.reads {
+        for segment in &segments(alloc, read, k)? {
+            assert!(rt; segment.codes.len() >= k);
+            for piece in &super_kmers(alloc, segment, k, m)? {
+                let words = piece.words();
+                let first = piece.word_at(0);
+                assert!(rt; first.k() >= m);
+                let bin = signature(&first, m).bin(n);
+                assert!(rt; bin < bodies.len() && bin < counts.len());
+                encode(piece, &mut bodies[bin])?;
+                counts[bin] = counts[bin].saturating_add(words as u64);
+            }
         }
-        text.push(' ')?;
+    }
+    let mut text = String::new(alloc);
+    for (bin, (body, count)) in bodies.iter().zip(counts.iter()).enumerate() {
+        if *count > 0 {
+            push_part(&mut text, alloc, bin, *count, body)?;
+        }
     }
     Ok(text)
 }
@@ -130,12 +177,27 @@ fn parts_text(
 #[test]
 fn gives_each_bin_its_records(rt: HostRuntime) -> Result<(), Fail> {
     let alloc = rt.alloc();
-    let four = parts_text(&rt, alloc, &["ACGTACGT"], 4, 9)?;
-    assert_eq!(rt; four.as_str(), "2:1:00B1 3:2:006C00C6 6:2:001B001B ");
-    let seven = parts_text(&rt, alloc, &["AACCGTTAC"], 7, 5)?;
-    assert_eq!(rt; seven.as_str(), "1:1:0005BC 5:2:0116F1 ");
-    let none = parts_text(&rt, alloc, &["NNNN", "ACG"], 4, 9)?;
-    assert_eq!(rt; none.as_str(), "");
+    let four = Shape::new(4, 9, 7).expect(&rt, "a shape");
+    let seven = Shape::new(7, 5, 7).expect(&rt, "a shape");
+    let made = parts_text(&rt, alloc, "ACGTACGT", four)?;
+    assert_eq!(rt; made.as_str(), "2 1 00b1;3 2 006c00c6;6 2 001b001b;");
+    let made = parts_text(&rt, alloc, "AACCGTTAC", seven)?;
+    assert_eq!(rt; made.as_str(), "1 1 0005bc;5 2 0116f1;");
+    let made = parts_text(&rt, alloc, "NNNN,ACG", four)?;
+    assert_eq!(rt; made.as_str(), "");
+    Ok(())
+}
+
+#[test]
+fn agrees_with_the_model_and_with_the_plain_body(rt: HostRuntime) -> Result<(), Fail> {
+    let alloc = rt.alloc();
+    for (k, p, n, reads, want) in &ROWS {
+        let shape = Shape::new(*k, *p, *n).expect(&rt, "a shape");
+        let made = parts_text(&rt, alloc, reads, shape)?;
+        assert_eq!(rt; made.as_str(), *want, "{reads} at {k}, {p} and {n}");
+        let plain = plain_text(&rt, alloc, reads, shape)?;
+        assert_eq!(rt; plain.as_str(), *want, "{reads} at {k}, {p} and {n}");
+    }
     Ok(())
 }
 
