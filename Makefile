@@ -7,9 +7,9 @@ all: count
 
 $(KMC): crates.txt $(shell find crates -path '*/out' -prune -o -type f -name '*.rt' -print -o -type f -name '*.antt' -print)
 	@echo "make: proving and building the program (some minutes the first time)"
-	@cd crates/kmc_tool && rt run < stdin > /dev/null 2> out.log || { cat out.log; rm -f out.log; exit 1; }
-	@rm -f crates/kmc_tool/out.log
-	@cp crates/kmc_tool/out/kmc_tool $(KMC)
+	@cd crates/kmc && rt run < stdin > /dev/null 2> out.log || { cat out.log; rm -f out.log; exit 1; }
+	@rm -f crates/kmc/out.log
+	@cp crates/kmc/out/kmc $(KMC)
 
 count: $(KMC)
 	@$(KMC) < examples/reads.fastq > examples/.counted

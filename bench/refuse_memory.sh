@@ -3,7 +3,7 @@
 # wanting and write nothing, or write the whole dump. While the arguments are read, a refusal is answered as
 # arguments that cannot be read. Takes some seconds for each allocation.
 set -u
-cd "$(dirname "$0")/../crates/kmc_tool" || exit 1
+cd "$(dirname "$0")/../crates/kmc" || exit 1
 out=$(mktemp) && err=$(mktemp) || exit 1
 trap 'rm -f "$out" "$err"' EXIT
 reading_arguments=yes

@@ -1,8 +1,6 @@
 -- The options of the command line: their names, and which numbers they take.
 use Rattle.std.specs.Prelude.{ℕ, List, [], ◌∷◌, ◌≤◌, ◌^◌, codes}
 use Rattle.kmc_tool.specs.declared.setting.Bounds.{Bounds}
-use Rattle.kmc_tool.specs.declared.setting.Flag.{Flag}
-use Rattle.kmc_tool.specs.declared.setting.Flag.TheVariants.{Fa, Fq, Fm, B}
 use Rattle.kmc_tool.specs.declared.setting.Setting.{Setting}
 use Rattle.kmc_tool.specs.declared.setting.Setting.TheVariants.{K, P, N, Ci, Cx, Cs, Sp, Sr}
 
@@ -36,13 +34,3 @@ bounds_of Sr = record { least = 1; most = 16; default = 2 }
 -- the option takes this number
 abbrev pub IsFor : Setting → ℕ → Type 0
 IsFor s n = ((bounds_of s).least ≤ n) × (n ≤ (bounds_of s).most)
-
--- the flags
-abbrev pub flags : List Flag
-flags = Fa ∷ Fq ∷ Fm ∷ B ∷ []
-
-abbrev pub flag_name : Flag → List ℕ
-flag_name Fa = codes "fa"
-flag_name Fq = codes "fq"
-flag_name Fm = codes "fm"
-flag_name B = codes "b"

@@ -33,19 +33,6 @@ pub enum Setting {
     Sr,
 }
 
-/// An option of the command line that stands or does not.
-#[derive(Clone, Copy, Debug, PartialEq, Eq)]
-pub enum Flag {
-    /// The input is FASTA.
-    Fa,
-    /// The input is FASTQ.
-    Fq,
-    /// The input is FASTA whose sequences may take several lines, which is read as [`Flag::Fa`].
-    Fm,
-    /// Words are counted as read, and not together with their reverse complements.
-    B,
-}
-
 // 2^63: the limits of counts leave the upper half of a `u64` free for "more than can be told".
 const GREATEST_COUNT: u64 = 1 << 63;
 
@@ -143,25 +130,6 @@ impl Setting {
     {
         let bounds = self.bounds();
         bounds.least <= number && number <= bounds.most
-    }
-}
-
-impl Flag {
-    ghost use Rattle.kmc_tool.specs.Settings.{flag_name};
-
-    /// All of them.
-    pub const ALL: [Flag; 4] = [Flag::Fa, Flag::Fq, Flag::Fm, Flag::B];
-
-    /// The flag's name without its hyphens.
-    pub fn name(self) -> &'static str
-        ensures { result.now ≡ flag_name self }
-    {
-        match self {
-            Flag::Fa => "fa",
-            Flag::Fq => "fq",
-            Flag::Fm => "fm",
-            Flag::B => "b",
-        }
     }
 }
 

@@ -1,0 +1,52 @@
+//! The command line: KMC's glued options put into long form, and the settings that they give.
+ghost use Rattle.std.specs.Prelude.{◌≡◌, IfErr, IfOk, MatchResult, None, map, string_bytes, true};
+ghost use Rattle.kmc.specs.CommandLine.{found};
+ghost use Rattle.kmc.specs.Glued.{long_forms};
+ghost use Rattle.kmc.specs.Options.{AreGiven, Explains, first_out_of_range, is_taken};
+ghost use Rattle.kmc.specs.declared.options.error.ParamsError.TheVariants.{Memory};
+
+mod command;
+pub mod error;
+mod glued;
+mod number;
+mod reading;
+mod settings;
+
+use kmc_tool::params::Params;
+use command::parse;
+use error::ParamsError;
+use glued::long_form;
+use settings::given;
+use std::alloc::{AllocError, Global};
+
+/// The command line in long form, word by word: KMC's `-k31` becomes `--k=31`, its `-fa` becomes
+/// `--fa`, and every word that is no glued option or flag stays. Fails only for want of memory.
+pub fn words(alloc: Global, argv: Vec<String>) -> Result<Vec<String>, AllocError>
+    ensures { IfOk result (λ r.
+        map string_bytes r.items ≡ long_forms (map string_bytes argv.items)) }
+{
+    let mut words = Vec::with_capacity(alloc, argv.len())?;
+    for word in argv {
+        words.push(long_form(alloc, word)?)?;
+    }
+    Ok(words)
+}
+
+/// The settings that a command line in long form gives; an option that it leaves out has its
+/// default. The refusals are judged in this order: words that the command does not take, an option
+/// that is given twice or without its value, more than one format (Usage); then the first of k, p,
+/// n, ci, cx, cs, sp, sr whose value is no number or out of its range (OutOfRange). A number is one
+/// or more ASCII digits.
+pub fn params(alloc: Global, words: Vec<String>) -> Result<Params, ParamsError>
+    ensures answer { let texts = map string_bytes words.items in MatchResult result
+        (λ r. (is_taken texts ≡ true) × AreGiven (found texts) r) (Explains texts) }
+    ensures complete { let texts = map string_bytes words.items in
+        is_taken texts ≡ true → first_out_of_range (found texts) ≡ None
+        → IfErr result (λ e. e ≡ Memory) }
+{
+    let matches = parse(alloc, words.as_slice())?;
+    given(&matches)
+}
+
+#[cfg(test)]
+mod tests;

@@ -1,0 +1,14 @@
+//! A run: its settings, and the way from the bytes of a reader to the dump on a writer. It stands on `kmc_reads` for
+//! the reads of a text and on `kmc_count` for their dump and for devices whose failures are counted. The layer above
+//! makes `params::Params` and calls `run::run`.
+#![tactic(auto)]
+
+#[cfg(test)]
+mod devices;
+pub mod error;
+mod input;
+pub mod params;
+pub mod run;
+pub mod setting;
+#[cfg(test)]
+mod tests;
