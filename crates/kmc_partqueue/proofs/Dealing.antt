@@ -2,8 +2,6 @@
 use Rattle.std.proofs.Common.{◌≡◌, ℕ, zero, suc, ◌+◌, ◌*◌, ◌/◌, ◌<◌, ◌≤◌, true, false, List, [], ◌∷◌, ◌++◌, map, length, get_or, set, replicate, refl, sym, ap, ◌∙◌, subst, ⊎_elim, mod-eq_of_lt, zero-le, zero-mul, arith}
 use mathlib.Core.Option.{none, some}
 use mathlib.Core.Option as maybe
-use mathlib.Core.Logic.{dite}
-use native.Mathlib.Decide.{ℕ_discrete}
 use lib.ListN.{get_elem?, length-map, length-replicate}
 use lib.Arith.{digits_div}
 use Rattle.std.specs.Prelude.{Option, None}
@@ -17,7 +15,8 @@ use Rattle.kmc_partqueue.specs.Counts.{Each, total_of, same, once_below}
 use Rattle.kmc_partqueue.specs.Lane.{free, Lane, LaneOk}
 use Rattle.kmc_partqueue.specs.Rule.{head_at, end_at, slot_at, mark_at, got_once, entries, writers_of, readers_of, WriterOk, ReaderOk, ViewOk, LanesRule}
 use Rattle.kmc_partqueue.specs.Dealing.{row_from, fresh_writer, fresh_reader, all_seats, first_of, rest_of, no_writer, its_writer, no_reader, its_reader, both, spent}
-use Rattle.kmc_partqueue.proofs.Sums.{same_refl, same_ne, total_set, total_append, each_append, views_stay, below_none}
+use Rattle.kmc_partqueue.proofs.Sums.{total_set, total_append, each_append, views_stay, below_none}
+use Rattle.kmc_partqueue.proofs.Numbered.{row_length, row_at, once_from}
 use Rattle.kmc_partqueue.proofs.Turns.{lane_within}
 use Rattle.kmc_partqueue.proofs.OneLane.{lane_of}
 use Rattle.kmc_partqueue.proofs.Frame.{St, heads_of}
@@ -43,15 +42,8 @@ module _ {A : Type 0} where
   each_row P f i zero go = tt
   each_row P f i (suc n) go = (go i (omega arith), each_row P f (suc i) n (λ j l. go j (omega arith)))
 
-  row_none : (num : A → ℕ) (f : ℕ → A) → ((j : ℕ) → num (f j) ≡ j) → (w i n : ℕ) → w < i → total_of (λ (a : A). same (num a) w) (row_from f i n) ≡ 0
-  row_none num f is w i zero l = refl
-  row_none num f is w i (suc n) l = let r = row_none num f is w (suc i) n (omega arith) in let z : same (num (f i)) w ≡ 0 = ap (λ (x : ℕ). same x w) (is i) ∙ same_ne i w (λ e. omega arith) in omega arith
-
   row_once : (num : A → ℕ) (f : ℕ → A) → ((j : ℕ) → num (f j) ≡ j) → (w i n : ℕ) → i ≤ w → w < i + n → total_of (λ (a : A). same (num a) w) (row_from f i n) ≡ 1
-  row_once num f is w i zero a l = absurd (omega arith)
-  row_once num f is w i (suc n) a l = dite (ℕ_discrete i w)
-      (λ e. let r = row_none num f is w (suc i) n (omega arith) in let z : same (num (f i)) w ≡ 1 = ap (λ (x : ℕ). same x w) (is i) ∙ same_refl i w e in omega arith)
-      (λ ne. let r = row_once num f is w (suc i) n (omega arith) (omega arith) in let z : same (num (f i)) w ≡ 0 = ap (λ (x : ℕ). same x w) (is i) ∙ same_ne i w ne in omega arith)
+  row_once num f is w i n a l = let long = row_length f i n in once_from num w i (row_from f i n) (λ j d lt. ap num (row_at f i n j d (omega arith)) ∙ is (i + j)) a (omega arith)
 
   row_zero : (g : A → ℕ) (f : ℕ → A) → ((j : ℕ) → g (f j) ≡ 0) → (i n : ℕ) → total_of g (row_from f i n) ≡ 0
   row_zero g f is i zero = refl

@@ -9,11 +9,11 @@ ghost use Rattle.kmc_partqueue.specs.Seats.{ReaderState, AllEnded, IsWriterOf, I
 ghost use Rattle.kmc_partqueue.specs.Counts.{Among};
 ghost use Rattle.kmc_partqueue.specs.Gathered.{Pairs, WriterPairs, IsGathered};
 
+use crate::done::DoneSeat;
 use crate::lanes::Lanes;
 use crate::reader::ReaderSeat;
 use crate::steps::JoinSeats;
 use crate::views::View;
-use crate::writer::DoneSeat;
 use atomic_table::{Closed, Seat};
 use kmc_partcore::Totals;
 use std::alloc::Global;

@@ -5,6 +5,7 @@
 //! and gathers them at the end, when it learns that what was sent was got once. The laws of the steps are in `laws`.
 #![tactic(auto)]
 
+mod done;
 mod gate;
 mod gather;
 mod lanes;
@@ -17,8 +18,9 @@ mod tests;
 mod views;
 mod writer;
 
+pub use done::DoneSeat;
 pub use gate::{Gate, NoGate, Point};
 pub use lanes::Lanes;
 pub use reader::{ReaderSeat, TryTaken};
 pub use views::{Ending, Reading, View, Writing};
-pub use writer::{DoneSeat, TryPutError, WriterSeat};
+pub use writer::{TryPutError, WriterSeat};

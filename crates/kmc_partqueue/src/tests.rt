@@ -1,12 +1,14 @@
 //! Worked calls on one thread: what each answers, from the queue's description.
-ghost use Rattle.std.specs.Prelude.{◌≡◌};
+ghost use Rattle.std.specs.Prelude.{◌≡◌, ◌<◌, ℕ};
+ghost use Rattle.kmc_partqueue.specs.Counts.{Each, total_of, same};
 ghost use Rattle.kmc_partqueue.specs.Seats.{IsWriterOf, IsReaderOf};
 
 use crate::{DoneSeat, Lanes, NoGate, ReaderSeat, TryPutError, TryTaken};
-use kmc_partcore::{QueueShape, Taken};
+use kmc_partcore::{QueueShape, Taken, Totals};
 use std::test::Fail;
 
 mod held;
+mod many;
 
 /// What a try got, as its writer, number and item.
 fn got(taken: TryTaken<u8>) -> Option<(usize, u64, u8)> {
@@ -25,13 +27,18 @@ fn is_not_now(taken: TryTaken<u8>) -> bool {
     }
 }
 
-/// The total of a writer, where the try was answered Finished.
-fn total(taken: TryTaken<u8>, writer: usize) -> Option<u64> {
+/// The totals, where the try was answered Finished.
+fn totals(taken: TryTaken<u8>) -> Option<Totals> {
     match taken {
-        TryTaken::Finished(totals) => totals.of(writer),
+        TryTaken::Finished(totals) => Some(totals),
         TryTaken::Got(_) => None,
         TryTaken::NotNow => None,
     }
+}
+
+/// The total of a writer, where the try was answered Finished.
+fn total(taken: TryTaken<u8>, writer: usize) -> Option<u64> {
+    totals(taken)?.of(writer)
 }
 
 fn is_full(answer: Result<u64, (TryPutError, u8)>, part: u8) -> bool {
@@ -42,8 +49,24 @@ fn is_full(answer: Result<u64, (TryPutError, u8)>, part: u8) -> bool {
     }
 }
 
+/// What `gather` answers, where the first of the readers has seen each lane at its end.
+fn gathered<T: Drop>(
+    lanes: Lanes<T>,
+    writers: Vec<DoneSeat<T>>,
+    readers: Vec<ReaderSeat<T>>,
+) -> Option<Totals>
+    requires queue { Each (IsWriterOf lanes.table.shared.table_id lanes.shape) writers.items × Each (IsReaderOf lanes.table.shared.table_id lanes.shape) readers.items }
+    requires writers { (w : ℕ) → w < lanes.shape.writers → total_of (λ s. same s.number w) writers.items ≡ 1 }
+    requires readers { (q : ℕ) → q < lanes.shape.readers → total_of (λ s. same s.number q) readers.items ≡ 1 }
+{
+    if readers.is_empty() || !readers[0].finished() {
+        return None;
+    }
+    Some(lanes.gather(writers, readers))
+}
+
 /// The writer's total as `gather` answers it, of a queue with one writer and one reader.
-fn gathered(
+fn gathered_by_one(
     rt: &HostRuntime,
     lanes: Lanes<u8>,
     done: DoneSeat<u8>,
@@ -53,14 +76,14 @@ fn gathered(
     requires writer { IsWriterOf lanes.table.shared.table_id lanes.shape done × (done.number ≡ 0) }
     requires reader { IsReaderOf lanes.table.shared.table_id lanes.shape reader × (reader.number ≡ 0) }
 {
-    if reader.finished() {
-        let mut writers = Vec::new(rt.alloc());
-        writers.push(done)?;
-        let mut readers = Vec::new(rt.alloc());
-        readers.push(reader)?;
-        return Ok(lanes.gather(writers, readers).of(0));
+    let mut writers = Vec::new(rt.alloc());
+    writers.push(done)?;
+    let mut readers = Vec::new(rt.alloc());
+    readers.push(reader)?;
+    match gathered(lanes, writers, readers) {
+        Some(totals) => Ok(totals.of(0)),
+        None => Ok(None),
     }
-    Ok(None)
 }
 
 #[test]
@@ -89,7 +112,7 @@ fn three_parts_pass_through_two_slots(rt: HostRuntime) -> Result<(), Fail> {
     let again = total(lanes.try_take(&mut reader, &NoGate), 0);
     assert!(rt; end == Some(3) && again == Some(3) && reader.finished());
     assert!(rt; done.number() == 0 && reader.number() == 0);
-    let all = gathered(&rt, lanes, done, reader)?;
+    let all = gathered_by_one(&rt, lanes, done, reader)?;
     assert!(rt; all == Some(3));
     Ok(())
 }
@@ -108,7 +131,7 @@ fn a_queue_of_no_parts_is_finished_once_its_writer_completed(rt: HostRuntime) ->
     let done = lanes.complete(writer);
     let end = total(lanes.try_take(&mut reader, &NoGate), 0);
     assert!(rt; end == Some(0));
-    let all = gathered(&rt, lanes, done, reader)?;
+    let all = gathered_by_one(&rt, lanes, done, reader)?;
     assert!(rt; all == Some(0));
     Ok(())
 }

@@ -2,8 +2,8 @@
 ghost use Rattle.std.specs.Prelude.{◌≡◌, ◌<◌, ℕ};
 ghost use Rattle.kmc_partqueue.specs.Seats.{IsWriterOf, IsReaderOf};
 
-use super::{got, is_full, is_not_now, total};
-use crate::{Gate, Lanes, NoGate, Point, ReaderSeat, WriterSeat};
+use super::{gathered, got, is_full, is_not_now, total, totals};
+use crate::{DoneSeat, Gate, Lanes, NoGate, Point, ReaderSeat, WriterSeat};
 use kmc_partcore::QueueShape;
 use std::sync::atomic::{AtomicBool, Ordering};
 use std::test::Fail;
@@ -57,7 +57,7 @@ type Item = Option<(usize, u64, u8)>;
 
 fn take_held(lanes: &Lanes<u8>, mut seat: ReaderSeat<u8>, gate: &Hold) -> (Item, ReaderSeat<u8>)
     requires { IsReaderOf lanes.now.table.shared.table_id lanes.now.shape seat }
-    ensures { IsReaderOf lanes.now.table.shared.table_id lanes.now.shape result.1 }
+    ensures { IsReaderOf lanes.now.table.shared.table_id lanes.now.shape result.1 × (result.1.number ≡ seat.number) }
 {
     let item = got(lanes.try_take(&mut seat, gate));
     (item, seat)
@@ -179,10 +179,8 @@ fn a_held_writer_does_not_stop_another(rt: HostRuntime) -> Result<(), Fail> {
     assert!(rt; done.number() == 0);
     let item = got(queue.try_take(&mut back, &NoGate));
     assert!(rt; item == Some((0, 0, 20)));
-    let end = queue.try_take(&mut back, &NoGate);
-    let last = total(end, 0);
-    let also = total(queue.try_take(&mut back, &NoGate), 1);
-    assert!(rt; last == Some(1) && also == Some(1));
+    let end = totals(queue.try_take(&mut back, &NoGate)).expect(&rt, "finished");
+    assert!(rt; end.of(0) == Some(1) && end.of(1) == Some(1));
     Ok(())
 }
 
@@ -192,9 +190,11 @@ fn finish_beside(
     mut writer: WriterSeat<u8>,
     mut reader: ReaderSeat<u8>,
     gate: &Hold,
-) -> (bool, bool)
+) -> (bool, DoneSeat<u8>, ReaderSeat<u8>)
     requires writer { IsWriterOf lanes.now.table.shared.table_id lanes.now.shape writer }
     requires reader { IsReaderOf lanes.now.table.shared.table_id lanes.now.shape reader }
+    ensures writer { IsWriterOf lanes.now.table.shared.table_id lanes.now.shape result.1 × (result.1.number ≡ writer.number) }
+    ensures reader { IsReaderOf lanes.now.table.shared.table_id lanes.now.shape result.2 × (result.2.number ≡ reader.number) }
 {
     let held = is_seen(&gate.reached);
     let item = got(lanes.try_take(&mut reader, &NoGate));
@@ -202,8 +202,32 @@ fn finish_beside(
     let done = lanes.complete(writer);
     let end = total(lanes.try_take(&mut reader, &NoGate), 0);
     gate.let_go.store(true, Ordering::SeqCst);
-    let right = item == Some((0, 1, 41)) && full && done.number() == 0 && end == Some(2);
-    (held, right)
+    let right = held && item == Some((0, 1, 41)) && full && end == Some(2);
+    (right, done, reader)
+}
+
+/// The writer's total as `gather` answers it, of a queue with one writer and two readers.
+fn gathered_by_two(
+    rt: &HostRuntime,
+    lanes: Lanes<u8>,
+    done: DoneSeat<u8>,
+    first: ReaderSeat<u8>,
+    second: ReaderSeat<u8>,
+) -> Result<Option<u64>, Fail>
+    requires shape { (lanes.shape.writers ≡ 1) × (lanes.shape.readers ≡ 2) }
+    requires writer { IsWriterOf lanes.table.shared.table_id lanes.shape done × (done.number ≡ 0) }
+    requires first { IsReaderOf lanes.table.shared.table_id lanes.shape first × (first.number ≡ 0) }
+    requires second { IsReaderOf lanes.table.shared.table_id lanes.shape second × (second.number ≡ 1) }
+{
+    let mut writers = Vec::new(rt.alloc());
+    writers.push(done)?;
+    let mut readers = Vec::new(rt.alloc());
+    readers.push(first)?;
+    readers.push(second)?;
+    match gathered(lanes, writers, readers) {
+        Some(totals) => Ok(totals.of(0)),
+        None => Ok(None),
+    }
 }
 
 #[test]
@@ -223,20 +247,24 @@ fn a_queue_is_finished_while_a_reader_holds_its_part(rt: HostRuntime) -> Result<
     let hold = Hold::new(Point::PartClaimed(0, 0, 0));
     let lanes = &queue;
     let gate = &hold;
-    let ((item, mut back), (held, right)) = thread::join(
+    let ((item, mut back), (right, done, other)) = thread::join(
         &rt,
         move || -> (Item, ReaderSeat<u8>)
             requires { IsReaderOf lanes.now.table.shared.table_id lanes.now.shape first }
-            ensures { IsReaderOf lanes.entry.now.table.shared.table_id lanes.entry.now.shape result.1 }
+            ensures { IsReaderOf lanes.entry.now.table.shared.table_id lanes.entry.now.shape result.1 × (result.1.number ≡ first.number) }
         { take_held(lanes, first, gate) },
-        move || -> (bool, bool)
+        move || -> (bool, DoneSeat<u8>, ReaderSeat<u8>)
             requires writer { IsWriterOf lanes.now.table.shared.table_id lanes.now.shape writer }
             requires reader { IsReaderOf lanes.now.table.shared.table_id lanes.now.shape second }
+            ensures writer { IsWriterOf lanes.entry.now.table.shared.table_id lanes.entry.now.shape result.1 × (result.1.number ≡ writer.number) }
+            ensures reader { IsReaderOf lanes.entry.now.table.shared.table_id lanes.entry.now.shape result.2 × (result.2.number ≡ second.number) }
         { finish_beside(lanes, writer, second, gate) },
     );
-    assert!(rt; held && right && !hold.spent.load(Ordering::SeqCst));
+    assert!(rt; right && !hold.spent.load(Ordering::SeqCst));
     assert!(rt; item == Some((0, 0, 40)));
     let end = total(queue.try_take(&mut back, &NoGate), 0);
     assert!(rt; end == Some(2));
+    let all = gathered_by_two(&rt, queue, done, back, other)?;
+    assert!(rt; all == Some(2));
     Ok(())
 }
