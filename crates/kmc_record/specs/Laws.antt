@@ -1,7 +1,7 @@
 -- Laws of records.
 use Rattle.std.specs.Prelude.{◌≡◌, ℕ, List, ◌++◌}
 use Rattle.kmc_record.specs.Record.{spelling, IsSpelled, IsBodyOf}
-use Rattle.kmc_record.specs.Faults.{HasFault}
+use Rattle.kmc_record.specs.Faults.{HasFault, IsFirstFault}
 use Rattle.kmc_record.specs.declared.fault.RecordFault.{RecordFault}
 
 -- bytes that begin with the records of two super-k-mers begin with one
@@ -16,3 +16,7 @@ BodyHasOneList = (k : ℕ) (ss ts : List (List ℕ)) (body : List ℕ) → IsBod
 -- bytes that begin with a record have no fault there
 abbrev pub SpellingHasNoFault : Type 0
 SpellingHasNoFault = (k : ℕ) (s rest : List ℕ) (fault : RecordFault) → IsSpelled k s → ¬ (HasFault k fault (spelling k s ++ rest))
+
+-- a body that is whole records has no first fault
+abbrev pub WholeBodyHasNoFault : Type 0
+WholeBodyHasNoFault = (k : ℕ) (ss : List (List ℕ)) (body : List ℕ) (fault : RecordFault) (offset : ℕ) → IsBodyOf k ss body → ¬ (IsFirstFault k fault offset body)

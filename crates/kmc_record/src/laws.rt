@@ -1,5 +1,5 @@
 //! Laws over the definitions alone. Each call does nothing: its contract is the law, for the proofs of its callers.
-ghost use Rattle.kmc_record.specs.Laws.{NoSpellingBeginsAnother, BodyHasOneList, SpellingHasNoFault};
+ghost use Rattle.kmc_record.specs.Laws.{NoSpellingBeginsAnother, BodyHasOneList, SpellingHasNoFault, WholeBodyHasNoFault};
 
 /// No spelling begins another: bytes that begin with the records of two super-k-mers begin with one.
 pub fn no_spelling_begins_another()
@@ -14,4 +14,9 @@ pub fn body_has_one_list()
 /// Bytes that begin with a record have no fault there.
 pub fn spelling_has_no_fault()
     ensures { SpellingHasNoFault }
+{}
+
+/// A body that is whole records has no first fault.
+pub fn whole_body_has_no_fault()
+    ensures { WholeBodyHasNoFault }
 {}

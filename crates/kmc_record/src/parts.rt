@@ -107,17 +107,29 @@ fn push_read(
     Ok(())
 }
 
-/// The parts of a chunk: one for each bin that is not empty, bins rising, with the records of the chunk's runs of
-/// that bin in the order of reads and places.
-pub fn parts_of(alloc: Global, chunk: &Chunk, shape: Shape) -> Result<Vec<Part>, AllocError>
-    ensures { IfOk result (λ parts. ArePartsOf chunk.now.number (map (λ r. r.items) chunk.now.reads.items) shape parts.items) }
+/// The parts of some reads that are the chunk of this number: one for each bin that is not empty, bins rising, with the
+/// records of the reads' runs of that bin in the order of reads and places.
+pub fn parts_of_reads(
+    alloc: Global,
+    number: u64,
+    reads: &[Vec<u8>],
+    shape: Shape,
+) -> Result<Vec<Part>, AllocError>
+    ensures { IfOk result (λ parts. ArePartsOf number (map (λ r. r.items) reads.now) shape parts.items) }
 {
-    let mut parts = empty_parts(alloc, chunk.number, shape)?;
+    let mut parts = empty_parts(alloc, number, shape)?;
     let mut scratch = Scratch::new(alloc);
     let mut runs = Vec::new(alloc);
-    for read in &chunk.reads {
+    for read in reads {
         push_read(alloc, read, shape, &mut scratch, &mut runs, &mut parts)?;
     }
     parts.retain(|part| part.has_records());
     Ok(parts)
+}
+
+/// The parts of a chunk: those of its reads.
+pub fn parts_of(alloc: Global, chunk: &Chunk, shape: Shape) -> Result<Vec<Part>, AllocError>
+    ensures { IfOk result (λ parts. ArePartsOf chunk.now.number (map (λ r. r.items) chunk.now.reads.items) shape parts.items) }
+{
+    parts_of_reads(alloc, chunk.number, &chunk.reads, shape)
 }

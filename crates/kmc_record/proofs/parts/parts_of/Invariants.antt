@@ -1,9 +1,0 @@
-use Rattle.std.proofs.Common.{List, map, take}
-use Rattle.kmc_split.specs.declared.runs.Run.{Run}
-use Rattle.kmc_record.specs.Parts.{AreCuts, bin_super_kmers, all_segments}
-use Rattle.kmc_record.specs.Growing.{HaveGrown}
-use Rattle.kmc_record.proofs.parts.parts_of.Given as goal
-
-abbrev pub invariant-loop-read : goal.invariant-loop-read
-invariant-loop-read l = (cuts : List (List Run)) × AreCuts l.shape.k l.shape.m (all_segments l.shape.k (map (λ r. r.items) (take l.read-index l.read-items))) cuts
-    × HaveGrown l.shape.k (λ j. bin_super_kmers l.shape.k l.shape.n j (all_segments l.shape.k (map (λ r. r.items) (take l.read-index l.read-items))) cuts) l.initial.parts.items l.parts.items
