@@ -14,13 +14,13 @@ has_at x [] i inside e = absurd (omega (arith, inside))
 has_at x (w ∷ ws) zero inside e = inl e
 has_at x (w ∷ ws) (suc i) inside e = inr (has_at x ws i (omega (arith, inside)) e)
 
-has_contains : (x : List ℕ) (ws : List (List ℕ)) → Contains ws x → Has x ws
+pub has_contains : (x : List ℕ) (ws : List (List ℕ)) → Contains ws x → Has x ws
 has_contains x ws h = has_at x ws h.0 h.1 h.2
 
-not_below_itself : (x : List ℕ) → kmer_cmp x x ≡ Less → ⊥
+pub not_below_itself : (x : List ℕ) → kmer_cmp x x ≡ Less → ⊥
 not_below_itself x less = let equal = tied_itself kmer_total x in cc (sym less ∙ equal)
 
-below_has : (x y : List ℕ) (ws : List (List ℕ)) → AllByRecursion (λ w. kmer_cmp x w ≡ Less) ws → Has y ws → kmer_cmp x y ≡ Less
+pub below_has : (x y : List ℕ) (ws : List (List ℕ)) → AllByRecursion (λ w. kmer_cmp x w ≡ Less) ws → Has y ws → kmer_cmp x y ≡ Less
 below_has x y [] h m = absurd m
 below_has x y (w ∷ ws) h (inl e) = subst (λ v. kmer_cmp x v ≡ Less) e h.0
 below_has x y (w ∷ ws) h (inr m) = below_has x y ws h.1 m
@@ -50,7 +50,7 @@ by_words : (count : List ℕ → ℕ) (l : Limits) (pairs : List (List ℕ × �
 by_words count l [] h = refl
 by_words count l (p ∷ ps) h = λ i. (p.0, h.0.1 i) ∷ by_words count l ps h.1 i
 
-listed_has : (count : List ℕ → ℕ) (l : Limits) (pairs : List (List ℕ × ℕ)) (x : List ℕ) → AllByRecursion (λ p. IsListed l (count p.0) × (p.1 ≡ shown l (count p.0))) pairs → Has x (words_of pairs)
+pub listed_has : (count : List ℕ → ℕ) (l : Limits) (pairs : List (List ℕ × ℕ)) (x : List ℕ) → AllByRecursion (λ p. IsListed l (count p.0) × (p.1 ≡ shown l (count p.0))) pairs → Has x (words_of pairs)
     → IsListed l (count x)
 listed_has count l [] x h m = absurd m
 listed_has count l (p ∷ ps) x h (inl e) = subst (λ w. IsListed l (count w)) e h.0.0

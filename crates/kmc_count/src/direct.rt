@@ -17,7 +17,7 @@ use kmc_base::word::Word;
 use std::alloc::{AllocError, Global};
 
 /// The most symbols of a k-mer that 64 bits hold.
-const NARROW_K: usize = 32;
+pub(crate) const NARROW_K: usize = 32;
 
 /// Appends the packed keys of the words at the counted places of a read.
 fn push_read<W: Word + Drop>(

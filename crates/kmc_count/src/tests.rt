@@ -1,3 +1,5 @@
+mod bins;
+
 use crate::direct::count_direct;
 use crate::limits::Limits;
 use kmc_base::strands::Strands;

@@ -7,8 +7,10 @@
 mod devices;
 pub mod error;
 mod input;
+pub mod laws;
 pub mod params;
 pub mod run;
 pub mod setting;
+pub mod stage_two;
 #[cfg(test)]
 mod tests;

@@ -1,4 +1,5 @@
 //! Runs from text to dump, over devices in memory.
+mod bins;
 mod failing;
 mod rows;
 

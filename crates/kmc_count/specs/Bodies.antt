@@ -1,0 +1,40 @@
+-- What is counted in bodies of records.
+use Rattle.std.specs.Prelude.{ℕ, ◌<◌, List, [], length, map, take, slice_index_or, IfOk, IsErrOf, Result, Vec}
+use Rattle.std.specs.Global.{Global}
+use Rattle.std.specs.List.{All, AllZip}
+use Rattle.kmc_base.specs.declared.strands.Strands.{Strands}
+use Rattle.kmc_record.specs.declared.fault.RecordFault.{RecordFault}
+use Rattle.kmc_record.specs.Record.{IsBodyOf}
+use Rattle.kmc_record.specs.RecordWords.{record_keys}
+use Rattle.kmc_record.specs.Faults.{IsFirstFault}
+use Rattle.kmc_count.specs.declared.bin.CountError.{CountError}
+use Rattle.kmc_count.specs.declared.bin.CountError.TheVariants.{Damaged}
+use Rattle.kmc_count.specs.declared.limits.Limits.{Limits}
+use Rattle.kmc_count.specs.Occurrences.{occurrences}
+use Rattle.kmc_count.specs.Dump.{IsDump}
+
+-- the body is whole records, and the pairs are the dump of the keys of their words
+pub record IsDumpOfBody (strands : Strands) (k : ℕ) (l : Limits) (body : List ℕ) (pairs : List (List ℕ × ℕ)) : Type 0 where
+  pub super_kmers : List (List ℕ)
+  pub records : IsBodyOf k super_kmers body
+  pub dump : IsDump (occurrences (record_keys strands k super_kmers)) l pairs
+
+-- as many lists as bodies, and each list is the dump of the body at its place
+abbrev pub AreDumpsOfBodies : Strands → ℕ → Limits → List (List ℕ) → List (List (List ℕ × ℕ)) → Type 0
+AreDumpsOfBodies strands k l bodies lists = AllZip (IsDumpOfBody strands k l) bodies lists
+
+-- the body is whole records
+abbrev pub IsWhole : ℕ → List ℕ → Type 0
+IsWhole k body = (super_kmers : List (List ℕ)) × IsBodyOf k super_kmers body
+
+-- the bodies before this one are whole, and this is its first fault
+pub record IsFirstDamaged (k : ℕ) (fault : RecordFault) (offset : ℕ) (bodies : List (List ℕ)) : Type 0 where
+  pub number : ℕ
+  pub inside : number < length bodies
+  pub before : All (IsWhole k) (take number bodies)
+  pub first : IsFirstFault k fault offset (slice_index_or bodies number [])
+
+-- what a count of bodies answers: their dumps, or the first fault of the first that is damaged; a refused growth says nothing of them
+pub record IsCountOfBodies (strands : Strands) (k : ℕ) (l : Limits) (bodies : List (Vec ℕ Global)) (answer : Result (Vec (Vec (List ℕ × ℕ) Global) Global) CountError) : Type 0 where
+  pub ok : IfOk answer (λ lists. AreDumpsOfBodies strands k l (map (λ b. b.items) bodies) (map (λ ps. ps.items) lists.items))
+  pub damaged : (fault : RecordFault) (offset : ℕ) → IsErrOf answer (Damaged fault offset) → IsFirstDamaged k fault offset (map (λ b. b.items) bodies)

@@ -1,0 +1,80 @@
+//! The count of a bin: the packed words of its body in one list, sorted.
+ghost use Rattle.std.specs.Prelude.{◌≡◌, ℕ, ◌<◌, ◌≤◌, List, map, IfOk, IsErrOf};
+ghost use Rattle.kmc_record.specs.Faults.{IsFirstFault};
+ghost use Rattle.kmc_record.specs.declared.fault.RecordFault.{RecordFault};
+ghost use Rattle.kmc_count.specs.Bodies.{IsDumpOfBody};
+
+use crate::direct::NARROW_K;
+use crate::limits::Limits;
+use crate::tally::tally;
+use kmc_base::kmer::{Kmer, MAX_K};
+use kmc_base::strands::Strands;
+use kmc_base::word::Word;
+use kmc_record::body::push_body;
+use kmc_record::fault::{BodyError, RecordFault};
+use std::alloc::Global;
+
+/// Why a count of bodies was given up.
+#[derive(Clone, Copy, Debug, PartialEq, Eq)]
+pub enum CountError {
+    /// The first record that is damaged: its fault, and where in its body it begins.
+    Damaged(RecordFault, usize),
+    /// A growth was refused.
+    Memory,
+}
+
+/// The dump of a body. The vector for its packed words may be used again for the next body.
+pub(crate) fn count_into<W: Word + Drop>(
+    words: &mut Vec<W>,
+    alloc: Global,
+    body: &[u8],
+    k: usize,
+    strands: Strands,
+    limits: &Limits,
+) -> Result<Vec<(Kmer, u64)>, CountError>
+    requires some { 1 ≤ k }
+    requires most { k ≤ W.most }
+    requires limit { k ≤ MAX_K }
+    ensures ok { IfOk result (λ pairs. IsDumpOfBody strands k limits.now body.now pairs.items) }
+    ensures damaged { (fault : RecordFault) (offset : ℕ) → IsErrOf result (CountError.Damaged fault offset) → IsFirstFault k fault offset body.now }
+{
+    words.clear();
+    // The records of a usual bin have about one word a byte, whatever k is.
+    if words.reserve(body.len()).is_err() {
+        return Err(CountError::Memory);
+    }
+    match push_body(words, body, k, strands) {
+        Ok(()) => {}
+        Err(BodyError::Damaged(fault, offset)) => return Err(CountError::Damaged(fault, offset)),
+        Err(BodyError::Memory) => return Err(CountError::Memory),
+    }
+    W::sort(words);
+    match tally(alloc, words, k, limits) {
+        Ok(pairs) => Ok(pairs),
+        Err(_) => Err(CountError::Memory),
+    }
+}
+
+/// The dump of the records of a body: each key of their words, rising, with the number of words that have it
+/// as far as the limits list it. It takes 8 bytes a word, 16 above k = 32. A body that is damaged is not
+/// counted in part.
+pub fn count_bin(
+    alloc: Global,
+    body: &[u8],
+    k: usize,
+    strands: Strands,
+    limits: &Limits,
+) -> Result<Vec<(Kmer, u64)>, CountError>
+    requires some { 1 ≤ k }
+    requires most { k ≤ MAX_K }
+    ensures ok { IfOk result (λ pairs. IsDumpOfBody strands k limits.now body.now pairs.items) }
+    ensures damaged { (fault : RecordFault) (offset : ℕ) → IsErrOf result (CountError.Damaged fault offset) → IsFirstFault k fault offset body.now }
+{
+    if k <= NARROW_K {
+        let mut words: Vec<u64> = Vec::new(alloc);
+        count_into(&mut words, alloc, body, k, strands, limits)
+    } else {
+        let mut words: Vec<u128> = Vec::new(alloc);
+        count_into(&mut words, alloc, body, k, strands, limits)
+    }
+}

@@ -1,0 +1,9 @@
+pub mod Places
+pub mod Filling
+pub mod Sums
+pub mod Ranges
+pub mod Cuts
+pub mod Spelled
+pub mod Dealt
+pub mod Held
+pub mod Gathered

@@ -1,0 +1,15 @@
+-- Bins that are the bodies of parts.
+use Rattle.std.specs.Prelude.{◌≡◌, ℕ, ◌<◌, nat_eq, List, length}
+use Rattle.std.specs.List.{filter, flat_map}
+use Rattle.kmc_record.specs.Shapes.{Sizes}
+use Rattle.kmc_record.specs.Parts.{Parcel}
+use Rattle.kmc_store.specs.Bins.{body_at}
+
+-- the parts of a bin, in their order
+abbrev pub parts_in : ℕ → List Parcel → List Parcel
+parts_in i parts = filter (λ p. nat_eq p.bin i) parts
+
+-- each bin is the bodies of its parts, in the order of the parts
+pub record AreBodies (shape : Sizes) (bodies : List (List ℕ)) (parts : List Parcel) : Type 0 where
+  pub wide : length bodies ≡ shape.n
+  pub each : (i : ℕ) → i < shape.n → body_at bodies i ≡ flat_map (λ p. p.body) (parts_in i parts)

@@ -1,0 +1,204 @@
+//! Bins filled part by part, and merged.
+ghost use Rattle.std.specs.Prelude.{◌≡◌, IsTrue};
+ghost use Rattle.kmc_record.specs.Shapes.{Sizes};
+
+use crate::bins::Bins;
+use crate::laws;
+use kmc_record::part::Part;
+use kmc_record::parts::{Chunk, parts_of};
+use kmc_record::shape::Shape;
+use std::alloc::{AllocError, Global};
+use std::process::Abort;
+use std::test::Fail;
+
+/// Whether the shapes have the same sizes.
+fn same_shape(a: Shape, b: Shape) -> bool
+    ensures { IsTrue result → a ≡ b }
+{
+    a.k() == b.k() && a.m() == b.m() && a.n() == b.n()
+}
+
+/// Takes the part in, and where it came back for want of memory, once more: until then the bins are as they were.
+fn take_in(rt: &impl Abort, bins: &mut Bins, part: Part) {
+    let bin = part.bin();
+    assert!(rt; same_shape(part.shape(), bins.shape()));
+    assert!(rt; bin < bins.shape().n());
+    let size = bins.bin(bin).len();
+    let words = bins.words(bin);
+    match bins.absorb(part) {
+        Ok(()) => {}
+        Err(part) => {
+            assert!(rt; same_shape(part.shape(), bins.shape()));
+            assert!(rt; bin < bins.shape().n());
+            assert_eq!(rt; bins.bin(bin).len(), size);
+            assert_eq!(rt; bins.words(bin), words);
+            bins.absorb(part).ok().expect(rt, "room for the part");
+        }
+    }
+}
+
+/// The chunk of these reads, between which stand commas.
+fn chunk_of(alloc: Global, number: u64, reads: &str) -> Result<Chunk, AllocError> {
+    let mut chunk = Chunk {
+        number,
+        reads: Vec::new(alloc),
+    };
+    for read in reads.split(',') {
+        chunk.reads.push(read.as_bytes().to_vec(alloc)?)?;
+    }
+    Ok(chunk)
+}
+
+/// Bins that have taken in the parts of these chunks.
+fn bins_of(
+    rt: &impl Abort,
+    alloc: Global,
+    shape: Shape,
+    chunks: &[&str],
+) -> Result<Bins, AllocError> {
+    let mut bins = Bins::new(alloc, shape)?;
+    for (number, reads) in chunks.iter().enumerate() {
+        let chunk = chunk_of(alloc, number as u64, reads)?;
+        for part in parts_of(alloc, &chunk, shape)? {
+            take_in(rt, &mut bins, part);
+        }
+    }
+    Ok(bins)
+}
+
+/// The bins that are not empty, each as its number, its number of words and its records.
+fn text_of(alloc: Global, bins: &Bins) -> Result<String, Fail> {
+    let mut text = String::new(alloc);
+    for bin in 0..bins.shape().n() {
+        let body = bins.bin(bin);
+        if !body.is_empty() {
+            let words = bins.words(bin);
+            text.push_str(format!(in alloc; "{bin} {words} ")?.as_str())?;
+            for byte in body {
+                text.push_str(format!(in alloc; "{:02x}", *byte)?.as_str())?;
+            }
+            text.push(';')?;
+        }
+    }
+    Ok(text)
+}
+
+const ONE: &str = "2 1 00b1;3 2 006c00c6;6 2 001b001b;";
+
+const TWO: &str = "2 2 00b100b1;3 4 006c00c6006c00c6;6 4 001b001b001b001b;";
+
+#[test]
+fn new_bins_are_empty(rt: HostRuntime) -> Result<(), Fail> {
+    let alloc = rt.alloc();
+    let shape = Shape::new(4, 9, 7).expect(&rt, "a shape");
+    let bins = Bins::new(alloc, shape)?;
+    assert!(rt; same_shape(bins.shape(), shape));
+    assert_eq!(rt; bins.bodies().len(), 7);
+    for bin in 0..7 {
+        assert!(rt; bin < bins.shape().n());
+        assert!(rt; bins.bin(bin).is_empty());
+        assert_eq!(rt; bins.words(bin), 0);
+    }
+    Ok(())
+}
+
+#[test]
+fn each_part_goes_to_its_bin(rt: HostRuntime) -> Result<(), Fail> {
+    let alloc = rt.alloc();
+    let shape = Shape::new(4, 9, 7).expect(&rt, "a shape");
+    let one = bins_of(&rt, alloc, shape, &["ACGTACGT"])?;
+    assert_eq!(rt; text_of(alloc, &one)?.as_str(), ONE);
+    let two = bins_of(&rt, alloc, shape, &["ACGTACGT", "ACGTACGT"])?;
+    assert_eq!(rt; text_of(alloc, &two)?.as_str(), TWO);
+    let together = bins_of(&rt, alloc, shape, &["ACGTACGT,ACGTACGT"])?;
+    assert_eq!(rt; text_of(alloc, &together)?.as_str(), TWO);
+    let nothing = bins_of(&rt, alloc, shape, &["NNNN", "ACG"])?;
+    assert_eq!(rt; text_of(alloc, &nothing)?.as_str(), "");
+    Ok(())
+}
+
+#[test]
+fn a_long_run_is_two_records(rt: HostRuntime) -> Result<(), Fail> {
+    let alloc = rt.alloc();
+    let shape = Shape::new(25, 9, 512).expect(&rt, "a shape");
+    let mut read = String::new(alloc);
+    for _ in 0..300 {
+        read.push('A')?;
+    }
+    let bins = bins_of(&rt, alloc, shape, &[read.as_str()])?;
+    for (bin, body) in bins.bodies().iter().enumerate() {
+        assert!(rt; bin < bins.shape().n());
+        assert_eq!(rt; body.len(), if bin == 0 { 83 } else { 0 });
+        assert_eq!(rt; bins.words(bin), if bin == 0 { 276 } else { 0 });
+    }
+    Ok(())
+}
+
+#[test]
+fn takes_in_a_body_from_outside(rt: HostRuntime) -> Result<(), Fail> {
+    let alloc = rt.alloc();
+    let shape = Shape::new(4, 9, 7).expect(&rt, "a shape");
+    assert!(rt; 6 < shape.n());
+    let body = [0, 0x1B, 0, 0x1B].to_vec(alloc)?;
+    let part = Part::from_body(alloc, 9, 6, shape, body)
+        .ok()
+        .expect(&rt, "a part");
+    let mut bins = bins_of(&rt, alloc, shape, &["ACGTACGT"])?;
+    take_in(&rt, &mut bins, part);
+    let want = "2 1 00b1;3 2 006c00c6;6 4 001b001b001b001b;";
+    assert_eq!(rt; text_of(alloc, &bins)?.as_str(), want);
+    Ok(())
+}
+
+/// The bins, merged with the others, once more where these came back for want of memory.
+fn merge_in(rt: &impl Abort, alloc: Global, bins: &mut Bins, other: Bins) -> Result<(), Fail> {
+    assert!(rt; same_shape(other.shape(), bins.shape()));
+    let before = text_of(alloc, bins)?;
+    match bins.merge(other) {
+        Ok(()) => {}
+        Err(other) => {
+            assert!(rt; same_shape(other.shape(), bins.shape()));
+            assert_eq!(rt; text_of(alloc, bins)?.as_str(), before.as_str());
+            bins.merge(other).ok().expect(rt, "room for the others");
+        }
+    }
+    Ok(())
+}
+
+#[test]
+fn merges_bin_by_bin(rt: HostRuntime) -> Result<(), Fail> {
+    let alloc = rt.alloc();
+    let shape = Shape::new(4, 9, 7).expect(&rt, "a shape");
+    let mut bins = Bins::new(alloc, shape)?;
+    merge_in(&rt, alloc, &mut bins, Bins::new(alloc, shape)?)?;
+    assert_eq!(rt; text_of(alloc, &bins)?.as_str(), "");
+    merge_in(
+        &rt,
+        alloc,
+        &mut bins,
+        bins_of(&rt, alloc, shape, &["ACGTACGT"])?,
+    )?;
+    assert_eq!(rt; text_of(alloc, &bins)?.as_str(), ONE);
+    merge_in(&rt, alloc, &mut bins, Bins::new(alloc, shape)?)?;
+    assert_eq!(rt; text_of(alloc, &bins)?.as_str(), ONE);
+    merge_in(
+        &rt,
+        alloc,
+        &mut bins,
+        bins_of(&rt, alloc, shape, &["CCCCC,ACGTA"])?,
+    )?;
+    let want = "1 2 015540;2 1 00b1;3 3 006c00c6006c;6 3 001b001b001b;";
+    assert_eq!(rt; text_of(alloc, &bins)?.as_str(), want);
+    Ok(())
+}
+
+#[test]
+fn laws_can_be_called() {
+    laws::merged_bins_hold_both();
+    laws::empty_bins_hold_no_reads();
+    laws::gathered_bins_hold_reads();
+    laws::empty_bins_are_no_bodies();
+    laws::absorbed_bins_are_bodies();
+    laws::merged_bins_are_bodies();
+    laws::held_records_are_the_runs();
+}

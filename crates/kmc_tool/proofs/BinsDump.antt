@@ -1,0 +1,64 @@
+-- From the dumps of bins to one.
+use Rattle.std.proofs.Common.{◌≡◌, ℕ, ◌+◌, ◌<◌, ◌≤◌, min, All, List, [], ◌∷◌, length, map, get_or, refl, sym, ap, subst, ◌∙◌, arith}
+use Rattle.std.specs.Prelude.{slice_index}
+use Rattle.std.specs.List.{AllZip}
+use Rattle.kmc_base.specs.declared.strands.Strands.{Strands}
+use Rattle.kmc_record.specs.declared.fault.RecordFault.{RecordFault}
+use Rattle.kmc_record.specs.Shapes.{Sizes}
+use Rattle.kmc_record.specs.Record.{IsBodyOf}
+use Rattle.kmc_record.specs.RecordWords.{record_keys}
+use Rattle.kmc_record.specs.Parts.{IsPart}
+use Rattle.kmc_record.specs.Laws.{WholeBodyHasNoFault}
+use Rattle.kmc_store.specs.Bins.{AreBins, body_at}
+use Rattle.kmc_count.specs.declared.limits.Limits.{Limits}
+use Rattle.kmc_count.specs.Bodies.{AreDumpsOfBodies, IsFirstDamaged}
+use Rattle.kmc_count.specs.Laws.{DumpsOfBodiesAreOfKeys}
+use Rattle.kmc_count.specs.Merge.{AreApart, AreDumps}
+use Rattle.kmc_tool.specs.Laws.{BinsShareNoKey}
+
+-- the super-k-mers of bodies that have dumps
+pub whole_lists : (strands : Strands) (k : ℕ) (l : Limits) (bodies : List (List ℕ)) (lists : List (List (List ℕ × ℕ))) → AreDumpsOfBodies strands k l bodies lists
+    → (sss : List (List (List ℕ))) × AllZip (IsBodyOf k) sss bodies
+whole_lists strands k l [] [] h = ([], tt)
+whole_lists strands k l [] (p ∷ ps) h = absurd h
+whole_lists strands k l (b ∷ bs) [] h = absurd h
+whole_lists strands k l (b ∷ bs) (p ∷ ps) h =
+    let rest = whole_lists strands k l bs ps h.1 in
+    (h.0.super_kmers ∷ rest.0, (h.0.records, rest.1))
+
+-- no bin is damaged
+pub no_damage : WholeBodyHasNoFault → (shape : Sizes) (k : ℕ) (given bodies : List (List ℕ)) (words : List ℕ) (fault : RecordFault) (offset : ℕ)
+    → shape.k ≡ k → AreBins shape bodies words → given ≡ bodies → IsFirstDamaged k fault offset given → ⊥
+no_damage whole shape k given bodies words fault offset one are same found = whole k part.super_kmers (body_at bodies damaged.number) fault offset (subst (λ (n : ℕ). IsBodyOf n part.super_kmers (body_at bodies damaged.number)) one part.records) damaged.first
+  where
+    damaged : IsFirstDamaged k fault offset bodies
+    damaged = subst (IsFirstDamaged k fault offset) same found
+
+    part : IsPart damaged.number shape (body_at bodies damaged.number) (slice_index words damaged.number)
+    part = are.each damaged.number (omega (arith, damaged.inside, are.wide))
+
+-- the super-k-mers of each bin, whose dumps are the lists, and which share no key
+pub record AreCounted (strands : Strands) (k : ℕ) (l : Limits) (bodies : List (List ℕ)) (lists : List (List (List ℕ × ℕ))) : Type 0 where
+  pub super_kmers : List (List (List ℕ))
+  pub records : AllZip (IsBodyOf k) super_kmers bodies
+  pub dumps : AreDumps l (map (record_keys strands k) super_kmers) lists
+  pub apart : AreApart (map (record_keys strands k) super_kmers)
+
+some_least : (p k : ℕ) → 5 ≤ p → 1 ≤ k → 1 ≤ min p k
+some_least p k hp hk = omega arith
+
+least_within : (p k : ℕ) → min p k ≤ k
+least_within p k = omega arith
+
+pub counted : BinsShareNoKey → DumpsOfBodiesAreOfKeys → (strands : Strands) (k p n : ℕ) (l : Limits) (shape : Sizes) (given bodies : List (List ℕ)) (words : List ℕ) (lists : List (List (List ℕ × ℕ)))
+    → 1 ≤ k → 5 ≤ p → shape ≡ record { k = k; m = min p k; n = n } → AreBins shape bodies words → given ≡ bodies → AreDumpsOfBodies strands k l given lists → AreCounted strands k l bodies lists
+counted share keyed strands k p n l shape given bodies words lists some_k some_p shaped are same dumped =
+    let dumps = subst (λ (b : List (List ℕ)). AreDumpsOfBodies strands k l b lists) same dumped in
+    let own = subst (λ (s : Sizes). AreBins s bodies words) shaped are in
+    let whole = whole_lists strands k l bodies lists dumps in
+    record {
+      super_kmers = whole.0;
+      records = whole.1;
+      dumps = keyed strands k l bodies whole.0 lists dumps whole.1;
+      apart = share strands record { k = k; m = min p k; n = n } bodies words whole.0 (some_least p k some_p some_k) (least_within p k) own whole.1;
+    }

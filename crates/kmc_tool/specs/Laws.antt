@@ -1,0 +1,23 @@
+-- Laws of counting by bins.
+use Rattle.std.specs.Prelude.{◌≡◌, ℕ, ◌≤◌, List, map}
+use Rattle.std.specs.List.{AllZip}
+use Rattle.kmc_base.specs.declared.strands.Strands.{Strands}
+use Rattle.kmc_record.specs.Shapes.{Sizes}
+use Rattle.kmc_record.specs.Record.{IsBodyOf}
+use Rattle.kmc_record.specs.RecordWords.{record_keys}
+use Rattle.kmc_store.specs.Bins.{AreBins}
+use Rattle.kmc_store.specs.Holds.{HoldsReads}
+use Rattle.kmc_count.specs.Occurrences.{occurrences, count_of}
+use Rattle.kmc_count.specs.Merge.{joined, AreApart}
+
+-- in bins that hold reads a word has as many places as in the reads
+abbrev pub HeldReadsAreCounted : Type 0
+HeldReadsAreCounted = (strands : Strands) (shape : Sizes) (reads bodies : List (List ℕ)) (sss : List (List (List ℕ)))
+    → 1 ≤ shape.k → 1 ≤ shape.n → HoldsReads shape reads bodies → AllZip (IsBodyOf shape.k) sss bodies
+    → (x : List ℕ) → occurrences (joined (map (record_keys strands shape.k) sss)) x ≡ count_of strands shape.k reads x
+
+-- the keys of different bins differ
+abbrev pub BinsShareNoKey : Type 0
+BinsShareNoKey = (strands : Strands) (shape : Sizes) (bodies : List (List ℕ)) (words : List ℕ) (sss : List (List (List ℕ)))
+    → 1 ≤ shape.m → shape.m ≤ shape.k → AreBins shape bodies words → AllZip (IsBodyOf shape.k) sss bodies
+    → AreApart (map (record_keys strands shape.k) sss)

@@ -1,0 +1,26 @@
+//! Laws of counting by bins, each the contract of a function that does nothing but call other laws.
+ghost use Rattle.kmc_tool.specs.Laws.{HeldReadsAreCounted, BinsShareNoKey};
+
+use kmc_base::laws::{keys_of_segments, segments_are_maximal};
+use kmc_count::laws::keys_of_reads_are_counted;
+use kmc_record::laws::body_has_one_list;
+use kmc_split::laws::{canonical_fixes_signature, cut_keeps_words};
+
+/// In bins that hold reads a word has as many places as in the reads.
+pub fn held_reads_are_counted()
+    ensures { HeldReadsAreCounted }
+{
+    segments_are_maximal();
+    keys_of_segments();
+    cut_keeps_words();
+    body_has_one_list();
+    keys_of_reads_are_counted();
+}
+
+/// The keys of different bins differ: equal keys share a bin.
+pub fn bins_share_no_key()
+    ensures { BinsShareNoKey }
+{
+    canonical_fixes_signature();
+    body_has_one_list();
+}
