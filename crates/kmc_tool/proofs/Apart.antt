@@ -1,19 +1,19 @@
 -- The keys of different bins differ.
-use Rattle.std.proofs.Common.{◌≡◌, ℕ, zero, suc, ◌+◌, ◌-◌, ◌%◌, ◌<◌, ◌≤◌, All, List, [], ◌∷◌, ◌++◌, length, map, get_or, refl, sym, ap, ap₂, subst, ◌∙◌, arith}
-use Rattle.std.specs.List.{AllZip, AllByRecursion, Contains, flat_map}
+use Rattle.std.proofs.Common.{◌≡◌, ℕ, ◌%◌, ◌<◌, ◌≤◌, All, List, [], ◌∷◌, ◌++◌, length, map, get_or, refl, sym, ap, ap₂, subst, ◌∙◌, arith}
+use Rattle.std.specs.List.{AllZip, AllByRecursion, Contains}
 use Rattle.std.proofs.lemmas.List.{get_or-map, length-map, map-append}
 use Rattle.std.proofs.lemmas.List.Elements.{All-from_recursion, All-append}
 use Rattle.kmc_base.specs.declared.strands.Strands.{Strands}
 use Rattle.kmc_base.specs.declared.strands.Strands.TheVariants.{Joined, Apart}
-use Rattle.kmc_base.specs.Words.{canonical, windows}
-use Rattle.kmc_base.specs.Strands.{key, keys}
+use Rattle.kmc_base.specs.Words.{windows}
+use Rattle.kmc_base.specs.Strands.{key}
 use Rattle.kmc_base.specs.Keys.{IsWord, keys_are_words}
 use Rattle.kmc_split.specs.Signature.{signature_of}
 use Rattle.kmc_split.specs.Laws.{CanonicalFixesSignature}
 use Rattle.kmc_record.specs.Shapes.{Sizes}
 use Rattle.kmc_record.specs.Record.{IsBodyOf, IsSpelled}
 use Rattle.kmc_record.specs.RecordWords.{record_keys}
-use Rattle.kmc_record.specs.Parts.{IsPart, all_windows}
+use Rattle.kmc_record.specs.Parts.{all_windows}
 use Rattle.kmc_record.specs.Laws.{BodyHasOneList}
 use Rattle.kmc_store.specs.Bins.{AreBins, body_at}
 use Rattle.kmc_count.specs.Merge.{AreApart}

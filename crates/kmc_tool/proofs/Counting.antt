@@ -1,5 +1,5 @@
 -- The words of the records of bins that hold reads are those of the reads.
-use Rattle.std.proofs.Common.{◌≡◌, ℕ, zero, suc, ◌+◌, ◌-◌, ◌%◌, ◌<◌, ◌≤◌, Bool, true, false, cond, nat_eq, All, List, [], ◌∷◌, ◌++◌, length, map, get_or, refl, sym, ap, ap₂, subst, ◌∙◌, arith, mod-lt}
+use Rattle.std.proofs.Common.{◌≡◌, ℕ, zero, suc, ◌+◌, ◌-◌, ◌%◌, ◌<◌, ◌≤◌, cond, nat_eq, All, List, [], ◌∷◌, ◌++◌, length, map, get_or, refl, sym, ap, ap₂, ◌∙◌, arith, mod-lt}
 use Rattle.std.specs.List.{AllZip, flat_map, filter, sum_by, range_with_len}
 use Rattle.std.proofs.lemmas.List.Sums.{sum_by-cons, sum_by-append}
 use Rattle.std.proofs.lemmas.List.{map-append}
@@ -10,7 +10,7 @@ use Rattle.kmc_base.specs.Strands.{key, keys, placed_key}
 use Rattle.kmc_base.specs.Stretches.{Stretch, segments_of}
 use Rattle.kmc_base.specs.Places.{IsSegment, counted_words}
 use Rattle.kmc_split.specs.declared.runs.Run.{Run}
-use Rattle.kmc_split.specs.Cut.{IsCut, run_codes, run_words}
+use Rattle.kmc_split.specs.Cut.{run_codes, run_words}
 use Rattle.kmc_split.specs.Laws.{CutKeepsWords}
 use Rattle.kmc_record.specs.Shapes.{Sizes}
 use Rattle.kmc_record.specs.Record.{IsBodyOf}
@@ -19,9 +19,9 @@ use Rattle.kmc_record.specs.Parts.{AreCuts, bin_runs, bin_super_kmers, all_segme
 use Rattle.kmc_record.specs.Laws.{BodyHasOneList}
 use Rattle.kmc_store.specs.Bins.{body_at}
 use Rattle.kmc_store.specs.Holds.{HoldsReads}
-use Rattle.kmc_count.specs.Occurrences.{occurrences, count_of}
+use Rattle.kmc_count.specs.Occurrences.{occurrences}
 use Rattle.kmc_count.specs.Merge.{joined}
-use Rattle.kmc_tool.proofs.Summed.{sum_same, sum_same_all, sum_none, sum_add, sum_map, sum_flat, sum_places, sum_range, sum_once, sum_filter, sum_swap, occurs_flat}
+use Rattle.kmc_tool.proofs.Summed.{sum_same, sum_none, sum_add, sum_map, sum_flat, sum_places, sum_range, sum_once, sum_filter, sum_swap, occurs_flat}
 
 -- ---- lists in step
 

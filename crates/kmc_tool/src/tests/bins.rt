@@ -3,6 +3,7 @@ ghost use Rattle.std.specs.Prelude.{◌≡◌, ◌<◌, ◌≤◌, IsTrue};
 ghost use Rattle.kmc_record.specs.Shapes.{Sizes};
 ghost use Rattle.kmc_tool.specs.Stages.{shape_of};
 
+use crate::error::RunError;
 use crate::params::Params;
 use crate::stage_two::stage_two;
 use kmc_base::kmer::Kmer;
@@ -142,10 +143,19 @@ fn absorb_in_any_order(
     shape: Shape,
 ) -> Result<Bins, AllocError> {
     let mut bins = Bins::new(alloc, shape)?;
-    while parts.len() > 0 {
+    for _ in 0..parts.len() {
+        if parts.is_empty() {
+            return Ok(bins);
+        }
         let part = parts.swap_remove(dice.roll(parts.len()));
         assert!(rt; same_shape(part.shape(), bins.shape()));
-        assert!(rt; bins.absorb(part).is_ok());
+        match bins.absorb(part) {
+            Ok(()) => {}
+            Err(part) => {
+                assert!(rt; same_shape(part.shape(), bins.shape()));
+                assert!(rt; bins.absorb(part).is_ok());
+            }
+        }
     }
     Ok(bins)
 }
@@ -177,7 +187,7 @@ fn same_pairs(a: &[(Kmer, u64)], b: &[(Kmer, u64)]) -> bool {
 fn stage_two_counts_what_the_reads_hold(rt: HostRuntime) -> Result<(), Fail> {
     let alloc = rt.alloc();
     let mut dice = Dice { state: 7 };
-    let mut listed = 0;
+    let mut listed: usize = 0;
     for _ in 0..30 {
         let params = some_settings(&mut dice).ok_or("settings in range")?;
         let reads = some_reads(alloc, &mut dice, 12, 90)?;
@@ -186,7 +196,7 @@ fn stage_two_counts_what_the_reads_hold(rt: HostRuntime) -> Result<(), Fail> {
         let by_bins = counted(&rt, alloc, &bins, &params)?;
         let direct = count_direct(alloc, &reads, params.k, params.strands, &params.limits)?;
         assert!(rt; same_pairs(&by_bins, &direct));
-        listed += direct.len();
+        listed = direct.len().saturating_add(listed);
     }
     // the texts are no idle ones
     assert!(rt; listed > 300);
@@ -297,6 +307,54 @@ fn long_runs_are_counted_whole_and_then_capped(rt: HostRuntime) -> Result<(), Fa
             None => String::new(alloc),
         };
         assert_eq!(rt; dump.as_str(), wanted.as_str());
+    }
+    Ok(())
+}
+
+/// The parts of one read, where no growth is refused.
+fn parts_of_one(alloc: Global, read: &[u8], shape: Shape) -> Result<Vec<Part>, AllocError> {
+    let mut chunk = Chunk {
+        number: 0,
+        reads: Vec::new(alloc),
+    };
+    chunk.reads.push(read.to_vec(alloc)?)?;
+    parts_of(alloc, &chunk, shape)
+}
+
+/// Whether these are the counts, in their order.
+fn has_counts(pairs: &[(Kmer, u64)], counts: &[u64]) -> bool {
+    pairs.len() == counts.len()
+        && pairs
+            .iter()
+            .zip(counts.iter())
+            .all(|(pair, n)| pair.1 == *n)
+}
+
+/// Passes whichever one allocation is refused: before stage two it ends, and stage two answers want of memory, and
+/// then, called again, the list.
+#[test]
+fn refused_memory_is_answered_and_leaves_the_bins(rt: HostRuntime) -> Result<(), Fail> {
+    let alloc = rt.alloc();
+    let limits = Limits::new(1, 1000, 255).ok_or("limits in range")?;
+    let params = Params::new(Format::Fastq, 4, 9, 7, 1, 1, limits).ok_or("settings in range")?;
+    let own = shape(&params);
+    let Ok(parts) = parts_of_one(alloc, b"ACGTACGT", own) else {
+        return Ok(());
+    };
+    let Ok(bins) = absorb_in_any_order(&rt, alloc, &mut Dice { state: 5 }, parts, own) else {
+        return Ok(());
+    };
+    assert!(rt; same_shape(bins.shape(), own));
+    match stage_two(&rt, alloc, &bins, &params) {
+        Ok(pairs) => assert!(rt; has_counts(&pairs, &[2, 2, 1])),
+        Err(error) => {
+            assert_eq!(rt; error, RunError::Memory);
+            assert!(rt; same_shape(bins.shape(), own));
+            match stage_two(&rt, alloc, &bins, &params) {
+                Ok(pairs) => assert!(rt; has_counts(&pairs, &[2, 2, 1])),
+                Err(_) => return Err(Fail::from("one allocation was refused, and two calls")),
+            }
+        }
     }
     Ok(())
 }

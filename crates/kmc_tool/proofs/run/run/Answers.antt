@@ -1,4 +1,4 @@
-use Rattle.std.proofs.Common.{◌≡◌, ℕ, List, length, map, Vec, Global, ap, refl}
+use Rattle.std.proofs.Common.{ℕ, length, map, Vec, Global, ap, refl}
 use Rattle.kmc_count.specs.Dump.{text_of}
 use Rattle.kmc_tool.proofs.Layers.{dumped}
 use Rattle.kmc_tool.proofs.run.run.Goals as goal
