@@ -1,8 +1,8 @@
 //! What a fault shows its user: one line on standard error, and the exit status.
 ghost use Rattle.std.specs.Prelude.{◌≡◌};
 
-use kmc_tool::error::RunError;
 use crate::options::error::ParamsError;
+use kmc_tool::error::RunError;
 use std::fmt;
 
 /// Why the program ends without its dump. Its text is the line for the user.

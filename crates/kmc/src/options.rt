@@ -12,10 +12,10 @@ mod number;
 mod reading;
 mod settings;
 
-use kmc_tool::params::Params;
 use command::parse;
 use error::ParamsError;
 use glued::long_form;
+use kmc_tool::params::Params;
 use settings::given;
 use std::alloc::{AllocError, Global};
 

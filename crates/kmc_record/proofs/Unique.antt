@@ -61,5 +61,5 @@ whole_rest k (s ∷ ss) (b ∷ bs) rest fault h g e some f =
 pub no_first_fault : (k : ℕ) (ss : List (List ℕ)) (body : List ℕ) (fault : RecordFault) (offset : ℕ) → IsBodyOf k ss body → IsFirstFault k fault offset body → ⊥
 no_first_fault k ss body fault offset h f =
     whole_rest k ss f.before (drop offset body) fault h.each f.whole.each
-        (sym h.is ∙ sym (take-append-drop offset body) ∙ ap (λ (t : List ℕ). t ++ drop offset body) f.whole.is)
-        (omega (arith, f.inside, length-drop offset body)) f.here
+    (sym h.is ∙ sym (take-append-drop offset body) ∙ ap (λ (t : List ℕ). t ++ drop offset body) f.whole.is)
+    (omega (arith, f.inside, length-drop offset body)) f.here

@@ -1,8 +1,8 @@
 use super::Fault;
-use kmc_tool::error::RunError;
 use crate::options::error::ParamsError;
-use kmc_tool::setting::Setting;
 use kmc_reads::error::ReadsError;
+use kmc_tool::error::RunError;
+use kmc_tool::setting::Setting;
 use std::alloc::Global;
 use std::process::Abort;
 use std::test::Fail;

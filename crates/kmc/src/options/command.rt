@@ -9,9 +9,9 @@ ghost use Rattle.kmc.specs.Parsed.{FailsAs};
 
 use super::error::ParamsError;
 use crate::flag::Flag;
-use kmc_tool::setting::Setting;
 use clap::error::ErrorKind;
 use clap::{Arg, ArgAction, ArgMatches, Command};
+use kmc_tool::setting::Setting;
 use std::alloc::{AllocError, Global};
 
 /// What `clap` finds in the words.

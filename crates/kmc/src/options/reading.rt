@@ -8,10 +8,10 @@ ghost use Rattle.kmc.specs.declared.options.error.ParamsError.TheVariants.{OutOf
 use super::error::ParamsError;
 use super::number::chosen;
 use crate::flag::Flag;
-use kmc_tool::setting::Setting;
 use clap::ArgMatches;
 use kmc_base::strands::Strands;
 use kmc_reads::format::Format;
+use kmc_tool::setting::Setting;
 
 /// The number of the option, given or by default.
 pub fn value(matches: &ArgMatches<'_>, setting: Setting) -> Result<u64, ParamsError>

@@ -5,10 +5,10 @@ ghost use Rattle.kmc.specs.Options.{AreGiven, Faults};
 
 use super::error::ParamsError;
 use super::reading::{format, strands, value};
-use kmc_tool::params::Params;
-use kmc_tool::setting::Setting;
 use clap::ArgMatches;
 use kmc_count::limits::Limits;
+use kmc_tool::params::Params;
+use kmc_tool::setting::Setting;
 
 /// The settings, or the first fault in the order of [`Setting::ALL`] after the format's.
 pub fn given(matches: &ArgMatches<'_>) -> Result<Params, ParamsError>

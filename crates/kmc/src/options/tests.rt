@@ -1,9 +1,9 @@
 use super::error::ParamsError;
 use super::{params, words};
-use kmc_tool::params::Params;
-use kmc_tool::setting::Setting;
 use kmc_base::strands::Strands;
 use kmc_reads::format::Format;
+use kmc_tool::params::Params;
+use kmc_tool::setting::Setting;
 use std::alloc::{AllocError, Global};
 use std::process::Abort;
 use std::test::Fail;
