@@ -35,7 +35,7 @@ module _ {A : Type 0} where
   total_zero f [] z = refl
   total_zero f (x ∷ l) z = let a = z 0 x refl in let b = total_zero f l (λ j u e. z (suc j) u e) in omega arith
 
-  total_only : (f : A → ℕ) (l : List A) (i : ℕ) (v : A) → get_elem? l i ≡ some v → ((j : ℕ) (u : A) → j ≢ i → get_elem? l j ≡ some u → f u ≡ 0) → total_of f l ≡ f v
+  pub total_only : (f : A → ℕ) (l : List A) (i : ℕ) (v : A) → get_elem? l i ≡ some v → ((j : ℕ) (u : A) → j ≢ i → get_elem? l j ≡ some u → f u ≡ 0) → total_of f l ≡ f v
   total_only f [] i v e z = absurd (some-ne-none v (sym e))
   total_only f (x ∷ l) zero v e z = let a = total_zero f l (λ j u d. z (suc j) u (λ h. omega arith) d) in let b : f x ≡ f v = ap f (some-injective x v e) in omega arith
   total_only f (x ∷ l) (suc i) v e z = let a = total_only f l i v e (λ j u n d. z (suc j) u (λ h. n (omega arith)) d) in let b = z 0 x (λ h. omega arith) refl in omega arith

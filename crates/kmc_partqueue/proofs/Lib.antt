@@ -15,3 +15,5 @@ pub mod ReaderCalls
 pub mod Counted
 pub mod Final
 pub mod Moving
+pub mod DoubleSums
+pub mod SentAndGot

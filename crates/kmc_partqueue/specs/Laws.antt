@@ -1,13 +1,18 @@
--- The two laws of the steps.
-use Rattle.std.specs.Prelude.{ℕ, zero, suc, ◌+◌, ◌*◌, [], ◌∷◌, ◌++◌, replicate, Option, None}
+-- The two laws of the steps, and the law of what was sent and got.
+use Rattle.std.specs.Prelude.{◌≡◌, ℕ, zero, suc, ◌+◌, ◌*◌, List, [], ◌∷◌, ◌++◌, replicate, Option, None}
+use Rattle.std.specs.List.{sum_by}
 use Rattle.atomic_table.specs.Table.{State, opening}
 use Rattle.kmc_partcore.specs.declared.shape.QueueShape.{QueueShape}
+use Rattle.kmc_partcore.specs.declared.event.Received.{Received}
 use Rattle.kmc_partcore.specs.History.{History}
 use Rattle.kmc_partcore.specs.State.{state_of}
 use Rattle.kmc_partcore.specs.Legal.{IsLegal}
 use Rattle.kmc_partqueue.specs.declared.views.View.{View}
+use Rattle.kmc_partqueue.specs.Counts.{Each, total_of, same}
 use Rattle.kmc_partqueue.specs.Rule.{LanesRule}
 use Rattle.kmc_partqueue.specs.Dealing.{all_seats}
+use Rattle.kmc_partqueue.specs.Seats.{WriterState, ReaderState}
+use Rattle.kmc_partqueue.specs.Gathered.{IsGathered}
 use Rattle.kmc_partqueue.specs.Shown.{IsShown}
 use Rattle.kmc_partqueue.specs.Steps.{IsStep, AreSteps, was_registered}
 
@@ -29,3 +34,8 @@ opened k = opening (replicate (2 * k.writers + k.writers * k.per_writer) 0) (rep
 abbrev pub StepsLaw : Type 0 → Type 0
 StepsLaw T = (k : QueueShape) (s : State (Option T) (View T)) (e : History T) → AreSteps k (opened k) s e
     → LanesRule k s × IsLegal k (e ++ registers k.writers) × IsShown k s (state_of (e ++ registers k.writers))
+
+-- where the seats are gathered and each writer has a number of its own, any sum over what was got is that over what was sent
+abbrev pub GatheredLaw : Type 0 → Type 0
+GatheredLaw T = (F : T → ℕ) (writers : List (WriterState T)) (readers : List (ReaderState T)) → IsGathered writers readers → Each (λ (s : WriterState T). total_of (λ (t : WriterState T). same t.number s.number) writers ≡ 1) writers
+    → sum_by (λ (r : ReaderState T). sum_by (λ (e : Received T). F e.item) r.got) readers ≡ sum_by (λ (s : WriterState T). sum_by F s.sent) writers

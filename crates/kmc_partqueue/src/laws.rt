@@ -1,5 +1,5 @@
-//! What is true of all steps of all seats, as contracts. No function here does anything when it runs.
-ghost use Rattle.kmc_partqueue.specs.Laws.{StepLaw, StepsLaw};
+//! What is true of all steps of all seats, and of all sums over what they passed, as contracts. No function here does anything when it runs.
+ghost use Rattle.kmc_partqueue.specs.Laws.{StepLaw, StepsLaw, GatheredLaw};
 
 /// Each step keeps the rule, and moves the state of the queue that the lanes show by the step's entry, as a legal history may, or not at all.
 pub fn step<T>()
@@ -9,4 +9,9 @@ pub fn step<T>()
 /// The registers of all writers, each answered Ok, and then the entries of any list of steps of any seats from the opening state, are a legal history, and the lanes show its state.
 pub fn steps<T>()
     ensures { StepsLaw T }
+{}
+
+/// Where the seats are gathered, and each writer has a number of its own, the parts that were got add up to what the parts that were put add up to, whatever a part counts.
+pub fn gathered<T>()
+    ensures { GatheredLaw T }
 {}

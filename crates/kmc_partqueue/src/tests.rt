@@ -96,6 +96,7 @@ fn three_parts_pass_through_two_slots(rt: HostRuntime) -> Result<(), Fail> {
     let (lanes, mut writers, mut readers) = Lanes::<u8>::new(rt.alloc(), shape)?;
     let mut writer = writers.pop().expect(&rt, "a writer");
     let mut reader = readers.pop().expect(&rt, "a reader");
+    assert!(rt; writer.next_number() == 0);
     let empty = is_not_now(lanes.try_take(&mut reader, &NoGate));
     let a = lanes.try_put(&mut writer, 7, &NoGate).ok();
     let b = lanes.try_put(&mut writer, 8, &NoGate).ok();
@@ -103,7 +104,7 @@ fn three_parts_pass_through_two_slots(rt: HostRuntime) -> Result<(), Fail> {
     assert!(rt; empty && a == Some(0) && b == Some(1) && full);
     let first = got(lanes.try_take(&mut reader, &NoGate));
     let c = lanes.try_put(&mut writer, 9, &NoGate).ok();
-    assert!(rt; first == Some((0, 0, 7)) && c == Some(2));
+    assert!(rt; first == Some((0, 0, 7)) && c == Some(2) && writer.next_number() == 3);
     let done = lanes.complete(writer);
     let second = got(lanes.try_take(&mut reader, &NoGate));
     let third = got(lanes.try_take(&mut reader, &NoGate));

@@ -42,6 +42,13 @@ impl<T> WriterSeat<T> {
     {
         self.number
     }
+
+    /// The number of the part that is put next: how many were put.
+    pub fn next_number(&self) -> u64
+        ensures { result ≡ length self.now.sent }
+    {
+        self.count
+    }
 }
 
 /// Why a part was not put. NumbersSpent is tested first, before any step.
