@@ -1,0 +1,4 @@
+mod Chunks
+mod Fresh
+mod Sent
+mod Zips

@@ -1,0 +1,28 @@
+-- When a worker ends without its result.
+use Rattle.std.specs.Prelude.{ℕ, ◌<◌, ◌≤◌, List, length}
+use Rattle.kmc_record.specs.Shapes.{Sizes}
+use Rattle.kmc_record.specs.Parts.{Parcel}
+use Rattle.kmc_partcore.specs.declared.shape.TheConstants.{MAX_ITEMS}
+use Rattle.kmc_store.specs.Deals.{AreDealt}
+use Rattle.kmc_workers.specs.declared.refusal.Refusal.{Refusal}
+use Rattle.kmc_workers.specs.declared.refusal.Refusal.TheVariants.{Memory, NumbersSpent, Stopped}
+
+-- the chunks dealt to a writer give more parts than have numbers: those below some number do
+pub record AreTooMany (shape : Sizes) (batch : ℕ) (reads : List (List ℕ)) (sp chunks w : ℕ) : Type 0 where
+  pub first : ℕ
+  pub within : first ≤ chunks
+  pub parts : List Parcel
+  pub dealt : AreDealt shape batch reads sp w first parts
+  pub many : MAX_ITEMS < length parts
+
+-- spent numbers are answered only where the chunks dealt to some writer give more parts than have numbers
+abbrev pub IsCause : Sizes → ℕ → List (List ℕ) → ℕ → ℕ → Refusal → Type 0
+IsCause shape batch reads sp chunks NumbersSpent = (w : ℕ) × (w < sp) × AreTooMany shape batch reads sp chunks w
+IsCause shape batch reads sp chunks Memory = Unit {0}
+IsCause shape batch reads sp chunks Stopped = Unit {0}
+
+-- a storer puts nothing, so it spends no numbers
+abbrev pub IsStorersCause : Refusal → Type 0
+IsStorersCause NumbersSpent = ⊥
+IsStorersCause Memory = Unit {0}
+IsStorersCause Stopped = Unit {0}

@@ -1,0 +1,4 @@
+pub mod Causes
+pub mod Refusals
+pub mod Shards
+pub mod Workers

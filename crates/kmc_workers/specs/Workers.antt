@@ -1,0 +1,38 @@
+-- What a worker is given, and what it hands back.
+use Rattle.std.specs.Prelude.{◌≡◌, ℕ, ◌+◌, ◌-◌, ◌/◌, List, [], map}
+use Rattle.kmc_record.specs.Shapes.{Sizes}
+use Rattle.kmc_record.specs.Parts.{Parcel}
+use Rattle.kmc_partcore.specs.declared.event.Received.{Received}
+use Rattle.kmc_partcore.specs.declared.shape.QueueShape.{QueueShape}
+use Rattle.atomic_table.specs.Seated.{TableId}
+use Rattle.kmc_partqueue.specs.Seats.{WriterState, ReaderState, IsWriterOf, IsReaderOf}
+use Rattle.kmc_store.specs.Deals.{AreDealt}
+
+-- the parts that a reader got, in order
+abbrev pub items_of : List (Received Parcel) → List Parcel
+items_of got = map (λ (e : Received Parcel). e.item) got
+
+-- into how many chunks so many reads are cut
+abbrev pub chunks_of : ℕ → ℕ → ℕ
+chunks_of batch n = (n + batch - 1) / batch
+
+-- a seat of the queue that has put nothing, or got nothing
+abbrev pub IsFreshWriter : TableId → QueueShape → WriterState Parcel → Type 0
+IsFreshWriter id q s = IsWriterOf id q s × (s.sent ≡ [])
+
+abbrev pub IsFreshReader : TableId → QueueShape → ReaderState Parcel → Type 0
+IsFreshReader id q s = IsReaderOf id q s × (s.got ≡ [])
+
+-- the seat is back, completed, and has put the parts of its chunks, which are those dealt to its number
+pub record IsDone (shape : Sizes) (batch : ℕ) (reads : List (List ℕ)) (sp chunks : ℕ) (s d : WriterState Parcel) : Type 0 where
+  pub table : d.table ≡ s.table
+  pub number : d.number ≡ s.number
+  pub per_writer : d.per_writer ≡ s.per_writer
+  pub sent : AreDealt shape batch reads sp s.number chunks d.sent
+
+-- the seat is the same one
+pub record IsSameReader (s r : ReaderState Parcel) : Type 0 where
+  pub table : r.table ≡ s.table
+  pub number : r.number ≡ s.number
+  pub per_writer : r.per_writer ≡ s.per_writer
+  pub writers : r.writers ≡ s.writers

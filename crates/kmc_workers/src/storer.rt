@@ -1,0 +1,72 @@
+//! What a storer does: it takes parts until the queue is finished, and absorbs them into bins.
+ghost use Rattle.std.specs.Prelude.{◌≡◌, ℕ, ◌<◌, ◌≤◌, [], IfOk, IfErr, IsTrue, ◌↔◌};
+ghost use Rattle.kmc_record.specs.Shapes.{Sizes};
+ghost use Rattle.kmc_record.specs.Parts.{Parcel};
+ghost use Rattle.kmc_partqueue.specs.Seats.{IsReaderOf};
+ghost use Rattle.kmc_workers.specs.Causes.{IsStorersCause};
+ghost use Rattle.kmc_workers.specs.Shards.{IsShard};
+
+use crate::refusal::Refusal;
+use crate::shard::Shard;
+use kmc_partqueue::{Gate, Lanes, Point, ReaderSeat, TryTaken};
+use kmc_record::part::Part;
+use kmc_record::shape::Shape;
+use kmc_store::bins::Bins;
+use kmc_store::laws::{absorbed_bins_are_bodies, empty_bins_are_no_bodies};
+use std::alloc::Global;
+use std::sync::Wait;
+use std::sync::atomic::{AtomicBool, Ordering};
+use std::thread;
+
+/// Whether a part was cut by this shape.
+fn has_shape(part: &Part, shape: Shape) -> bool
+    ensures { IsTrue result ↔ (part.now.shape ≡ shape) }
+{
+    let own = part.shape();
+    own.k() == shape.k() && own.m() == shape.m() && own.n() == shape.n()
+}
+
+/// Takes parts until the queue is finished, and absorbs them. The stop word is read before each try. A part of another
+/// shape, which no splitter sends, ends it.
+pub(crate) fn store<R: Wait, G: Gate>(
+    rt: &R,
+    alloc: Global,
+    lanes: &Lanes<Part>,
+    mut seat: ReaderSeat<Part>,
+    shape: Shape,
+    stop: &AtomicBool,
+    gate: &G,
+) -> Result<Shard, Refusal>
+    requires queue { IsReaderOf lanes.now.table.shared.table_id lanes.now.shape seat }
+    requires fresh { seat.got ≡ [] }
+    ensures done { IfOk result (λ h. IsShard shape seat h) }
+    ensures cause { IfErr result IsStorersCause }
+{
+    empty_bins_are_no_bodies();
+    absorbed_bins_are_bodies();
+    let mut bins = match Bins::new(alloc, shape) {
+        Ok(bins) => bins,
+        Err(_) => return Err(Refusal::Memory),
+    };
+    for _ in rt.forever() {
+        if stop.load(Ordering::SeqCst) {
+            return Err(Refusal::Stopped);
+        }
+        match lanes.try_take(&mut seat, gate) {
+            TryTaken::Got(received) => {
+                gate.pass(Point::AfterTake(seat.number()));
+                let part = received.item;
+                if !has_shape(&part, shape) {
+                    return Err(Refusal::Stopped);
+                }
+                match bins.absorb(part) {
+                    Ok(()) => {}
+                    Err(_) => return Err(Refusal::Memory),
+                }
+            }
+            TryTaken::NotNow => thread::yield_now(),
+            TryTaken::Finished(_) => return Ok(Shard::new(seat, bins)),
+        }
+    }
+    unreachable!()
+}
