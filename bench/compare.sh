@@ -3,8 +3,10 @@
 #
 # usage: bench/compare.sh [READS [K [ROUNDS]]]
 #
-# Wants `kmc` and `kmc_tools` (Debian's package kmc) and GNU time. The programs run in turn, ROUNDS times each,
-# and the best of each is printed. READS (1500000) reads of 100 symbols come from a genome of 5 million.
+# Wants `kmc` and `kmc_tools` (Debian's package kmc) and GNU time. For 1, 2 and 4 threads (-spN -srN against -tN) the two
+# programs run in turn, ROUNDS times each, and the best of each is printed with ours as a part of theirs. KMC's time is that
+# of `kmc -r` and the sorted dump, its memory the greater of the two. READS (1500000) reads of 100 symbols come from a
+# genome of 5 million.
 set -eu
 top=$(cd "$(dirname "$0")/.." && pwd)
 reads=${1:-1500000}
@@ -22,19 +24,23 @@ timed() {
     /usr/bin/time -a -o "$work/$name.times" -f '%e %U %M' sh -c "$*"
 }
 
+# best NAME: the line of the least wall time, memory in MB
 best() {
-    sort -n "$work/$1.times" | head -1 | awk -v name="$1" '{ printf "%-16s %8.2f s wall %8.2f s user %8.0f MB\n", name, $1, $2, $3 / 1024 }'
+    sort -n "$work/$1.times" | head -1 | awk '{ printf "%.2f %.2f %.0f", $1, $2, $3 / 1024 }'
 }
 
 round=0
 while [ "$round" -lt "$rounds" ]; do
-    timed ours "$top/kmc < $text > $work/ours.dump"
     for threads in 1 2 4; do
-        timed "kmc3_t$threads" "kmc -k$k -r -t$threads -fq $text $work/base $work > /dev/null 2>&1 && kmc_tools -t$threads transform $work/base dump -s $work/theirs.dump > /dev/null 2>&1"
+        timed "ours_$threads" "$top/kmc -k$k -sp$threads -sr$threads < $text > $work/ours.dump"
+        timed "kmc3_$threads" "kmc -k$k -r -t$threads -fq $text $work/base $work > /dev/null 2>&1 && kmc_tools -t$threads transform $work/base dump -s $work/theirs.dump > /dev/null 2>&1"
+        cmp "$work/ours.dump" "$work/theirs.dump"
     done
-    cmp "$work/ours.dump" "$work/theirs.dump"
     round=$((round + 1))
 done
 echo "the dumps are equal: $(wc -l < "$work/ours.dump") lines"
-best ours
-for threads in 1 2 4; do best "kmc3_t$threads"; done
+echo "threads  ours: wall s, user s, MB     KMC 3: wall s, user s, MB     ours / KMC 3: wall, memory"
+for threads in 1 2 4; do
+    echo "$threads $(best "ours_$threads") $(best "kmc3_$threads")" |
+        awk '{ printf "%7d  %10s %7s %6s  %16s %8s %6s  %17.2f %10.2f\n", $1, $2, $3, $4, $5, $6, $7, $2 / $5, $4 / $7 }'
+done

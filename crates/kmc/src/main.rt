@@ -9,6 +9,7 @@ mod options;
 
 use fault::Fault;
 use kmc_count::device::Counted;
+use kmc_partqueue::NoGate;
 use kmc_tool::params::Params;
 use kmc_tool::run::run;
 use options::error::ParamsError;
@@ -24,7 +25,7 @@ fn main(rt: HostRuntime) -> ExitCode {
     };
     let mut reader = Counted::new(rt.stdin());
     let mut writer = Counted::new(io::writer(&rt));
-    match run(rt.alloc(), &mut reader, &mut writer, &params) {
+    match run(&rt, rt.alloc(), &mut reader, &mut writer, &params, &NoGate) {
         Ok(_) => ExitCode::SUCCESS,
         Err(error) => refused(&rt, Fault::from(error)),
     }

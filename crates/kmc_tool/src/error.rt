@@ -5,7 +5,7 @@ use thiserror::Error;
 /// Why a run gave up. Of several causes the one that is met first is answered.
 #[derive(Clone, Copy, Debug, PartialEq, Eq, Error)]
 pub enum RunError {
-    /// A growth was refused.
+    /// A growth or the start of a thread was refused.
     #[error("out of memory")]
     Memory,
     /// A read failed, of whatever kind.
@@ -20,4 +20,7 @@ pub enum RunError {
     /// 2^32 reads gave bytes.
     #[error("input too long")]
     TooLong,
+    /// The reads of one splitter give more parts than have numbers.
+    #[error("part numbers spent")]
+    NumbersSpent,
 }

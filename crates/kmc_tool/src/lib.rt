@@ -1,6 +1,6 @@
 //! A run: its settings, and the way from the bytes of a reader to the dump on a writer. It stands on `kmc_reads` for
-//! the reads of a text and on `kmc_count` for their dump and for devices whose failures are counted. The layer above
-//! makes `params::Params` and calls `run::run`.
+//! the reads of a text, on `kmc_workers` for their parts in bins, and on `kmc_count` for the dump of bins and for
+//! devices whose failures are counted. The layer above makes `params::Params` and calls `run::run`.
 #![tactic(auto)]
 
 #[cfg(test)]
@@ -11,6 +11,9 @@ pub mod laws;
 pub mod params;
 pub mod run;
 pub mod setting;
+mod shards;
+pub mod stage_one;
 pub mod stage_two;
+mod stages;
 #[cfg(test)]
 mod tests;

@@ -3,27 +3,36 @@ ghost use Rattle.std.specs.Prelude.{◌≡◌, ◌≢◌, ℕ, ◌+◌, ◌-◌,
 ghost use Rattle.std.specs.Io.KnownBytes.{Appends, Consumes};
 ghost use Rattle.kmc_count.specs.Device.{GaveAll, AppendsFront};
 ghost use Rattle.kmc_reads.specs.Reads.{reads_of};
+ghost use Rattle.kmc_workers.specs.Causes.{AreTooMany};
+ghost use Rattle.kmc_workers.specs.Workers.{chunks_of};
 ghost use Rattle.kmc_tool.specs.Run.{IsDumpOf};
+ghost use Rattle.kmc_tool.specs.Stages.{shape_of};
 
 use crate::error::RunError;
 use crate::input::{ReadFault, read_text};
 use crate::params::Params;
+use crate::stages::count_by_bins;
 use kmc_count::device::Counted;
-use kmc_count::direct::count_direct;
 use kmc_count::dump::write_dump;
+use kmc_partqueue::Gate;
 use kmc_reads::error::ReadsError;
 use kmc_reads::read_all::read_all;
 use std::alloc::Global;
 use std::io::{Read, Write};
+use std::sync::Wait;
+use std::thread::Threads;
 
 /// Reads all that the reader gives, and writes the dump of its direct count and nothing else. Nothing is
 /// written before all was read and counted, so after every refusal but `Write` nothing was written. The
-/// answer is the number of lines.
-pub fn run<R: Read, W: Write>(
+/// answer is the number of lines. The words are counted by way of bins; the gate is told of the points that the parts
+/// pass.
+pub fn run<T: Threads + Wait + Sync, R: Read, W: Write, G: Gate + Sync>(
+    rt: &T,
     alloc: Global,
     reader: &mut Counted<R>,
     writer: &mut Counted<W>,
     params: &Params,
+    gate: &G,
 ) -> Result<u64, RunError>
     requires reader { reader.old.failures < 2 ^ 64 - 1 }
     requires writer { writer.old.failures < 2 ^ 64 - 1 }
@@ -42,6 +51,9 @@ pub fn run<R: Read, W: Write>(
     ensures input { (e : ReadsError) → IsErrOf result (RunError.Input e) → (bytes : List ℕ) × GaveAll (R.remaining reader.old.inner) (R.remaining reader.new.inner) bytes × (reads_of params.now.format bytes ≡ Err e) }
     ensures long { IsErrOf result RunError.TooLong → (reader.new.reads ≡ reader.old.reads + 2 ^ 32)
         × (bytes : List ℕ) × Consumes (R.remaining reader.old.inner) (R.remaining reader.new.inner) bytes × (2 ^ 32 ≤ length bytes) }
+    ensures spent { IsErrOf result RunError.NumbersSpent → (bytes : List ℕ) × (reads : List (List ℕ)) × GaveAll (R.remaining reader.old.inner) (R.remaining reader.new.inner) bytes
+        × (reads_of params.now.format bytes ≡ Ok reads)
+        × (w : ℕ) × (w < params.now.sp) × AreTooMany (shape_of params.now) params.now.batch reads params.now.sp (chunks_of params.now.batch (length reads)) w }
 
     // Only a failed write leaves anything written, and no other refusal passes over a failure.
     ensures silent { IfErr result (λ e. e ≢ RunError.Write → writer.new ≡ writer.old) }
@@ -59,8 +71,11 @@ pub fn run<R: Read, W: Write>(
         Err(ReadsError::Memory) => return Err(RunError::Memory),
         Err(e) => return Err(RunError::Input(e)),
     };
-    let Ok(pairs) = count_direct(alloc, &reads, params.k, params.strands, &params.limits) else {
-        return Err(RunError::Memory);
+    drop(text);
+    let pairs = match count_by_bins(rt, alloc, reads, params, gate) {
+        Ok(pairs) => pairs,
+        Err(RunError::NumbersSpent) => return Err(RunError::NumbersSpent),
+        Err(_) => return Err(RunError::Memory),
     };
     match write_dump(writer, &pairs) {
         Ok(lines) => Ok(lines),

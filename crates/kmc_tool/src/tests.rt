@@ -1,6 +1,7 @@
 //! Runs from text to dump, over devices in memory.
 mod bins;
 mod failing;
+mod queues;
 mod rows;
 
 use crate::devices::{Full, NarrowWriter, PieceReader};
@@ -10,9 +11,12 @@ use crate::run::run;
 use kmc_base::strands::Strands;
 use kmc_count::device::Counted;
 use kmc_count::limits::Limits;
+use kmc_partqueue::NoGate;
 use kmc_reads::format::Format;
 use std::alloc::{AllocError, Global};
+use std::sync::Wait;
 use std::test::Fail;
+use std::thread::Threads;
 
 const BILLION: u64 = 1_000_000_000;
 
@@ -47,7 +51,8 @@ fn fastq(alloc: Global, sequences: &[&[u8]]) -> Result<Vec<u8>, AllocError> {
     Ok(text)
 }
 
-fn run_between(
+fn run_between<R: Threads + Wait + Sync>(
+    rt: &R,
     alloc: Global,
     reader: PieceReader,
     writer: NarrowWriter,
@@ -55,7 +60,7 @@ fn run_between(
 ) -> Outcome {
     let mut reader = Counted::new(reader);
     let mut writer = Counted::new(writer);
-    let answer = run(alloc, &mut reader, &mut writer, params);
+    let answer = run(rt, alloc, &mut reader, &mut writer, params, &NoGate);
     let read_failures = reader.failures();
     let write_failures = writer.failures();
     Outcome {
@@ -67,8 +72,13 @@ fn run_between(
 }
 
 /// A run over devices that never fail.
-fn dump_of(alloc: Global, text: &[u8], params: &Params) -> Outcome {
+fn dump_of<R: Threads + Wait + Sync>(
+    rt: &R,
+    alloc: Global,
+    text: &[u8],
+    params: &Params,
+) -> Outcome {
     let reader = PieceReader::new(text, 1000, 0);
     let writer = NarrowWriter::new(Vec::new(alloc), 100_000, 100_000, Full::Fails, true);
-    run_between(alloc, reader, writer, params)
+    run_between(rt, alloc, reader, writer, params)
 }

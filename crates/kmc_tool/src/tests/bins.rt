@@ -1,10 +1,10 @@
 //! Bins filled part by part in any order, and what stage two makes of them, against the direct count of the same reads.
 ghost use Rattle.std.specs.Prelude.{◌≡◌, ◌<◌, ◌≤◌, IsTrue};
 ghost use Rattle.kmc_record.specs.Shapes.{Sizes};
-ghost use Rattle.kmc_tool.specs.Stages.{shape_of};
 
 use crate::error::RunError;
 use crate::params::Params;
+use crate::stage_one::shape;
 use crate::stage_two::stage_two;
 use kmc_base::kmer::Kmer;
 use kmc_base::strands::Strands;
@@ -45,16 +45,6 @@ fn same_shape(a: Shape, b: Shape) -> bool
     ensures { IsTrue result → a ≡ b }
 {
     a.k() == b.k() && a.m() == b.m() && a.n() == b.n()
-}
-
-/// The shape by which these settings cut reads.
-fn shape(params: &Params) -> Shape
-    ensures { result ≡ shape_of params.now }
-{
-    match Shape::new(params.k, params.p, params.n) {
-        Some(shape) => shape,
-        None => unreachable!(),
-    }
 }
 
 /// Reads of up to `longest` symbols over few letters, so that words come again, with an N here and there.

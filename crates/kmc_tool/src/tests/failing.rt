@@ -9,7 +9,6 @@ const DUMP: &[u8] = b"ACGT\t2\nCGTA\t2\nGTAC\t1\n";
 #[test]
 fn refuses_faulty_texts_with_their_lines(rt: HostRuntime) -> Result<(), Fail> {
     let alloc = rt.alloc();
-    let fault = |text: &[u8]| dump_of(alloc, text, &Params::default());
     let refused = [
         (
             b"@r\nACGT\n+\nIII\n".as_slice(),
@@ -20,7 +19,7 @@ fn refuses_faulty_texts_with_their_lines(rt: HostRuntime) -> Result<(), Fail> {
         (b"\n@r\nACGT\nx\nIIII\n".as_slice(), ReadsError::BadPlus(4)),
     ];
     for (text, e) in refused {
-        let made = fault(text);
+        let made = dump_of(&rt, alloc, text, &Params::default());
         assert_eq!(rt; made.answer, Err(RunError::Input(e)));
         assert!(rt; made.written.is_empty());
         assert_eq!(rt; made.read_failures, 0);
@@ -36,7 +35,7 @@ fn gives_the_same_dump_in_any_pieces(rt: HostRuntime) -> Result<(), Fail> {
         for width in [1, 3, 100] {
             let reader = PieceReader::new(TEXT, piece, 0);
             let writer = NarrowWriter::new(Vec::new(alloc), width, 1000, Full::Fails, true);
-            let made = run_between(alloc, reader, writer, &params);
+            let made = run_between(&rt, alloc, reader, writer, &params);
             assert_eq!(rt; made.answer, Ok(3));
             assert_eq!(rt; made.written.as_slice(), DUMP);
         }
@@ -51,7 +50,7 @@ fn writes_nothing_after_a_failed_read(rt: HostRuntime) -> Result<(), Fail> {
     for failing in 1..=24 {
         let reader = PieceReader::new(TEXT, 1, failing);
         let writer = NarrowWriter::new(Vec::new(alloc), 100, 1000, Full::Fails, true);
-        let made = run_between(alloc, reader, writer, &params);
+        let made = run_between(&rt, alloc, reader, writer, &params);
         assert_eq!(rt; made.answer, Err(RunError::Read));
         assert!(rt; made.written.is_empty());
         assert_eq!(rt; made.read_failures, 1);
@@ -68,7 +67,7 @@ fn writes_a_front_of_the_dump_before_a_failed_write(rt: HostRuntime) -> Result<(
         for full in [Full::Fails, Full::Takes0] {
             let reader = PieceReader::new(TEXT, 100, 0);
             let writer = NarrowWriter::new(Vec::new(alloc), 4, room, full, true);
-            let made = run_between(alloc, reader, writer, &params);
+            let made = run_between(&rt, alloc, reader, writer, &params);
             assert_eq!(rt; made.answer, Err(RunError::Write));
             assert_eq!(rt; made.written.as_slice(), &DUMP[..room]);
             assert_eq!(rt; made.write_failures, 1);
@@ -85,7 +84,7 @@ fn a_failed_flush_fails_the_run(rt: HostRuntime) -> Result<(), Fail> {
     for (text, dump) in [(TEXT, DUMP), (b"".as_slice(), b"".as_slice())] {
         let reader = PieceReader::new(text, 100, 0);
         let writer = NarrowWriter::new(Vec::new(alloc), 100, 1000, Full::Fails, false);
-        let made = run_between(alloc, reader, writer, &params);
+        let made = run_between(&rt, alloc, reader, writer, &params);
         assert_eq!(rt; made.answer, Err(RunError::Write));
         assert_eq!(rt; made.written.as_slice(), dump);
         assert_eq!(rt; made.write_failures, 1);

@@ -5,7 +5,7 @@ use super::*;
 macro_rules! assert_dump {
     ($rt:expr, $text:expr, $params:expr, $dump:expr) => {{
         let params = $params;
-        let made = dump_of($rt.alloc(), &$text, &params);
+        let made = dump_of(&$rt, $rt.alloc(), &$text, &params);
         assert!($rt; made.answer.is_ok());
         assert_eq!($rt; made.written.as_slice(), $dump.as_slice());
         assert_eq!($rt; made.read_failures, 0);

@@ -1,0 +1,40 @@
+//! Both stages: from reads to the pairs of their dump.
+ghost use Rattle.std.specs.Prelude.{◌≡◌, length, map, IfOk, IfErr};
+ghost use Rattle.kmc_count.specs.Dump.{IsDump};
+ghost use Rattle.kmc_count.specs.Occurrences.{count_of};
+ghost use Rattle.kmc_workers.specs.Workers.{chunks_of};
+ghost use Rattle.kmc_tool.specs.Stages.{shape_of, IsStageError};
+
+use crate::error::RunError;
+use crate::laws::held_reads_are_counted;
+use crate::params::Params;
+use crate::stage_one::stage_one;
+use crate::stage_two::stage_two;
+use kmc_base::kmer::Kmer;
+use kmc_partqueue::Gate;
+use std::alloc::Global;
+use std::sync::Wait;
+use std::thread::Threads;
+
+/// The dump of the direct count of the reads, by way of bins. The reads are let go once the bins hold them.
+pub(crate) fn count_by_bins<R: Threads + Wait + Sync, G: Gate + Sync>(
+    rt: &R,
+    alloc: Global,
+    reads: Vec<Vec<u8>>,
+    params: &Params,
+    gate: &G,
+) -> Result<Vec<(Kmer, u64)>, RunError>
+    ensures dump { IfOk result (λ pairs. IsDump (count_of params.now.strands params.now.k (map (λ r. r.items) reads.items)) params.now.limits pairs.items) }
+    ensures cause { IfErr result (IsStageError (shape_of params.now) params.now.batch (map (λ r. r.items) reads.items) params.now.sp (chunks_of params.now.batch (length reads.items))) }
+{
+    held_reads_are_counted();
+    let bins = match stage_one(rt, alloc, &reads, params, gate) {
+        Ok(bins) => bins,
+        Err(e) => return Err(e),
+    };
+    drop(reads);
+    match stage_two(rt, alloc, &bins, params) {
+        Ok(pairs) => Ok(pairs),
+        Err(_) => Err(RunError::Memory),
+    }
+}

@@ -1,0 +1,59 @@
+//! Runs over queues of many shapes: whichever worker is first, the dump is that of the direct count.
+use super::*;
+use kmc_count::direct::count_direct;
+use kmc_count::dump::write_dump;
+
+/// The dump of the direct count of these reads.
+fn direct_dump(alloc: Global, reads: &[&[u8]], params: &Params) -> Result<Vec<u8>, Fail> {
+    let mut list = Vec::new(alloc);
+    for read in reads {
+        list.push(read.to_vec(alloc)?)?;
+    }
+    let pairs = count_direct(alloc, &list, params.k, params.strands, &params.limits)?;
+    let device = NarrowWriter::new(Vec::new(alloc), 100_000, 100_000, Full::Fails, true);
+    let mut writer = Counted::new(device);
+    match write_dump(&mut writer, &pairs) {
+        Ok(_) => Ok(writer.into_inner().into_bytes()),
+        Err(_) => Err(Fail::from("a write failed")),
+    }
+}
+
+#[test]
+fn any_queue_gives_the_dump_of_the_direct_count(rt: HostRuntime) -> Result<(), Fail> {
+    let alloc = rt.alloc();
+    let reads = [
+        b"GATTACAGATTACAGATTACACCGGT".as_slice(),
+        b"",
+        b"ACGTNACGTTTTTTTTTTTTTTTTTTTT",
+        b"acgtaccggtattagaccatgaccatgaNNNNNNNacgtaccggtattag",
+        b"CCC",
+        b"TTTTTTTTTTTTTTTTTTTTTTTTTTTTTTTTTTTTTTTTTTTTTTTTTTTTTTTT",
+        b"ACACACACACACACACTGTGTGTGTGTGTGTG",
+    ];
+    let text = fastq(alloc, &reads)?;
+    let limits = Limits::new(1, BILLION, 255).ok_or("limits in range")?;
+    let sizes = [
+        (1, 1, 1, 1),
+        (1, 8, 1, 2),
+        (2, 1, 8, 1024),
+        (3, 2, 1, 1),
+        (5, 3, 2, 3),
+        (16, 8, 64, 1),
+    ];
+    for k in [3, 12, 33] {
+        for (splitters, storers, per_writer, batch) in sizes {
+            let options = Params::new(Format::Fastq, k, 5, 97, splitters, 2, limits).ok_or(
+                "options in range",
+            )?;
+            let params = options
+                .with_queue(storers, per_writer, batch)
+                .ok_or("queue in range")?;
+            let made = dump_of(&rt, alloc, &text, &params);
+            let direct = direct_dump(alloc, &reads, &params)?;
+            assert!(rt; made.answer.is_ok());
+            assert!(rt; !direct.is_empty());
+            assert_eq!(rt; made.written.as_slice(), direct.as_slice());
+        }
+    }
+    Ok(())
+}
