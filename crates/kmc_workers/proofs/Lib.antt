@@ -2,3 +2,4 @@ mod Chunks
 mod Fresh
 mod Sent
 mod Zips
+pub mod Returned

@@ -9,4 +9,6 @@ pub mod refusal;
 pub mod shard;
 mod splitter;
 mod storer;
+#[cfg(test)]
+mod tests;
 mod workers;

@@ -4,12 +4,13 @@ ghost use Rattle.kmc_record.specs.Shapes.{Sizes};
 
 use crate::error::RunError;
 use crate::params::Params;
-use crate::stage_one::shape;
+use crate::stage_one::{shape, stage_one};
 use crate::stage_two::stage_two;
 use kmc_base::kmer::Kmer;
 use kmc_base::strands::Strands;
 use kmc_count::direct::count_direct;
 use kmc_count::limits::Limits;
+use kmc_partqueue::NoGate;
 use kmc_reads::format::Format;
 use kmc_record::part::Part;
 use kmc_record::parts::{Chunk, parts_of};
@@ -17,6 +18,7 @@ use kmc_record::shape::Shape;
 use kmc_store::bins::Bins;
 use std::alloc::{AllocError, Global};
 use std::process::Abort;
+use std::sync::Wait;
 use std::test::Fail;
 use std::thread::Threads;
 
@@ -89,7 +91,7 @@ fn some_settings(dice: &mut Dice) -> Option<Params> {
         k,
         5 + dice.roll(7),
         bins,
-        2,
+        1 + dice.roll(16),
         1 + dice.roll(16),
         limits,
     )?;
@@ -190,6 +192,59 @@ fn stage_two_counts_what_the_reads_hold(rt: HostRuntime) -> Result<(), Fail> {
     }
     // the texts are no idle ones
     assert!(rt; listed > 300);
+    Ok(())
+}
+
+/// The bins that stage one fills.
+fn filled<R: Threads + Wait + Sync>(
+    rt: &R,
+    alloc: Global,
+    reads: &[Vec<u8>],
+    params: &Params,
+) -> Result<Bins, Fail> {
+    match stage_one(rt, alloc, reads, params, &NoGate) {
+        Ok(bins) => Ok(bins),
+        Err(_) => Err(Fail::from("out of memory")),
+    }
+}
+
+/// The same settings with a queue of any size.
+fn with_some_queue(dice: &mut Dice, params: Params) -> Option<Params> {
+    let readers = 1 + dice.roll(8);
+    let per_writer = 1 + dice.roll(64);
+    let batch = 1 + dice.roll(6);
+    params.with_queue(readers, per_writer, batch)
+}
+
+#[test]
+fn both_stages_count_random_texts(rt: HostRuntime) -> Result<(), Fail> {
+    let alloc = rt.alloc();
+    let mut dice = Dice { state: 23 };
+    let mut listed: usize = 0;
+    for _ in 0..30 {
+        let settings = some_settings(&mut dice).ok_or("settings in range")?;
+        let params = with_some_queue(&mut dice, settings).ok_or("queue in range")?;
+        let reads = some_reads(alloc, &mut dice, 12, 90)?;
+        let bins = filled(&rt, alloc, &reads, &params)?;
+        let pairs = counted(&rt, alloc, &bins, &params)?;
+        let direct = count_direct(alloc, &reads, params.k, params.strands, &params.limits)?;
+        assert!(rt; same_pairs(&pairs, &direct));
+        listed = direct.len().saturating_add(listed);
+    }
+    // the texts are no idle ones
+    assert!(rt; listed > 300);
+    Ok(())
+}
+
+#[test]
+fn long_runs_of_one_symbol_lie_in_the_first_bin(rt: HostRuntime) -> Result<(), Fail> {
+    let alloc = rt.alloc();
+    let mut reads = Vec::new(alloc);
+    reads.push([b'A'; 300].as_slice().to_vec(alloc)?)?;
+    let bins = filled(&rt, alloc, &reads, &settings(25, 2, 1_000_000_000, 255)?)?;
+    let bodies = bins.bodies();
+    assert!(rt; bodies.len() == 512 && bodies.iter().skip(1).all(|body| body.is_empty()));
+    assert!(rt; bodies.first().is_some_and(|body| body.len() == 83));
     Ok(())
 }
 

@@ -57,3 +57,37 @@ fn any_queue_gives_the_dump_of_the_direct_count(rt: HostRuntime) -> Result<(), F
     }
     Ok(())
 }
+
+#[test]
+fn every_queue_gives_the_dumps_of_small_texts(rt: HostRuntime) -> Result<(), Fail> {
+    let alloc = rt.alloc();
+    let limits = Limits::new(1, BILLION, 255).ok_or("limits in range")?;
+    let broken = fastq(alloc, &[b"ACGTACGT", b"ACGTNACGT"])?;
+    let twice = fastq(alloc, &[b"ACGTACGT", b"ACGTACGT"])?;
+    for (splitters, storers, per_writer, bins) in [
+        (1, 1, 1, 1),
+        (2, 2, 8, 7),
+        (3, 2, 1, 7),
+        (16, 8, 64, 2000),
+    ] {
+        let options = Params::new(Format::Fastq, 4, 9, bins, splitters, 2, limits).ok_or(
+            "options in range",
+        )?;
+        let params = options
+            .with_queue(storers, per_writer, 1)
+            .ok_or("queue in range")?;
+        let made = dump_of(&rt, alloc, &broken, &params);
+        assert_eq!(rt; made.answer, Ok(3));
+        assert_eq!(rt;
+            made.written.as_slice(),
+            b"ACGT\t4\nCGTA\t2\nGTAC\t1\n".as_slice()
+        );
+        let again = dump_of(&rt, alloc, &twice, &params);
+        assert_eq!(rt; again.answer, Ok(3));
+        assert_eq!(rt;
+            again.written.as_slice(),
+            b"ACGT\t4\nCGTA\t4\nGTAC\t2\n".as_slice()
+        );
+    }
+    Ok(())
+}
