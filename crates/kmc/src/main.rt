@@ -18,9 +18,20 @@ use std::process::ExitCode;
 use std::rt::Env;
 use std::{env, io};
 
+/// The threads that store parts: one keeps up with four that cut reads.
+const STORERS: usize = 1;
+
+/// The parts that one splitter may have in the queue.
+const WAITING_PARTS: usize = 8;
+
+/// The reads of a chunk: fewer make many small parts, more take memory where reads are long.
+const CHUNK_READS: usize = 4096;
+
 fn main(rt: HostRuntime) -> ExitCode {
     let params = match asked(&rt) {
-        Ok(params) => params,
+        Ok(params) => params
+            .with_queue(STORERS, WAITING_PARTS, CHUNK_READS)
+            .unwrap_or(params),
         Err(error) => return refused(&rt, Fault::from(error)),
     };
     let mut reader = Counted::new(rt.stdin());

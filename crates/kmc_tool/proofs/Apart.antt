@@ -3,6 +3,7 @@ use Rattle.std.proofs.Common.{◌≡◌, ℕ, ◌%◌, ◌<◌, ◌≤◌, All, 
 use Rattle.std.specs.List.{AllZip, AllByRecursion, Contains}
 use Rattle.std.proofs.lemmas.List.{get_or-map, length-map, map-append}
 use Rattle.std.proofs.lemmas.List.Elements.{All-from_recursion, All-append}
+use Rattle.std.proofs.lemmas.Slice.Zip.{AllZip-long}
 use Rattle.kmc_base.specs.declared.strands.Strands.{Strands}
 use Rattle.kmc_base.specs.declared.strands.Strands.TheVariants.{Joined, Apart}
 use Rattle.kmc_base.specs.Words.{windows}
@@ -17,7 +18,8 @@ use Rattle.kmc_record.specs.Parts.{all_windows}
 use Rattle.kmc_record.specs.Laws.{BodyHasOneList}
 use Rattle.kmc_store.specs.Bins.{AreBins, body_at}
 use Rattle.kmc_count.specs.Merge.{AreApart}
-use Rattle.kmc_tool.proofs.Counting.{zip_length, zip_at, keys_windows}
+use Rattle.kmc_count.proofs.Zips.{zip_at}
+use Rattle.kmc_tool.proofs.Counting.{keys_windows}
 
 -- the words of records are words
 words_of_records : (k : ℕ) (ss : List (List ℕ)) → AllByRecursion (IsSpelled k) ss → All (IsWord k) (all_windows k ss)
@@ -77,7 +79,7 @@ keys_apart one fixes strands shape bodies words sss some within are zip i j d le
     inside_i = omega (arith, less, inside_j)
 
     wide : length sss ≡ shape.n
-    wide = zip_length (IsBodyOf shape.k) sss bodies zip ∙ are.wide
+    wide = sym (AllZip-long (IsBodyOf shape.k) sss bodies zip) ∙ are.wide
 
     moved : (b : ℕ) → b < length sss → Contains (get_or (map f sss) b d) x → Contains (f (get_or sss b [])) x
     moved b inside = subst (λ (l : List (List ℕ)). Contains l x) (get_or-map f sss b [] d inside)

@@ -1,8 +1,9 @@
 -- The words of the records of bins that hold reads are those of the reads.
-use Rattle.std.proofs.Common.{◌≡◌, ℕ, zero, suc, ◌+◌, ◌-◌, ◌%◌, ◌<◌, ◌≤◌, cond, nat_eq, All, List, [], ◌∷◌, ◌++◌, length, map, get_or, refl, sym, ap, ap₂, ◌∙◌, arith, mod-lt}
+use Rattle.std.proofs.Common.{◌≡◌, ℕ, ◌+◌, ◌-◌, ◌%◌, ◌<◌, ◌≤◌, cond, nat_eq, All, List, [], ◌∷◌, ◌++◌, length, map, get_or, refl, sym, ap, ap₂, ◌∙◌, arith, mod-lt}
 use Rattle.std.specs.List.{AllZip, flat_map, filter, sum_by, range_with_len}
 use Rattle.std.proofs.lemmas.List.Sums.{sum_by-cons, sum_by-append}
 use Rattle.std.proofs.lemmas.List.{map-append}
+use Rattle.std.proofs.lemmas.Slice.Zip.{AllZip-long}
 use Rattle.std.proofs.lemmas.List.Elements.{All-head, All-tail, All-append}
 use Rattle.kmc_base.specs.declared.strands.Strands.{Strands}
 use Rattle.kmc_base.specs.Words.{windows, window}
@@ -21,21 +22,8 @@ use Rattle.kmc_store.specs.Bins.{body_at}
 use Rattle.kmc_store.specs.Holds.{HoldsReads}
 use Rattle.kmc_count.specs.Occurrences.{occurrences}
 use Rattle.kmc_count.specs.Merge.{joined}
+use Rattle.kmc_count.proofs.Zips.{zip_at}
 use Rattle.kmc_tool.proofs.Summed.{sum_same, sum_none, sum_add, sum_map, sum_flat, sum_places, sum_range, sum_once, sum_filter, sum_swap, occurs_flat}
-
--- ---- lists in step
-
-pub zip_length : {A B : Type 0} (R : A → B → Type 0) (xs : List A) (ys : List B) → AllZip R xs ys → length xs ≡ length ys
-zip_length R [] [] h = refl
-zip_length R [] (y ∷ ys) h = absurd h
-zip_length R (x ∷ xs) [] h = absurd h
-zip_length R (x ∷ xs) (y ∷ ys) h = ap suc (zip_length R xs ys h.1)
-
-pub zip_at : {A B : Type 0} (R : A → B → Type 0) (xs : List A) (ys : List B) (i : ℕ) (d : A) (e : B) → AllZip R xs ys → i < length xs → R (get_or xs i d) (get_or ys i e)
-zip_at R [] ys i d e h lt = absurd (let no : ⊥ = omega arith in no)
-zip_at R (x ∷ xs) [] i d e h lt = absurd h
-zip_at R (x ∷ xs) (y ∷ ys) zero d e h lt = h.0
-zip_at R (x ∷ xs) (y ∷ ys) (suc i) d e h lt = zip_at R xs ys i d e h.1 (omega arith)
 
 fuse : {A B C : Type 0} (f : B → C) (g : A → B) (xs : List A) → map (λ a. f (g a)) xs ≡ map f (map g xs)
 fuse f g [] = refl
@@ -131,7 +119,7 @@ held_counted one keeps segments keyed strands shape reads bodies sss some_k some
     k = shape.k
 
     wide : length sss ≡ shape.n
-    wide = zip_length (IsBodyOf k) sss bodies zip ∙ h.wide
+    wide = sym (AllZip-long (IsBodyOf k) sss bodies zip) ∙ h.wide
 
     same : (i : ℕ) → 0 ≤ i → i < 0 + shape.n → sum_by (places strands k x) (get_or sss i []) ≡ sum_by (places strands k x) (bin_super_kmers k shape.n i (all_segments k reads) h.cuts)
     same i from to =

@@ -1,6 +1,7 @@
 -- The seats that come back are those that went out, each number once.
-use Rattle.std.proofs.Common.{◌≡◌, ℕ, zero, suc, ◌+◌, ◌<◌, List, [], ◌∷◌, length, map, get_or, refl, sym, ap, subst, arith}
+use Rattle.std.proofs.Common.{◌≡◌, ℕ, zero, suc, ◌+◌, ◌<◌, List, [], ◌∷◌, length, map, get_or, refl, sym, subst, ◌∙◌, arith}
 use Rattle.std.specs.List.{AllZip}
+use Rattle.std.proofs.lemmas.Slice.Zip.{AllZip-long}
 use Rattle.atomic_table.specs.Seated.{TableId}
 use Rattle.kmc_record.specs.Shapes.{Sizes}
 use Rattle.kmc_record.specs.Parts.{Parcel}
@@ -8,7 +9,7 @@ use Rattle.kmc_partcore.specs.declared.shape.QueueShape.{QueueShape}
 use Rattle.kmc_partqueue.specs.Counts.{Each, Among, total_of, same}
 use Rattle.kmc_partqueue.specs.Dealing.{row_from}
 use Rattle.kmc_partqueue.specs.Seats.{WriterState, ReaderState, AllEnded, IsWriterOf, IsReaderOf, new_writer, new_reader}
-use Rattle.kmc_partqueue.proofs.Numbered.{each_from, once_from}
+use Rattle.kmc_partqueue.proofs.Numbered.{row_length, each_from, once_from}
 use Rattle.kmc_workers.specs.Workers.{IsDone, IsSameReader}
 use Rattle.kmc_workers.specs.Shards.{IsShard}
 use Rattle.kmc_workers.specs.declared.shard.Shard.{Shard}
@@ -16,13 +17,10 @@ use Rattle.kmc_workers.specs.declared.shard.Shard.{Shard}
 module _ {A B : Type 0} (R : A → B → Type 0) (f : ℕ → A) where
   -- as many came back as went out
   row_long : (i n : ℕ) (l : List B) → AllZip R (row_from f i n) l → length l ≡ n
-  row_long i zero [] z = refl
-  row_long i zero (y ∷ l) z = absurd z
-  row_long i (suc n) [] z = absurd z
-  row_long i (suc n) (y ∷ l) z = ap suc (row_long (suc i) n l z.1)
+  row_long i n l z = AllZip-long R (row_from f i n) l z ∙ row_length f i n
 
   -- what came back at a place is what went out with its number
-  row_back : (i n : ℕ) (l : List B) → AllZip R (row_from f i n) l → (j k : ℕ) (d : B) → j < length l → i + j ≡ k → R (f k) (get_or l j d)
+  pub row_back : (i n : ℕ) (l : List B) → AllZip R (row_from f i n) l → (j k : ℕ) (d : B) → j < length l → i + j ≡ k → R (f k) (get_or l j d)
   row_back i zero [] z j k d lt e = absurd (omega arith)
   row_back i zero (y ∷ l) z j k d lt e = absurd z
   row_back i (suc n) [] z j k d lt e = absurd z
@@ -32,10 +30,10 @@ module _ {A B : Type 0} (R : A → B → Type 0) (f : ℕ → A) where
 module _ (id : TableId) (q : QueueShape) where
   -- a writer's seat has the number of its place
   module _ (shape : Sizes) (batch : ℕ) (reads : List (List ℕ)) (sp chunks : ℕ) (ds : List (WriterState Parcel)) (back : AllZip (IsDone shape batch reads sp chunks) (row_from (new_writer id q) 0 q.writers) ds) where
-    its_writer : (j : ℕ) (d : WriterState Parcel) → j < length ds → IsDone shape batch reads sp chunks (new_writer id q j) (get_or ds j d)
+    pub its_writer : (j : ℕ) (d : WriterState Parcel) → j < length ds → IsDone shape batch reads sp chunks (new_writer id q j) (get_or ds j d)
     its_writer j d lt = row_back (IsDone shape batch reads sp chunks) (new_writer id q) 0 q.writers ds back j j d lt (omega arith)
 
-    all_writers : length ds ≡ q.writers
+    pub all_writers : length ds ≡ q.writers
     all_writers = row_long (IsDone shape batch reads sp chunks) (new_writer id q) 0 q.writers ds back
 
     pub writers_of : Each (IsWriterOf id q) ds
