@@ -4,6 +4,7 @@ use Rattle.std.specs.List.{All, AllZip, Contains}
 use Rattle.std.proofs.lemmas.List.{length-map, map-append, get_or-map}
 use Rattle.std.proofs.lemmas.List.Elements.{All-nil, All-append, All-weaker, All-from_recursion, recursion_from_All, Contains-append_left, Contains-append_right}
 use Rattle.std.proofs.lemmas.List.Sorted.{IsPermutation-map, All-permutation, Contains-permutation}
+use Rattle.std.proofs.lemmas.Slice.Zip.{AllZip-long}
 use Rattle.kmc_base.specs.declared.strands.Strands.{Strands}
 use Rattle.kmc_record.specs.Record.{IsBodyOf}
 use Rattle.kmc_record.specs.RecordWords.{record_keys}
@@ -15,7 +16,7 @@ use Rattle.kmc_count.specs.Bodies.{AreDumpsOfBodies}
 use Rattle.kmc_count.specs.Merge.{joined, AreApart, EachRises, IsMerged, AreDumps}
 use Rattle.kmc_count.proofs.Apart.{occurrences_both, occurs_contains, tail_apart, none_behind, none_before}
 use Rattle.kmc_count.proofs.OneDump.{has_contains, listed_has}
-use Rattle.kmc_count.proofs.Zips.{zip_length, zip_at}
+use Rattle.kmc_count.proofs.Zips.{zip_at}
 
 module _ (l : Limits) where
   -- a pair of the dump of a count
@@ -71,7 +72,7 @@ module _ (l : Limits) where
 
   module _ (wss : List (List (List ℕ))) (lists : List (List (List ℕ × ℕ))) (dumps : AreDumps l wss lists) where
     long : length lists ≡ length wss
-    long = zip_length (λ ws ps. IsDump (occurrences ws) l ps) wss lists dumps
+    long = AllZip-long (λ ws ps. IsDump (occurrences ws) l ps) wss lists dumps
 
     dump_at : (i : ℕ) → i < length wss → (d : List (List ℕ)) (e : List (List ℕ × ℕ)) → IsDump (occurrences (get_or wss i d)) l (get_or lists i e)
     dump_at i inside d e = zip_at (λ ws ps. IsDump (occurrences ws) l ps) wss lists i d e dumps inside

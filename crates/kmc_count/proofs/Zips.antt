@@ -1,14 +1,8 @@
 -- Two lists whose elements agree place by place.
-use Rattle.std.proofs.Common.{◌≡◌, ℕ, zero, suc, ◌<◌, List, [], ◌∷◌, ◌++◌, length, get_or, refl, ap, arith}
+use Rattle.std.proofs.Common.{ℕ, zero, suc, ◌<◌, List, [], ◌∷◌, ◌++◌, length, get_or, arith}
 use Rattle.std.specs.List.{AllZip}
 
 module _ {A B : Type 0} (R : A → B → Type 0) where
-  pub zip_length : (xs : List A) (ys : List B) → AllZip R xs ys → length ys ≡ length xs
-  zip_length [] [] h = refl
-  zip_length [] (y ∷ ys) h = absurd h
-  zip_length (x ∷ xs) [] h = absurd h
-  zip_length (x ∷ xs) (y ∷ ys) h = ap suc (zip_length xs ys h.1)
-
   pub zip_at : (xs : List A) (ys : List B) (i : ℕ) (d : A) (e : B) → AllZip R xs ys → i < length xs → R (get_or xs i d) (get_or ys i e)
   zip_at [] ys i d e h inside = absurd (omega (arith, inside))
   zip_at (x ∷ xs) [] i d e h inside = absurd h

@@ -14,7 +14,7 @@ use Rattle.kmc_partqueue.specs.Counts.{Each, total_of, same, once_below, Among}
 use Rattle.kmc_partqueue.specs.Rule.{is_entry, got_once, entries, readers_of, WriterOk, ReaderOk, GotOk, EndOk, Rises, LanesRule}
 use Rattle.kmc_partqueue.specs.Seats.{AreTotals, WriterState, ReaderState, AllEnded}
 use Rattle.kmc_partqueue.specs.Gathered.{Tells, Pairs, WriterTells, WriterPairs, in_list, IsGathered}
-use Rattle.kmc_partqueue.proofs.Sums.{same_refl, same_ne, total_two, below_one}
+use Rattle.kmc_partqueue.proofs.Sums.{same_refl, same_ne, total_two, each_map, below_one}
 use Rattle.kmc_partqueue.proofs.Frame.{St, heads_of}
 
 module _ {A : Type 0} where
@@ -100,10 +100,6 @@ module _ {T : Type 0} where
     counted w n near = sym (pairs_total (got_once w n) (in_list w n) (λ b x p. ap (total_of (is_entry w n)) p.got) v.readers readers bs) ∙ sym (total_only (entries w n) s.views id v at (λ j u other e. no_reader j u other e w n))
         ∙ r.taken_once w n near ∙ ap (once_below n) (full w near).1
 
-    each_more : {A : Type 0} (P Q : A → Type 0) → ((x : A) → P x → Q x) → (l : List A) → Each P l → Each Q l
-    each_more P Q go [] p = tt
-    each_more P Q go (x ∷ l) p = (go x p.0, each_more P Q go l p.1)
-
     abbrev Stands : Received T → Type 0
     Stands e = (x : WriterState T) × Among x writers × (x.number ≡ e.writer) × (get_elem? x.sent e.number ≡ some e.item)
 
@@ -113,12 +109,12 @@ module _ {T : Type 0} where
 
     pub gathered : IsGathered writers readers
     gathered = record {
-      once = each_more OfLane (λ x. (n : ℕ) → n < length x.sent → total_of (in_list x.number n) readers ≡ 1) (λ x p n lt. let long : length x.sent ≡ length (r.lanes x.number).sent = ap length p.1 in counted x.number n p.0 ∙ below_one n (length (r.lanes x.number).sent) (omega arith)) writers of_lanes;
-      others = pairs_each (ReaderOk k r.lanes heads) (λ x. Each Stands x.got × Rises x.got) (λ b x t p. (subst (Each Stands) t.got (each_more (GotOk k r.lanes heads) Stands stands b.got p.shown), subst Rises t.got p.rises)) v.readers readers bs (r.each_seat id v at).1;
+      once = each_map OfLane (λ x. (n : ℕ) → n < length x.sent → total_of (in_list x.number n) readers ≡ 1) (λ x p n lt. let long : length x.sent ≡ length (r.lanes x.number).sent = ap length p.1 in counted x.number n p.0 ∙ below_one n (length (r.lanes x.number).sent) (omega arith)) writers of_lanes;
+      others = pairs_each (ReaderOk k r.lanes heads) (λ x. Each Stands x.got × Rises x.got) (λ b x t p. (subst (Each Stands) t.got (each_map (GotOk k r.lanes heads) Stands stands b.got p.shown), subst Rises t.got p.rises)) v.readers readers bs (r.each_seat id v at).1;
     }
 
     pub totals_are : Each (λ (x : WriterState T). slice_get last.totals x.number ≡ Some (Some (length x.sent))) writers
-    totals_are = each_more OfLane (λ x. slice_get last.totals x.number ≡ Some (Some (length x.sent))) (λ x p. (full x.number p.0).0 ∙ (λ j. Some (Some (length (sym p.1 j))))) writers of_lanes
+    totals_are = each_map OfLane (λ x. slice_get last.totals x.number ≡ Some (Some (length x.sent))) (λ x p. (full x.number p.0).0 ∙ (λ j. Some (Some (length (sym p.1 j))))) writers of_lanes
 
   pub pairs_append : (bs cs : List (Reading T)) (ss us : List (ReaderState T)) → Pairs bs ss → Pairs cs us → Pairs (bs ++ cs) (ss ++ us)
   pairs_append [] cs [] us p q = q

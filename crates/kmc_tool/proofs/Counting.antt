@@ -20,10 +20,11 @@ use Rattle.kmc_record.specs.Parts.{AreCuts, bin_runs, bin_super_kmers, all_segme
 use Rattle.kmc_record.specs.Laws.{BodyHasOneList}
 use Rattle.kmc_store.specs.Bins.{body_at}
 use Rattle.kmc_store.specs.Holds.{HoldsReads}
+use Rattle.kmc_store.proofs.Sums.{sum_same, sum_none, sum_add, sum_map, sum_flat_map, sum_filter}
 use Rattle.kmc_count.specs.Occurrences.{occurrences}
 use Rattle.kmc_count.specs.Merge.{joined}
 use Rattle.kmc_count.proofs.Zips.{zip_at}
-use Rattle.kmc_tool.proofs.Summed.{sum_same, sum_none, sum_add, sum_map, sum_flat, sum_places, sum_range, sum_once, sum_filter, sum_swap, occurs_flat}
+use Rattle.kmc_tool.proofs.Summed.{sum_places, sum_range, sum_once, sum_swap, occurs_flat}
 
 fuse : {A B C : Type 0} (f : B → C) (g : A → B) (xs : List A) → map (λ a. f (g a)) xs ≡ map f (map g xs)
 fuse f g [] = refl
@@ -53,11 +54,13 @@ module _ (strands : Strands) (k : ℕ) (x : List ℕ) where
   in_one_bin : (n : ℕ) (codes : List ℕ) (runs : List Run) → 1 ≤ n
       → sum_by (λ i. sum_by places (bin_runs k n i codes runs)) (range_with_len 0 n) ≡ sum_by (λ r. places (run_codes k codes r)) runs
   in_one_bin n codes runs some =
-      sum_same (λ i. sum_by places (bin_runs k n i codes runs)) (λ i. sum_by (cell i) runs) (range_with_len 0 n)
+      sum_same (λ i. sum_by places (bin_runs k n i codes runs)) (λ i. sum_by (cell i) runs)
       (λ i. sum_map places (run_codes k codes) (filter (λ r. nat_eq (r.signature % n) i) runs) ∙ sum_filter (λ r. places (run_codes k codes r)) (λ r. nat_eq (r.signature % n) i) runs)
+      (range_with_len 0 n)
       ∙ sum_swap cell (range_with_len 0 n) runs
-      ∙ sum_same (λ r. sum_by (λ i. cell i r) (range_with_len 0 n)) (λ r. places (run_codes k codes r)) runs
+      ∙ sum_same (λ r. sum_by (λ i. cell i r) (range_with_len 0 n)) (λ r. places (run_codes k codes r))
       (λ r. sum_once (r.signature % n) (places (run_codes k codes r)) 0 n (omega arith) (let lt : r.signature % n < n = mod-lt r.signature some in omega arith))
+      runs
     where
       cell : ℕ → Run → ℕ
       cell i r = cond (nat_eq (r.signature % n) i) (places (run_codes k codes r)) 0
@@ -73,8 +76,9 @@ module _ (strands : Strands) (k : ℕ) (x : List ℕ) where
     of_segments (s ∷ ss) [] cut long = absurd cut
     of_segments (s ∷ ss) (runs ∷ cuts) cut long =
         sum_same (λ i. sum_by places (bin_runs k n i s.codes runs ++ bin_super_kmers k n i ss cuts))
-        (λ i. sum_by places (bin_runs k n i s.codes runs) + sum_by places (bin_super_kmers k n i ss cuts)) (range_with_len 0 n)
+        (λ i. sum_by places (bin_runs k n i s.codes runs) + sum_by places (bin_super_kmers k n i ss cuts))
         (λ i. sum_by-append places (bin_runs k n i s.codes runs) (bin_super_kmers k n i ss cuts))
+        (range_with_len 0 n)
         ∙ sum_add (λ i. sum_by places (bin_runs k n i s.codes runs)) (λ i. sum_by places (bin_super_kmers k n i ss cuts)) (range_with_len 0 n)
         ∙ ap₂ (λ (a b : ℕ). a + b)
         (in_one_bin n s.codes runs some ∙ of_cut s.codes runs (keeps k m s.codes runs some_k (All-head IsLong s ss long) cut.0))
@@ -90,9 +94,10 @@ module _ (strands : Strands) (k : ℕ) (x : List ℕ) where
   of_reads : ((read : List ℕ) → flat_map (λ s. keys strands k s.codes) (segments_of k read) ≡ map (placed_key strands) (counted_words k read)) → (reads : List (List ℕ))
       → sum_by (λ s. places s.codes) (all_segments k reads) ≡ occurrences (flat_map (λ read. map (placed_key strands) (counted_words k read)) reads) x
   of_reads same reads =
-      sum_flat (λ (s : Stretch). places s.codes) (segments_of k) reads
-      ∙ sum_same (λ read. sum_by (λ s. places s.codes) (segments_of k read)) (λ read. occurrences (map (placed_key strands) (counted_words k read)) x) reads
+      sum_flat_map (λ (s : Stretch). places s.codes) (segments_of k) reads
+      ∙ sum_same (λ read. sum_by (λ s. places s.codes) (segments_of k read)) (λ read. occurrences (map (placed_key strands) (counted_words k read)) x)
       (λ read. sym (occurs_flat (λ (s : Stretch). keys strands k s.codes) (segments_of k read) x) ∙ ap (λ (ws : List (List ℕ)). occurrences ws x) (same read))
+      reads
       ∙ sym (occurs_flat (λ read. map (placed_key strands) (counted_words k read)) reads x)
 
   -- the words of all bins, bin by bin
@@ -100,7 +105,7 @@ module _ (strands : Strands) (k : ℕ) (x : List ℕ) where
   of_bins sss =
       occurs_flat (λ (ws : List (List ℕ)). ws) (map (record_keys strands k) sss) x
       ∙ sum_map (λ (ws : List (List ℕ)). occurrences ws x) (record_keys strands k) sss
-      ∙ sum_same (λ (ss : List (List ℕ)). occurrences (record_keys strands k ss) x) (sum_by places) sss (λ ss. occurs_flat (keys strands k) ss x)
+      ∙ sum_same (λ (ss : List (List ℕ)). occurrences (record_keys strands k ss) x) (sum_by places) (λ ss. occurs_flat (keys strands k) ss x) sss
       ∙ sum_places (sum_by places) [] sss
 
 pub held_counted : BodyHasOneList → CutKeepsWords → ((k : ℕ) (read : List ℕ) → All (IsSegment k read) (segments_of k read))

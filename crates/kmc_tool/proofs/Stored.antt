@@ -17,11 +17,12 @@ use Rattle.kmc_store.specs.Bodies.{AreBodies}
 use Rattle.kmc_store.specs.Holds.{HoldsReads}
 use Rattle.kmc_store.specs.Deals.{AreDealt, AreGathered}
 use Rattle.kmc_store.specs.Laws.{GatheredBinsHoldReads}
+use Rattle.kmc_store.proofs.Sums.{sum_same, sum_map, sum_flat_map}
 use Rattle.kmc_workers.specs.declared.shard.Shard.{Shard}
 use Rattle.kmc_workers.specs.Workers.{items_of, chunks_of, IsDone}
 use Rattle.kmc_workers.specs.Shards.{IsShard}
 use Rattle.kmc_workers.proofs.Returned.{row_back, its_writer, all_writers, writers_of, writers_once}
-use Rattle.kmc_tool.proofs.Summed.{sum_same, sum_map, sum_flat, sum_places}
+use Rattle.kmc_tool.proofs.Summed.{sum_places}
 use Rattle.kmc_tool.proofs.Merging.{all_got}
 
 -- so many chunks of so many reads have room for all reads
@@ -56,9 +57,10 @@ module _ (shape : Sizes) (batch : ℕ) (reads : List (List ℕ)) (id : TableId) 
     got_as_sent : GatheredLaw Parcel → (seats : List (ReaderState Parcel)) → IsGathered done seats
         → AreGathered q.writers sent (all_got seats)
     got_as_sent law seats gathered F =
-        sum_flat F (λ (s : ReaderState Parcel). items_of s.got) seats
-        ∙ sum_same (λ (s : ReaderState Parcel). sum_by F (items_of s.got)) (λ (s : ReaderState Parcel). sum_by (λ (e : Received Parcel). F e.item) s.got) seats
+        sum_flat_map F (λ (s : ReaderState Parcel). items_of s.got) seats
+        ∙ sum_same (λ (s : ReaderState Parcel). sum_by F (items_of s.got)) (λ (s : ReaderState Parcel). sum_by (λ (e : Received Parcel). F e.item) s.got)
         (λ s. sum_map F (λ (e : Received Parcel). e.item) s.got)
+        seats
         ∙ law F done seats gathered each_once
         ∙ sum_places (λ (s : WriterState Parcel). sum_by F s.sent) (new_writer id q 0) done
         ∙ ap (λ n. sum_by (λ w. sum_by F (sent w)) (range_with_len 0 n)) many

@@ -1,38 +1,16 @@
 -- Occurrences in lists of words, as sums.
-use Rattle.std.proofs.Common.{◌≡◌, ◌≢◌, ℕ, zero, suc, ◌+◌, ◌<◌, ◌≤◌, Bool, true, false, cond, nat_eq, List, [], ◌∷◌, length, map, get_or, refl, sym, ap, ap₂, ◌∙◌, arith, zero-add}
-use Rattle.std.specs.List.{All, flat_map, filter, sum_by, range_with_len}
-use Rattle.std.proofs.lemmas.List.Sums.{sum_by-cons, sum_by-append}
+use Rattle.std.proofs.Common.{◌≡◌, ◌≢◌, ℕ, zero, suc, ◌+◌, ◌<◌, ◌≤◌, Bool, true, false, cond, nat_eq, List, [], ◌∷◌, length, get_or, refl, sym, ap, ap₂, ◌∙◌, arith, zero-add}
+use Rattle.std.specs.List.{All, flat_map, sum_by, range_with_len}
+use Rattle.std.proofs.lemmas.List.Sums.{sum_by-cons}
 use Rattle.std.proofs.lemmas.Bool.Decides.{nat_tests}
 use Rattle.std.proofs.lemmas.List.Elements.{All-head, All-tail}
+use Rattle.kmc_store.proofs.Sums.{sum_same, sum_none, sum_add, sum_flat_map}
 use Rattle.kmc_count.specs.Occurrences.{same_word, occurrences}
-
--- sums of equal terms
-pub sum_same : {A : Type 0} (F G : A → ℕ) (xs : List A) → ((a : A) → F a ≡ G a) → sum_by F xs ≡ sum_by G xs
-sum_same F G [] e = refl
-sum_same F G (x ∷ xs) e = sum_by-cons F x xs ∙ ap₂ (λ (a b : ℕ). a + b) (e x) (sum_same F G xs e) ∙ sym (sum_by-cons G x xs)
 
 -- where the terms are equal for the members
 pub sum_same_all : {A : Type 0} (F G : A → ℕ) (xs : List A) → All (λ a. F a ≡ G a) xs → sum_by F xs ≡ sum_by G xs
 sum_same_all F G [] e = refl
 sum_same_all {A} F G (x ∷ xs) e = sum_by-cons F x xs ∙ ap₂ (λ (a b : ℕ). a + b) (All-head (λ (a : A). F a ≡ G a) x xs e) (sum_same_all F G xs (All-tail (λ (a : A). F a ≡ G a) x xs e)) ∙ sym (sum_by-cons G x xs)
-
-pub sum_none : {A : Type 0} (xs : List A) → sum_by (λ (a : A). 0) xs ≡ 0
-sum_none [] = refl
-sum_none {A} (x ∷ xs) = sum_by-cons (λ (a : A). 0) x xs ∙ zero-add (sum_by (λ (a : A). 0) xs) ∙ sum_none xs
-
-pub sum_add : {A : Type 0} (F G : A → ℕ) (xs : List A) → sum_by (λ a. F a + G a) xs ≡ sum_by F xs + sum_by G xs
-sum_add F G [] = refl
-sum_add F G (x ∷ xs) =
-    let a = sum_by-cons (λ a. F a + G a) x xs in let b = sum_by-cons F x xs in let c = sum_by-cons G x xs in let d = sum_add F G xs in
-    a ∙ ap (λ n. F x + G x + n) d ∙ (let e : F x + G x + (sum_by F xs + sum_by G xs) ≡ (F x + sum_by F xs) + (G x + sum_by G xs) = omega arith in e) ∙ sym (ap₂ (λ (m n : ℕ). m + n) b c)
-
-pub sum_map : {A B : Type 0} (F : B → ℕ) (f : A → B) (xs : List A) → sum_by F (map f xs) ≡ sum_by (λ a. F (f a)) xs
-sum_map F f [] = refl
-sum_map F f (x ∷ xs) = sum_by-cons F (f x) (map f xs) ∙ ap (λ n. F (f x) + n) (sum_map F f xs) ∙ sym (sum_by-cons (λ a. F (f a)) x xs)
-
-pub sum_flat : {A B : Type 0} (F : B → ℕ) (f : A → List B) (xs : List A) → sum_by F (flat_map f xs) ≡ sum_by (λ a. sum_by F (f a)) xs
-sum_flat F f [] = refl
-sum_flat F f (x ∷ xs) = sum_by-append F (f x) (flat_map f xs) ∙ ap (λ n. sum_by F (f x) + n) (sum_flat F f xs) ∙ sym (sum_by-cons (λ a. sum_by F (f a)) x xs)
 
 -- the sum over a list by its places
 pub sum_places : {A : Type 0} (F : A → ℕ) (d : A) (xs : List A) → sum_by F xs ≡ sum_by (λ i. F (get_or xs i d)) (range_with_len 0 (length xs))
@@ -74,15 +52,6 @@ pub sum_once : (v g a n : ℕ) → a ≤ v → v < a + n → sum_by (λ i. cond 
 sum_once v g a zero le lt = absurd (omega arith)
 sum_once v g a (suc n) le lt = sum_by-cons (λ i. cond (nat_eq v i) g 0) a (range_with_len (a + 1) n) ∙ here_or_later v g a n le (nat_eq v a) refl (λ more. sum_once v g (a + 1) n more (omega arith))
 
--- a sum over those that pass
-pub sum_filter : {A : Type 0} (F : A → ℕ) (p : A → Bool) (xs : List A) → sum_by F (filter p xs) ≡ sum_by (λ a. cond (p a) (F a) 0) xs
-sum_filter F p [] = refl
-sum_filter F p (x ∷ xs) = kept (p x) (filter p xs) (sum_filter F p xs) ∙ sym (sum_by-cons (λ a. cond (p a) (F a) 0) x xs)
-  where
-    kept : (b : Bool) (l : List _) → sum_by F l ≡ sum_by (λ a. cond (p a) (F a) 0) xs → sum_by F (cond b (x ∷ l) l) ≡ cond b (F x) 0 + sum_by (λ a. cond (p a) (F a) 0) xs
-    kept true l e = sum_by-cons F x l ∙ ap (λ n. F x + n) e
-    kept false l e = e ∙ sym (zero-add (sum_by (λ a. cond (p a) (F a) 0) xs))
-
 -- sums over two lists change their order
 pub sum_swap : {A B : Type 0} (F : A → B → ℕ) (xs : List A) (ys : List B) → sum_by (λ a. sum_by (F a) ys) xs ≡ sum_by (λ b. sum_by (λ a. F a b) xs) ys
 sum_swap F [] ys = sym (sum_none ys)
@@ -90,9 +59,9 @@ sum_swap {A} {B} F (x ∷ xs) ys =
     sum_by-cons (λ a. sum_by (F a) ys) x xs
     ∙ ap (λ n. sum_by (F x) ys + n) (sum_swap F xs ys)
     ∙ sym (sum_add (F x) (λ b. sum_by (λ a. F a b) xs) ys)
-    ∙ sum_same (λ b. F x b + sum_by (λ a. F a b) xs) (λ b. sum_by (λ a. F a b) (x ∷ xs)) ys (λ b. sym (sum_by-cons (λ a. F a b) x xs))
+    ∙ sum_same (λ b. F x b + sum_by (λ a. F a b) xs) (λ b. sum_by (λ a. F a b) (x ∷ xs)) (λ b. sym (sum_by-cons (λ a. F a b) x xs)) ys
 
 -- ---- occurrences
 
 pub occurs_flat : {A : Type 0} (f : A → List (List ℕ)) (xs : List A) (x : List ℕ) → occurrences (flat_map f xs) x ≡ sum_by (λ a. occurrences (f a) x) xs
-occurs_flat f xs x = sum_flat (λ (w : List ℕ). cond (same_word w x) 1 0) f xs
+occurs_flat f xs x = sum_flat_map (λ (w : List ℕ). cond (same_word w x) 1 0) f xs
