@@ -1,5 +1,5 @@
 //! The keys of all words of a list of codes, from one pass.
-ghost use Rattle.std.specs.Prelude.{◌≡◌, ℕ, ◌<◌, ◌≤◌, ◌++◌, All, map, OnOk};
+ghost use Rattle.std.specs.Prelude.{◌≡◌, ◌<◌, ◌≤◌, ◌++◌, All, map, OnOk};
 ghost use Rattle.kmc_base.specs.Packed.{pack};
 ghost use Rattle.kmc_base.specs.Strands.{keys, packed_key};
 

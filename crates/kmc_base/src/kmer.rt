@@ -1,10 +1,10 @@
 //! K-mers: words over the four bases, packed in one number.
-ghost use Rattle.std.specs.Prelude.{◌≡◌, ℕ, ◌+◌, ◌*◌, ◌^◌, ◌<◌, ◌≤◌, List, length, drop, MatchOption, All, slice_index, option_and_then, ◌++◌, map, IfOk, OnOk, OnErr};
+ghost use Rattle.std.specs.Prelude.{◌≡◌, ℕ, ◌+◌, ◌*◌, ◌^◌, ◌<◌, ◌≤◌, List, length, drop, MatchOption, slice_index, ◌++◌, map, OnOk, OnErr};
 ghost use Rattle.std.proofs.Common.{rules};
 ghost use Rattle.std.specs.Cmp.{partial_order_from_own_ties};
 ghost use Rattle.std.specs.Cmp.Rules.{comparing};
 ghost use Rattle.std.specs.Ordering.{as_partial_cmp};
-ghost use Rattle.kmc_base.specs.Words.{IsKmer, codes_of, rev_comp, canonical, letter, kmer_cmp, window};
+ghost use Rattle.kmc_base.specs.Words.{IsKmer, rev_comp, canonical, letter, kmer_cmp, window};
 ghost use Rattle.kmc_base.specs.Strands.{key};
 ghost use Rattle.kmc_base.specs.Packed.{unpack};
 
@@ -93,7 +93,6 @@ impl Kmer {
     }
 
     /// The word of these codes, where they are 1 to [`MAX_K`] and none is above 3.
-
     pub fn new(codes: &[u8]) -> Option<Kmer>
         ensures { MatchOption result (¬ (IsKmer codes.now)) (λ w. (w ≡ codes.now) × IsKmer codes.now) }
     {
@@ -138,8 +137,11 @@ impl Kmer {
         requires { length self.now ≤ length out.old }
         ensures { out.new ≡ map letter self.now ++ drop (length self.now) out.old }
     {
-        for i in 0..self.k() {
-            out[i] = letter_of(self.code_at(i));
+        let k = self.k();
+        let mut rest = self.packed;
+        for j in 0..k {
+            out[k - 1 - j] = letter_of((rest % 4) as u8);
+            rest /= 4;
         }
     }
 
@@ -155,7 +157,6 @@ impl Kmer {
     }
 
     /// The complements of the codes, the last first.
-
     pub fn rev_comp(&self) -> Kmer
         ensures { result ≡ rev_comp self.now }
     {
