@@ -1,10 +1,9 @@
 -- The dumps of many bodies.
-use Rattle.std.proofs.Common.{◌≡◌, ℕ, ◌+◌, ◌*◌, ◌<◌, ◌≤◌, List, [], ◌∷◌, ◌++◌, length, get_or, take, drop, map, sym, ap, subst, ◌∙◌, arith, Vec, Global}
+use Rattle.std.proofs.Common.{◌≡◌, ℕ, ◌+◌, ◌-◌, ◌<◌, List, [], ◌∷◌, ◌++◌, length, get_or, take, map, sym, ap, subst, ◌∙◌, arith, Vec, Global}
 use Rattle.std.specs.List.{All}
-use Rattle.std.specs.Fork.{slice_chunk}
-use Rattle.std.proofs.lemmas.List.{take_more, take-take, get_or-take, get_or-drop}
+use Rattle.std.proofs.lemmas.List.{take_more, take-append-le, length-append, get_or_append_left, get_or-append_right}
 use Rattle.std.proofs.lemmas.List.Elements.{All-nil, All-cons, All-append}
-use Rattle.std.proofs.Math.Seq.{take-add}
+use Rattle.std.proofs.Math.Seq.{take-append-add}
 use Rattle.kmc_base.specs.declared.strands.Strands.{Strands}
 use Rattle.kmc_record.specs.declared.fault.RecordFault.{RecordFault}
 use Rattle.kmc_record.specs.Faults.{IsFirstFault}
@@ -41,26 +40,26 @@ module _ (strands : Strands) (k : ℕ) (l : Limits) where
         subst (λ (t : List (List ℕ)). AreDumpsOfBodies strands k l t (lists ++ pairs ∷ [])) (sym split)
         (zip_append (IsDumpOfBody strands k l) (take i bodies) (body ∷ []) lists (pairs ∷ []) done (now, tt))
 
-    pub chunk_added : (i size : ℕ) (chunk : List (List ℕ)) (lists more : List (List (List ℕ × ℕ))) → chunk ≡ slice_chunk bodies size i
-        → AreDumpsOfBodies strands k l (take (i * size) bodies) lists → AreDumpsOfBodies strands k l chunk more → AreDumpsOfBodies strands k l (take ((i + 1) * size) bodies) (lists ++ more)
-    chunk_added i size chunk lists more is done now =
-        let next : (i + 1) * size ≡ i * size + size = omega arith in
-        let split : take ((i + 1) * size) bodies ≡ take (i * size) bodies ++ chunk = ap (λ n. take n bodies) next ∙ take-add (i * size) size bodies ∙ ap (λ (t : List (List ℕ)). take (i * size) bodies ++ t) (sym is) in
-        subst (λ (t : List (List ℕ)). AreDumpsOfBodies strands k l t (lists ++ more)) (sym split)
-        (zip_append (IsDumpOfBody strands k l) (take (i * size) bodies) chunk lists more done now)
+  -- two rows of bodies, the second behind the first
+  module _ (us vs : List (List ℕ)) where
+    pub both_counted : (lists more : List (List (List ℕ × ℕ))) → AreDumpsOfBodies strands k l us lists → AreDumpsOfBodies strands k l vs more → AreDumpsOfBodies strands k l (us ++ vs) (lists ++ more)
+    both_counted lists more = zip_append (IsDumpOfBody strands k l) us vs lists more
 
-    pub chunk_damaged : (i size : ℕ) (chunk : List (List ℕ)) (lists : List (List (List ℕ × ℕ))) (fault : RecordFault) (offset : ℕ) → chunk ≡ slice_chunk bodies size i
-        → AreDumpsOfBodies strands k l (take (i * size) bodies) lists → i * size + length chunk ≤ length bodies → length chunk ≤ size → IsFirstDamaged k fault offset chunk → IsFirstDamaged k fault offset bodies
-    chunk_damaged i size chunk lists fault offset is done room short first =
-        let n = first.number in
-        let few : n < size = omega (arith, first.inside, short) in
-        let split : take (i * size + n) bodies ≡ take (i * size) bodies ++ take n chunk =
-        take-add (i * size) n bodies ∙ ap (λ (t : List (List ℕ)). take (i * size) bodies ++ t) (sym (ap (take n) is ∙ take-take n size (drop (i * size) bodies) (omega (arith, few)))) in
-        let here : get_or chunk n [] ≡ get_or bodies (i * size + n) [] =
-        ap (λ (t : List (List ℕ)). get_or t n []) is ∙ get_or-take size (drop (i * size) bodies) n [] few ∙ get_or-drop (i * size) bodies n [] in
+    pub first_damaged : (fault : RecordFault) (offset : ℕ) → IsFirstDamaged k fault offset us → IsFirstDamaged k fault offset (us ++ vs)
+    first_damaged fault offset d = record {
+      number = d.number;
+      inside = omega (arith, d.inside, length-append us vs);
+      before = subst (All (IsWhole k)) (sym (take-append-le d.number us vs (omega (arith, d.inside)))) d.before;
+      first = subst (IsFirstFault k fault offset) (sym (get_or_append_left us vs [] d.number d.inside)) d.first;
+    }
+
+    pub second_damaged : (lists : List (List (List ℕ × ℕ))) (fault : RecordFault) (offset : ℕ) → AreDumpsOfBodies strands k l us lists → IsFirstDamaged k fault offset vs → IsFirstDamaged k fault offset (us ++ vs)
+    second_damaged lists fault offset done d =
+        let at = length us + d.number in
+        let behind : at - length us ≡ d.number = omega arith in
         record {
-          number = i * size + n;
-          inside = omega (arith, first.inside, room);
-          before = subst (All (IsWhole k)) (sym split) (All-append (IsWhole k) (take (i * size) bodies) (take n chunk) (counted_whole (take (i * size) bodies) lists done) first.before);
-          first = subst (IsFirstFault k fault offset) here first.first;
+          number = at;
+          inside = omega (arith, d.inside, length-append us vs);
+          before = subst (All (IsWhole k)) (sym (take-append-add us vs d.number)) (All-append (IsWhole k) us (take d.number vs) (counted_whole us lists done) d.before);
+          first = subst (IsFirstFault k fault offset) (sym (get_or-append_right us vs (length us) at [] (λ _. length us) (omega arith) ∙ ap (λ i. get_or vs i []) behind)) d.first;
         }

@@ -1,5 +1,5 @@
 //! The count of a bin: the packed words of its body in one list, sorted.
-ghost use Rattle.std.specs.Prelude.{◌≡◌, ℕ, ◌<◌, ◌≤◌, List, map, IfOk, IsErrOf};
+ghost use Rattle.std.specs.Prelude.{ℕ, ◌<◌, ◌≤◌, IfOk, IsErrOf};
 ghost use Rattle.kmc_record.specs.Faults.{IsFirstFault};
 ghost use Rattle.kmc_record.specs.declared.fault.RecordFault.{RecordFault};
 ghost use Rattle.kmc_count.specs.Bodies.{IsDumpOfBody};

@@ -1,6 +1,5 @@
 //! The direct count: every word of every read in one list, sorted.
-ghost use Rattle.std.specs.Prelude.{◌≡◌, ℕ, ◌^◌, ◌<◌, ◌≤◌, ◌++◌, All, map, IfOk, OnOk};
-ghost use Rattle.std.specs.List.{flat_map};
+ghost use Rattle.std.specs.Prelude.{◌≡◌, ◌<◌, ◌≤◌, ◌++◌, map, IfOk, OnOk};
 ghost use Rattle.kmc_base.specs.Packed.{pack};
 ghost use Rattle.kmc_base.specs.Places.{counted_words};
 ghost use Rattle.kmc_base.specs.Strands.{placed_key};

@@ -1,6 +1,6 @@
 //! The dump on a device: lines gathered in a buffer on the stack, so that a device is called once for each full buffer.
-ghost use Rattle.std.specs.Prelude.{◌≡◌, ℕ, ◌+◌, ◌-◌, ◌^◌, ◌<◌, ◌≤◌, List, length, take, ◌++◌, drop, OnOk, OnErr, IfOk};
-ghost use Rattle.std.specs.Io.KnownBytes.{Keeps, Appends};
+ghost use Rattle.std.specs.Prelude.{◌≡◌, ◌+◌, ◌-◌, ◌^◌, ◌<◌, ◌≤◌, length, take, ◌++◌, OnOk, OnErr, IfOk};
+ghost use Rattle.std.specs.Io.KnownBytes.{Appends};
 ghost use Rattle.kmc_count.specs.Device.{AppendsFront, RisesByOne, WritesOut};
 ghost use Rattle.kmc_count.specs.Dump.{line_of, text_of};
 

@@ -1,10 +1,15 @@
 //! The one list of the pairs of all bins.
-ghost use Rattle.std.specs.Prelude.{◌≡◌, List, map, IfOk};
+ghost use Rattle.std.specs.Prelude.{◌≡◌, map, IfOk};
+ghost use Rattle.std.specs.List.Sorted.{IsPermutation, IsSortedBy};
+ghost use Rattle.std.specs.Ordering.{is_lt};
+ghost use Rattle.kmc_base.specs.Words.{kmer_cmp};
 ghost use Rattle.kmc_count.specs.Dump.{words_of};
 ghost use Rattle.kmc_count.specs.Merge.{joined, AreApart, EachRises, IsMerged};
 
 use kmc_base::kmer::Kmer;
+use rayon::prelude::*;
 use std::alloc::{AllocError, Global};
+use std::thread::Threads;
 
 /// The pairs of the lists, one list after the other, in a vector that is reserved once. Each list is freed
 /// when its pairs have moved.
@@ -23,17 +28,32 @@ fn join(alloc: Global, lists: Vec<Vec<(Kmer, u64)>>) -> Result<Vec<(Kmer, u64)>,
     Ok(pairs)
 }
 
+/// Sorts the pairs by their words in place. Where several threads are asked for, rayon's sort takes as many as the
+/// machine has for this process.
+fn sort_pairs<R: Threads + Sync>(rt: &R, pairs: &mut [(Kmer, u64)], threads: usize)
+    ensures moved { IsPermutation pairs.old pairs.new }
+    ensures sorted { IsSortedBy (λ p q. is_lt (kmer_cmp p.0 q.0)) pairs.new }
+{
+    if threads <= 1 {
+        pairs.sort_unstable_by(|a, b| a.0.cmp(&b.0));
+    } else {
+        par_sort_unstable_by(rt, pairs, |a, b| a.0.cmp(&b.0));
+    }
+}
+
 /// All pairs of the lists, rising by their words. The lists are those of bins: each rises, and no word stands
 /// in two of them. They are sorted in place, in the one vector that they have moved to.
-pub fn merge_bins(
+pub fn merge_bins<R: Threads + Sync>(
+    rt: &R,
     alloc: Global,
     lists: Vec<Vec<(Kmer, u64)>>,
+    threads: usize,
 ) -> Result<Vec<(Kmer, u64)>, AllocError>
     requires rise { EachRises (map (λ l. l.items) lists.items) }
     requires apart { AreApart (map words_of (map (λ l. l.items) lists.items)) }
     ensures { IfOk result (λ pairs. IsMerged (map (λ l. l.items) lists.items) pairs.items) }
 {
     let mut pairs = join(alloc, lists)?;
-    pairs.sort_unstable_by(|a, b| a.0.cmp(&b.0));
+    sort_pairs(rt, &mut pairs, threads);
     Ok(pairs)
 }

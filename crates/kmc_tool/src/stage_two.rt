@@ -1,6 +1,5 @@
 //! Stage two: each bin is counted by itself, and their lists become one.
 ghost use Rattle.std.specs.Prelude.{◌≡◌, IfOk, IfErr};
-ghost use Rattle.kmc_record.specs.Shapes.{Sizes};
 ghost use Rattle.kmc_tool.specs.Stages.{shape_of, IsDumpOfBins};
 
 use crate::error::RunError;
@@ -47,7 +46,7 @@ pub fn stage_two<R: Threads + Sync>(
         Err(CountError::Memory) => return Err(RunError::Memory),
         Err(CountError::Damaged(_, _)) => unreachable!(),
     };
-    match merge_bins(alloc, lists) {
+    match merge_bins(rt, alloc, lists, params.sr) {
         Ok(pairs) => Ok(pairs),
         Err(_) => Err(RunError::Memory),
     }

@@ -177,12 +177,12 @@ fn lists_of_bins(alloc: Global) -> Result<Vec<Vec<(Kmer, u64)>>, AllocError>
 fn merges_the_lists_of_bins(rt: HostRuntime) -> Result<(), Fail> {
     let alloc = rt.alloc();
     let lists = lists_of_bins(alloc)?;
-    let pairs = merge_bins(alloc, lists)?;
+    let pairs = merge_bins(&rt, alloc, lists, 2)?;
     assert_eq!(rt;
         text_of(&rt, alloc, &pairs).as_slice(),
         &b"A\t2\nG\t3\nT\t1\n"[..]
     );
-    let none = merge_bins(alloc, Vec::new(alloc))?;
+    let none = merge_bins(&rt, alloc, Vec::new(alloc), 1)?;
     assert!(rt; none.is_empty());
     Ok(())
 }

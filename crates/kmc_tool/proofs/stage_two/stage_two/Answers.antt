@@ -10,13 +10,13 @@ unreachable-requires g c =
     (c.in-Err-Damaged.ensures.damaged fault offset (ap Err c.in-Err-Damaged.field-0-is))
 
 pub merge_bins-requires-clause-rise : goal.merge_bins-requires-clause-rise
-merge_bins-requires-clause-rise g c =
+merge_bins-requires-clause-rise g c = λ κs within.
     let params = c.args.params.now in let bins = c.args.bins.now in
     let done = counted c.bins_share_no_key.ensures c.dumps_of_bodies_are_of_keys.ensures params.strands params.k params.p params.n params.limits bins.shape _ bins.bodies bins.words _ params.in_range.0.0.0 params.in_range.0.1.0 c.requires c.bodies-bodies.ensures.kept c.bodies-bodies.ensures.are c.in-Ok.ensures.ok in
     (c.dumps_can_be_merged.ensures params.limits (map (record_keys params.strands params.k) done.super_kmers) _ done.dumps done.apart).1
 
 pub merge_bins-requires-clause-apart : goal.merge_bins-requires-clause-apart
-merge_bins-requires-clause-apart g c =
+merge_bins-requires-clause-apart g c = λ κs within.
     let params = c.args.params.now in let bins = c.args.bins.now in
     let done = counted c.bins_share_no_key.ensures c.dumps_of_bodies_are_of_keys.ensures params.strands params.k params.p params.n params.limits bins.shape _ bins.bodies bins.words _ params.in_range.0.0.0 params.in_range.0.1.0 c.requires c.bodies-bodies.ensures.kept c.bodies-bodies.ensures.are c.in-Ok.ensures.ok in
     (c.dumps_can_be_merged.ensures params.limits (map (record_keys params.strands params.k) done.super_kmers) _ done.dumps done.apart).0
