@@ -1,5 +1,5 @@
 //! The queue itself.
-ghost use Rattle.std.specs.Prelude.{◌≡◌, ℕ, ◌≤◌, ◌↔◌, IfOk, IsTrue, map, length, All, true};
+ghost use Rattle.std.specs.Prelude.{◌≡◌, ◌≤◌, ◌↔◌, IfOk, IsTrue, map, length, All, true};
 
 use crate::event::{CompleteError, PutError, Received, RegisterError, TakeError, Taken};
 use crate::shape::{MAX_ITEMS, MAX_WRITERS, QueueShape};

@@ -1,5 +1,5 @@
 //! A whole list of calls, one after another.
-ghost use Rattle.std.specs.Prelude.{◌≡◌, ℕ, IfOk, length};
+ghost use Rattle.std.specs.Prelude.{◌≡◌, IfOk, length};
 ghost use Rattle.kmc_partcore.specs.Legal.{IsLegal, history_of};
 ghost use Rattle.kmc_partcore.specs.CoreState.{MovesOn};
 

@@ -1,5 +1,5 @@
 //! How many writers, items of each writer, and readers a queue has.
-ghost use Rattle.std.specs.Prelude.{◌≡◌, ℕ, ◌≤◌, ◌↔◌, IsSome, IfSome};
+ghost use Rattle.std.specs.Prelude.{◌≡◌, ◌↔◌, IsSome, IfSome};
 ghost use Rattle.kmc_partcore.specs.Limits.{IsWithinLimits};
 
 /// The most writers of a queue; the least is 1.

@@ -1,6 +1,6 @@
 //! All seats come back, and what was sent was got once.
-ghost use Rattle.std.specs.Prelude.{◌≡◌, ℕ, ◌+◌, ◌*◌, ◌-◌, ◌<◌, ◌≤◌, List, [], ◌∷◌, ◌++◌, length, Some, None, slice_get, Option};
-ghost use Rattle.std.specs.Slots.{slots_items, slots_filled, slots_len, IsFull};
+ghost use Rattle.std.specs.Prelude.{◌≡◌, ℕ, ◌+◌, ◌-◌, ◌<◌, List, ◌++◌, length, Some, slice_get, Option};
+ghost use Rattle.std.specs.Slots.{IsFull};
 ghost use Rattle.atomic_table.specs.Table.{State, Seen};
 ghost use Rattle.kmc_partqueue.specs.Rule.{LanesRule};
 ghost use Rattle.kmc_partqueue.specs.declared.views.View.{View};

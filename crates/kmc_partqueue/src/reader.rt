@@ -1,5 +1,5 @@
 //! What a reader does with its seat.
-ghost use Rattle.std.specs.Prelude.{◌≡◌, ℕ, ◌+◌, ◌*◌, ◌-◌, ◌/◌, ◌%◌, ◌^◌, ◌<◌, ◌≤◌, ◌↔◌, [], ◌∷◌, ◌++◌, MatchOption, Option, Some, None, slice_get, true, false};
+ghost use Rattle.std.specs.Prelude.{◌≡◌, ℕ, ◌+◌, ◌*◌, ◌-◌, ◌/◌, ◌%◌, ◌<◌, ◌↔◌, [], ◌∷◌, ◌++◌, MatchOption, Option, Some, None, slice_get, true, false};
 ghost use Rattle.kmc_partqueue.specs.Seats.{IsReaderOf, KeepsNotes, AllEnded, AreTotals};
 ghost use Rattle.kmc_partqueue.specs.Answers.{Answers, IsFinished, TakeAnswers, IsLast};
 

@@ -1,5 +1,5 @@
 //! FASTA.
-ghost use Rattle.std.specs.Prelude.{◌≡◌, ◌≢◌, [], ◌∷◌, ◌++◌, map, IfOk, IfErr, Ok, Err};
+ghost use Rattle.std.specs.Prelude.{◌≡◌, ◌≢◌, map, IfOk, IfErr, Ok, Err};
 ghost use Rattle.kmc_reads.specs.Fasta.{fasta_reads, reads_after};
 ghost use Rattle.kmc_reads.specs.Lines.{lines};
 

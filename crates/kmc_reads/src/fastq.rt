@@ -1,5 +1,5 @@
 //! FASTQ.
-ghost use Rattle.std.specs.Prelude.{◌≡◌, ◌≢◌, ℕ, ◌+◌, ◌<◌, ◌≤◌, [], ◌∷◌, ◌++◌, length, map, IfOk, IfErr, OnOk, Ok, Err};
+ghost use Rattle.std.specs.Prelude.{◌≡◌, ◌≢◌, ◌+◌, ◌<◌, ◌≤◌, [], ◌∷◌, ◌++◌, length, map, IfOk, IfErr, OnOk, Ok, Err};
 ghost use Rattle.kmc_reads.specs.Lines.{lines, line_past};
 ghost use Rattle.kmc_reads.specs.Answer.{with_reads};
 ghost use Rattle.kmc_reads.specs.Fastq.{fastq_reads};

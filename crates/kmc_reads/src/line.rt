@@ -1,5 +1,5 @@
 //! Lines of a text.
-ghost use Rattle.std.specs.Prelude.{◌≡◌, ℕ, ◌<◌, ◌≤◌, [], ◌∷◌, length, MatchOption};
+ghost use Rattle.std.specs.Prelude.{◌≡◌, ◌<◌, [], ◌∷◌, length, MatchOption};
 ghost use Rattle.std.specs.Io.BufRead.{strip_last};
 ghost use Rattle.kmc_reads.specs.Lines.{lines};
 

@@ -1,7 +1,5 @@
 //! Which bodies belong to a bin.
-ghost use Rattle.std.specs.Prelude.{◌≡◌, ℕ, ◌<◌, ◌≤◌, IfOk, IfErr};
-ghost use Rattle.kmc_split.specs.SuperKmer.{Stretch};
-ghost use Rattle.kmc_record.specs.Shapes.{Sizes};
+ghost use Rattle.std.specs.Prelude.{◌<◌, IfOk, IfErr};
 ghost use Rattle.kmc_record.specs.Parts.{IsPart};
 ghost use Rattle.kmc_record.specs.Bodies.{IsFirstError};
 

@@ -1,11 +1,10 @@
 //! The records of one chunk for one bin.
-ghost use Rattle.std.specs.Prelude.{◌≡◌, ℕ, ◌%◌, ◌<◌, ◌≤◌, nat_lt, [], ◌∷◌, length, OnOk, OnErr, IfOk, IfErr};
+ghost use Rattle.std.specs.Prelude.{◌≡◌, ◌%◌, ◌<◌, nat_lt, [], ◌∷◌, length, OnOk, OnErr, IfOk, IfErr};
 ghost use Rattle.std.specs.List.{All};
 ghost use Rattle.kmc_base.specs.Words.{windows};
 ghost use Rattle.kmc_split.specs.Signature.{signature_of};
 ghost use Rattle.kmc_record.specs.Record.{IsSpelled};
 ghost use Rattle.kmc_record.specs.Parts.{Parcel, grown, empty_part, IsPart};
-ghost use Rattle.kmc_record.specs.Shapes.{Sizes};
 ghost use Rattle.kmc_record.specs.Bodies.{IsFirstError};
 
 use crate::belong::count_words;

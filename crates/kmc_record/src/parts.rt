@@ -1,12 +1,11 @@
 //! The parts of a chunk.
-ghost use Rattle.std.specs.Prelude.{◌≡◌, ℕ, ◌+◌, ◌-◌, ◌≤◌, ◌<◌, List, [], ◌∷◌, map, length, OnOk, IfOk};
+ghost use Rattle.std.specs.Prelude.{◌≡◌, ◌+◌, ◌-◌, ◌≤◌, ◌<◌, List, [], ◌∷◌, map, length, OnOk, IfOk};
 ghost use Rattle.std.specs.List.{All, range_with_len};
 ghost use Rattle.kmc_base.specs.Segments.{stretch};
-ghost use Rattle.kmc_base.specs.Stretches.{Stretch, segments_of};
+ghost use Rattle.kmc_base.specs.Stretches.{segments_of};
 ghost use Rattle.kmc_split.specs.declared.runs.Run.{Run};
 ghost use Rattle.kmc_split.specs.Cut.{IsRunOf};
-ghost use Rattle.kmc_record.specs.Shapes.{Sizes};
-ghost use Rattle.kmc_record.specs.Parts.{Parcel, grown, empty_part, bin_runs, AreCuts, bin_super_kmers, ArePartsOf};
+ghost use Rattle.kmc_record.specs.Parts.{empty_part, bin_runs, AreCuts, bin_super_kmers, ArePartsOf};
 ghost use Rattle.kmc_record.specs.Growing.{AreForBins, HaveGrown};
 
 use crate::part::Part;

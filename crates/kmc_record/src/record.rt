@@ -1,5 +1,5 @@
 //! The codes of one record.
-ghost use Rattle.std.specs.Prelude.{◌≡◌, ◌≢◌, ℕ, ◌+◌, ◌-◌, ◌*◌, ◌/◌, ◌%◌, ◌^◌, ◌<◌, ◌≤◌, ◌++◌, List, length, map, take, drop, slice_index, OnOk, IfOk, IfErr, All, IsTrue};
+ghost use Rattle.std.specs.Prelude.{◌≡◌, ◌≢◌, ℕ, ◌+◌, ◌-◌, ◌*◌, ◌/◌, ◌%◌, ◌^◌, ◌<◌, ◌≤◌, ◌++◌, length, map, take, drop, slice_index, OnOk, IfOk, IfErr, All, IsTrue};
 ghost use Rattle.kmc_base.specs.Packed.{pack};
 ghost use Rattle.kmc_base.specs.Strands.{keys};
 ghost use Rattle.kmc_record.specs.Record.{codes_in, size_of};

@@ -1,5 +1,5 @@
 //! How reads are cut into parts.
-ghost use Rattle.std.specs.Prelude.{◌≡◌, ℕ, ◌≤◌, min, MatchOption};
+ghost use Rattle.std.specs.Prelude.{◌≡◌, min, MatchOption};
 ghost use Rattle.kmc_record.specs.Shapes.{Sizes, AreWithinLimits, IsShape};
 
 use kmc_base::kmer::MAX_K;
@@ -15,7 +15,7 @@ const MOST_BINS: usize = 2000;
 
 /// The number k of symbols of a word, the number m of symbols of the m-mers that signatures are made of, and the
 /// number n of bins.
-#[derive(Clone, Copy)]
+#[derive(Clone, Copy, PartialEq, Eq)]
 pub struct Shape {
     k: usize,
     m: usize,

@@ -1,7 +1,6 @@
 //! How records are written.
-ghost use Rattle.std.specs.Prelude.{◌≡◌, ℕ, ◌+◌, ◌-◌, ◌*◌, ◌/◌, ◌<◌, ◌≤◌, ◌++◌, length, take, drop, slice_index, OnOk, OnErr};
+ghost use Rattle.std.specs.Prelude.{◌≡◌, ◌+◌, ◌-◌, ◌*◌, ◌/◌, ◌<◌, ◌≤◌, ◌++◌, length, take, drop, slice_index, OnOk, OnErr};
 ghost use Rattle.std.specs.List.{AllByRecursion};
-ghost use Rattle.kmc_split.specs.SuperKmer.{Stretch};
 ghost use Rattle.kmc_record.specs.Record.{packed_codes, spelling, IsSpelled, size_of};
 
 use kmc_base::kmer::MAX_K;

@@ -1,5 +1,5 @@
 //! Runs of neighbouring words of one signature.
-ghost use Rattle.std.specs.Prelude.{◌≡◌, ℕ, ◌^◌, ◌<◌, ◌≤◌, length, slice_index, OnOk};
+ghost use Rattle.std.specs.Prelude.{ℕ, ◌^◌, ◌<◌, ◌≤◌, length, slice_index, OnOk};
 ghost use Rattle.kmc_split.specs.Cut.{AreRuns};
 
 use crate::signature::{MAX_M, Sig};

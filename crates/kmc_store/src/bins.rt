@@ -1,7 +1,5 @@
 //! Bins in memory.
 ghost use Rattle.std.specs.Prelude.{◌≡◌, ◌<◌, map, slice_index, OnOk, OnErr, IfOk, IfErr};
-ghost use Rattle.kmc_record.specs.Parts.{Parcel};
-ghost use Rattle.kmc_record.specs.Shapes.{Sizes};
 ghost use Rattle.kmc_store.specs.Bins.{BinList, AreBins, body_at, empty_bins, Absorbed, Merged};
 
 use crate::growth::{add_words, append_bodies, make_room};

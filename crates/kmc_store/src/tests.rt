@@ -1,6 +1,4 @@
 //! Bins filled part by part, and merged.
-ghost use Rattle.std.specs.Prelude.{◌≡◌, IsTrue};
-ghost use Rattle.kmc_record.specs.Shapes.{Sizes};
 
 use crate::bins::Bins;
 use crate::laws;
@@ -11,24 +9,17 @@ use std::alloc::{AllocError, Global};
 use std::process::Abort;
 use std::test::Fail;
 
-/// Whether the shapes have the same sizes.
-fn same_shape(a: Shape, b: Shape) -> bool
-    ensures { IsTrue result → a ≡ b }
-{
-    a.k() == b.k() && a.m() == b.m() && a.n() == b.n()
-}
-
 /// Takes the part in, and where it came back for want of memory, once more: until then the bins are as they were.
 fn take_in(rt: &impl Abort, bins: &mut Bins, part: Part) {
     let bin = part.bin();
-    assert!(rt; same_shape(part.shape(), bins.shape()));
+    assert!(rt; part.shape() == bins.shape());
     assert!(rt; bin < bins.shape().n());
     let size = bins.bin(bin).len();
     let words = bins.words(bin);
     match bins.absorb(part) {
         Ok(()) => {}
         Err(part) => {
-            assert!(rt; same_shape(part.shape(), bins.shape()));
+            assert!(rt; part.shape() == bins.shape());
             assert!(rt; bin < bins.shape().n());
             assert_eq!(rt; bins.bin(bin).len(), size);
             assert_eq!(rt; bins.words(bin), words);
@@ -92,7 +83,7 @@ fn new_bins_are_empty(rt: HostRuntime) -> Result<(), Fail> {
     let alloc = rt.alloc();
     let shape = Shape::new(4, 9, 7).expect(&rt, "a shape");
     let bins = Bins::new(alloc, shape)?;
-    assert!(rt; same_shape(bins.shape(), shape));
+    assert!(rt; bins.shape() == shape);
     assert_eq!(rt; bins.bodies().len(), 7);
     for bin in 0..7 {
         assert!(rt; bin < bins.shape().n());
@@ -152,12 +143,12 @@ fn takes_in_a_body_from_outside(rt: HostRuntime) -> Result<(), Fail> {
 
 /// The bins, merged with the others, once more where these came back for want of memory.
 fn merge_in(rt: &impl Abort, alloc: Global, bins: &mut Bins, other: Bins) -> Result<(), Fail> {
-    assert!(rt; same_shape(other.shape(), bins.shape()));
+    assert!(rt; other.shape() == bins.shape());
     let before = text_of(alloc, bins)?;
     match bins.merge(other) {
         Ok(()) => {}
         Err(other) => {
-            assert!(rt; same_shape(other.shape(), bins.shape()));
+            assert!(rt; other.shape() == bins.shape());
             assert_eq!(rt; text_of(alloc, bins)?.as_str(), before.as_str());
             bins.merge(other).ok().expect(rt, "room for the others");
         }

@@ -1,16 +1,10 @@
 -- Occurrences in lists of words, as sums.
 use Rattle.std.proofs.Common.{◌≡◌, ◌≢◌, ℕ, zero, suc, ◌+◌, ◌<◌, ◌≤◌, Bool, true, false, cond, nat_eq, List, [], ◌∷◌, length, get_or, refl, sym, ap, ap₂, ◌∙◌, arith, zero-add}
-use Rattle.std.specs.List.{All, flat_map, sum_by, range_with_len}
+use Rattle.std.specs.List.{flat_map, sum_by, range_with_len}
 use Rattle.std.proofs.lemmas.List.Sums.{sum_by-cons}
 use Rattle.std.proofs.lemmas.Bool.Decides.{nat_tests}
-use Rattle.std.proofs.lemmas.List.Elements.{All-head, All-tail}
 use Rattle.kmc_store.proofs.Sums.{sum_same, sum_none, sum_add, sum_flat_map}
 use Rattle.kmc_count.specs.Occurrences.{same_word, occurrences}
-
--- where the terms are equal for the members
-pub sum_same_all : {A : Type 0} (F G : A → ℕ) (xs : List A) → All (λ a. F a ≡ G a) xs → sum_by F xs ≡ sum_by G xs
-sum_same_all F G [] e = refl
-sum_same_all {A} F G (x ∷ xs) e = sum_by-cons F x xs ∙ ap₂ (λ (a b : ℕ). a + b) (All-head (λ (a : A). F a ≡ G a) x xs e) (sum_same_all F G xs (All-tail (λ (a : A). F a ≡ G a) x xs e)) ∙ sym (sum_by-cons G x xs)
 
 -- the sum over a list by its places
 pub sum_places : {A : Type 0} (F : A → ℕ) (d : A) (xs : List A) → sum_by F xs ≡ sum_by (λ i. F (get_or xs i d)) (range_with_len 0 (length xs))

@@ -1,5 +1,5 @@
 //! Readers and writers over memory, for tests.
-ghost use Rattle.std.specs.Prelude.{◌≡◌, ℕ, ◌≤◌, Some};
+ghost use Rattle.std.specs.Prelude.{◌≤◌, Some};
 
 use std::io;
 use std::io::{ErrorKind, Read, Write};

@@ -1,5 +1,5 @@
 //! Both stages: from reads to the pairs of their dump.
-ghost use Rattle.std.specs.Prelude.{◌≡◌, length, map, IfOk, IfErr};
+ghost use Rattle.std.specs.Prelude.{length, map, IfOk, IfErr};
 ghost use Rattle.kmc_count.specs.Dump.{IsDump};
 ghost use Rattle.kmc_count.specs.Occurrences.{count_of};
 ghost use Rattle.kmc_workers.specs.Workers.{chunks_of};

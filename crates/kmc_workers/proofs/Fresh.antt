@@ -1,5 +1,5 @@
 -- The seats of a new queue have put and got nothing.
-use Rattle.std.proofs.Common.{◌≡◌, ℕ, zero, suc, ◌+◌, ◌<◌, List, refl, sym, subst, arith}
+use Rattle.std.proofs.Common.{◌≡◌, ℕ, ◌<◌, List, refl, sym, subst, arith}
 use Rattle.std.specs.Prelude.{Result, Ok, Err, IfOk}
 use Rattle.atomic_table.specs.Seated.{TableId}
 use Rattle.kmc_record.specs.Parts.{Parcel}
@@ -7,6 +7,7 @@ use Rattle.kmc_partcore.specs.declared.shape.QueueShape.{QueueShape}
 use Rattle.kmc_partqueue.specs.Counts.{Each}
 use Rattle.kmc_partqueue.specs.Dealing.{row_from}
 use Rattle.kmc_partqueue.specs.Seats.{WriterState, ReaderState, new_writer, new_reader}
+use Rattle.kmc_partqueue.proofs.Dealing.{each_row}
 use Rattle.kmc_workers.specs.Workers.{IsFreshWriter, IsFreshReader}
 
 -- what follows from two facts of an answer
@@ -14,15 +15,11 @@ pub both_ok : {A E : Type 0} (P Q R : A → Type 0) (r : Result A E) → IfOk r 
 both_ok P Q R (Ok q) p p' go = go q p p'
 both_ok P Q R (Err e) p p' go = tt
 
-row_has : {A : Type 0} (P : A → Type 0) (f : ℕ → A) (i n : ℕ) → ((j : ℕ) → j < i + n → P (f j)) → Each P (row_from f i n)
-row_has P f i zero go = tt
-row_has P f i (suc n) go = (go i (omega arith), row_has P f (suc i) n (λ j near. go j (omega arith)))
-
 module _ (id : TableId) (q r : QueueShape) where
   pub fresh_writers : (l : List (WriterState Parcel)) → l ≡ row_from (new_writer id r) 0 r.writers → q ≡ r → Each (IsFreshWriter id q) l
   fresh_writers l is same = subst (λ (s : QueueShape). Each (IsFreshWriter id s) l) (sym same) (subst (Each (IsFreshWriter id r)) (sym is)
-      (row_has (IsFreshWriter id r) (new_writer id r) 0 r.writers (λ j near. ((refl, refl, (let z : j < r.writers = omega arith in z)), refl))))
+      (each_row (IsFreshWriter id r) (new_writer id r) 0 r.writers (λ j near. ((refl, refl, (let z : j < r.writers = omega arith in z)), refl))))
 
   pub fresh_readers : (l : List (ReaderState Parcel)) → l ≡ row_from (new_reader id r) 0 r.readers → q ≡ r → Each (IsFreshReader id q) l
   fresh_readers l is same = subst (λ (s : QueueShape). Each (IsFreshReader id s) l) (sym same) (subst (Each (IsFreshReader id r)) (sym is)
-      (row_has (IsFreshReader id r) (new_reader id r) 0 r.readers (λ j near. ((refl, refl, refl), refl))))
+      (each_row (IsFreshReader id r) (new_reader id r) 0 r.readers (λ j near. ((refl, refl, refl), refl))))

@@ -1,5 +1,5 @@
 //! The parts of reads, from a splitter for each writer of a queue to a storer for each reader.
-ghost use Rattle.std.specs.Prelude.{◌≡◌, ℕ, ◌+◌, ◌*◌, ◌<◌, ◌≤◌, length, map, IfOk, IfErr};
+ghost use Rattle.std.specs.Prelude.{◌≡◌, ◌+◌, ◌*◌, ◌<◌, ◌≤◌, length, map, IfOk, IfErr};
 ghost use Rattle.std.specs.List.{AllZip};
 ghost use Rattle.kmc_partqueue.specs.Counts.{Each};
 ghost use Rattle.kmc_partqueue.specs.Dealing.{row_from};

@@ -1,5 +1,5 @@
 //! Why a worker ends without its result.
-ghost use Rattle.std.specs.Prelude.{◌≡◌, ◌⊎◌};
+ghost use Rattle.std.specs.Prelude.{◌≡◌};
 ghost use Rattle.kmc_workers.specs.Refusals.{earlier};
 
 /// Why a worker ends without its result.

@@ -1,10 +1,8 @@
 //! What a splitter does: it cuts the chunks that are dealt to it, and puts their parts.
-ghost use Rattle.std.specs.Prelude.{◌≡◌, ℕ, ◌+◌, ◌*◌, ◌%◌, ◌<◌, ◌≤◌, [], ◌∷◌, ◌++◌, length, map, OnOk, IfOk, IfErr, IsErrOf};
-ghost use Rattle.kmc_record.specs.Shapes.{Sizes};
-ghost use Rattle.kmc_record.specs.Parts.{Parcel};
+ghost use Rattle.std.specs.Prelude.{◌≡◌, ◌+◌, ◌*◌, ◌%◌, ◌<◌, ◌≤◌, [], ◌∷◌, ◌++◌, length, map, OnOk, IfOk, IfErr, IsErrOf};
 ghost use Rattle.kmc_partcore.specs.declared.shape.TheConstants.{MAX_ITEMS};
 ghost use Rattle.kmc_partqueue.specs.Seats.{IsWriterOf};
-ghost use Rattle.kmc_store.specs.Deals.{chunk_at, AreDealt};
+ghost use Rattle.kmc_store.specs.Deals.{chunk_at};
 ghost use Rattle.kmc_workers.specs.Workers.{IsDone};
 ghost use Rattle.kmc_workers.specs.Causes.{IsCause};
 

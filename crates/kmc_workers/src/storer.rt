@@ -1,7 +1,5 @@
 //! What a storer does: it takes parts until the queue is finished, and absorbs them into bins.
-ghost use Rattle.std.specs.Prelude.{◌≡◌, ℕ, ◌<◌, ◌≤◌, [], IfOk, IfErr, IsTrue, ◌↔◌};
-ghost use Rattle.kmc_record.specs.Shapes.{Sizes};
-ghost use Rattle.kmc_record.specs.Parts.{Parcel};
+ghost use Rattle.std.specs.Prelude.{◌≡◌, [], IfOk, IfErr};
 ghost use Rattle.kmc_partqueue.specs.Seats.{IsReaderOf};
 ghost use Rattle.kmc_workers.specs.Causes.{IsStorersCause};
 ghost use Rattle.kmc_workers.specs.Shards.{IsShard};
@@ -17,14 +15,6 @@ use std::alloc::Global;
 use std::sync::Wait;
 use std::sync::atomic::{AtomicBool, Ordering};
 use std::thread;
-
-/// Whether a part was cut by this shape.
-fn has_shape(part: &Part, shape: Shape) -> bool
-    ensures { IsTrue result ↔ (part.now.shape ≡ shape) }
-{
-    let own = part.shape();
-    own.k() == shape.k() && own.m() == shape.m() && own.n() == shape.n()
-}
 
 /// Takes parts until the queue is finished, and absorbs them. The stop word is read before each try. A part of another
 /// shape, which no splitter sends, ends it.
@@ -56,7 +46,7 @@ pub(crate) fn store<R: Wait, G: Gate>(
             TryTaken::Got(received) => {
                 gate.pass(Point::AfterTake(seat.number()));
                 let part = received.item;
-                if !has_shape(&part, shape) {
+                if part.shape() != shape {
                     return Err(Refusal::Stopped);
                 }
                 match bins.absorb(part) {

@@ -1,10 +1,8 @@
 //! A worker for each seat of a queue, in a thread of its own.
-ghost use Rattle.std.specs.Prelude.{◌≡◌, ℕ, ◌+◌, ◌*◌, ◌<◌, ◌≤◌, List, [], length, map, MatchResult, IfOk, IfErr};
+ghost use Rattle.std.specs.Prelude.{◌≡◌, ◌+◌, ◌*◌, ◌<◌, length, map, MatchResult, IfOk, IfErr};
 ghost use Rattle.std.specs.List.{AllZip};
 ghost use Rattle.kmc_partqueue.specs.Counts.{Each};
-ghost use Rattle.kmc_partqueue.specs.Dealing.{row_from};
-ghost use Rattle.kmc_partqueue.specs.Seats.{IsWriterOf, IsReaderOf, new_writer, new_reader};
-ghost use Rattle.kmc_workers.specs.Workers.{chunks_of, IsDone, IsFreshWriter, IsFreshReader};
+ghost use Rattle.kmc_workers.specs.Workers.{IsDone, IsFreshWriter, IsFreshReader};
 ghost use Rattle.kmc_workers.specs.Causes.{IsCause, IsStorersCause};
 ghost use Rattle.kmc_workers.specs.Shards.{IsShard};
 

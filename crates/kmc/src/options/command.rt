@@ -1,5 +1,5 @@
 //! The command that reads words in long form.
-ghost use Rattle.std.specs.Prelude.{◌≡◌, IfOk, MatchResult, map, string_bytes, true, false};
+ghost use Rattle.std.specs.Prelude.{◌≡◌, IfOk, MatchResult, map, string_bytes, true};
 ghost use Rattle.std.specs.List.{fold};
 ghost use Rattle.clap.specs.Words.{app_of, found_of, rows_of, with_rule};
 ghost use Rattle.kmc.specs.CommandLine.{command, flag_rule, found, is_accepted, option_rule};

@@ -1,7 +1,6 @@
 //! KMC's glued words.
 ghost use Rattle.std.specs.Prelude.{◌≡◌, IfOk, option_map, string_bytes};
 ghost use Rattle.kmc.specs.Glued.{is_flag, long_form, option_in, rest_after, value_in, with_value};
-ghost use Rattle.kmc_tool.specs.Settings.{name_of};
 
 use crate::flag::Flag;
 use kmc_tool::setting::Setting;

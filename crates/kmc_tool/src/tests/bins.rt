@@ -1,6 +1,5 @@
 //! Bins filled part by part in any order, and what stage two makes of them, against the direct count of the same reads.
-ghost use Rattle.std.specs.Prelude.{◌≡◌, ◌<◌, ◌≤◌, IsTrue};
-ghost use Rattle.kmc_record.specs.Shapes.{Sizes};
+ghost use Rattle.std.specs.Prelude.{◌<◌, ◌≤◌};
 
 use crate::error::RunError;
 use crate::params::Params;
@@ -40,13 +39,6 @@ impl Dice {
             .wrapping_add(1442695040888963407);
         (self.state >> 33) as usize % sides
     }
-}
-
-/// Whether the shapes have the same sizes.
-fn same_shape(a: Shape, b: Shape) -> bool
-    ensures { IsTrue result → a ≡ b }
-{
-    a.k() == b.k() && a.m() == b.m() && a.n() == b.n()
 }
 
 /// Reads of up to `longest` symbols over few letters, so that words come again, with an N here and there.
@@ -140,11 +132,11 @@ fn absorb_in_any_order(
             return Ok(bins);
         }
         let part = parts.swap_remove(dice.roll(parts.len()));
-        assert!(rt; same_shape(part.shape(), bins.shape()));
+        assert!(rt; part.shape() == bins.shape());
         match bins.absorb(part) {
             Ok(()) => {}
             Err(part) => {
-                assert!(rt; same_shape(part.shape(), bins.shape()));
+                assert!(rt; part.shape() == bins.shape());
                 assert!(rt; bins.absorb(part).is_ok());
             }
         }
@@ -160,7 +152,7 @@ fn counted<R: Abort + Threads + Sync>(
     params: &Params,
 ) -> Result<Vec<(Kmer, u64)>, Fail> {
     let wanted = shape(params);
-    assert!(rt; same_shape(bins.shape(), wanted));
+    assert!(rt; bins.shape() == wanted);
     match stage_two(rt, alloc, bins, params) {
         Ok(pairs) => Ok(pairs),
         Err(_) => Err(Fail::from("out of memory")),
@@ -251,12 +243,14 @@ fn long_runs_of_one_symbol_lie_in_the_first_bin(rt: HostRuntime) -> Result<(), F
 #[test]
 fn any_number_of_threads_gives_one_list(rt: HostRuntime) -> Result<(), Fail> {
     let alloc = rt.alloc();
-    let mut dice = Dice { state: 11 };
-    let reads = some_reads(alloc, &mut dice, 40, 100)?;
+    let mut dice = Dice { state: 12 };
+    let reads = some_reads(alloc, &mut dice, 1500, 100)?;
     let limits = Limits::new(1, 1000, 1000).ok_or("limits in range")?;
+    let mut longest: usize = 0;
     for k in [4, 25, 33] {
         let one = Params::new(Format::Fastq, k, 9, 97, 2, 1, limits).ok_or("settings in range")?;
         let direct = count_direct(alloc, &reads, k, one.strands, &limits)?;
+        longest = longest.max(direct.len());
         for threads in [1, 2, 16] {
             let params = Params::new(Format::Fastq, k, 9, 97, 2, threads, limits).ok_or(
                 "settings in range",
@@ -267,6 +261,8 @@ fn any_number_of_threads_gives_one_list(rt: HostRuntime) -> Result<(), Fail> {
             assert!(rt; same_pairs(&pairs, &direct));
         }
     }
+    // long enough for a sort by several threads
+    assert!(rt; longest > 8192);
     Ok(())
 }
 
@@ -389,12 +385,12 @@ fn refused_memory_is_answered_and_leaves_the_bins(rt: HostRuntime) -> Result<(),
     let Ok(bins) = absorb_in_any_order(&rt, alloc, &mut Dice { state: 5 }, parts, own) else {
         return Ok(());
     };
-    assert!(rt; same_shape(bins.shape(), own));
+    assert!(rt; bins.shape() == own);
     match stage_two(&rt, alloc, &bins, &params) {
         Ok(pairs) => assert!(rt; has_counts(&pairs, &[2, 2, 1])),
         Err(error) => {
             assert_eq!(rt; error, RunError::Memory);
-            assert!(rt; same_shape(bins.shape(), own));
+            assert!(rt; bins.shape() == own);
             match stage_two(&rt, alloc, &bins, &params) {
                 Ok(pairs) => assert!(rt; has_counts(&pairs, &[2, 2, 1])),
                 Err(_) => return Err(Fail::from("one allocation was refused, and two calls")),

@@ -1,6 +1,5 @@
 //! What one thread makes of the reads, to compare with.
-ghost use Rattle.std.specs.Prelude.{◌≡◌, ◌<◌, ◌≤◌};
-ghost use Rattle.kmc_record.specs.Shapes.{Sizes};
+ghost use Rattle.std.specs.Prelude.{◌<◌};
 
 use super::outcome::{Outcome, same_shape};
 use super::records::records_of;

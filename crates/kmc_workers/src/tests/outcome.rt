@@ -1,7 +1,6 @@
 //! What comes of a run: the totals of the writers, and the bins of all readers together.
 ghost use Rattle.std.specs.Prelude.{◌≡◌, ℕ, ◌<◌, map, IfOk, IsTrue};
 ghost use Rattle.std.specs.List.{AllZip};
-ghost use Rattle.kmc_record.specs.Shapes.{Sizes};
 ghost use Rattle.kmc_partqueue.specs.Counts.{Each, total_of, same};
 ghost use Rattle.kmc_partqueue.specs.Dealing.{row_from};
 ghost use Rattle.kmc_partqueue.specs.Seats.{IsWriterOf, new_reader};
