@@ -24,7 +24,8 @@ use Rattle.kmc_store.proofs.Sums.{sum_same, sum_none, sum_add, sum_map, sum_flat
 use Rattle.kmc_count.specs.Occurrences.{occurrences}
 use Rattle.kmc_count.specs.Merge.{joined}
 use Rattle.kmc_count.proofs.Zips.{zip_at}
-use Rattle.kmc_tool.proofs.Summed.{sum_places, sum_range, sum_once, sum_swap, occurs_flat}
+use Rattle.kmc_workers.proofs.Places.{sum_places}
+use Rattle.kmc_tool.proofs.Summed.{sum_range, sum_once, sum_swap, occurs_flat}
 
 fuse : {A B C : Type 0} (f : B → C) (g : A → B) (xs : List A) → map (λ a. f (g a)) xs ≡ map f (map g xs)
 fuse f g [] = refl

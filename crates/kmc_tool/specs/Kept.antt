@@ -1,6 +1,7 @@
 -- The settings of a run where no option is given, and what stays of them where some are changed.
 use Rattle.std.specs.Prelude.{◌≡◌}
 use Rattle.kmc_base.specs.declared.strands.Strands.TheVariants.{Joined}
+use Rattle.kmc_partcore.specs.declared.shape.QueueShape.{QueueShape}
 use Rattle.kmc_reads.specs.declared.format.Format.TheVariants.{Fastq}
 use Rattle.kmc_tool.specs.Settings.{bounds_of}
 use Rattle.kmc_tool.specs.declared.params.Params.{Params}
@@ -34,3 +35,7 @@ HasDefaultLimits a = (a.limits.ci ≡ (bounds_of Ci).default)
 abbrev pub IsDefault : Params → Type 0
 IsDefault a = (a.format ≡ Fastq) × (a.strands ≡ Joined) × HasDefaultNumbers a
     × HasDefaultLimits a × HasUsualQueue a
+
+-- a writer for each splitter, a reader for each storer
+abbrev pub IsQueueOf : Params → QueueShape → Type 0
+IsQueueOf p q = (q.writers ≡ p.sp) × (q.per_writer ≡ p.per_writer) × (q.readers ≡ p.readers)

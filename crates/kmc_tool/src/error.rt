@@ -1,5 +1,11 @@
 //! Why a run gave up.
+ghost use Rattle.std.specs.Prelude.{◌≡◌};
+ghost use Rattle.kmc_tool.specs.Errors.{of_refusal};
+ghost use Rattle.kmc_tool.specs.declared.error.RunError.TheVariants.{Memory};
+
 use kmc_reads::error::ReadsError;
+use kmc_workers::refusal::Refusal;
+use std::alloc::AllocError;
 use thiserror::Error;
 
 /// Why a run gave up. Of several causes the one that is met first is answered.
@@ -23,4 +29,23 @@ pub enum RunError {
     /// The reads of one splitter give more parts than have numbers.
     #[error("part numbers spent")]
     NumbersSpent,
+}
+
+impl From<AllocError> for RunError {
+    ghost from_gives = { λ _ e. e ≡ Memory };
+
+    fn from(_: AllocError) -> RunError {
+        RunError::Memory
+    }
+}
+
+impl From<Refusal> for RunError {
+    ghost from_gives = { λ refusal e. e ≡ of_refusal refusal };
+
+    fn from(refusal: Refusal) -> RunError {
+        match refusal {
+            Refusal::NumbersSpent => RunError::NumbersSpent,
+            Refusal::Memory | Refusal::Stopped => RunError::Memory,
+        }
+    }
 }

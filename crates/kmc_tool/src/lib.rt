@@ -3,17 +3,12 @@
 //! devices whose failures are counted. The layer above makes `params::Params` and calls `run::run`.
 #![tactic(auto)]
 
-#[cfg(test)]
-mod devices;
 pub mod error;
 mod input;
 pub mod laws;
 pub mod params;
 pub mod run;
 pub mod setting;
-mod shards;
 pub mod stage_one;
 pub mod stage_two;
 mod stages;
-#[cfg(test)]
-mod tests;

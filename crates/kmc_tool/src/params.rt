@@ -6,7 +6,9 @@ ghost use Rattle.kmc_tool.specs.Ranges.{AreQueueSettings, AreSettings};
 use crate::setting::Setting;
 use kmc_base::strands::Strands;
 use kmc_count::limits::Limits;
+use kmc_partcore::QueueShape;
 use kmc_reads::format::Format;
+use kmc_record::shape::Shape;
 
 /// Most storers.
 pub const MAX_READERS: usize = 8;
@@ -53,7 +55,8 @@ pub struct Params {
 }
 
 impl Params {
-    ghost use Rattle.kmc_tool.specs.Kept.{HasUsualQueue, KeepsOptions, KeepsQueue};
+    ghost use Rattle.kmc_tool.specs.Kept.{HasUsualQueue, IsQueueOf, KeepsOptions, KeepsQueue};
+    ghost use Rattle.kmc_tool.specs.Stages.{shape_of};
 
     /// The settings of the command line, where they are in range. The strands are joined, and the
     /// queue has its usual size.
@@ -91,6 +94,26 @@ impl Params {
             per_writer: PER_WRITER,
             batch: BATCH,
         })
+    }
+
+    /// How the reads of a chunk are cut into parts.
+    pub fn shape(&self) -> Shape
+        ensures { result ≡ shape_of self.now }
+    {
+        match Shape::new(self.k, self.p, self.n) {
+            Some(shape) => shape,
+            None => unreachable!(),
+        }
+    }
+
+    /// The queue that the parts pass: a writer for each splitter, a reader for each storer.
+    pub fn queue(&self) -> QueueShape
+        ensures { IsQueueOf self.now result }
+    {
+        match QueueShape::new(self.sp, self.per_writer, self.readers) {
+            Some(queue) => queue,
+            None => unreachable!(),
+        }
     }
 
     /// The same run with words counted by these strands.
@@ -149,5 +172,3 @@ impl Default for Params {
     }
 }
 
-#[cfg(test)]
-mod tests;

@@ -1,8 +1,7 @@
 //! Stage two: each bin is counted by itself, and their lists become one.
-ghost use Rattle.std.specs.Prelude.{◌≡◌, IfOk, IfErr};
+ghost use Rattle.std.specs.Prelude.{◌≡◌, IfOk};
 ghost use Rattle.kmc_tool.specs.Stages.{shape_of, IsDumpOfBins};
 
-use crate::error::RunError;
 use crate::laws::bins_share_no_key;
 use crate::params::Params;
 use kmc_base::kmer::Kmer;
@@ -12,7 +11,7 @@ use kmc_count::laws::{dumps_can_be_merged, dumps_of_bodies_are_of_keys, merged_d
 use kmc_count::merge::merge_bins;
 use kmc_record::laws::whole_body_has_no_fault;
 use kmc_store::bins::Bins;
-use std::alloc::Global;
+use std::alloc::{AllocError, Global};
 use std::thread::Threads;
 
 /// The dump of the words of all records in the bins: each bin is counted by itself, over `sr` threads, and since equal
@@ -22,10 +21,9 @@ pub fn stage_two<R: Threads + Sync>(
     alloc: Global,
     bins: &Bins,
     params: &Params,
-) -> Result<Vec<(Kmer, u64)>, RunError>
+) -> Result<Vec<(Kmer, u64)>, AllocError>
     requires { bins.now.shape ≡ shape_of params.now }
-    ensures dump { IfOk result (λ pairs. IsDumpOfBins params.now.strands params.now.k params.now.limits bins.now.bodies pairs.items) }
-    ensures memory { IfErr result (λ e. e ≡ RunError.Memory) }
+    ensures { IfOk result (λ pairs. IsDumpOfBins params.now.strands params.now.k params.now.limits bins.now.bodies pairs.items) }
 {
     bins_share_no_key();
     whole_body_has_no_fault();
@@ -43,11 +41,8 @@ pub fn stage_two<R: Threads + Sync>(
         params.sr,
     ) {
         Ok(lists) => lists,
-        Err(CountError::Memory) => return Err(RunError::Memory),
+        Err(CountError::Memory) => return Err(AllocError),
         Err(CountError::Damaged(_, _)) => unreachable!(),
     };
-    match merge_bins(rt, alloc, lists, params.sr) {
-        Ok(pairs) => Ok(pairs),
-        Err(_) => Err(RunError::Memory),
-    }
+    Ok(merge_bins(rt, alloc, lists, params.sr)?)
 }

@@ -28,13 +28,7 @@ pub(crate) fn count_by_bins<R: Threads + Wait + Sync, G: Gate + Sync>(
     ensures cause { IfErr result (IsStageError (shape_of params.now) params.now.batch (map (λ r. r.items) reads.items) params.now.sp (chunks_of params.now.batch (length reads.items))) }
 {
     held_reads_are_counted();
-    let bins = match stage_one(rt, alloc, &reads, params, gate) {
-        Ok(bins) => bins,
-        Err(e) => return Err(e),
-    };
+    let bins = stage_one(rt, alloc, &reads, params, gate)?;
     drop(reads);
-    match stage_two(rt, alloc, &bins, params) {
-        Ok(pairs) => Ok(pairs),
-        Err(_) => Err(RunError::Memory),
-    }
+    Ok(stage_two(rt, alloc, &bins, params)?)
 }

@@ -1,5 +1,9 @@
+mod Both
 mod Chunks
 mod Fresh
+mod Merging
+mod Returned
 mod Sent
+mod Stored
 mod Zips
-pub mod Returned
+pub mod Places

@@ -29,22 +29,22 @@ module _ {A B : Type 0} (R : A → B → Type 0) (f : ℕ → A) where
 
 module _ (id : TableId) (q : QueueShape) where
   -- a writer's seat has the number of its place
-  module _ (shape : Sizes) (batch : ℕ) (reads : List (List ℕ)) (sp chunks : ℕ) (ds : List (WriterState Parcel)) (back : AllZip (IsDone shape batch reads sp chunks) (row_from (new_writer id q) 0 q.writers) ds) where
-    pub its_writer : (j : ℕ) (d : WriterState Parcel) → j < length ds → IsDone shape batch reads sp chunks (new_writer id q j) (get_or ds j d)
-    its_writer j d lt = row_back (IsDone shape batch reads sp chunks) (new_writer id q) 0 q.writers ds back j j d lt (omega arith)
+  module _ (shape : Sizes) (batch : ℕ) (reads : List (List ℕ)) (sp : ℕ) (ds : List (WriterState Parcel)) (back : AllZip (IsDone shape batch reads sp) (row_from (new_writer id q) 0 q.writers) ds) where
+    pub its_writer : (j : ℕ) (d : WriterState Parcel) → j < length ds → IsDone shape batch reads sp (new_writer id q j) (get_or ds j d)
+    its_writer j d lt = row_back (IsDone shape batch reads sp) (new_writer id q) 0 q.writers ds back j j d lt (omega arith)
 
     pub all_writers : length ds ≡ q.writers
-    all_writers = row_long (IsDone shape batch reads sp chunks) (new_writer id q) 0 q.writers ds back
+    all_writers = row_long (IsDone shape batch reads sp) (new_writer id q) 0 q.writers ds back
 
     pub writers_of : Each (IsWriterOf id q) ds
     writers_of = each_from (IsWriterOf id q) ds (λ j d lt.
         let w = its_writer j d lt in
         let long = all_writers in
-        (w.table, w.per_writer, (let n = w.number in omega arith)))
+        (w.seat.table, w.seat.per_writer, (let n = w.seat.number in omega arith)))
 
     pub writers_once : (w : ℕ) → w < q.writers → total_of (λ (s : WriterState Parcel). same s.number w) ds ≡ 1
     writers_once w lt = let long = all_writers in
-        once_from (λ (s : WriterState Parcel). s.number) w 0 ds (λ j d at. let n = (its_writer j d at).number in omega arith) (omega arith) (omega arith)
+        once_from (λ (s : WriterState Parcel). s.number) w 0 ds (λ j d at. let n = (its_writer j d at).seat.number in omega arith) (omega arith) (omega arith)
 
   -- the seat is the same one, and has seen each lane at its end
   abbrev pub IsBack : ReaderState Parcel → ReaderState Parcel → Type 0

@@ -4,6 +4,8 @@ use Rattle.kmc_record.specs.Shapes.{Sizes}
 use Rattle.kmc_record.specs.Parts.{Parcel, ArePartsOf}
 use Rattle.kmc_partcore.specs.declared.shape.TheConstants.{MAX_ITEMS}
 use Rattle.kmc_store.specs.Deals.{chunk_at, AreSent, AreDealt}
+use Rattle.kmc_partqueue.specs.Seats.{WriterState}
+use Rattle.kmc_workers.specs.Workers.{chunks_of, IsSameWriter}
 use Rattle.kmc_workers.specs.Causes.{AreTooMany, IsCause}
 use Rattle.kmc_workers.specs.declared.refusal.Refusal.{Refusal}
 use Rattle.kmc_workers.specs.declared.refusal.Refusal.TheVariants.{Memory, NumbersSpent, Stopped}
@@ -25,7 +27,11 @@ module _ (shape : Sizes) (batch : ℕ) (reads : List (List ℕ)) (sp w : ℕ) wh
   too_many chunks c sent own near here was is many = record { first = c + 1; within = (let z : c + 1 ≤ chunks = omega arith in z); parts = sent ++ own; dealt = next_own c sent own (sent ++ own) here was is refl; many = many }
 
   -- a refusal has a cause where spent numbers have theirs
-  pub cause_of : (chunks : ℕ) (cause : Refusal) → (cause ≡ NumbersSpent → (u : ℕ) × (u < sp) × AreTooMany shape batch reads sp chunks u) → IsCause shape batch reads sp chunks cause
-  cause_of chunks NumbersSpent spent = spent refl
-  cause_of chunks Memory spent = tt
-  cause_of chunks Stopped spent = tt
+  pub cause_of : (cause : Refusal) → (cause ≡ NumbersSpent → (u : ℕ) × (u < sp) × AreTooMany shape batch reads sp (chunks_of batch (length reads)) u) → IsCause shape batch reads sp cause
+  cause_of NumbersSpent spent = spent refl
+  cause_of Memory spent = tt
+  cause_of Stopped spent = tt
+
+-- the seat stays the same one
+pub same_seat : (a b c : WriterState Parcel) → IsSameWriter a b → IsSameWriter b c → IsSameWriter a c
+same_seat a b c x y = record { table = y.table ∙ x.table; number = y.number ∙ x.number; per_writer = y.per_writer ∙ x.per_writer }

@@ -4,6 +4,7 @@ use Rattle.kmc_record.specs.Shapes.{Sizes}
 use Rattle.kmc_record.specs.Parts.{Parcel}
 use Rattle.kmc_partcore.specs.declared.shape.TheConstants.{MAX_ITEMS}
 use Rattle.kmc_store.specs.Deals.{AreDealt}
+use Rattle.kmc_workers.specs.Workers.{chunks_of}
 use Rattle.kmc_workers.specs.declared.refusal.Refusal.{Refusal}
 use Rattle.kmc_workers.specs.declared.refusal.Refusal.TheVariants.{Memory, NumbersSpent, Stopped}
 
@@ -16,10 +17,10 @@ pub record AreTooMany (shape : Sizes) (batch : ℕ) (reads : List (List ℕ)) (s
   pub many : MAX_ITEMS < length parts
 
 -- spent numbers are answered only where the chunks dealt to some writer give more parts than have numbers
-abbrev pub IsCause : Sizes → ℕ → List (List ℕ) → ℕ → ℕ → Refusal → Type 0
-IsCause shape batch reads sp chunks NumbersSpent = (w : ℕ) × (w < sp) × AreTooMany shape batch reads sp chunks w
-IsCause shape batch reads sp chunks Memory = Unit {0}
-IsCause shape batch reads sp chunks Stopped = Unit {0}
+abbrev pub IsCause : Sizes → ℕ → List (List ℕ) → ℕ → Refusal → Type 0
+IsCause shape batch reads sp NumbersSpent = (w : ℕ) × (w < sp) × AreTooMany shape batch reads sp (chunks_of batch (length reads)) w
+IsCause shape batch reads sp Memory = Unit {0}
+IsCause shape batch reads sp Stopped = Unit {0}
 
 -- a storer puts nothing, so it spends no numbers
 abbrev pub IsStorersCause : Refusal → Type 0

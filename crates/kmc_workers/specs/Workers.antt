@@ -1,5 +1,5 @@
 -- What a worker is given, and what it hands back.
-use Rattle.std.specs.Prelude.{◌≡◌, ℕ, ◌+◌, ◌-◌, ◌/◌, List, [], map}
+use Rattle.std.specs.Prelude.{◌≡◌, ℕ, ◌+◌, ◌-◌, ◌/◌, List, [], length, map}
 use Rattle.kmc_record.specs.Shapes.{Sizes}
 use Rattle.kmc_record.specs.Parts.{Parcel}
 use Rattle.kmc_partcore.specs.declared.event.Received.{Received}
@@ -23,16 +23,19 @@ IsFreshWriter id q s = IsWriterOf id q s × (s.sent ≡ [])
 abbrev pub IsFreshReader : TableId → QueueShape → ReaderState Parcel → Type 0
 IsFreshReader id q s = IsReaderOf id q s × (s.got ≡ [])
 
--- the seat is back, completed, and has put the parts of its chunks, which are those dealt to its number
-pub record IsDone (shape : Sizes) (batch : ℕ) (reads : List (List ℕ)) (sp chunks : ℕ) (s d : WriterState Parcel) : Type 0 where
-  pub table : d.table ≡ s.table
-  pub number : d.number ≡ s.number
-  pub per_writer : d.per_writer ≡ s.per_writer
-  pub sent : AreDealt shape batch reads sp s.number chunks d.sent
-
 -- the seat is the same one
+pub record IsSameWriter (s r : WriterState Parcel) : Type 0 where
+  pub table : r.table ≡ s.table
+  pub number : r.number ≡ s.number
+  pub per_writer : r.per_writer ≡ s.per_writer
+
 pub record IsSameReader (s r : ReaderState Parcel) : Type 0 where
   pub table : r.table ≡ s.table
   pub number : r.number ≡ s.number
   pub per_writer : r.per_writer ≡ s.per_writer
   pub writers : r.writers ≡ s.writers
+
+-- the seat is back, completed, and has put the parts of its chunks, which are those dealt to its number
+pub record IsDone (shape : Sizes) (batch : ℕ) (reads : List (List ℕ)) (sp : ℕ) (s d : WriterState Parcel) : Type 0 where
+  pub seat : IsSameWriter s d
+  pub sent : AreDealt shape batch reads sp s.number (chunks_of batch (length reads)) d.sent

@@ -4,11 +4,12 @@
 //! and the shapes of bins and queue, gathers the seats that come back, and merges the bins of the shards.
 #![tactic(auto)]
 
+pub mod fill_bins;
 pub mod pass_parts;
+pub mod plan;
 pub mod refusal;
 pub mod shard;
 mod splitter;
 mod storer;
-#[cfg(test)]
-mod tests;
+mod way;
 mod workers;

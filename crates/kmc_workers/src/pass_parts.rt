@@ -1,48 +1,36 @@
 //! The parts of reads, from a splitter for each writer of a queue to a storer for each reader.
-ghost use Rattle.std.specs.Prelude.{◌≡◌, ◌+◌, ◌*◌, ◌<◌, ◌≤◌, length, map, IfOk, IfErr};
+ghost use Rattle.std.specs.Prelude.{◌≡◌, map, IfOk, IfErr};
 ghost use Rattle.std.specs.List.{AllZip};
 ghost use Rattle.kmc_partqueue.specs.Counts.{Each};
 ghost use Rattle.kmc_partqueue.specs.Dealing.{row_from};
 ghost use Rattle.kmc_partqueue.specs.Seats.{new_writer, new_reader};
-ghost use Rattle.kmc_workers.specs.Workers.{chunks_of, IsDone, IsFreshWriter, IsFreshReader};
+ghost use Rattle.kmc_workers.specs.Workers.{IsDone, IsFreshWriter, IsFreshReader};
 ghost use Rattle.kmc_workers.specs.Causes.{IsCause};
 ghost use Rattle.kmc_workers.specs.Shards.{IsShard};
 
+use crate::plan::Plan;
 use crate::refusal::Refusal;
 use crate::shard::Shard;
-use crate::workers::store_all;
+use crate::way::Way;
+use crate::workers::{Seats, store_all};
 use kmc_partcore::QueueShape;
-use kmc_partqueue::{DoneSeat, Gate, Lanes, ReaderSeat, WriterSeat};
+use kmc_partqueue::{DoneSeat, Gate, Lanes};
 use kmc_record::part::Part;
-use kmc_record::shape::Shape;
 use std::alloc::{AllocError, Global};
 use std::sync::Wait;
-use std::sync::atomic::AtomicBool;
 use std::thread;
 use std::thread::Threads;
 
-/// Into how many chunks so many reads are cut.
-fn chunks(reads: usize, batch: usize) -> usize
-    requires { 0 < batch }
-    ensures is { result ≡ chunks_of batch reads }
-    ensures all { reads ≤ result * batch }
-    ensures most { result * batch < reads + batch }
+/// A way through a queue of this shape, and the queue's seats, which have put and got nothing.
+fn open_way(alloc: Global, queue: QueueShape) -> Result<(Way, Seats), AllocError>
+    ensures shape { IfOk result (λ q. q.0.lanes.shape ≡ queue) }
+    ensures writers { IfOk result (λ q. q.1.writers.items ≡ row_from (new_writer q.0.lanes.table.shared.table_id queue) 0 queue.writers) }
+    ensures readers { IfOk result (λ q. q.1.readers.items ≡ row_from (new_reader q.0.lanes.table.shared.table_id queue) 0 queue.readers) }
+    ensures open { IfOk result (λ q. Each (IsFreshWriter q.0.lanes.table.shared.table_id q.0.lanes.shape) q.1.writers.items) }
+    ensures fresh { IfOk result (λ q. Each (IsFreshReader q.0.lanes.table.shared.table_id q.0.lanes.shape) q.1.readers.items) }
 {
-    reads.div_ceil(batch)
-}
-
-/// A queue of this shape, and its seats, which have put and got nothing.
-fn open_queue(
-    alloc: Global,
-    shape: QueueShape,
-) -> Result<(Lanes<Part>, Vec<WriterSeat<Part>>, Vec<ReaderSeat<Part>>), AllocError>
-    ensures shape { IfOk result (λ q. q.0.shape ≡ shape) }
-    ensures writers { IfOk result (λ q. q.1.items ≡ row_from (new_writer q.0.table.shared.table_id shape) 0 shape.writers) }
-    ensures readers { IfOk result (λ q. q.2.items ≡ row_from (new_reader q.0.table.shared.table_id shape) 0 shape.readers) }
-    ensures open { IfOk result (λ q. Each (IsFreshWriter q.0.table.shared.table_id q.0.shape) q.1.items) }
-    ensures fresh { IfOk result (λ q. Each (IsFreshReader q.0.table.shared.table_id q.0.shape) q.2.items) }
-{
-    Lanes::new(alloc, shape)
+    let (lanes, writers, readers) = Lanes::new(alloc, queue)?;
+    Ok((Way::new(lanes, queue.writers), Seats { writers, readers }))
 }
 
 /// Passes the parts of the reads through a queue of this shape: of its writers, splitter w cuts the chunks c with
@@ -54,58 +42,30 @@ pub fn pass_parts<R: Threads + Wait + Sync, G: Gate + Sync>(
     rt: &R,
     alloc: Global,
     reads: &[Vec<u8>],
-    shape: Shape,
+    plan: Plan,
     queue: QueueShape,
-    batch: usize,
     gate: &G,
 ) -> Result<(Lanes<Part>, Vec<DoneSeat<Part>>, Vec<Shard>), Refusal>
-    requires { 0 < batch }
     ensures queue { IfOk result (λ q. q.0.shape ≡ queue) }
-    ensures done { IfOk result (λ q. AllZip (IsDone shape batch (map (λ r. r.items) reads.now) queue.writers (chunks_of batch (length reads.now)))
+    ensures done { IfOk result (λ q. AllZip (IsDone plan.shape plan.batch (map (λ r. r.items) reads.now) queue.writers)
         (row_from (new_writer q.0.table.shared.table_id queue) 0 queue.writers) q.1.items) }
-    ensures shards { IfOk result (λ q. AllZip (IsShard shape) (row_from (new_reader q.0.table.shared.table_id queue) 0 queue.readers) q.2.items) }
-    ensures cause { IfErr result (IsCause shape batch (map (λ r. r.items) reads.now) queue.writers (chunks_of batch (length reads.now))) }
+    ensures shards { IfOk result (λ q. AllZip (IsShard plan.shape)
+        (row_from (new_reader q.0.table.shared.table_id queue) 0 queue.readers) q.2.items) }
+    ensures cause { IfErr result (IsCause plan.shape plan.batch (map (λ r. r.items) reads.now) queue.writers) }
 {
-    let (lanes, writer_seats, reader_seats) = match open_queue(alloc, queue) {
-        Ok(made) => made,
-        Err(_) => return Err(Refusal::Memory),
-    };
-    let writers = queue.writers;
-    let chunks = chunks(reads.len(), batch);
-    let stop = AtomicBool::new(false);
-    let shared_lanes = &lanes;
-    let flag = &stop;
+    let (way, seats) = open_way(alloc, queue)?;
+    let shared = &way;
     let back = thread::scope(
         thread::scope_env(),
         rt,
         move |scope| -> Result<(Vec<DoneSeat<Part>>, Vec<Shard>), Refusal>
-            requires readers { Each (IsFreshReader shared_lanes.now.table.shared.table_id shared_lanes.now.shape) reader_seats.items }
-            requires queue { Each (IsFreshWriter shared_lanes.now.table.shared.table_id shared_lanes.now.shape) writer_seats.items }
-            requires writers { writers ≡ shared_lanes.now.shape.writers }
-            requires plan { (0 < batch) × (0 < writers) × (chunks * batch < length reads.now + batch) }
-            ensures done { IfOk result (λ q. AllZip (IsDone shape batch (map (λ v. v.items) reads.entry.now) writers chunks) writer_seats.items q.0.items) }
-            ensures shards { IfOk result (λ q. AllZip (IsShard shape) reader_seats.items q.1.items) }
-            ensures cause { IfErr result (IsCause shape batch (map (λ v. v.items) reads.entry.now) writers chunks) }
-        {
-            store_all(
-                rt,
-                alloc,
-                scope,
-                shared_lanes,
-                reader_seats,
-                writer_seats,
-                reads,
-                shape,
-                batch,
-                writers,
-                chunks,
-                flag,
-                gate,
-            )
-        },
+            requires readers { Each (IsFreshReader shared.now.lanes.table.shared.table_id shared.now.lanes.shape) seats.readers.items }
+            requires writers { Each (IsFreshWriter shared.now.lanes.table.shared.table_id shared.now.lanes.shape) seats.writers.items }
+            ensures done { IfOk result (λ q. AllZip (IsDone plan.shape plan.batch (map (λ v. v.items) reads.entry.now) shared.entry.now.writers) seats.writers.items q.0.items) }
+            ensures shards { IfOk result (λ q. AllZip (IsShard plan.shape) seats.readers.items q.1.items) }
+            ensures cause { IfErr result (IsCause plan.shape plan.batch (map (λ v. v.items) reads.entry.now) shared.entry.now.writers) }
+        { store_all(rt, alloc, scope, shared, seats, reads, plan, gate) },
     );
-    match back {
-        Ok((done, shards)) => Ok((lanes, done, shards)),
-        Err(cause) => Err(cause),
-    }
+    let (done, shards) = back?;
+    Ok((way.into_lanes(), done, shards))
 }

@@ -1,19 +1,19 @@
 //! What a storer does: it takes parts until the queue is finished, and absorbs them into bins.
-ghost use Rattle.std.specs.Prelude.{◌≡◌, [], IfOk, IfErr};
-ghost use Rattle.kmc_partqueue.specs.Seats.{IsReaderOf};
+ghost use Rattle.std.specs.Prelude.{◌≡◌, IfOk, IfErr};
+ghost use Rattle.kmc_workers.specs.Workers.{IsFreshReader};
 ghost use Rattle.kmc_workers.specs.Causes.{IsStorersCause};
 ghost use Rattle.kmc_workers.specs.Shards.{IsShard};
 
 use crate::refusal::Refusal;
 use crate::shard::Shard;
-use kmc_partqueue::{Gate, Lanes, Point, ReaderSeat, TryTaken};
+use crate::way::Way;
+use kmc_partqueue::{Gate, Point, ReaderSeat, TryTaken};
 use kmc_record::part::Part;
 use kmc_record::shape::Shape;
 use kmc_store::bins::Bins;
 use kmc_store::laws::{absorbed_bins_are_bodies, empty_bins_are_no_bodies};
 use std::alloc::Global;
 use std::sync::Wait;
-use std::sync::atomic::{AtomicBool, Ordering};
 use std::thread;
 
 /// Takes parts until the queue is finished, and absorbs them. The stop word is read before each try. A part of another
@@ -21,28 +21,24 @@ use std::thread;
 pub(crate) fn store<R: Wait, G: Gate>(
     rt: &R,
     alloc: Global,
-    lanes: &Lanes<Part>,
+    way: &Way,
     mut seat: ReaderSeat<Part>,
     shape: Shape,
-    stop: &AtomicBool,
     gate: &G,
 ) -> Result<Shard, Refusal>
-    requires queue { IsReaderOf lanes.now.table.shared.table_id lanes.now.shape seat }
-    requires fresh { seat.got ≡ [] }
+    requires { IsFreshReader way.now.lanes.table.shared.table_id way.now.lanes.shape seat }
     ensures done { IfOk result (λ h. IsShard shape seat h) }
     ensures cause { IfErr result IsStorersCause }
 {
+    // bins that are the bodies of what was got stay so with each part
     empty_bins_are_no_bodies();
     absorbed_bins_are_bodies();
-    let mut bins = match Bins::new(alloc, shape) {
-        Ok(bins) => bins,
-        Err(_) => return Err(Refusal::Memory),
-    };
+    let mut bins = Bins::new(alloc, shape)?;
     for _ in rt.forever() {
-        if stop.load(Ordering::SeqCst) {
+        if way.is_stopped() {
             return Err(Refusal::Stopped);
         }
-        match lanes.try_take(&mut seat, gate) {
+        match way.lanes.try_take(&mut seat, gate) {
             TryTaken::Got(received) => {
                 gate.pass(Point::AfterTake(seat.number()));
                 let part = received.item;

@@ -1,22 +1,23 @@
 //! A worker for each seat of a queue, in a thread of its own.
-ghost use Rattle.std.specs.Prelude.{◌≡◌, ◌+◌, ◌*◌, ◌<◌, length, map, MatchResult, IfOk, IfErr};
+ghost use Rattle.std.specs.Prelude.{◌≡◌, ◌∷◌, ◌++◌, [], map, MatchResult, IfOk, IfErr};
 ghost use Rattle.std.specs.List.{AllZip};
 ghost use Rattle.kmc_partqueue.specs.Counts.{Each};
 ghost use Rattle.kmc_workers.specs.Workers.{IsDone, IsFreshWriter, IsFreshReader};
 ghost use Rattle.kmc_workers.specs.Causes.{IsCause, IsStorersCause};
 ghost use Rattle.kmc_workers.specs.Shards.{IsShard};
 
-use crate::refusal::Refusal;
+use crate::plan::Plan;
+use crate::refusal::{Refusal, both};
 use crate::shard::Shard;
 use crate::splitter::split;
 use crate::storer::store;
-use kmc_partqueue::{DoneSeat, Gate, Lanes, ReaderSeat, WriterSeat};
+use crate::way::Way;
+use kmc_partqueue::{DoneSeat, Gate, ReaderSeat, WriterSeat};
 use kmc_record::part::Part;
 use kmc_record::shape::Shape;
-use std::alloc::Global;
+use std::alloc::{AllocError, Global};
 use std::snapshot::Snapshot;
 use std::sync::Wait;
-use std::sync::atomic::{AtomicBool, Ordering};
 use std::thread::{Promise, Scope, Threads};
 
 /// A splitter puts the parts of its chunks and completes, or ends with a cause.
@@ -27,11 +28,12 @@ struct Puts<'a> {
     shape: Shape,
     batch: usize,
     writers: usize,
-    chunks: usize,
 }
 
 impl<'a> Promise<Result<DoneSeat<Part>, Refusal>> for Puts<'a> {
-    ghost kept_by = { λ p r. MatchResult r (λ d. IsDone p.shape p.batch (map (λ v. v.items) p.reads.now) p.writers p.chunks p.seat.value d) (IsCause p.shape p.batch (map (λ v. v.items) p.reads.now) p.writers p.chunks) };
+    ghost kept_by = { λ p r. MatchResult r
+        (λ d. IsDone p.shape p.batch (map (λ v. v.items) p.reads.now) p.writers p.seat.value d)
+        (IsCause p.shape p.batch (map (λ v. v.items) p.reads.now) p.writers) };
 }
 
 /// A storer hands its seat back, told that the queue is finished, with its bins, or ends with a cause.
@@ -49,28 +51,31 @@ impl Promise<Result<Shard, Refusal>> for Takes {
 fn split_one<R: Wait, G: Gate>(
     rt: &R,
     alloc: Global,
-    lanes: &Lanes<Part>,
+    way: &Way,
     seat: WriterSeat<Part>,
     reads: &[Vec<u8>],
-    shape: Shape,
-    batch: usize,
-    writers: usize,
-    chunks: usize,
-    stop: &AtomicBool,
+    plan: Plan,
     gate: &G,
 ) -> Result<DoneSeat<Part>, Refusal>
-    requires queue { IsFreshWriter lanes.now.table.shared.table_id lanes.now.shape seat }
-    requires writers { writers ≡ lanes.now.shape.writers }
-    requires plan { (0 < batch) × (0 < writers) × (chunks * batch < length reads.now + batch) }
-    ensures { MatchResult result (λ d. IsDone shape batch (map (λ v. v.items) reads.now) writers chunks seat d) (IsCause shape batch (map (λ v. v.items) reads.now) writers chunks) }
+    requires { IsFreshWriter way.now.lanes.table.shared.table_id way.now.lanes.shape seat }
+    ensures { MatchResult result
+        (λ d. IsDone plan.shape plan.batch (map (λ v. v.items) reads.now) way.now.writers seat d)
+        (IsCause plan.shape plan.batch (map (λ v. v.items) reads.now) way.now.writers) }
 {
-    let done = split(
-        rt, alloc, lanes, seat, reads, shape, batch, writers, chunks, stop, gate,
-    );
+    let done = split(rt, alloc, way, seat, reads, plan, gate);
     if done.is_err() {
-        stop.store(true, Ordering::SeqCst);
+        way.stop();
     }
     done
+}
+
+/// The list with one more at its end.
+fn with_one<T: Drop>(list: Vec<T>, one: T) -> Result<Vec<T>, AllocError>
+    ensures { IfOk result (λ v. v.items ≡ list.items ++ one ∷ []) }
+{
+    let mut list = list;
+    list.push(one)?;
+    Ok(list)
 }
 
 /// Starts one splitter, then the others, and joins it.
@@ -78,91 +83,75 @@ fn split_all<'s, E, R: Threads + Wait + Sync, G: Gate + Sync>(
     rt: &'s R,
     alloc: Global,
     scope: &Scope<'s, E>,
-    lanes: &'s Lanes<Part>,
+    way: &'s Way,
     mut seats: Vec<WriterSeat<Part>>,
     reads: &'s [Vec<u8>],
-    shape: Shape,
-    batch: usize,
-    writers: usize,
-    chunks: usize,
-    stop: &'s AtomicBool,
+    plan: Plan,
     gate: &'s G,
 ) -> Result<Vec<DoneSeat<Part>>, Refusal>
-    requires queue { Each (IsFreshWriter lanes.now.table.shared.table_id lanes.now.shape) seats.items }
-    requires writers { writers ≡ lanes.now.shape.writers }
-    requires plan { (0 < batch) × (0 < writers) × (chunks * batch < length reads.now + batch) }
-    ensures { MatchResult result (λ v. AllZip (IsDone shape batch (map (λ v. v.items) reads.now) writers chunks) seats.items v.items) (IsCause shape batch (map (λ v. v.items) reads.now) writers chunks) }
+    requires { Each (IsFreshWriter way.now.lanes.table.shared.table_id way.now.lanes.shape) seats.items }
+    ensures { MatchResult result
+        (λ v. AllZip (IsDone plan.shape plan.batch (map (λ v. v.items) reads.now) way.now.writers) seats.items v.items)
+        (IsCause plan.shape plan.batch (map (λ v. v.items) reads.now) way.now.writers) }
 {
     let Some(seat) = seats.pop() else {
         return Ok(Vec::new(alloc));
     };
+    let shape = plan.shape;
+    let batch = plan.batch;
+    let writers = way.writers;
     let promise = Puts {
         seat: Snapshot::of(&seat),
         reads,
         shape,
         batch,
         writers,
-        chunks,
     };
     let started = scope.spawn_with(
         promise,
         move || -> Result<DoneSeat<Part>, Refusal>
-            requires queue { IsFreshWriter lanes.now.table.shared.table_id lanes.now.shape seat }
-            requires writers { writers ≡ lanes.now.shape.writers }
-            requires plan { (0 < batch) × (0 < writers) × (chunks * batch < length reads.now + batch) }
-            ensures { MatchResult result (λ d. IsDone shape batch (map (λ v. v.items) reads.entry.now) writers chunks seat d) (IsCause shape batch (map (λ v. v.items) reads.entry.now) writers chunks) }
-        {
-            split_one(
-                rt, alloc, lanes, seat, reads, shape, batch, writers, chunks, stop, gate,
-            )
-        },
+            requires { IsFreshWriter way.now.lanes.table.shared.table_id way.now.lanes.shape seat }
+            ensures { MatchResult result
+                (λ d. IsDone plan.shape plan.batch (map (λ v. v.items) reads.entry.now) way.entry.now.writers seat d)
+                (IsCause plan.shape plan.batch (map (λ v. v.items) reads.entry.now) way.entry.now.writers) }
+        { split_one(rt, alloc, way, seat, reads, plan, gate) },
     );
     let child = match started {
         Ok(child) => child,
         Err(_) => {
-            stop.store(true, Ordering::SeqCst);
+            way.stop();
             return Err(Refusal::Memory);
         }
     };
-    let rest = split_all(
-        rt, alloc, scope, lanes, seats, reads, shape, batch, writers, chunks, stop, gate,
-    );
-    let own = child.join(rt);
-    let mut done = match rest {
-        Ok(done) => done,
-        Err(cause) => return Err(match own {
-            Ok(_) => cause,
-            Err(other) => cause.or(other),
-        }),
-    };
-    let own = match own {
-        Ok(own) => own,
-        Err(cause) => return Err(cause),
-    };
-    match done.push(own) {
-        Ok(_) => Ok(done),
-        Err(_) => Err(Refusal::Memory),
-    }
+    let rest = split_all(rt, alloc, scope, way, seats, reads, plan, gate);
+    let (done, own) = both(rest, child.join(rt))?;
+    Ok(with_one(done, own)?)
 }
 
 /// One storer. Where it has a cause, the others stop.
 fn store_one<R: Wait, G: Gate>(
     rt: &R,
     alloc: Global,
-    lanes: &Lanes<Part>,
+    way: &Way,
     seat: ReaderSeat<Part>,
     shape: Shape,
-    stop: &AtomicBool,
     gate: &G,
 ) -> Result<Shard, Refusal>
-    requires { IsFreshReader lanes.now.table.shared.table_id lanes.now.shape seat }
+    requires { IsFreshReader way.now.lanes.table.shared.table_id way.now.lanes.shape seat }
     ensures { MatchResult result (λ h. IsShard shape seat h) IsStorersCause }
 {
-    let shard = store(rt, alloc, lanes, seat, shape, stop, gate);
+    let shard = store(rt, alloc, way, seat, shape, gate);
     if shard.is_err() {
-        stop.store(true, Ordering::SeqCst);
+        way.stop();
     }
     shard
+}
+
+/// The seats of a new queue.
+#[derive(Drop)]
+pub(crate) struct Seats {
+    pub(crate) writers: Vec<WriterSeat<Part>>,
+    pub(crate) readers: Vec<ReaderSeat<Part>>,
 }
 
 /// Starts one storer, then the others and the splitters, and joins it.
@@ -170,45 +159,27 @@ pub(crate) fn store_all<'s, E, R: Threads + Wait + Sync, G: Gate + Sync>(
     rt: &'s R,
     alloc: Global,
     scope: &Scope<'s, E>,
-    lanes: &'s Lanes<Part>,
-    mut seats: Vec<ReaderSeat<Part>>,
-    seats_of_writers: Vec<WriterSeat<Part>>,
+    way: &'s Way,
+    seats: Seats,
     reads: &'s [Vec<u8>],
-    shape: Shape,
-    batch: usize,
-    writers: usize,
-    chunks: usize,
-    stop: &'s AtomicBool,
+    plan: Plan,
     gate: &'s G,
 ) -> Result<(Vec<DoneSeat<Part>>, Vec<Shard>), Refusal>
-    requires readers { Each (IsFreshReader lanes.now.table.shared.table_id lanes.now.shape) seats.items }
-    requires queue { Each (IsFreshWriter lanes.now.table.shared.table_id lanes.now.shape) seats_of_writers.items }
-    requires writers { writers ≡ lanes.now.shape.writers }
-    requires plan { (0 < batch) × (0 < writers) × (chunks * batch < length reads.now + batch) }
-    ensures done { IfOk result (λ q. AllZip (IsDone shape batch (map (λ v. v.items) reads.now) writers chunks) seats_of_writers.items q.0.items) }
-    ensures shards { IfOk result (λ q. AllZip (IsShard shape) seats.items q.1.items) }
-    ensures cause { IfErr result (IsCause shape batch (map (λ v. v.items) reads.now) writers chunks) }
+    requires readers { Each (IsFreshReader way.now.lanes.table.shared.table_id way.now.lanes.shape) seats.readers.items }
+    requires writers { Each (IsFreshWriter way.now.lanes.table.shared.table_id way.now.lanes.shape) seats.writers.items }
+    ensures done { IfOk result (λ q. AllZip (IsDone plan.shape plan.batch (map (λ v. v.items) reads.now) way.now.writers) seats.writers.items q.0.items) }
+    ensures shards { IfOk result (λ q. AllZip (IsShard plan.shape) seats.readers.items q.1.items) }
+    ensures cause { IfErr result (IsCause plan.shape plan.batch (map (λ v. v.items) reads.now) way.now.writers) }
 {
-    let Some(seat) = seats.pop() else {
-        let done = match split_all(
-            rt,
-            alloc,
-            scope,
-            lanes,
-            seats_of_writers,
-            reads,
-            shape,
-            batch,
-            writers,
-            chunks,
-            stop,
-            gate,
-        ) {
-            Ok(done) => done,
-            Err(cause) => return Err(cause),
-        };
+    let Seats {
+        writers,
+        mut readers,
+    } = seats;
+    let Some(seat) = readers.pop() else {
+        let done = split_all(rt, alloc, scope, way, writers, reads, plan, gate)?;
         return Ok((done, Vec::new(alloc)));
     };
+    let shape = plan.shape;
     let promise = Takes {
         seat: Snapshot::of(&seat),
         shape,
@@ -216,46 +187,20 @@ pub(crate) fn store_all<'s, E, R: Threads + Wait + Sync, G: Gate + Sync>(
     let started = scope.spawn_with(
         promise,
         move || -> Result<Shard, Refusal>
-            requires { IsFreshReader lanes.now.table.shared.table_id lanes.now.shape seat }
+            requires { IsFreshReader way.now.lanes.table.shared.table_id way.now.lanes.shape seat }
             ensures { MatchResult result (λ h. IsShard shape seat h) IsStorersCause }
-        { store_one(rt, alloc, lanes, seat, shape, stop, gate) },
+        { store_one(rt, alloc, way, seat, shape, gate) },
     );
     let child = match started {
         Ok(child) => child,
         Err(_) => {
-            stop.store(true, Ordering::SeqCst);
+            way.stop();
             return Err(Refusal::Memory);
         }
     };
-    let rest = store_all(
-        rt,
-        alloc,
-        scope,
-        lanes,
-        seats,
-        seats_of_writers,
-        reads,
-        shape,
-        batch,
-        writers,
-        chunks,
-        stop,
-        gate,
-    );
-    let own = child.join(rt);
-    let (done, mut shards) = match rest {
-        Ok(both) => both,
-        Err(cause) => return Err(match own {
-            Ok(_) => cause,
-            Err(other) => cause.or(other),
-        }),
-    };
-    let own = match own {
-        Ok(own) => own,
-        Err(cause) => return Err(cause),
-    };
-    match shards.push(own) {
-        Ok(_) => Ok((done, shards)),
-        Err(_) => Err(Refusal::Memory),
-    }
+    let seats = Seats { writers, readers };
+    let rest = store_all(rt, alloc, scope, way, seats, reads, plan, gate);
+    let (others, own) = both(rest, child.join(rt))?;
+    let (done, shards) = others;
+    Ok((done, with_one(shards, own)?))
 }

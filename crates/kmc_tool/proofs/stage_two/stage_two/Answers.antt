@@ -21,12 +21,12 @@ merge_bins-requires-clause-apart g c = λ κs within.
     let done = counted c.bins_share_no_key.ensures c.dumps_of_bodies_are_of_keys.ensures params.strands params.k params.p params.n params.limits bins.shape _ bins.bodies bins.words _ params.in_range.0.0.0 params.in_range.0.1.0 c.requires c.bodies-bodies.ensures.kept c.bodies-bodies.ensures.are c.in-Ok.ensures.ok in
     (c.dumps_can_be_merged.ensures params.limits (map (record_keys params.strands params.k) done.super_kmers) _ done.dumps done.apart).0
 
-pub returns-in-Ok-merge_bins-clause-dump : goal.returns-in-Ok-merge_bins-clause-dump
-returns-in-Ok-merge_bins-clause-dump g c =
+pub returns : goal.returns
+returns g c =
     let params = c.args.params.now in let bins = c.args.bins.now in
     let done = counted c.bins_share_no_key.ensures c.dumps_of_bodies_are_of_keys.ensures params.strands params.k params.p params.n params.limits bins.shape _ bins.bodies bins.words _ params.in_range.0.0.0 params.in_range.0.1.0 c.requires c.bodies-bodies.ensures.kept c.bodies-bodies.ensures.are c.in-Ok.ensures.ok in
     record {
       super_kmers = done.super_kmers;
       records = done.records;
-      dump = c.merged_dumps_are_one.ensures params.limits (map (record_keys params.strands params.k) done.super_kmers) _ c.in-Ok-merge_bins.pairs.items done.dumps done.apart c.in-Ok-merge_bins.ensures;
+      dump = c.merged_dumps_are_one.ensures params.limits (map (record_keys params.strands params.k) done.super_kmers) _ c.in_ok-merge_bins.field-0.items done.dumps done.apart c.in_ok-merge_bins.ensures;
     }

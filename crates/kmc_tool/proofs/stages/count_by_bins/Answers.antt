@@ -7,11 +7,11 @@ use Rattle.kmc_tool.specs.Stages.{shape_of}
 use Rattle.kmc_tool.proofs.SameCounts.{same_dump}
 use Rattle.kmc_tool.proofs.stages.count_by_bins.Goals as goal
 
-pub returns-in-Ok-stage_two-clause-dump : goal.returns-in-Ok-stage_two-clause-dump
-returns-in-Ok-stage_two-clause-dump g c =
-    let params = c.args.params.now in let of_bins = c.in-Ok-stage_two.ensures.dump in
+pub returns-clause-dump : goal.returns-clause-dump
+returns-clause-dump g c =
+    let params = c.args.params.now in let of_bins = c.in_ok-stage_two.ensures in
     let reads = map (λ (r : Vec ℕ Global). r.items) c.args.reads.items in
-    let holds = subst (λ (l : List (Vec ℕ Global)). HoldsReads (shape_of params) (map (λ (r : Vec ℕ Global). r.items) l) c.in-Ok.bins.bodies) c.deref.ensures.value c.in-Ok.ensures.holds in
+    let holds = subst (λ (l : List (Vec ℕ Global)). HoldsReads (shape_of params) (map (λ (r : Vec ℕ Global). r.items) l) c.in_ok-bins.bins.bodies) c.deref.ensures.value c.in_ok-bins.ensures.holds in
     same_dump (occurrences (joined (map (record_keys params.strands params.k) of_bins.super_kmers))) (count_of params.strands params.k reads) params.limits
-    (c.held_reads_are_counted.ensures params.strands (shape_of params) reads c.in-Ok.bins.bodies of_bins.super_kmers params.in_range.0.0.0 params.in_range.0.2.0 holds of_bins.records)
-    c.in-Ok-stage_two.pairs.items of_bins.dump
+    (c.held_reads_are_counted.ensures params.strands (shape_of params) reads c.in_ok-bins.bins.bodies of_bins.super_kmers params.in_range.0.0.0 params.in_range.0.2.0 holds of_bins.records)
+    c.in_ok-stage_two.field-0.items of_bins.dump

@@ -1,33 +1,34 @@
-use Rattle.std.proofs.Common.{ℕ, ◌<◌, map, sym, ap, subst, ◌∙◌}
+use Rattle.std.proofs.Common.{ℕ, ◌<◌, ◌≡◌, length, map, sym, ap, subst, ◌∙◌}
 use Rattle.std.specs.Prelude.{Err}
+use Rattle.std.proofs.lemmas.List.{length-map}
 use Rattle.kmc_record.specs.Parts.{ArePartsOf}
-use Rattle.kmc_workers.proofs.Sent.{next_own, next_other, too_many, cause_of}
-use Rattle.kmc_workers.proofs.splitter.split.Goals.{then-c-writers+in-Ok+in-Ok-put_all, else-c-writers}
+use Rattle.kmc_workers.specs.Workers.{chunks_of, IsSameWriter}
+use Rattle.kmc_workers.proofs.Sent.{next_own, next_other, too_many, cause_of, same_seat}
+use Rattle.kmc_workers.proofs.splitter.split.Goals.{then-c-way+in_ok-parts+in-Ok, else-c-way}
 use Rattle.kmc_workers.proofs.splitter.split.Goals as goal
 
-pub returns-in-Err-put_all-clause-cause : goal.returns-in-Err-put_all-clause-cause
-returns-in-Err-put_all-clause-cause g c = let inv = c.loop-c.invariant in let a = c.args in let reads = map (λ r. r.items) a.reads.now in
-    cause_of a.shape a.batch reads a.writers a.s.number a.chunks c.in-Err-put_all.cause (λ is. (
+pub returns-in-Err-clause-cause : goal.returns-in-Err-clause-cause
+returns-in-Err-clause-cause g c =
+    let inv = c.loop-c.invariant in let a = c.args in let p = a.plan in let reads = map (λ r. r.items) a.reads.now in
+    let told = c.in-Err.ensures in
+    let sized : c.chunks-c-end.result ≡ chunks_of p.batch (length reads) = c.chunks-c-end.ensures.is ∙ ap (chunks_of p.batch) (sym (length-map a.reads.now (λ r. r.items))) in
+    cause_of p.shape p.batch reads a.way.now.writers a.s.number c.in-Err.cause (λ is. (
       a.s.number,
-      subst (λ (n : ℕ). a.s.number < n) (sym c.requires.writers) c.requires.queue.2,
-      too_many a.shape a.batch reads a.writers a.s.number a.chunks c.loop-c.c c.loop-c.s.sent c.in-Ok.parts.items c.loop-c-test.true (c.if-c-writers.true ∙ c.number.ensures ∙ inv.1) inv.3
-          (subst (λ z. ArePartsOf c.loop-c.c z a.shape c.in-Ok.parts.items) c.chunk_of.ensures c.in-Ok.ensures) (c.in-Err-put_all.ensures.spent (ap (λ z. Err z) is)),
+      subst (λ (n : ℕ). a.s.number < n) (sym a.way.now.as_many) c.requires.0.2,
+      too_many p.shape p.batch reads a.way.now.writers a.s.number (chunks_of p.batch (length reads)) c.loop-c.c c.loop-c.s.sent c.in_ok-parts.parts.items (subst (λ (n : ℕ). c.loop-c.c < n) sized c.loop-c-test.true) (c.if-c-way.true ∙ c.number.ensures ∙ inv.0.number) inv.1
+          (subst (λ z. ArePartsOf c.loop-c.c z p.shape c.in_ok-parts.parts.items) c.chunk_of-chunk.ensures c.in_ok-parts.ensures) (told.spent (ap (λ z. Err z) is)),
     ))
 
 pub loop-c-preserved : goal.loop-c-preserved
-loop-c-preserved g c = let inv = c.loop-c.invariant in let a = c.args in let reads = map (λ r. r.items) a.reads.now in
-    elim c.if-c-writers.branch [
-      | then-c-writers+in-Ok+in-Ok-put_all w ↦ let e = w.in-Ok-put_all.ensures in (
-        ap (λ s. s.table) w.s-is ∙ e.seat.0 ∙ inv.0,
-        ap (λ s. s.number) w.s-is ∙ e.seat.1 ∙ inv.1,
-        ap (λ s. s.per_writer) w.s-is ∙ e.seat.2 ∙ inv.2,
-        next_own a.shape a.batch reads a.writers a.s.number c.loop-c.c c.loop-c.s.sent w.in-Ok.parts.items c.if-c-writers.s.sent (w.if-c-writers.true ∙ c.number.ensures ∙ inv.1) inv.3
-            (subst (λ z. ArePartsOf c.loop-c.c z a.shape w.in-Ok.parts.items) w.chunk_of.ensures w.in-Ok.ensures) (ap (λ s. s.sent) w.s-is ∙ e.put),
+loop-c-preserved g c = let inv = c.loop-c.invariant in let a = c.args in let p = a.plan in let reads = map (λ r. r.items) a.reads.now in
+    elim c.if-c-way.branch [
+      | then-c-way+in_ok-parts+in-Ok w ↦ let e = w.in-Ok.ensures in (
+        same_seat a.s c.loop-c.s c.if-c-way.s inv.0 (subst (IsSameWriter c.loop-c.s) (sym w.s-is) e.seat),
+        next_own p.shape p.batch reads a.way.now.writers a.s.number c.loop-c.c c.loop-c.s.sent w.in_ok-parts.parts.items c.if-c-way.s.sent (w.if-c-way.true ∙ c.number.ensures ∙ inv.0.number) inv.1
+            (subst (λ z. ArePartsOf c.loop-c.c z p.shape w.in_ok-parts.parts.items) w.chunk_of-chunk.ensures w.in_ok-parts.ensures) (ap (λ s. s.sent) w.s-is ∙ e.put),
       )
-      | else-c-writers w ↦ (
-        ap (λ s. s.table) w.s-is ∙ inv.0,
-        ap (λ s. s.number) w.s-is ∙ inv.1,
-        ap (λ s. s.per_writer) w.s-is ∙ inv.2,
-        next_other a.shape a.batch reads a.writers a.s.number c.loop-c.c c.loop-c.s.sent c.if-c-writers.s.sent (λ here. w.if-c-writers.false (here ∙ sym (c.number.ensures ∙ inv.1))) inv.3 (ap (λ s. s.sent) w.s-is),
+      | else-c-way w ↦ (
+        subst (IsSameWriter a.s) (sym w.s-is) inv.0,
+        next_other p.shape p.batch reads a.way.now.writers a.s.number c.loop-c.c c.loop-c.s.sent c.if-c-way.s.sent (λ here. w.if-c-way.false (here ∙ sym (c.number.ensures ∙ inv.0.number))) inv.1 (ap (λ s. s.sent) w.s-is),
       )
     ]

@@ -1,6 +1,8 @@
-use Rattle.std.proofs.Common.{◌≡◌, map}
+use Rattle.std.proofs.Common.{map}
 use Rattle.kmc_store.specs.Deals.{AreDealt}
+use Rattle.kmc_workers.specs.Workers.{IsSameWriter}
 use Rattle.kmc_workers.proofs.splitter.split.Given as goal
 
 abbrev pub invariant-loop-c : goal.invariant-loop-c
-invariant-loop-c g l = (l.s.table ≡ l.initial.s.table) × (l.s.number ≡ l.initial.s.number) × (l.s.per_writer ≡ l.initial.s.per_writer) × AreDealt l.shape l.batch (map (λ r. r.items) l.reads) l.writers l.initial.s.number l.c l.s.sent
+invariant-loop-c g l = IsSameWriter l.initial.s l.s
+    × AreDealt l.fn.plan.shape l.fn.plan.batch (map (λ r. r.items) l.reads) l.way.writers l.initial.s.number l.c l.s.sent

@@ -6,8 +6,8 @@ use Rattle.kmc_store.specs.Bodies.{AreBodies}
 use Rattle.kmc_workers.specs.Workers.{items_of, IsSameReader}
 use Rattle.kmc_workers.proofs.storer.store.Goals as goal
 
-pub loop-preserved-in-Ok-absorb : goal.loop-preserved-in-Ok-absorb
-loop-preserved-in-Ok-absorb g c = let inv = c.loop.invariant in let e = c.in-Got.ensures in let a = c.in-Ok-absorb.ensures.ok in let part = c.in-Got.received.item in (
+pub loop-preserved-in-Ok : goal.loop-preserved-in-Ok
+loop-preserved-in-Ok g c = let inv = c.loop.invariant in let e = c.in-Got.ensures in let a = c.in-Ok.ensures.ok in let part = c.in-Got.received.item in (
   record { table = e.seat.0 ∙ inv.0.table; number = e.seat.1 ∙ inv.0.number; per_writer = e.seat.2 ∙ inv.0.per_writer; writers = e.seat.3 ∙ inv.0.writers },
   a.shape ∙ inv.1,
   subst (AreBodies c.args.shape c.absorb.new.self.bodies) (sym (ap items_of e.answer.0 ∙ map-append (λ e. e.item) c.loop.seat.got (c.in-Got.received ∷ [])))

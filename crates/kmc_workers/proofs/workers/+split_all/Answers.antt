@@ -1,12 +1,16 @@
 use Rattle.std.proofs.Common.{[], ◌∷◌, ◌++◌, map, sym, subst}
 use Rattle.std.specs.List.{AllZip}
 use Rattle.kmc_workers.specs.Workers.{IsDone}
+use Rattle.kmc_workers.proofs.Both.{both_gave, of_ok}
 use Rattle.kmc_workers.proofs.Zips.{zip_more}
 use Rattle.kmc_workers.proofs.workers.+split_all.Goals as goal
 
-pub returns-in-Ok-push : goal.returns-in-Ok-push
-returns-in-Ok-push g t c = let a = c.args in let own = c.in-Ok-own-2.own in let done = c.in-Ok-rest.done.items in let P = IsDone a.shape a.batch (map (λ v. v.items) a.reads.now) a.writers a.chunks in
-    let kept = subst (λ p. IsDone p.shape p.batch (map (λ v. v.items) p.reads.now) p.writers p.chunks p.seat.value own) c.in-Ok.ensures.ok c.in-Ok-own-2.ensures in
+pub returns : goal.returns
+returns g t c =
+    let a = c.args in let done = c.in_ok-done.done in let own = c.in_ok-done.own in
+    let P = IsDone a.plan.shape a.plan.batch (map (λ v. v.items) a.reads.now) a.way.now.writers in
+    let gave = both_gave c.split_all-rest.result c.join.result done own c.in_ok-done.ensures in
+    let kept = subst (λ p. IsDone p.shape p.batch (map (λ v. v.items) p.reads.now) p.writers p.seat.value own) c.in-Ok.ensures.ok (of_ok _ _ c.join.result own gave.1 c.join.ensures) in
     let told = subst (λ z. P z own) c.of.ensures kept in
-    subst (AllZip P a.seats.items) (sym c.in-Ok-push.ensures.items) (subst (λ z. AllZip P z (done ++ own ∷ [])) (sym c.in-Some.ensures.items)
-    (zip_more P c.pop.new.self.items done c.in-Some.seat own c.in-Ok-rest.ensures told))
+    subst (AllZip P a.seats.items) (sym c.in_ok-with_one.ensures) (subst (λ z. AllZip P z (done.items ++ own ∷ [])) (sym c.in-Some.ensures.items)
+    (zip_more P c.pop.new.self.items done.items c.in-Some.seat own (of_ok _ _ c.split_all-rest.result done gave.0 c.split_all-rest.ensures) told))

@@ -1,6 +1,0 @@
-pub mod Flags
-pub mod Glued
-pub mod CommandLine
-pub mod Options
-pub mod Parsed
-pub mod Status

@@ -1,0 +1,97 @@
+-- What a command line in long form says: the command that reads it, and what stands for each
+-- option.
+use Rattle.std.specs.Prelude.{◌++◌, ◌==◌, ◌&&◌, ℕ, Bool, true, false, List, [], Option, Some, None, map, length}
+use Rattle.std.specs.Prelude.{if◌then◌else◌, nat_le, nat_lt, option_and_then, codes}
+use Rattle.std.specs.Option.{option_map_or}
+use Rattle.std.specs.Char.{is_ascii_digit}
+use Rattle.std.specs.List.{list_all}
+use Rattle.std.specs.Str.{bytes_eq}
+use Rattle.std.specs.Str.Parse.{digits_value}
+use Rattle.clap.specs.Faults.{fault_of}
+use Rattle.clap.specs.Simple.{App, matches_of, new_rule, new_shape}
+use Rattle.clap.specs.Walk.{Row, Rule, first_of}
+use Rattle.clap.specs.declared.builder.action.ArgAction.TheVariants.{Set, SetTrue}
+use Rattle.kmc_base.specs.declared.strands.Strands.{Strands}
+use Rattle.kmc_base.specs.declared.strands.Strands.TheVariants.{Apart, Joined}
+use Rattle.kmc_reads.specs.declared.format.Format.{Format}
+use Rattle.kmc_reads.specs.declared.format.Format.TheVariants.{Fasta, Fastq}
+use Rattle.kmc_command.specs.Glued.{Word}
+use Rattle.kmc_command.specs.Flags.{flag_name, flags}
+use Rattle.kmc_tool.specs.Settings.{bounds_of, name_of, settings}
+use Rattle.kmc_tool.specs.declared.setting.Bounds.{Bounds}
+use Rattle.kmc_command.specs.declared.flag.Flag.{Flag}
+use Rattle.kmc_command.specs.declared.flag.Flag.TheVariants.{B, Fa, Fm, Fq}
+use Rattle.kmc_tool.specs.declared.setting.Setting.{Setting}
+
+-- ---- the command
+
+-- `--name VALUE` or `--name=VALUE`, at most once
+abbrev pub option_rule : Setting → Rule
+option_rule s = record (new_rule (name_of s)) { long = Some (name_of s); action = Some Set }
+
+-- `--name`, at most once
+abbrev pub flag_rule : Flag → Rule
+flag_rule f = record (new_rule (flag_name f)) { long = Some (flag_name f); action = Some SetTrue }
+
+-- the eight options and the four flags, and nothing else: no positional argument, no help, no
+-- version
+abbrev pub command : App
+command = record {
+  top = record (new_shape (codes "kmc")) {
+    rules = map option_rule settings ++ map flag_rule flags;
+    no_binary_name = true;
+    disable_help_flag = true;
+    disable_version_flag = true;
+  };
+  subs = [];
+}
+
+-- `clap` finds no fault with the words
+unfoldable pub is_accepted : List Word → Bool
+is_accepted words = length (fault_of command words) == 0
+
+-- what `clap` finds in words that it accepts
+unfoldable pub found : List Word → List Row
+found words = matches_of command words
+
+-- ---- what stands for a flag and an option
+
+-- a flag that stands has the value `true`
+abbrev pub is_set : List Row → Flag → Bool
+is_set rows f = option_map_or (bytes_eq (codes "true")) (first_of (flag_name f) rows) false
+
+abbrev pub text_of : List Row → Setting → Option Word
+text_of rows s = first_of (name_of s) rows
+
+-- one or more ASCII digits, with leading zeros or without
+abbrev pub number_of : Word → Option ℕ
+number_of text =
+    if nat_lt 0 (length text) && list_all is_ascii_digit text then Some (digits_value 10 text) else None
+
+abbrev pub within : Bounds → ℕ → Option ℕ
+within b n = if nat_le b.least n && nat_le n b.most then Some n else None
+
+-- the number that is given, if it is in range, and the default where none is given
+abbrev pub chosen : Bounds → Option Word → Option ℕ
+chosen b None = Some b.default
+chosen b (Some text) = option_and_then (within b) (number_of text)
+
+-- the number of an option; none where what is given for it is out of range
+abbrev pub value_of : List Row → Setting → Option ℕ
+value_of rows s = chosen (bounds_of s) (text_of rows s)
+
+-- ---- formats and strands
+
+-- by the flags `fa`, `fq` and `fm`, of which at most one may stand; none of them means FASTQ
+abbrev pub format_by : Bool → Bool → Bool → Option Format
+format_by false false false = Some Fastq
+format_by true false false = Some Fasta
+format_by false true false = Some Fastq
+format_by false false true = Some Fasta
+format_by _ _ _ = None
+
+abbrev pub format_of : List Row → Option Format
+format_of rows = format_by (is_set rows Fa) (is_set rows Fq) (is_set rows Fm)
+
+abbrev pub strands_of : List Row → Strands
+strands_of rows = if is_set rows B then Apart else Joined

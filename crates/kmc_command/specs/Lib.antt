@@ -1,0 +1,7 @@
+pub mod Flags
+pub mod Glued
+pub mod CommandLine
+pub mod Options
+pub mod Parsed
+pub mod Status
+pub mod Program

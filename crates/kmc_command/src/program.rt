@@ -1,0 +1,106 @@
+//! The program: from its arguments to the dump and the exit status.
+ghost use Rattle.std.specs.Prelude.{◌≡◌, ◌≢◌, ℕ, ◌+◌, ◌-◌, ◌^◌, ◌<◌, List, IfOk, IfErr, IsErrOf, Ok, Err, map, string_bytes};
+ghost use Rattle.std.specs.Io.KnownBytes.{Appends};
+ghost use Rattle.std.specs.Process.{exit_status};
+ghost use Rattle.kmc_count.specs.Device.{GaveAll};
+ghost use Rattle.kmc_reads.specs.Reads.{reads_of};
+ghost use Rattle.kmc_command.specs.Glued.{Word, long_forms};
+ghost use Rattle.kmc_command.specs.Options.{Explains};
+ghost use Rattle.kmc_command.specs.Program.{IsAnswered, IsAsked};
+ghost use Rattle.kmc_command.specs.Status.{status_of_answer};
+
+use crate::fault::Fault;
+use crate::options::error::ParamsError;
+use crate::options::settings;
+use kmc_count::device::Counted;
+use kmc_partqueue::NoGate;
+use kmc_reads::error::ReadsError;
+use kmc_tool::error::RunError;
+use kmc_tool::run::run;
+use std::alloc::Global;
+use std::env;
+use std::io::{Read, Write};
+use std::process::ExitCode;
+use std::rt::Env;
+use std::sync::Wait;
+use std::thread::Threads;
+
+/// Counts the reads of the reader by the settings that the arguments give, and writes their dump. The answer is its
+/// number of lines. Where the arguments give no settings nothing is read; after every fault but a failed write nothing
+/// was written.
+pub fn count<T: Threads + Wait + Sync, R: Read, W: Write>(
+    rt: &T,
+    alloc: Global,
+    argv: Vec<String>,
+    reader: &mut Counted<R>,
+    writer: &mut Counted<W>,
+) -> Result<u64, Fault>
+    requires reader { reader.old.failures < 2 ^ 64 - 1 }
+    requires writer { writer.old.failures < 2 ^ 64 - 1 }
+    requires reads { reader.old.reads + 2 ^ 32 < 2 ^ 64 }
+    ensures ok { IfOk result (λ lines. (bytes text : List ℕ)
+        × GaveAll (R.remaining reader.old.inner) (R.remaining reader.new.inner) bytes
+        × IsAnswered (long_forms (map string_bytes argv.items)) bytes text lines
+        × Appends (W.contents writer.old.inner) (W.contents writer.new.inner) text) }
+    ensures options { (e : ParamsError) → IsErrOf result (Fault.Options e)
+        → Explains (long_forms (map string_bytes argv.items)) e × (reader.new ≡ reader.old) }
+    ensures run { (e : RunError) → IsErrOf result (Fault.Run e)
+        → IsAsked (long_forms (map string_bytes argv.items)) }
+    ensures input { (e : ReadsError) → IsErrOf result (Fault.Run (RunError.Input e))
+        → (asked : IsAsked (long_forms (map string_bytes argv.items))) × (bytes : List ℕ)
+        × GaveAll (R.remaining reader.old.inner) (R.remaining reader.new.inner) bytes
+        × (reads_of asked.params.format bytes ≡ Err e) }
+    ensures silent { IfErr result (λ e. e ≢ Fault.Run RunError.Write → writer.new ≡ writer.old) }
+{
+    let params = settings(alloc, argv)?;
+    let lines = run(rt, alloc, reader, writer, &params, &NoGate)?;
+    Ok(lines)
+}
+
+/// Shows a fault, and gives the exit status: 0 where there is none. A line that cannot be written changes nothing of
+/// the status.
+fn ended(rt: &impl Eprint, answer: Result<u64, Fault>) -> ExitCode
+    ensures { exit_status result ≡ status_of_answer answer }
+{
+    match answer {
+        Ok(_) => ExitCode::from(0),
+        Err(fault) => {
+            let _ = rt.eprintln(fault);
+            ExitCode::from(fault.status())
+        }
+    }
+}
+
+/// The process's arguments behind the program's name. Arguments that cannot be read are no usage.
+fn arguments<T: Env + Alloc<A = Global>>(rt: &T) -> Result<Vec<String>, ParamsError> {
+    let Ok(mut arguments) = env::args(rt) else {
+        return Err(ParamsError::Usage);
+    };
+    let _program = arguments.next();
+    Ok(arguments.collect(rt.alloc())?)
+}
+
+/// The whole program: counts the reads of the reader by the settings that the process's arguments give, and writes
+/// their dump; a fault is shown in one line on standard error. The exit status is 0 where the dump was written, 2 where
+/// the command line is at fault, and else 1.
+pub fn program<T: Threads + Wait + Sync + Env + Eprint + Alloc<A = Global>, R: Read, W: Write>(
+    rt: &T,
+    reader: &mut Counted<R>,
+    writer: &mut Counted<W>,
+) -> ExitCode
+    requires reader { reader.old.failures < 2 ^ 64 - 1 }
+    requires writer { writer.old.failures < 2 ^ 64 - 1 }
+    requires reads { reader.old.reads + 2 ^ 32 < 2 ^ 64 }
+    ensures done { exit_status result ≡ 0 → (words : List Word) × (bytes text : List ℕ) × (lines : ℕ)
+        × GaveAll (R.remaining reader.old.inner) (R.remaining reader.new.inner) bytes
+        × IsAnswered words bytes text lines
+        × Appends (W.contents writer.old.inner) (W.contents writer.new.inner) text }
+    ensures misused { exit_status result ≡ 2 → (reader.new ≡ reader.old) × (writer.new ≡ writer.old) }
+{
+    let argv = match arguments(rt) {
+        Ok(argv) => argv,
+        Err(error) => return ended(rt, Err(Fault::from(error))),
+    };
+    let answer = count(rt, rt.alloc(), argv, reader, writer);
+    ended(rt, answer)
+}

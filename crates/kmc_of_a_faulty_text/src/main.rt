@@ -1,0 +1,13 @@
+//! The program `kmc` once more, run by the gate on other arguments: a text whose third line is faulty: one line on standard error, status 1 and nothing written.
+#![tactic(auto)]
+
+use kmc_command::program::program;
+use kmc_count::device::Counted;
+use std::io;
+use std::process::ExitCode;
+
+fn main(rt: HostRuntime) -> ExitCode {
+    let mut reader = Counted::new(rt.stdin());
+    let mut writer = Counted::new(io::writer(&rt));
+    program(&rt, &mut reader, &mut writer)
+}

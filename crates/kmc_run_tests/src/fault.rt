@@ -1,0 +1,91 @@
+use kmc_command::fault::Fault;
+use kmc_command::options::error::ParamsError;
+use kmc_reads::error::ReadsError;
+use kmc_tool::error::RunError;
+use kmc_tool::setting::Setting;
+use std::alloc::Global;
+use std::process::Abort;
+use std::test::Fail;
+
+fn shows(
+    rt: &(impl Abort + Alloc<A = Global>),
+    fault: Fault,
+    line: &str,
+    status: u8,
+) -> Result<(), Fail> {
+    let shown = fault.to_string(rt.alloc())?;
+    assert_eq!(rt; shown.as_str(), line);
+    assert_eq!(rt; fault.status(), status);
+    Ok(())
+}
+
+#[test]
+fn wrong_usage_shows_the_usage_and_ends_with_2(rt: HostRuntime) -> Result<(), Fail> {
+    let line =
+        "usage: kmc [-fa|-fq|-fm] [-k<len>] [-p<len>] [-ci<n>] [-cx<n>] [-cs<n>] [-n<bins>] [-sp<n>] [-sr<n>] [-b]";
+    shows(&rt, Fault::Options(ParamsError::Usage), line, 2)
+}
+
+#[test]
+fn a_value_out_of_range_is_told_by_its_option_and_ends_with_2(rt: HostRuntime) -> Result<(), Fail> {
+    let told = [
+        (Setting::K, "kmc: value of -k is out of range"),
+        (Setting::P, "kmc: value of -p is out of range"),
+        (Setting::N, "kmc: value of -n is out of range"),
+        (Setting::Ci, "kmc: value of -ci is out of range"),
+        (Setting::Cx, "kmc: value of -cx is out of range"),
+        (Setting::Cs, "kmc: value of -cs is out of range"),
+        (Setting::Sp, "kmc: value of -sp is out of range"),
+        (Setting::Sr, "kmc: value of -sr is out of range"),
+    ];
+    for (setting, line) in told {
+        shows(
+            &rt,
+            Fault::Options(ParamsError::OutOfRange(setting)),
+            line,
+            2,
+        )?;
+    }
+    Ok(())
+}
+
+#[test]
+fn want_of_memory_ends_with_1(rt: HostRuntime) -> Result<(), Fail> {
+    shows(
+        &rt,
+        Fault::Options(ParamsError::Memory),
+        "kmc: out of memory",
+        1,
+    )
+}
+
+#[test]
+fn a_run_that_gives_up_shows_its_cause_and_ends_with_1(rt: HostRuntime) -> Result<(), Fail> {
+    let told = [
+        (RunError::Memory, "kmc: out of memory"),
+        (RunError::Read, "kmc: read failed"),
+        (RunError::Write, "kmc: write failed"),
+        (RunError::TooLong, "kmc: input too long"),
+        (RunError::NumbersSpent, "kmc: part numbers spent"),
+        (
+            RunError::Input(ReadsError::BadHeader(1)),
+            "kmc: line 1: bad header",
+        ),
+        (
+            RunError::Input(ReadsError::BadPlus(20)),
+            "kmc: line 20: bad plus line",
+        ),
+        (
+            RunError::Input(ReadsError::QualityLength(4)),
+            "kmc: line 4: quality length differs",
+        ),
+        (
+            RunError::Input(ReadsError::Truncated(u64::MAX)),
+            "kmc: line 18446744073709551615: record cut short",
+        ),
+    ];
+    for (error, line) in told {
+        shows(&rt, Fault::Run(error), line, 1)?;
+    }
+    Ok(())
+}

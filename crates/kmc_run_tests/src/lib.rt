@@ -1,0 +1,22 @@
+//! Tests of counting, of workers in threads, of runs and of the command line, by their public calls alone: worked rows,
+//! an independent model, devices that fail, refused memory and threads that meet. Nothing stands on this crate.
+#![tactic(auto)]
+
+#[cfg(test)]
+mod counting;
+#[cfg(test)]
+mod devices;
+#[cfg(test)]
+mod dice;
+#[cfg(test)]
+mod fault;
+#[cfg(test)]
+mod options;
+#[cfg(test)]
+mod params;
+#[cfg(test)]
+mod runs;
+#[cfg(test)]
+mod stages;
+#[cfg(test)]
+mod workers;

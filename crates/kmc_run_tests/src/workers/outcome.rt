@@ -1,0 +1,35 @@
+//! What comes of a run: how many parts each writer put, and the bins of all readers together.
+ghost use Rattle.std.specs.Prelude.{◌<◌};
+
+use kmc_partcore::{QueueShape, Totals};
+use kmc_partqueue::Gate;
+use kmc_store::bins::Bins;
+use kmc_workers::fill_bins::fill_bins;
+use kmc_workers::plan::Plan;
+use std::alloc::Global;
+use std::process::Abort;
+use std::sync::Wait;
+use std::test::Fail;
+use std::thread::Threads;
+
+/// How many parts each writer put, and the bins of all readers, merged.
+#[derive(Drop)]
+pub(super) struct Outcome {
+    pub(super) totals: Totals,
+    pub(super) bins: Bins,
+}
+
+/// Passes the parts of the reads, where no worker is refused.
+pub(super) fn passed<R: Abort + Threads + Wait + Sync, G: Gate + Sync>(
+    rt: &R,
+    alloc: Global,
+    reads: &[Vec<u8>],
+    plan: Plan,
+    queue: QueueShape,
+    gate: &G,
+) -> Result<Outcome, Fail> {
+    match fill_bins(rt, alloc, reads, plan, queue, gate) {
+        Ok((bins, totals)) => Ok(Outcome { totals, bins }),
+        Err(_) => Err(Fail::from("a worker was refused")),
+    }
+}

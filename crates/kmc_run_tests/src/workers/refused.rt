@@ -1,0 +1,45 @@
+//! Refused memory anywhere in a run.
+use super::records::assert_twice_in;
+use super::{TWICE, one_read_a_chunk, reads_of, two_writers};
+use kmc_partqueue::NoGate;
+use kmc_workers::fill_bins::fill_bins;
+use kmc_workers::pass_parts::pass_parts;
+use kmc_workers::refusal::Refusal;
+use std::test::Fail;
+
+/// Passes whichever one allocation is refused: the run answers that memory was refused, or else the right bins.
+#[test]
+fn refused_memory_of_workers_is_answered(rt: HostRuntime) -> Result<(), Fail> {
+    let alloc = rt.alloc();
+    let Ok(reads) = reads_of(alloc, TWICE) else {
+        return Ok(());
+    };
+    let plan = one_read_a_chunk().expect(&rt, "a plan");
+    let queue = two_writers(2).expect(&rt, "a queue");
+    match fill_bins(&rt, alloc, &reads, plan, queue, &NoGate) {
+        Ok((bins, _)) => {
+            // where the one refusal comes here, nothing is looked at
+            let _looked = assert_twice_in(&rt, alloc, &bins);
+        }
+        Err(cause) => assert_eq!(rt; cause, Refusal::Memory),
+    }
+    Ok(())
+}
+
+#[test]
+fn all_seats_come_back(rt: HostRuntime) -> Result<(), Fail> {
+    let alloc = rt.alloc();
+    let reads = reads_of(alloc, TWICE)?;
+    let plan = one_read_a_chunk().expect(&rt, "a plan");
+    for readers in [1, 8] {
+        let queue = two_writers(readers).expect(&rt, "a queue");
+        match pass_parts(&rt, alloc, &reads, plan, queue, &NoGate) {
+            Ok((_, done, shards)) => {
+                assert_eq!(rt; done.len(), 2);
+                assert_eq!(rt; shards.len(), readers);
+            }
+            Err(_) => return Err(Fail::from("a worker was refused")),
+        }
+    }
+    Ok(())
+}

@@ -1,0 +1,13 @@
+//! The program `kmc` once more, run by the gate on other arguments: several options, glued, over a FASTA text of several chunks of reads.
+#![tactic(auto)]
+
+use kmc_command::program::program;
+use kmc_count::device::Counted;
+use std::io;
+use std::process::ExitCode;
+
+fn main(rt: HostRuntime) -> ExitCode {
+    let mut reader = Counted::new(rt.stdin());
+    let mut writer = Counted::new(io::writer(&rt));
+    program(&rt, &mut reader, &mut writer)
+}

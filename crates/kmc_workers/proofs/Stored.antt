@@ -1,0 +1,81 @@
+-- From the seats that the workers hand back to bins that hold the reads.
+use Rattle.std.proofs.Common.{◌≡◌, ℕ, ◌*◌, ◌<◌, ◌≤◌, List, length, get_or, ap, ◌∙◌, arith}
+use Rattle.std.specs.List.{AllZip, sum_by, range_with_len}
+use Rattle.kmc_record.specs.Shapes.{Sizes}
+use Rattle.kmc_record.specs.Parts.{Parcel}
+use Rattle.atomic_table.specs.Seated.{TableId}
+use Rattle.kmc_partcore.specs.declared.shape.QueueShape.{QueueShape}
+use Rattle.kmc_partcore.specs.declared.event.Received.{Received}
+use Rattle.kmc_partqueue.specs.Counts.{Each, total_of, same}
+use Rattle.kmc_partqueue.specs.Dealing.{row_from}
+use Rattle.kmc_partqueue.specs.Seats.{WriterState, ReaderState, IsWriterOf, new_writer, new_reader}
+use Rattle.kmc_partqueue.specs.Gathered.{IsGathered}
+use Rattle.kmc_partqueue.specs.Laws.{GatheredLaw}
+use Rattle.kmc_partqueue.proofs.Sums.{each_map}
+use Rattle.kmc_partqueue.proofs.Numbered.{each_from}
+use Rattle.kmc_store.specs.Bodies.{AreBodies}
+use Rattle.kmc_store.specs.Holds.{HoldsReads}
+use Rattle.kmc_store.specs.Deals.{AreDealt, AreGathered}
+use Rattle.kmc_store.specs.Laws.{GatheredBinsHoldReads}
+use Rattle.kmc_store.proofs.Sums.{sum_same, sum_map, sum_flat_map}
+use Rattle.kmc_workers.specs.declared.shard.Shard.{Shard}
+use Rattle.kmc_workers.specs.Workers.{items_of, chunks_of, IsDone}
+use Rattle.kmc_workers.specs.Shards.{IsShard}
+use Rattle.kmc_workers.proofs.Returned.{row_back, its_writer, all_writers, writers_of, writers_once}
+use Rattle.kmc_workers.proofs.Places.{sum_places}
+use Rattle.kmc_workers.proofs.Merging.{all_got}
+
+-- so many chunks of so many reads have room for all reads
+chunks_cover : (batch n : ℕ) → 0 < batch → n ≤ chunks_of batch n * batch
+chunks_cover batch n some = omega arith
+
+-- ---- writers
+
+module _ (shape : Sizes) (batch : ℕ) (reads : List (List ℕ)) (id : TableId) (q : QueueShape) (done : List (WriterState Parcel)) where
+  abbrev AreDone : Type 0
+  AreDone = AllZip (IsDone shape batch reads q.writers) (row_from (new_writer id q) 0 q.writers) done
+
+  module _ (all : AreDone) where
+    many : length done ≡ q.writers
+    many = all_writers id q shape batch reads q.writers done all
+
+    -- what the writer of a number sent
+    abbrev sent : ℕ → List Parcel
+    sent w = (get_or done w (new_writer id q 0)).sent
+
+    -- the parts of its chunks
+    dealt : (w : ℕ) → w < q.writers → AreDealt shape batch reads q.writers w (chunks_of batch (length reads)) (sent w)
+    dealt w lt = (its_writer id q shape batch reads q.writers done all w (new_writer id q 0) (omega (arith, many))).sent
+
+    each_once : Each (λ (s : WriterState Parcel). total_of (λ (t : WriterState Parcel). same t.number s.number) done ≡ 1) done
+    each_once =
+        each_map (IsWriterOf id q) (λ (s : WriterState Parcel). total_of (λ (t : WriterState Parcel). same t.number s.number) done ≡ 1)
+        (λ s of. writers_once id q shape batch reads q.writers done all s.number of.2)
+        done (writers_of id q shape batch reads q.writers done all)
+
+    -- what all readers got is what the writers sent, in any order
+    got_as_sent : GatheredLaw Parcel → (seats : List (ReaderState Parcel)) → IsGathered done seats
+        → AreGathered q.writers sent (all_got seats)
+    got_as_sent law seats gathered F =
+        sum_flat_map F (λ (s : ReaderState Parcel). items_of s.got) seats
+        ∙ sum_same (λ (s : ReaderState Parcel). sum_by F (items_of s.got)) (λ (s : ReaderState Parcel). sum_by (λ (e : Received Parcel). F e.item) s.got)
+        (λ s. sum_map F (λ (e : Received Parcel). e.item) s.got)
+        seats
+        ∙ law F done seats gathered each_once
+        ∙ sum_places (λ (s : WriterState Parcel). sum_by F s.sent) (new_writer id q 0) done
+        ∙ ap (λ n. sum_by (λ w. sum_by F (sent w)) (range_with_len 0 n)) many
+
+    pub held : GatheredLaw Parcel → GatheredBinsHoldReads → (seats : List (ReaderState Parcel)) (bodies : List (List ℕ))
+        → 1 ≤ shape.k → 0 < q.writers → 0 < batch → IsGathered done seats
+        → AreBodies shape bodies (all_got seats) → HoldsReads shape reads bodies
+    held law hold seats bodies some_k some_w some gathered are =
+        hold shape batch reads q.writers (chunks_of batch (length reads)) sent (all_got seats) bodies
+        some_k some_w (chunks_cover batch (length reads) some) dealt (got_as_sent law seats gathered) are
+
+-- ---- readers
+
+pub shards_shaped : (shape : Sizes) (id : TableId) (q : QueueShape) (shards : List Shard)
+    → AllZip (IsShard shape) (row_from (new_reader id q) 0 q.readers) shards → Each (λ (h : Shard). h.bins.shape ≡ shape) shards
+shards_shaped shape id q shards all =
+    each_from (λ (h : Shard). h.bins.shape ≡ shape) shards
+    (λ j h lt. (row_back (IsShard shape) (new_reader id q) 0 q.readers shards all j j h lt (omega arith)).shaped)

@@ -1,0 +1,41 @@
+use Rattle.std.proofs.Common.{◌<◌, ℕ, Vec, Global, map, arith}
+use Rattle.kmc_workers.proofs.Returned.{writers_of, writers_once, readers_of, readers_once, one_ended}
+use Rattle.kmc_workers.proofs.Stored.{held, shards_shaped}
+use Rattle.kmc_workers.proofs.fill_bins.fill_bins.Goals as goal
+
+pub merge_shards-requires : goal.merge_shards-requires
+merge_shards-requires g c =
+    shards_shaped c.args.plan.shape c.in-Ok.passed.0.table.shared.table_id c.args.queue c.in-Ok.passed.2.items c.in-Ok.ensures.shards
+
+pub gather-totals-requires-clause-queue : goal.gather-totals-requires-clause-queue
+gather-totals-requires-clause-queue g c =
+    let shape = c.args.plan.shape in let queue = c.args.queue in let id = c.in-Ok.passed.0.table.shared.table_id in
+    let reads = map (λ (r : Vec ℕ Global). r.items) c.args.reads.now in
+    rw c.in-Ok.ensures.queue (
+      writers_of id queue shape c.args.plan.batch reads queue.writers c.in-Ok.passed.1.items c.in-Ok.ensures.done,
+      readers_of id queue shape c.in-Ok.passed.2.items c.in_ok-bins.seats.items c.in_ok-bins.ensures.seats c.in-Ok.ensures.shards,
+    )
+
+pub gather-totals-requires-clause-writers : goal.gather-totals-requires-clause-writers
+gather-totals-requires-clause-writers g c =
+    let queue = c.args.queue in let reads = map (λ (r : Vec ℕ Global). r.items) c.args.reads.now in
+    rw c.in-Ok.ensures.queue
+    (writers_once c.in-Ok.passed.0.table.shared.table_id queue c.args.plan.shape c.args.plan.batch reads queue.writers c.in-Ok.passed.1.items c.in-Ok.ensures.done)
+
+pub gather-totals-requires-clause-readers : goal.gather-totals-requires-clause-readers
+gather-totals-requires-clause-readers g c =
+    rw c.in-Ok.ensures.queue
+    (readers_once c.in-Ok.passed.0.table.shared.table_id c.args.queue c.args.plan.shape c.in-Ok.passed.2.items c.in_ok-bins.seats.items c.in_ok-bins.ensures.seats c.in-Ok.ensures.shards)
+
+pub gather-totals-requires-clause-finished : goal.gather-totals-requires-clause-finished
+gather-totals-requires-clause-finished g c =
+    let within = c.args.queue.within in let some : 0 < c.args.queue.readers = omega arith in
+    one_ended c.in-Ok.passed.0.table.shared.table_id c.args.queue c.args.plan.shape c.in-Ok.passed.2.items c.in_ok-bins.seats.items c.in_ok-bins.ensures.seats c.in-Ok.ensures.shards some
+
+pub returns-clause-holds : goal.returns-clause-holds
+returns-clause-holds g c =
+    let plan = c.args.plan in let queue = c.args.queue in let id = c.in-Ok.passed.0.table.shared.table_id in
+    let reads = map (λ (r : Vec ℕ Global). r.items) c.args.reads.now in
+    let within = queue.within in let some_w : 0 < queue.writers = omega arith in
+    held plan.shape plan.batch reads id queue c.in-Ok.passed.1.items c.in-Ok.ensures.done c.gathered.ensures c.gathered_bins_hold_reads.ensures
+    c.in_ok-bins.seats.items c.in_ok-bins.bins.bodies plan.some.1 some_w plan.some.0 c.gather-totals.ensures.gathered c.in_ok-bins.ensures.bodies

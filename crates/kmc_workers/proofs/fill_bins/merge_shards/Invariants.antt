@@ -1,0 +1,17 @@
+use Rattle.std.proofs.Common.{◌≡◌, ◌++◌, map}
+use Rattle.std.specs.List.{flat_map}
+use Rattle.std.specs.Vec.Iter.{into_iter_items}
+use Rattle.kmc_partqueue.specs.Counts.{Each}
+use Rattle.kmc_store.specs.Bodies.{AreBodies}
+use Rattle.kmc_workers.specs.Workers.{items_of}
+use Rattle.kmc_workers.proofs.fill_bins.merge_shards.Given as goal
+
+-- the shards so far are merged
+abbrev pub invariant-loop-shard : goal.invariant-loop-shard
+invariant-loop-shard l = record {
+  seen : l.fn.shards.items ≡ l.yielded ++ into_iter_items l.shard-iterator;
+  left : Each (λ h. h.bins.shape ≡ l.fn.shape) (into_iter_items l.shard-iterator);
+  shaped : l.bins.shape ≡ l.fn.shape;
+  seats : l.seats.items ≡ map (λ h. h.seat) l.yielded;
+  bodies : AreBodies l.fn.shape l.bins.bodies (flat_map (λ s. items_of s.got) l.seats.items);
+}
