@@ -14,8 +14,6 @@ pub mod laws;
 mod reader;
 mod rule;
 mod steps;
-#[cfg(test)]
-mod tests;
 mod views;
 mod writer;
 

@@ -2,7 +2,7 @@
 """A plain model of the part queue, and the lists of events that the test compares with it.
 
 The model keeps lists and sets and nothing else: for each writer whether it is registered and has completed
-and how many items it put, and one list of the waiting items. The script writes src/tests/lists.rt: 200 lists of
+and how many items it put, and one list of the waiting items. The script writes src/lists.rt: 200 lists of
 random events, each with the replies that the model gives, in eight parts, with a `/` between two lists.
 
 A list is one text. It begins with the shape, `W C R:` in single digits. A call is a letter and a digit, and its

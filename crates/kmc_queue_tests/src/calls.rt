@@ -1,8 +1,7 @@
 //! Lists of calls with the answers that they must get, made one by one and by `run`. A list is one text: the shape,
 //! and then each call with its answer, as `tests_model/queue_model.py` spells them.
-mod lists;
-
-use crate::{
+use crate::lists;
+use kmc_partcore::{
     CompleteError, Event, MAX_WRITERS, PartCore, PutError, QueueShape, RegisterError, Reply,
     TakeError, Taken, Totals, run,
 };

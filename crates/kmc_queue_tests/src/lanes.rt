@@ -3,15 +3,12 @@ ghost use Rattle.std.specs.Prelude.{◌≡◌, ◌<◌, ℕ};
 ghost use Rattle.kmc_partqueue.specs.Counts.{Each, total_of, same};
 ghost use Rattle.kmc_partqueue.specs.Seats.{IsWriterOf, IsReaderOf};
 
-use crate::{DoneSeat, Lanes, NoGate, ReaderSeat, TryPutError, TryTaken};
 use kmc_partcore::{QueueShape, Taken, Totals};
+use kmc_partqueue::{DoneSeat, Lanes, NoGate, ReaderSeat, TryPutError, TryTaken};
 use std::test::Fail;
 
-mod held;
-mod many;
-
 /// What a try got, as its writer, number and item.
-fn got(taken: TryTaken<u8>) -> Option<(usize, u64, u8)> {
+pub(crate) fn got(taken: TryTaken<u8>) -> Option<(usize, u64, u8)> {
     match taken {
         TryTaken::Got(part) => Some((part.writer, part.number, part.item)),
         TryTaken::NotNow => None,
@@ -19,7 +16,7 @@ fn got(taken: TryTaken<u8>) -> Option<(usize, u64, u8)> {
     }
 }
 
-fn is_not_now(taken: TryTaken<u8>) -> bool {
+pub(crate) fn is_not_now(taken: TryTaken<u8>) -> bool {
     match taken {
         TryTaken::NotNow => true,
         TryTaken::Got(_) => false,
@@ -28,7 +25,7 @@ fn is_not_now(taken: TryTaken<u8>) -> bool {
 }
 
 /// The totals, where the try was answered Finished.
-fn totals(taken: TryTaken<u8>) -> Option<Totals> {
+pub(crate) fn totals(taken: TryTaken<u8>) -> Option<Totals> {
     match taken {
         TryTaken::Finished(totals) => Some(totals),
         TryTaken::Got(_) => None,
@@ -37,11 +34,11 @@ fn totals(taken: TryTaken<u8>) -> Option<Totals> {
 }
 
 /// The total of a writer, where the try was answered Finished.
-fn total(taken: TryTaken<u8>, writer: usize) -> Option<u64> {
+pub(crate) fn total(taken: TryTaken<u8>, writer: usize) -> Option<u64> {
     totals(taken)?.of(writer)
 }
 
-fn is_full(answer: Result<u64, (TryPutError, u8)>, part: u8) -> bool {
+pub(crate) fn is_full(answer: Result<u64, (TryPutError, u8)>, part: u8) -> bool {
     match answer {
         Err((TryPutError::Full, back)) => back == part,
         Err((TryPutError::NumbersSpent, _)) => false,
@@ -50,7 +47,7 @@ fn is_full(answer: Result<u64, (TryPutError, u8)>, part: u8) -> bool {
 }
 
 /// What `gather` answers, where the first of the readers has seen each lane at its end.
-fn gathered<T: Drop>(
+pub(crate) fn gathered<T: Drop>(
     lanes: Lanes<T>,
     writers: Vec<DoneSeat<T>>,
     readers: Vec<ReaderSeat<T>>,

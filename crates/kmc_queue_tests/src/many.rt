@@ -4,9 +4,9 @@ ghost use Rattle.kmc_partqueue.specs.Counts.{Each, total_of, same};
 ghost use Rattle.kmc_partqueue.specs.Dealing.{row_from};
 ghost use Rattle.kmc_partqueue.specs.Seats.{IsWriterOf, IsReaderOf, new_writer, new_reader};
 
-use super::gathered;
-use crate::{DoneSeat, Lanes, NoGate, ReaderSeat, WriterSeat};
+use crate::lanes::gathered;
 use kmc_partcore::{QueueShape, Received, Taken, Totals};
+use kmc_partqueue::{DoneSeat, Lanes, NoGate, ReaderSeat, WriterSeat};
 use std::alloc::{AllocError, Global};
 use std::process::Abort;
 use std::sync::Wait;
