@@ -7,6 +7,7 @@ pub mod Places
 pub mod WriterSteps
 pub mod ReaderSteps
 pub mod Dealing
+pub mod Ends
 pub mod Kept
 pub mod Allowed
 pub mod WriterCalls
@@ -17,3 +18,5 @@ pub mod Final
 pub mod Moving
 pub mod DoubleSums
 pub mod SentAndGot
+pub mod Finishes
+pub mod Told

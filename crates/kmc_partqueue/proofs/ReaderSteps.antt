@@ -32,6 +32,11 @@ module _ {T : Type 0} (k : QueueShape) where
     pub own : ReaderOk k r.lanes (heads_of k s.words) b
     own = (r.each_seat id (one_of_readers b) at).1.0
 
+    -- no other seat has the reader
+    pub alone : (j : ℕ) (u : View T) → j ≢ id → get_elem? s.views j ≡ some u → readers_of b.number u ≡ 0
+    alone j u n e = let t = total_two (readers_of b.number) s.views j id u (one_of_readers b) n e at in let o = r.one_reader b.number own.known in let m : ℕ = same b.number b.number in let one : m ≡ 1 = same_refl b.number b.number refl in
+        let x : ℕ = readers_of b.number u in let t' : x + (m + 0) ≤ 1 = subst (λ (z : ℕ). x + (m + 0) ≤ z) o t in omega arith
+
   rises_more : (es : List (Received T)) (x : Received T) → Rises es → Each (λ (f : Received T). f.writer ≡ x.writer → f.number < x.number) es → Rises (es ++ x ∷ [])
   rises_more [] x p q = (tt, tt)
   rises_more (e ∷ es) x p q = (each_append (λ (f : Received T). f.writer ≡ e.writer → e.number < f.number) es (x ∷ []) p.0 ((λ is. q.0 (sym is)), tt), rises_more es x p.1 q.1)
@@ -138,10 +143,6 @@ module _ {T : Type 0} (k : QueueShape) where
       who : Phase → ℕ
       who (reading q) = q
       who _ = 0
-
-      alone : (s : St T) (r : LanesRule k s) (id : ℕ) (b : Reading T) (at : get_elem? s.views id ≡ some (one_of_readers b)) (j : ℕ) (u : View T) → j ≢ id → get_elem? s.views j ≡ some u → readers_of b.number u ≡ 0
-      alone s r id b at j u n e = let t = total_two (readers_of b.number) s.views j id u (one_of_readers b) n e at in let o = r.one_reader b.number (own s r id b at).known in let m : ℕ = same b.number b.number in let one : m ≡ 1 = same_refl b.number b.number refl in
-          let x : ℕ = readers_of b.number u in let t' : x + (m + 0) ≤ 1 = subst (λ (z : ℕ). x + (m + 0) ≤ z) o t in omega arith
 
   module _ (s : St T) (r : LanesRule k s) (id : ℕ) (b : Reading T) (at : get_elem? s.views id ≡ some (one_of_readers b)) where
     abbrev hs : ℕ → ℕ

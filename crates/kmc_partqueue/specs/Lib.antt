@@ -8,5 +8,8 @@ pub mod Refusals
 pub mod Answers
 pub mod Gathered
 pub mod Shown
+pub mod Ends
 pub mod Steps
+pub mod Reached
+pub mod Told
 pub mod Laws
