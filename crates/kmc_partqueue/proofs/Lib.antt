@@ -20,3 +20,5 @@ pub mod DoubleSums
 pub mod SentAndGot
 pub mod Finishes
 pub mod Told
+pub mod GivenBack
+pub mod PartPlaces

@@ -11,5 +11,6 @@ pub mod Shown
 pub mod Ends
 pub mod Steps
 pub mod Reached
+pub mod PartPlaces
 pub mod Told
 pub mod Laws
