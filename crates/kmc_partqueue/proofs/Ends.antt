@@ -2,8 +2,9 @@
 use Rattle.std.proofs.Common.{◌≡◌, ℕ, zero, suc, ◌<◌, ◌≢◌, List, [], ◌∷◌, ◌++◌, length, refl, sym, ap, ◌∙◌, arith, length-append}
 use mathlib.Core.Logic.{dite}
 use native.Mathlib.Decide.{ℕ_discrete}
-use Rattle.std.specs.Prelude.{Some, None, slice_get}
+use Rattle.std.specs.Prelude.{Some, slice_get}
 use Rattle.kmc_partqueue.specs.declared.views.Ending.{Ending}
+use Rattle.kmc_partqueue.proofs.Members.{nobody}
 use Rattle.kmc_partqueue.specs.Ends.{SawEnd, SawAllEnds, AreSeenTotals}
 
 -- the totals that were seen are those of all lanes
@@ -15,10 +16,7 @@ not_first e ends w t other (zero, at) = let o : Ending = record { writer = w; to
 not_first e ends w t other (suc i, at) = (i, at)
 
 one_end : {A : Type 0} (ends : List Ending) (w : ℕ) → ((t : ℕ) → SawEnd ends w t → A) → (((t : ℕ) → ¬ SawEnd ends w t) → A) → A
-one_end [] w seen unseen = unseen (λ t p. clash p.1)
-  where
-    clash : {x : Ending} → None ≡ Some x → ⊥
-    clash e = cc
+one_end [] w seen unseen = unseen (λ t p. nobody _ p)
 one_end (e ∷ ends) w seen unseen = dite (ℕ_discrete e.writer w) (λ is. seen e.total (0, λ j. Some record { writer = is j; total = e.total }))
     (λ other. one_end ends w (λ t p. seen t (suc p.0, p.1)) (λ none. unseen (λ t p. none t (not_first e ends w t other p))))
 

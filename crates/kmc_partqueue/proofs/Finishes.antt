@@ -3,12 +3,10 @@ use Rattle.std.proofs.Common.{◌≡◌, ℕ, zero, suc, ◌+◌, List, [], ◌�
 use mathlib.Core.Option.{none, some}
 use mathlib.Core.Option as maybe
 use lib.ListN.{get_elem?}
-use Rattle.std.specs.Prelude.{None, Some}
 use Rattle.atomic_table.proofs.Lists.{at_snoc}
 use Rattle.kmc_partcore.specs.declared.shape.QueueShape.{QueueShape}
 use Rattle.kmc_partcore.specs.History.{Entry, History}
 use Rattle.kmc_partqueue.specs.declared.views.Reading.{Reading}
-use Rattle.kmc_partqueue.specs.declared.views.Ending.{Ending}
 use Rattle.kmc_partqueue.specs.declared.views.View.{View}
 use Rattle.kmc_partqueue.specs.Counts.{Each, Among, same}
 use Rattle.kmc_partqueue.specs.Ends.{SawAllEnds, AreSeenTotals}
@@ -20,6 +18,7 @@ use Rattle.kmc_partqueue.specs.Steps.{IsStep, AreSteps, was_finished}
 use Rattle.kmc_partqueue.specs.Reached.{opened, IsReached}
 use Rattle.kmc_partqueue.specs.Laws.{registrations}
 use Rattle.kmc_partqueue.specs.Told.{tells_finished, times_finished}
+use Rattle.kmc_partqueue.proofs.Members.{nobody, among_left}
 use Rattle.kmc_partqueue.proofs.Sums.{same_refl, same_ne, each_map, each_absent, each_append, views_stay}
 use Rattle.kmc_partqueue.proofs.Frame.{St}
 use Rattle.kmc_partqueue.proofs.Ends.{seen_all}
@@ -56,15 +55,7 @@ module _ {T : Type 0} (k : QueueShape) where
 
   -- some lane is still to be seen at its end, before and after the load
   tells_more : (h : History T) (b : Reading T) → FinishTold h b → ¬ SawAllEnds k.writers (ending b).ends → FinishTold h (ending b)
-  tells_more h b t few = record { told = λ all. absurd (few all); once = λ all. absurd (few all); never = λ _. t.never (λ all. few (λ w near. let a = all w near in (a.0, kept _ b.ends a.1))) }
-    where
-      kept : {x : Ending} (y : Ending) (l : List Ending) → Among x l → Among x (l ++ y ∷ [])
-      kept {x} y [] p = let e : None ≡ Some x = p.1 in absurd (clash e)
-        where
-          clash : {z : Ending} → None ≡ Some z → ⊥
-          clash e = cc
-      kept y (z ∷ l) (zero, e) = (zero, e)
-      kept y (z ∷ l) (suc i, e) = let r = kept y l (i, e) in (suc r.0, r.1)
+  tells_more h b t few = record { told = λ all. absurd (few all); once = λ all. absurd (few all); never = λ _. t.never (λ all. few (λ w near. let a = all w near in (a.0, among_left _ b.ends _ a.1))) }
 
   abbrev AllTell : History T → List (View T) → Type 0
   AllTell h vs = (j : ℕ) (v : View T) → get_elem? vs j ≡ some v → Each (FinishTold h) v.readers
@@ -116,10 +107,7 @@ module _ {T : Type 0} (k : QueueShape) where
       (at_snoc [] (all_seats k) v j e)
     where
       unseen : SawAllEnds k.writers [] → ⊥
-      unseen all = let e : None ≡ Some _ = (all 0 k.within.0).1.1 in clash e
-        where
-          clash : {z : Ending} → None ≡ Some z → ⊥
-          clash e = cc
+      unseen all = nobody _ (all 0 k.within.0).1
 
   -- wherever steps lead
   pub reached_tells : (s : St T) (r : IsReached k s) → (j : ℕ) (v : View T) → get_elem? s.views j ≡ some v → Each (FinishTold (r.entries ++ registrations k.writers)) v.readers

@@ -1,10 +1,9 @@
 -- A part that has left its lane is in the hand of a reader, or its slot's mark is that of a later use.
-use Rattle.std.proofs.Common.{◌≡◌, ℕ, zero, suc, ◌+◌, ◌*◌, ◌/◌, ◌%◌, ◌<◌, ◌≤◌, ◌⊎◌, true, false, List, [], ◌∷◌, ◌++◌, length, get_or, set, refl, sym, ap, ◌∙◌, subst, inl, inr, ⊎_elim, mod-lt, arith, get_or-set_same}
-use mathlib.Core.Option.{some, some-injective, some-ne-none}
+use Rattle.std.proofs.Common.{◌≡◌, ℕ, suc, ◌+◌, ◌*◌, ◌/◌, ◌%◌, ◌<◌, ◌≤◌, ◌⊎◌, true, false, List, [], ◌∷◌, ◌++◌, length, get_or, set, refl, sym, ap, ◌∙◌, subst, inl, inr, ⊎_elim, mod-lt, arith, get_or-set_same}
+use mathlib.Core.Option.{some, some-injective}
 use mathlib.Core.Logic.{dite}
 use native.Mathlib.Decide.{ℕ_discrete}
 use lib.ListN.{get_elem?}
-use Rattle.std.specs.Prelude.{Some, None}
 use Rattle.atomic_table.proofs.Lists.{set_else, at_longer, at_last}
 use Rattle.kmc_partcore.specs.declared.shape.QueueShape.{QueueShape}
 use Rattle.kmc_partcore.specs.History.{History}
@@ -13,12 +12,13 @@ use Rattle.kmc_partqueue.specs.declared.views.View.{View}
 use Rattle.kmc_partqueue.specs.Counts.{Among}
 use Rattle.kmc_partqueue.specs.Lane.{CellOk}
 use Rattle.kmc_partqueue.specs.Rule.{head_at, end_at, mark_at, slot_at, LanesRule}
-use Rattle.kmc_partqueue.specs.Dealing.{one_of_writers, one_of_readers, first_of, rest_of, no_writer, its_writer, no_reader, its_reader, both, spent}
+use Rattle.kmc_partqueue.specs.Dealing.{one_of_writers, one_of_readers, no_writer, its_writer, no_reader, its_reader, both, spent}
 use Rattle.kmc_partqueue.specs.Plays.{seeing, taking, ending}
 use Rattle.kmc_partqueue.specs.Steps as step
 use Rattle.kmc_partqueue.specs.Steps.{IsStep, AreSteps}
 use Rattle.kmc_partqueue.specs.Reached.{opened, IsReached}
 use Rattle.kmc_partqueue.specs.PartPlaces.{HoldsSlot}
+use Rattle.kmc_partqueue.proofs.Members.{nobody, only, among_left, among_right, first_or_rest, set_at}
 use Rattle.kmc_partqueue.proofs.Turns.{later_use, next_use, next_slot}
 use Rattle.kmc_partqueue.proofs.Frame.{St}
 use Rattle.kmc_partqueue.proofs.Places.{mark_within, mark_head, mark_mark, head_head, head_mark, end_head, end_mark}
@@ -26,34 +26,6 @@ use Rattle.kmc_partqueue.proofs.Dealing.{zeros}
 use Rattle.kmc_partqueue.proofs.Kept.{ruled, opening_rule}
 use Rattle.kmc_partqueue.proofs.WriterSteps as writer
 use Rattle.kmc_partqueue.proofs.ReaderSteps as reader
-
-module _ {A : Type 0} where
-  pub nobody : {C : Type 0} (x : A) → Among x [] → C
-  nobody {C} x p = let e : None ≡ Some x = p.1 in cc
-
-  only : (x y : A) → Among x (y ∷ []) → y ≡ x
-  only x y (zero, e) = let e' : Some y ≡ Some x = e in cc
-  only x y (suc i, e) = nobody x (i, e)
-
-  among_left : (x : A) (l m : List A) → Among x l → Among x (l ++ m)
-  among_left x [] m p = nobody x p
-  among_left x (y ∷ l) m (zero, e) = (zero, e)
-  among_left x (y ∷ l) m (suc i, e) = let r = among_left x l m (i, e) in (suc r.0, r.1)
-
-  among_right : (x : A) (l m : List A) → Among x m → Among x (l ++ m)
-  among_right x [] m p = p
-  among_right x (y ∷ l) m p = let r = among_right x l m p in (suc r.0, r.1)
-
-  -- a member is the first or one of the rest
-  split : {C : Type 0} (x : A) (l : List A) → Among x l → (Among x (first_of l) → C) → (Among x (rest_of l) → C) → C
-  split x [] p here more = nobody x p
-  split x (y ∷ l) (zero, e) here more = here (zero, e)
-  split x (y ∷ l) (suc i, e) here more = more (i, e)
-
-  pub set_at : (l : List A) (i : ℕ) (v w : A) → get_elem? l i ≡ some v → get_elem? (set l i w) i ≡ some w
-  set_at [] i v w e = absurd (some-ne-none v (sym e))
-  set_at (x ∷ xs) zero v w e = refl
-  set_at (x ∷ xs) (suc i) v w e = set_at xs i v w e
 
 module _ {T : Type 0} (k : QueueShape) where
   -- a reader among these seats holds the slot of the part n of writer w
@@ -125,7 +97,7 @@ module _ {T : Type 0} (k : QueueShape) where
 
     split_reader : (id : ℕ) (v : View T) → get_elem? s.views id ≡ some v → (w n : ℕ) → IsHeld s.views w n → IsHeld (set s.views id (no_reader v) ++ its_reader v ∷ []) w n
     split_reader id v at w n h = let vs : List (View T) = set s.views id (no_reader v) in dite (ℕ_discrete h.seat id)
-        (λ is. split h.by v.readers (subst (λ (u : View T). Among h.by u.readers) (some-injective h.view v (sym h.at ∙ ap (get_elem? s.views) is ∙ at)) h.among)
+        (λ is. first_or_rest h.by v.readers (subst (λ (u : View T). Among h.by u.readers) (some-injective h.view v (sym h.at ∙ ap (get_elem? s.views) is ∙ at)) h.among)
         (λ p. record { by = h.by; seat = length vs; view = its_reader v; at = at_last vs (its_reader v) (length vs) refl; among = p; holds = h.holds })
         (λ p. record { by = h.by; seat = id; view = no_reader v; at = at_longer vs (its_reader v ∷ []) id (no_reader v) (set_at s.views id v (no_reader v) at); among = p; holds = h.holds }))
         (λ other. record { by = h.by; seat = h.seat; view = h.view; at = at_longer vs (its_reader v ∷ []) h.seat h.view (set_else s.views id h.seat (no_reader v) other ∙ h.at); among = h.among; holds = h.holds })

@@ -1,4 +1,5 @@
 pub mod Sums
+pub mod Members
 pub mod Numbered
 pub mod Turns
 pub mod OneLane

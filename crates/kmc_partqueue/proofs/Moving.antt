@@ -25,7 +25,7 @@ use Rattle.kmc_partqueue.specs.Laws.{registrations, StepLaw, StepsLaw}
 use Rattle.kmc_partqueue.specs.Reached.{opened}
 use Rattle.kmc_partqueue.specs.Steps as step
 use Rattle.kmc_partqueue.specs.Steps.{IsStep, AreSteps, was_put, was_completed, was_taken, was_finished}
-use Rattle.kmc_partqueue.proofs.Sums.{same_ne, each_map, each_absent, each_append, views_stay}
+use Rattle.kmc_partqueue.proofs.Sums.{same_ne, each_map, each_absent, each_append, each_both, views_stay}
 use Rattle.kmc_partqueue.proofs.Frame.{St, heads_of}
 use Rattle.kmc_partqueue.proofs.Kept.{claimed, kept, opening_rule}
 use Rattle.kmc_partqueue.proofs.Dealing.{zeros, each_row, each_first, each_rest}
@@ -125,10 +125,6 @@ module _ {T : Type 0} where
           readers = views_stay (λ _ u. Each (ReaderShows (state_of (e ∷ h))) u.readers) s.views id (one_of_writers (completed a)) tt (λ j u _ at'. all_leave_on h e u.readers (shows.readers j u at'));
         },
       )
-
-each_both : {A : Type 0} (P Q : A → Type 0) (l : List A) → Each P l → Each Q l → Each (λ x. P x × Q x) l
-each_both P Q [] p q = tt
-each_both P Q (x ∷ l) p q = ((p.0, q.0), each_both P Q l p.1 q.1)
 
 find_view : {A : Type 0} (f : A → ℕ) (l : List A) → 1 ≤ total_of f l → (j : ℕ) × (v : A) × (get_elem? l j ≡ some v) × (1 ≤ f v)
 find_view f [] le = absurd (let le' : 1 ≤ 0 = le in omega arith)

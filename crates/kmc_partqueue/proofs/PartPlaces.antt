@@ -1,10 +1,10 @@
 -- Where each part is that was put, and what a reader's hold of a slot means.
-use Rattle.std.proofs.Common.{◌≡◌, ℕ, zero, suc, ◌+◌, ◌*◌, ◌/◌, ◌%◌, ◌<◌, ◌≤◌, true, List, [], ◌∷◌, ◌++◌, length, get_or, refl, sym, ap, ◌∙◌, subst, ⊎_elim, mod-lt, lt_of_not-le, arith}
-use mathlib.Core.Option.{some, some-injective, some-ne-none}
+use Rattle.std.proofs.Common.{◌≡◌, ℕ, ◌+◌, ◌*◌, ◌/◌, ◌%◌, ◌<◌, ◌≤◌, true, List, length, get_or, sym, ap, ◌∙◌, subst, ⊎_elim, mod-lt, lt_of_not-le, arith}
+use mathlib.Core.Option.{some, some-injective}
 use mathlib.Core.Logic.{dite}
 use native.Mathlib.Decide.{ℕ_discrete, dec_le}
 use lib.ListN.{get_elem?}
-use Rattle.std.specs.Prelude.{Some, slice_get}
+use Rattle.std.specs.Prelude.{Some}
 use Rattle.kmc_partcore.specs.declared.shape.QueueShape.{QueueShape}
 use Rattle.kmc_partcore.specs.declared.event.Received.{Received}
 use Rattle.kmc_partqueue.specs.declared.views.Writing.{Writing}
@@ -17,32 +17,13 @@ use Rattle.kmc_partqueue.specs.Reached.{IsReached}
 use Rattle.kmc_partqueue.specs.PartPlaces.{HasWriter, HasReader, IsInSlot, IsInHand, IsGivenBack, in_its_slot, in_a_hand, given_back, IsSomewhere, IsInOnePlace, IsHeldAlone}
 use Rattle.kmc_partqueue.specs.Laws.{PartPlaceLaw, HeldSlotLaw}
 use Rattle.kmc_partqueue.proofs.Sums.{same_ne, below_one, below_none}
+use Rattle.kmc_partqueue.proofs.Members.{some_member, member_at, within, among_last}
 use Rattle.kmc_partqueue.proofs.Turns.{other_lane}
 use Rattle.kmc_partqueue.proofs.OneLane.{full_found}
 use Rattle.kmc_partqueue.proofs.Frame.{St, heads_of}
 use Rattle.kmc_partqueue.proofs.Final.{each_at}
 use Rattle.kmc_partqueue.proofs.Kept.{rule_of}
 use Rattle.kmc_partqueue.proofs.GivenBack.{IsHeld, reached_left}
-
--- a member that counts, of a list that counts
-some_member : {A : Type 0} (f : A → ℕ) (l : List A) → 1 ≤ total_of f l → (x : A) × Among x l × (1 ≤ f x)
-some_member f [] le = absurd (omega arith)
-some_member f (x ∷ l) le = dite (dec_le 1 (f x)) (λ here. (x, (0, refl), here))
-    (λ no. let z : f x < 1 = lt_of_not-le no in let a : ℕ = f x in let t : ℕ = total_of f l in let le' : 1 ≤ a + t = le in let r = some_member f l (omega arith) in (r.0, (suc r.1.0, r.1.1), r.2))
-
-member_at : {A : Type 0} (l : List A) (i : ℕ) (x : A) → slice_get l i ≡ Some x → get_elem? l i ≡ some x
-member_at [] i x e = cc
-member_at (y ∷ l) zero x e = let e' : Some y ≡ Some x = e in let is : y ≡ x = cc in ap some is
-member_at (y ∷ l) (suc i) x e = member_at l i x e
-
-pub within : {A : Type 0} (l : List A) (i : ℕ) (x : A) → get_elem? l i ≡ some x → i < length l
-within [] i x e = absurd (some-ne-none x (sym e))
-within (y ∷ l) zero x e = omega arith
-within (y ∷ l) (suc i) x e = let r = within l i x e in omega arith
-
-last_one : {A : Type 0} (l : List A) (x : A) → Among x (l ++ x ∷ [])
-last_one [] x = (0, refl)
-last_one (y ∷ l) x = let r = last_one l x in (suc r.0, r.1)
 
 -- an entry that counts is that of the part
 counts : (a b c d : ℕ) → 1 ≤ same a b * same c d → (a ≡ b) × (c ≡ d)
@@ -102,7 +83,7 @@ module _ {T : Type 0} (k : QueueShape) (s : St T) (r : LanesRule k s) where
     in_hand lt h = let b : Reading T = h.by in let seat : HasReader s b = (h.seat, h.view, h.at, h.among) in let o = reader_ok b seat in let has = o.held h.holds.0 in let i : ℕ = n % k.per_writer in
         let at_cell : (r.lanes w).cells i ≡ (n, reading b.number) = (λ j. (r.lanes (sym h.holds.1 j)).cells (sym h.holds.2 j % k.per_writer)) ∙ has.0 ∙ (λ j. (h.holds.2 j, reading b.number)) in
         let cell = subst (CellOk k.per_writer head (r.lanes w).sent (r.lanes w).held i (get_or s.words (mark_at k w i) 0) (get_elem? s.homes (slot_at k w i))) at_cell ((r.each_lane w own.known).each_cell i (mod-lt n r.some_room)) in
-        let e : Received T = record { writer = b.lane; number = b.head; item = has.1.1 } in let listed = subst (Among e) (sym has.1.2) (last_one has.1.0 e) in let ok = each_at (GotOk k r.lanes heads) b.got o.shown listed.0 e listed.1 in record {
+        let e : Received T = record { writer = b.lane; number = b.head; item = has.1.1 } in let listed = subst (Among e) (sym has.1.2) (among_last e has.1.0) in let ok = each_at (GotOk k r.lanes heads) b.got o.shown listed.0 e listed.1 in record {
           reader = b;
           seated = seat;
           holds = h.holds;

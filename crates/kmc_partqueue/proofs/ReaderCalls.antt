@@ -17,6 +17,7 @@ use Rattle.kmc_partqueue.specs.Dealing.{one_of_readers}
 use Rattle.kmc_partqueue.specs.Plays.{Seated, seen_slot_of, looking, seeing, taking, freeing, ending, read_head, saw_published_part, claimed_part, released_slot, read_end}
 use Rattle.kmc_partqueue.specs.Seats.{Between, Noted}
 use Rattle.kmc_partqueue.proofs.Sums.{each_append}
+use Rattle.kmc_partqueue.proofs.Members.{among_left, among_last}
 use Rattle.kmc_partqueue.proofs.Final.{each_at}
 use Rattle.kmc_partqueue.proofs.Allowed.{reads_head, sees_published_part, reads_end, claims_part, releases_slot}
 
@@ -89,24 +90,12 @@ set_rest (x ∷ xs) zero (suc j) a n = refl
 set_rest (x ∷ xs) (suc i) zero a n = refl
 set_rest (x ∷ xs) (suc i) (suc j) a n = set_rest xs i j a (λ e. n (ap suc e))
 
-among_more : {A : Type 0} (x y : A) (l : List A) → Among x l → Among x (l ++ y ∷ [])
-among_more x y [] p = let e : None ≡ Some x = p.1 in absurd (clash e)
-  where
-    clash : {A : Type 0} {x : A} → None ≡ Some x → ⊥
-    clash e = cc
-among_more x y (z ∷ l) (zero, e) = (zero, e)
-among_more x y (z ∷ l) (suc i, e) = let r = among_more x y l (i, e) in (suc r.0, r.1)
-
-among_last : {A : Type 0} (x : A) (l : List A) → Among x (l ++ x ∷ [])
-among_last x [] = (0, refl)
-among_last x (z ∷ l) = let r = among_last x l in (suc r.0, r.1)
-
 pub noted_more : (es : List Ending) (ts : List (Option ℕ)) (w t : ℕ) → Noted es ts → slice_get ts w ≡ Some None → w < length ts → Noted (es ++ record { writer = w; total = t } ∷ []) (set ts w (Some t))
 noted_more es ts w t n new inside = record {
   kept = λ v u e. dite (ℕ_discrete v w)
       (λ is. let same : Some (Some t) ≡ Some (Some u) = sym (set_same ts w (Some t) inside) ∙ ap (slice_get (set ts w (Some t))) (sym is) ∙ e in let tu : t ≡ u = inner same in
       subst (λ (z : Ending). Among z (es ++ record { writer = w; total = t } ∷ [])) (λ j. record { writer = sym is j; total = tu j }) (among_last (record { writer = w; total = t }) es))
-      (λ other. among_more (record { writer = v; total = u }) (record { writer = w; total = t }) es (n.kept v u (sym (set_rest ts w v (Some t) other) ∙ e)));
+      (λ other. among_left (record { writer = v; total = u }) es (record { writer = w; total = t } ∷ []) (n.kept v u (sym (set_rest ts w v (Some t) other) ∙ e)));
   all = each_append (λ (e : Ending). slice_get (set ts w (Some t)) e.writer ≡ Some (Some e.total)) es (record { writer = w; total = t } ∷ []) (olds es n.all) (set_same ts w (Some t) inside, tt);
 }
   where

@@ -19,7 +19,7 @@ use Rattle.kmc_partqueue.specs.Gathered.{Tells, Pairs, WriterPairs}
 use Rattle.kmc_partqueue.specs.Laws.{registrations}
 use Rattle.kmc_partqueue.specs.Reached.{IsReached}
 use Rattle.kmc_partqueue.specs.Told.{times_finished, HistoryOfWriter, HistoryOfReader, IsHistoryOf}
-use Rattle.kmc_partqueue.proofs.Sums.{each_both}
+use Rattle.kmc_partqueue.proofs.Sums.{each_map, each_both}
 use Rattle.kmc_partqueue.proofs.Frame.{St}
 use Rattle.kmc_partqueue.proofs.Kept.{rule_of}
 use Rattle.kmc_partqueue.proofs.Final.{each_at, pairs_each, writers_each, OfLane, of_lanes, full}
@@ -60,14 +60,13 @@ told {T} k s r id v at writers readers ws bs each_writer each_reader last among 
     let Lane = OfLane k s rule id v at writers readers ws bs each_writer each_reader last among ended in
     let lanes = of_lanes k s rule id v at writers readers ws bs each_writer each_reader last among ended in
     let lane_full = full k s rule id v at writers readers ws bs each_writer each_reader last among ended in
-    let shown = writers_each (WriterShows (state_of h)) (λ (x : WriterState T). (accepted x.number h ≡ x.sent) × (has_completed x.number h ≡ true))
-    (λ a x t p. (ap (λ (n : ℕ). accepted n h) (sym t.number) ∙ sym p.0 ∙ t.sent, ap (λ (n : ℕ). has_completed n h) (sym t.number) ∙ sym p.1 ∙ t.done)) v.writers writers ws (shows.writers id v at) in (
+    let IsIn : WriterState T → Type 0 = λ x. (accepted x.number h ≡ x.sent) × (has_completed x.number h ≡ true) in
+    let shown = writers_each (WriterShows (state_of h)) IsIn (λ a x t p. (ap (λ (n : ℕ). accepted n h) (sym t.number) ∙ sym p.0 ∙ t.sent, ap (λ (n : ℕ). has_completed n h) (sym t.number) ∙ sym p.1 ∙ t.done)) v.writers writers ws (shows.writers id v at) in (
       h,
       record {
         legal = law.1;
-        of_writers = each_both Lane (λ (x : WriterState T). (accepted x.number h ≡ x.sent) × (has_completed x.number h ≡ true)) (HistoryOfWriter h)
-            (λ x p q. record { put = q.0; completed = q.1; all_left = shows.heads x.number p.0 ∙ (lane_full x.number p.0).1 ∙ ap length (sym p.1) }) writers lanes shown;
+        of_writers = each_map (λ (x : WriterState T). Lane x × IsIn x) (HistoryOfWriter h) (λ x p. record { put = p.1.0; completed = p.1.1; all_left = shows.heads x.number p.0.0 ∙ (lane_full x.number p.0.0).1 ∙ ap length (sym p.0.1) }) writers (each_both Lane IsIn writers lanes shown);
         of_readers = pairs_each (λ (b : Reading T). ReaderShows (state_of h) b × FinishTold k h b) (HistoryOfReader k h) (reader_told k h) v.readers readers bs
-            (each_both (ReaderShows (state_of h)) (FinishTold k h) (λ (b : Reading T). ReaderShows (state_of h) b × FinishTold k h b) (λ b p q. (p, q)) v.readers (shows.readers id v at) (reached_tells k s r id v at));
+            (each_both (ReaderShows (state_of h)) (FinishTold k h) v.readers (shows.readers id v at) (reached_tells k s r id v at));
       },
     )

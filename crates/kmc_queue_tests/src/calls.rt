@@ -2,9 +2,10 @@
 //! and then each call with its answer, as `tests_model/queue_model.py` spells them.
 use crate::lists;
 use kmc_partcore::{
-    CompleteError, Event, MAX_WRITERS, PartCore, PutError, QueueShape, RegisterError, Reply,
-    TakeError, Taken, Totals, run,
+    CompleteError, Event, MAX_WRITERS, PartCore, PutError, QueueShape, Received, RegisterError,
+    Reply, TakeError, Taken, Totals, run,
 };
+use kmc_partqueue::TryTaken;
 use std::alloc::{AllocError, Global};
 use std::test::Fail;
 
@@ -257,6 +258,29 @@ fn totals_answer_for_the_writers_of_the_queue(rt: HostRuntime) -> Result<(), Fai
             && totals.of(2) == Some(4294967295)
             && totals.of(3).is_none()
     );
+    Ok(())
+}
+
+#[test]
+fn answers_compare_and_print(rt: HostRuntime) -> Result<(), Fail> {
+    let part = Received {
+        writer: 1,
+        number: 2,
+        item: 7u8,
+    };
+    let got = Taken::Got(part.clone()?);
+    let totals = Taken::Finished(Totals::new(&[2]));
+    assert!(rt;
+        got == got.clone()? && got != totals && totals == Taken::Finished(Totals::new(&[2]))
+    );
+    assert!(rt; totals != Taken::Finished(Totals::new(&[2, 0])) && got != Taken::Empty);
+    assert!(rt; TryTaken::Got(part) != TryTaken::NotNow);
+    assert!(rt;
+        QueueShape::new(1, 2, 1) == QueueShape::new(1, 2, 1)
+            && QueueShape::new(1, 2, 1) != QueueShape::new(1, 2, 2)
+    );
+    let text = format!(in rt.alloc(); "{got:?}")?;
+    assert!(rt; text.as_str() == "Got(Received { writer: 1, number: 2, item: 7 })");
     Ok(())
 }
 
