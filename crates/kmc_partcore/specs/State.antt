@@ -2,7 +2,8 @@
 use Rattle.std.specs.Prelude.{ℕ, ◌+◌, Bool, ◌||◌, List, ◌++◌, length, drop}
 use Rattle.kmc_partcore.specs.History.{Entry, History, Leaving, accepted, left, is_registered, has_completed, registers, completes, item_accepted, item_left}
 
-pub record WriterState (T : Type 0) : Type 0 where
+-- what a history shows of one writer
+pub record ShownWriter (T : Type 0) : Type 0 where
   pub registered : Bool
   pub completed : Bool
   pub accepted_items : List T
@@ -10,8 +11,9 @@ pub record WriterState (T : Type 0) : Type 0 where
 
 -- the state of each writer, by its number
 abbrev pub QueueState : Type 0 → Type 0
-QueueState T = ℕ → WriterState T
+QueueState T = ℕ → ShownWriter T
 
+-- the live part of it
 pub record LiveWriter (T : Type 0) : Type 0 where
   pub registered : Bool
   pub completed : Bool

@@ -20,7 +20,7 @@ pub enum Reply<T> {
 }
 
 /// An item that left the queue, with its writer and its number among that writer's items, from 0.
-#[derive(Drop)]
+#[derive(Drop, Clone, PartialEq, Eq, Debug)]
 pub struct Received<T> {
     pub writer: usize,
     pub number: u64,
@@ -28,7 +28,7 @@ pub struct Received<T> {
 }
 
 /// What a reader is answered.
-#[derive(Drop)]
+#[derive(Drop, Clone, PartialEq, Eq, Debug)]
 pub enum Taken<T> {
     /// An item, which is no longer in the queue.
     Got(Received<T>),

@@ -1,5 +1,14 @@
-//! What is true of every legal history, as contracts. No function here does anything when it runs.
+//! The limits, and what is true of every legal history, as contracts. No function here does anything when it runs.
+ghost use Rattle.std.specs.Prelude.{◌≡◌, ◌+◌, ◌^◌};
 ghost use Rattle.kmc_partcore.specs.Laws.{LeftBeginsAccepted, LiveDetermines, LiveAdvances};
+
+use crate::shape::{MAX_ITEMS, MAX_PER_WRITER, MAX_READERS, MAX_WRITERS};
+
+/// The limits of a queue are these numbers: 16 writers, 64 waiting items of each, 8 readers, and 2^32 - 1 items of a writer in its life.
+pub fn limits()
+    ensures shape { (MAX_WRITERS ≡ 16) × (MAX_PER_WRITER ≡ 64) × (MAX_READERS ≡ 8) }
+    ensures items { MAX_ITEMS + 1 ≡ 2 ^ 32 }
+{}
 
 /// What has left of each writer is the first of what was accepted of it, numbered from 0.
 pub fn left_begins_accepted<T>()

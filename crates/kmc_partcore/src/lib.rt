@@ -9,8 +9,6 @@ pub mod laws;
 mod part_core;
 mod replay;
 mod shape;
-#[cfg(test)]
-mod tests;
 mod totals;
 
 pub use event::{CompleteError, Event, PutError, Received, RegisterError, Reply, TakeError, Taken};

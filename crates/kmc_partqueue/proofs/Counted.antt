@@ -3,7 +3,7 @@ use Rattle.std.proofs.Common.{◌≡◌, ℕ, zero, suc, ◌+◌, ◌<◌, ◌�
 use mathlib.Core.Logic.{dite}
 use native.Mathlib.Decide.{ℕ_discrete}
 use Rattle.std.specs.Prelude.{Option, Some, None, slice_get}
-use Rattle.kmc_partqueue.specs.Seats.{AreTotals}
+use Rattle.kmc_partqueue.specs.Seats.{AreKeptTotals}
 use Rattle.kmc_partqueue.proofs.ReaderCalls.{set_same, set_rest}
 
 pub get_at : {A : Type 0} (l : List A) (i : ℕ) (d : A) → i < length l → slice_get l i ≡ Some (get_or l i d)
@@ -32,7 +32,7 @@ module _ (totals : List (Option ℕ)) where
       (λ e. (t, ap (slice_get totals) e ∙ is, ap (slice_get (set counts n t)) e ∙ set_same counts n t inside))
       (λ ne. let b = below w (omega arith) in (b.0, b.1, set_rest counts n w t ne ∙ b.2))
 
-  pub counts_first : (n m : ℕ) (counts : List ℕ) → CountsBelow m counts → n ≤ m → n ≤ length counts → AreTotals n totals (take n counts)
+  pub counts_first : (n m : ℕ) (counts : List ℕ) → CountsBelow m counts → n ≤ m → n ≤ length counts → AreKeptTotals n totals (take n counts)
   counts_first n m counts below le long = (take_long n counts long, λ w lt. let b = below w (omega arith) in (b.0, b.1, take_at n counts w lt ∙ b.2))
 
 pub not_ended : {A : Type 0} (l : List (Option ℕ)) (i t : ℕ) → i < length l → get_or l i None ≡ None → slice_get l i ≡ Some (Some t) → A

@@ -49,6 +49,11 @@ module _ {A : Type 0} where
   row_zero g f is i zero = refl
   row_zero g f is i (suc n) = let r = row_zero g f is (suc i) n in let z = is i in omega arith
 
+pub zeros : (n i : ℕ) → ◌≡◌ {A = ℕ} (get_or (replicate n 0) i 0) 0
+zeros zero i = refl
+zeros (suc n) zero = refl
+zeros (suc n) (suc i) = zeros n i
+
 blank : {T : Type 0} (n i : ℕ) → i < n → get_elem? (map some (replicate {A = Option T} n None)) i ≡ some (some None)
 blank zero i near = absurd (omega arith)
 blank (suc n) zero near = refl

@@ -12,7 +12,7 @@ use Rattle.kmc_partqueue.specs.declared.views.View.{View}
 use Rattle.kmc_partcore.specs.declared.shape.QueueShape.{QueueShape}
 use Rattle.kmc_partqueue.specs.Counts.{Each, total_of, same, once_below, Among}
 use Rattle.kmc_partqueue.specs.Rule.{is_entry, got_once, entries, readers_of, WriterOk, ReaderOk, GotOk, EndOk, Rises, LanesRule}
-use Rattle.kmc_partqueue.specs.Seats.{AreTotals, WriterState, ReaderState, AllEnded}
+use Rattle.kmc_partqueue.specs.Seats.{AreKeptTotals, WriterState, ReaderState, AllEnded}
 use Rattle.kmc_partqueue.specs.Gathered.{Tells, Pairs, WriterTells, WriterPairs, in_list, IsGathered}
 use Rattle.kmc_partqueue.proofs.Sums.{same_refl, same_ne, total_two, each_map, below_one}
 use Rattle.kmc_partqueue.proofs.Frame.{St, heads_of}
@@ -47,13 +47,13 @@ module _ {T : Type 0} where
   pairs_total f g go (b ∷ bs) [] p = absurd p
   pairs_total f g go (b ∷ bs) (s ∷ ss) p = let a = go b s p.0 in let r = pairs_total f g go bs ss p.1 in omega arith
 
-  pairs_each : (P : Reading T → Type 0) (Q : ReaderState T → Type 0) → ((b : Reading T) (s : ReaderState T) → Tells b s → P b → Q s) → (bs : List (Reading T)) (ss : List (ReaderState T)) → Pairs bs ss → Each P bs → Each Q ss
+  pub pairs_each : (P : Reading T → Type 0) (Q : ReaderState T → Type 0) → ((b : Reading T) (s : ReaderState T) → Tells b s → P b → Q s) → (bs : List (Reading T)) (ss : List (ReaderState T)) → Pairs bs ss → Each P bs → Each Q ss
   pairs_each P Q go [] [] p e = tt
   pairs_each P Q go [] (s ∷ ss) p e = absurd p
   pairs_each P Q go (b ∷ bs) [] p e = absurd p
   pairs_each P Q go (b ∷ bs) (s ∷ ss) p e = (go b s p.0 e.0, pairs_each P Q go bs ss p.1 e.1)
 
-  writers_each : (P : Writing T → Type 0) (Q : WriterState T → Type 0) → ((a : Writing T) (s : WriterState T) → WriterTells a s → P a → Q s) → (ws : List (Writing T)) (ss : List (WriterState T)) → WriterPairs ws ss → Each P ws → Each Q ss
+  pub writers_each : (P : Writing T → Type 0) (Q : WriterState T → Type 0) → ((a : Writing T) (s : WriterState T) → WriterTells a s → P a → Q s) → (ws : List (Writing T)) (ss : List (WriterState T)) → WriterPairs ws ss → Each P ws → Each Q ss
   writers_each P Q go [] [] p e = tt
   writers_each P Q go [] (s ∷ ss) p e = absurd p
   writers_each P Q go (a ∷ ws) [] p e = absurd p
@@ -66,10 +66,10 @@ module _ {T : Type 0} where
     heads = heads_of k s.words
 
     -- what a seat's lists are, by the rule
-    abbrev OfLane : WriterState T → Type 0
+    abbrev pub OfLane : WriterState T → Type 0
     OfLane x = (x.number < k.writers) × (x.sent ≡ (r.lanes x.number).sent)
 
-    of_lanes : Each OfLane writers
+    pub of_lanes : Each OfLane writers
     of_lanes = writers_each (WriterOk k r.lanes heads) OfLane (λ a x t p. (subst (λ (z : ℕ). z < k.writers) t.number p.known, sym t.sent ∙ p.sent ∙ ap (λ (z : ℕ). (r.lanes z).sent) t.number)) v.writers writers ws (r.each_seat id v at).0
 
     -- every lane is at its end
@@ -128,7 +128,7 @@ get_or_at (x ∷ l) zero d s e = let e' : Some x ≡ Some s = e in cc
 get_or_at (x ∷ l) (suc i) d s e = get_or_at l i d s e
 
 -- the counts that a take answers are the kept totals
-pub counts_are : {T : Type 0} (n : ℕ) (totals : List (Option ℕ)) (counts : List ℕ) → AreTotals n totals counts → (l : List (WriterState T)) → Each (λ (x : WriterState T). x.number < n) l → Each (λ (x : WriterState T). slice_get totals x.number ≡ Some (Some (length x.sent))) l
+pub counts_are : {T : Type 0} (n : ℕ) (totals : List (Option ℕ)) (counts : List ℕ) → AreKeptTotals n totals counts → (l : List (WriterState T)) → Each (λ (x : WriterState T). x.number < n) l → Each (λ (x : WriterState T). slice_get totals x.number ≡ Some (Some (length x.sent))) l
     → Each (λ (x : WriterState T). slice_get counts x.number ≡ Some (length x.sent)) l
 counts_are n totals counts are [] near p = tt
 counts_are n totals counts are (x ∷ l) near p = let t = are.1 x.number near.0 in (t.2 ∙ ap Some (inner (sym t.1 ∙ p.0)), counts_are n totals counts are l near.1 p.1)

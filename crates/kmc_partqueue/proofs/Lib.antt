@@ -1,4 +1,5 @@
 pub mod Sums
+pub mod Members
 pub mod Numbered
 pub mod Turns
 pub mod OneLane
@@ -7,6 +8,7 @@ pub mod Places
 pub mod WriterSteps
 pub mod ReaderSteps
 pub mod Dealing
+pub mod Ends
 pub mod Kept
 pub mod Allowed
 pub mod WriterCalls
@@ -17,3 +19,7 @@ pub mod Final
 pub mod Moving
 pub mod DoubleSums
 pub mod SentAndGot
+pub mod Finishes
+pub mod Told
+pub mod GivenBack
+pub mod PartPlaces

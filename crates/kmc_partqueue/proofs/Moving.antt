@@ -4,8 +4,8 @@ use mathlib.Core.Option.{none, some}
 use mathlib.Core.Option as maybe
 use mathlib.Core.Logic.{dite}
 use native.Mathlib.Decide.{dec_le, ℕ_discrete}
-use lib.ListN.{get_elem?, length-replicate}
-use Rattle.std.specs.Prelude.{Option, Some, None, replicate, slice_get}
+use lib.ListN.{get_elem?}
+use Rattle.std.specs.Prelude.{Option, Some, None, slice_get}
 use Rattle.atomic_table.proofs.Lists.{at_longer, at_last, at_snoc}
 use Rattle.kmc_partcore.specs.declared.shape.QueueShape.{QueueShape}
 use Rattle.kmc_partcore.specs.declared.event.Received.{Received}
@@ -16,17 +16,19 @@ use Rattle.kmc_partqueue.specs.declared.views.Writing.{Writing}
 use Rattle.kmc_partqueue.specs.declared.views.Reading.{Reading}
 use Rattle.kmc_partqueue.specs.declared.views.View.{View}
 use Rattle.kmc_partqueue.specs.Counts.{Each, Among, total_of, same}
+use Rattle.kmc_partqueue.specs.Ends.{AreSeenTotals}
 use Rattle.kmc_partqueue.specs.Rule.{mark_at, end_at, head_at, writers_of, WriterOk, EndOk, LanesRule}
 use Rattle.kmc_partqueue.specs.Dealing.{one_of_writers, one_of_readers, all_seats, fresh_writer, fresh_reader, no_writer, its_writer, no_reader, its_reader, both, spent}
 use Rattle.kmc_partqueue.specs.Plays.{next_slot_of, seen_slot_of, received, holding, sending, completed, looking, seeing, taking, freeing, ending}
 use Rattle.kmc_partqueue.specs.Shown.{WriterShows, ReaderShows, IsShown}
-use Rattle.kmc_partqueue.specs.Laws.{registers, opened, StepLaw, StepsLaw}
+use Rattle.kmc_partqueue.specs.Laws.{registrations, StepLaw, StepsLaw}
+use Rattle.kmc_partqueue.specs.Reached.{opened}
 use Rattle.kmc_partqueue.specs.Steps as step
 use Rattle.kmc_partqueue.specs.Steps.{IsStep, AreSteps, was_put, was_completed, was_taken, was_finished}
-use Rattle.kmc_partqueue.proofs.Sums.{same_ne, each_map, each_absent, each_append, views_stay}
+use Rattle.kmc_partqueue.proofs.Sums.{same_ne, each_map, each_absent, each_append, each_both, views_stay}
 use Rattle.kmc_partqueue.proofs.Frame.{St, heads_of}
-use Rattle.kmc_partqueue.proofs.Kept.{claimed, kept}
-use Rattle.kmc_partqueue.proofs.Dealing.{starts, each_row, each_first, each_rest}
+use Rattle.kmc_partqueue.proofs.Kept.{claimed, kept, opening_rule}
+use Rattle.kmc_partqueue.proofs.Dealing.{zeros, each_row, each_first, each_rest}
 use Rattle.kmc_partqueue.proofs.Final.{each_at}
 use Rattle.kmc_partqueue.proofs.Places.{mark_head, end_head, head_head}
 use Rattle.kmc_partqueue.proofs.WriterSteps as writer
@@ -124,10 +126,6 @@ module _ {T : Type 0} where
         },
       )
 
-each_both : {A : Type 0} (P Q : A → Type 0) (l : List A) → Each P l → Each Q l → Each (λ x. P x × Q x) l
-each_both P Q [] p q = tt
-each_both P Q (x ∷ l) p q = ((p.0, q.0), each_both P Q l p.1 q.1)
-
 find_view : {A : Type 0} (f : A → ℕ) (l : List A) → 1 ≤ total_of f l → (j : ℕ) × (v : A) × (get_elem? l j ≡ some v) × (1 ≤ f v)
 find_view f [] le = absurd (let le' : 1 ≤ 0 = le in omega arith)
 find_view f (x ∷ l) le = let t : ℕ = total_of f l in let u : ℕ = f x in let le' : 1 ≤ u + t = le in dite (dec_le 1 u) (λ here. (0, x, refl, here))
@@ -167,9 +165,9 @@ module _ {T : Type 0} (k : QueueShape) (s : St T) (r : LanesRule k s) (h : Histo
     )
 
     -- each lane was seen at its end
-    pub finished_shows : (totals : List ℕ) (ws' : List ℕ) (homes' : List (maybe.Option (Option T))) → get_or s.words (end_at k b.lane) 0 ≡ suc b.head → length totals ≡ k.writers → ((w : ℕ) → w < k.writers → (t : ℕ) × Among record { writer = w; total = t } (ending b).ends × (slice_get totals w ≡ Some t)) → ((w : ℕ) → w < k.writers → get_or ws' (head_at k w) 0 ≡ get_or s.words (head_at k w) 0)
-        → Fits k (live_of (state_of h)) (was_finished b totals) × IsShown k record { words = ws'; homes = homes'; views = set s.views id (one_of_readers (ending b)) } (state_of (was_finished b totals ∷ h))
-    finished_shows totals ws' homes' found wide all same_heads = let e : Entry T = was_finished b totals in let noted = reader.ends_noted k s r id b at found in (
+    pub finished_shows : (totals : List ℕ) (ws' : List ℕ) (homes' : List (maybe.Option (Option T))) → get_or s.words (end_at k b.lane) 0 ≡ suc b.head → AreSeenTotals k.writers (ending b).ends totals → ((w : ℕ) → w < k.writers → get_or ws' (head_at k w) 0 ≡ get_or s.words (head_at k w) 0)
+        → Fits k (live_of (state_of h)) (was_finished b.number totals) × IsShown k record { words = ws'; homes = homes'; views = set s.views id (one_of_readers (ending b)) } (state_of (was_finished b.number totals ∷ h))
+    finished_shows totals ws' homes' found (wide, all) same_heads = let e : Entry T = was_finished b.number totals in let noted = reader.ends_noted k s r id b at found in (
       (
         (reader.own k s r id b at).known,
         (λ w near. let t = all w near in let d = ended w near (t.0, t.1) noted in let o = lane_shows w near in drop_all (length (left w h)) (accepted w h) (shows.heads w near ∙ d.taken ∙ sym d.sent ∙ sym (ap length o.0))),
@@ -211,9 +209,9 @@ module _ {T : Type 0} (k : QueueShape) (s s' : St T) (r : LanesRule k s) where
       ((p.0, legal), subst (λ z. IsShown k z (state_of (was_taken b x ∷ h))) (sym is) p.1)
   moved e (step.releases_slot id b at held is) h legal shows = let o = reader.own k s r id b at in let i₀ : ℕ = b.head % k.per_writer in let near : i₀ < k.per_writer = mod-lt b.head r.some_room in
       (legal, subst (λ z. IsShown k z (state_of h)) (sym is) (quiet k s r id (set s.words (mark_at k b.lane i₀) (2 * (b.head / k.per_writer) + 2)) (set s.homes (seen_slot_of b) (some None)) (state_of h) shows (one_of_readers b) (one_of_readers (freeing b)) at (mark_head k s.words b.lane o.lane (2 * (b.head / k.per_writer) + 2) i₀ near) (λ p. p) (λ p. p)))
-  moved e (step.reads_end id b at found is) h legal shows = (legal, subst (λ z. IsShown k z (state_of h)) (sym is) (quiet k s r id s.words s.homes (state_of h) shows (one_of_readers b) (one_of_readers (ending b)) at (λ _ _. refl) (λ p. p) (λ p. p)))
-  moved e (step.reads_last_end id b totals at found wide all is) h legal shows =
-      let p = finished_shows k s r h shows id b at totals s.words s.homes found wide all (λ _ _. refl) in ((p.0, legal), subst (λ z. IsShown k z (state_of (was_finished b totals ∷ h))) (sym is) p.1)
+  moved e (step.reads_end id b at found more is) h legal shows = (legal, subst (λ z. IsShown k z (state_of h)) (sym is) (quiet k s r id s.words s.homes (state_of h) shows (one_of_readers b) (one_of_readers (ending b)) at (λ _ _. refl) (λ p. p) (λ p. p)))
+  moved e (step.reads_last_end id b totals at found before are is) h legal shows =
+      let p = finished_shows k s r h shows id b at totals s.words s.homes found are (λ _ _. refl) in ((p.0, legal), subst (λ z. IsShown k z (state_of (was_finished b.number totals ∷ h))) (sym is) p.1)
   moved e (step.finds_nothing is) h legal shows = (legal, subst (λ z. IsShown k z (state_of h)) (sym is) shows)
   moved e (step.splits_writer id v at is) h legal shows = (legal, subst (λ z. IsShown k z (state_of h)) (sym is) (cut_shown (state_of h) shows id (no_writer v) (its_writer v) (each_rest (WriterShows (state_of h)) v.writers (shows.writers id v at), shows.readers id v at) (each_first (WriterShows (state_of h)) v.writers (shows.writers id v at), tt)))
   moved e (step.splits_reader id v at is) h legal shows = (legal, subst (λ z. IsShown k z (state_of h)) (sym is) (cut_shown (state_of h) shows id (no_reader v) (its_reader v) (shows.writers id v at, each_rest (ReaderShows (state_of h)) v.readers (shows.readers id v at)) (tt, each_first (ReaderShows (state_of h)) v.readers (shows.readers id v at))))
@@ -233,38 +231,33 @@ module _ {T : Type 0} (k : QueueShape) where
       same_list : (f d h e : History T) → e ≡ f ++ d → f ++ (d ++ h) ≡ e ++ h
       same_list f d h e is = sym (append_assoc f d h) ∙ ap (λ z. z ++ h) (sym is)
 
-pub zeros : (n i : ℕ) → ◌≡◌ {A = ℕ} (get_or (replicate n 0) i 0) 0
-zeros zero i = refl
-zeros (suc n) zero = refl
-zeros (suc n) (suc i) = zeros n i
-
 module _ (T : Type 0) (k : QueueShape) where
-  not_yet : (w n : ℕ) → n ≤ w → is_registered {T = T} w (registers n) ≡ false
+  not_yet : (w n : ℕ) → n ≤ w → is_registered {T = T} w (registrations n) ≡ false
   not_yet w zero le = refl
-  not_yet w (suc n) le = ap (λ b. b || is_registered {T = T} w (registers n)) (ne_eqb n w (λ e. omega arith)) ∙ not_yet w n (omega arith)
+  not_yet w (suc n) le = ap (λ b. b || is_registered {T = T} w (registrations n)) (ne_eqb n w (λ e. omega arith)) ∙ not_yet w n (omega arith)
 
-  is_known : (w n : ℕ) → w < n → is_registered {T = T} w (registers n) ≡ true
+  is_known : (w n : ℕ) → w < n → is_registered {T = T} w (registrations n) ≡ true
   is_known w zero lt = absurd (omega arith)
-  is_known w (suc n) lt = dite (ℕ_discrete n w) (λ e. ap (λ b. b || is_registered {T = T} w (registers n)) (eq-eqb n w e)) (λ ne. ap (λ b. b || is_registered {T = T} w (registers n)) (ne_eqb n w ne) ∙ is_known w n (omega arith))
+  is_known w (suc n) lt = dite (ℕ_discrete n w) (λ e. ap (λ b. b || is_registered {T = T} w (registrations n)) (eq-eqb n w e)) (λ ne. ap (λ b. b || is_registered {T = T} w (registrations n)) (ne_eqb n w ne) ∙ is_known w n (omega arith))
 
-  no_part : (w n : ℕ) → accepted {T = T} w (registers n) ≡ []
+  no_part : (w n : ℕ) → accepted {T = T} w (registrations n) ≡ []
   no_part w zero = refl
-  no_part w (suc n) = none_more (accepted {T = T} w (registers n)) ∙ no_part w n
+  no_part w (suc n) = none_more (accepted {T = T} w (registrations n)) ∙ no_part w n
 
-  none_left : (w n : ℕ) → left {T = T} w (registers n) ≡ []
+  none_left : (w n : ℕ) → left {T = T} w (registrations n) ≡ []
   none_left w zero = refl
-  none_left w (suc n) = none_more (left {T = T} w (registers n)) ∙ none_left w n
+  none_left w (suc n) = none_more (left {T = T} w (registrations n)) ∙ none_left w n
 
-  none_done : (w n : ℕ) → has_completed {T = T} w (registers n) ≡ false
+  none_done : (w n : ℕ) → has_completed {T = T} w (registrations n) ≡ false
   none_done w zero = refl
   none_done w (suc n) = none_done w n
 
-  registers_legal : (n : ℕ) → n ≤ k.writers → IsLegal {T = T} k (registers n)
-  registers_legal zero le = tt
-  registers_legal (suc n) le = (((let g : n < k.writers = omega arith in g), not_yet n n (le_refl n)), registers_legal n (omega arith))
+  registrations_legal : (n : ℕ) → n ≤ k.writers → IsLegal {T = T} k (registrations n)
+  registrations_legal zero le = tt
+  registrations_legal (suc n) le = (((let g : n < k.writers = omega arith in g), not_yet n n (le_refl n)), registrations_legal n (omega arith))
 
   abbrev h₀ : History T
-  h₀ = registers k.writers
+  h₀ = registrations k.writers
 
   abbrev seats₀ : View T
   seats₀ = all_seats k
@@ -281,4 +274,4 @@ pub step_law : (T : Type 0) → StepLaw T
 step_law T k s s' e r move = (kept k s s' r e move, λ h legal shows. moved k s s' r e move h legal shows)
 
 pub steps_law : (T : Type 0) → StepsLaw T
-steps_law T k s e steps = let words : ℕ = 2 * k.writers + k.writers * k.per_writer in all_moved k (opened k) s e steps (starts k (replicate words 0) k.within.2 k.within.0 (length-replicate words 0) (zeros words)) (registers k.writers) (registers_legal T k k.writers (le_refl k.writers)) (opening_shows T k)
+steps_law T k s e steps = all_moved k (opened k) s e steps (opening_rule k) (registrations k.writers) (registrations_legal T k k.writers (le_refl k.writers)) (opening_shows T k)

@@ -41,9 +41,9 @@ module _ {T : Type 0} where
     phase_stays : (head head' : ℕ) (sent sent' : List T) (mark mark' : ℕ) (home home' : maybe.Option (Home T)) (n : ℕ) → head ≤ head' → length sent ≤ length sent' → Longer sent sent'
         → (length sent ≤ n → length sent' ≤ n) → (head ≤ n → head' ≤ n) → (n ≡ length sent → n ≡ length sent') → mark' ≡ mark → home' ≡ home → (ph : Phase) → InPhase c head sent mark home n ph → InPhase c head' sent' mark' home' n ph
     phase_stays head head' sent sent' mark mark' home home' n a b more lq hq wq em eh free k = (em ∙ k.0, lq k.1, eh ∙ k.2)
-    phase_stays head head' sent sent' mark mark' home home' n a b more lq hq wq em eh writing k = (em ∙ k.0, wq k.1)
+    phase_stays head head' sent sent' mark mark' home home' n a b more lq hq wq em eh writing k = (em ∙ k.0, wq k.1, eh ∙ k.2)
     phase_stays head head' sent sent' mark mark' home home' n a b more lq hq wq em eh full k = (em ∙ k.0, hq k.1, (let l : n < length sent = k.2 in omega arith), (k.3.0, more n k.3.0 k.3.1, eh ∙ k.3.2))
-    phase_stays head head' sent sent' mark mark' home home' n a b more lq hq wq em eh (reading r) k = (em ∙ k.0, (let l : n < head = k.1 in omega arith))
+    phase_stays head head' sent sent' mark mark' home home' n a b more lq hq wq em eh (reading r) k = (em ∙ k.0, (let l : n < head = k.1 in omega arith), eh ∙ k.2)
 
     -- a slot that a step does not touch
     cell_stays : (head head' : ℕ) (sent sent' : List T) (held held' : Bool) (i mark mark' : ℕ) (home home' : maybe.Option (Home T)) (cell : Cell) → head ≤ head' → length sent ≤ length sent' → Longer sent sent'
@@ -125,11 +125,11 @@ module _ {T : Type 0} where
       }
 
       -- a free slot is claimed
-      pub lane_holds : (home' : ℕ → maybe.Option (Home T)) → l.cells (len % c) ≡ (len, free) → mark (len % c) ≡ 2 * (len / c) → ((j : ℕ) → j < c → j ≢ len % c → home' j ≡ home j)
+      pub lane_holds : (home' : ℕ → maybe.Option (Home T)) → l.cells (len % c) ≡ (len, free) → mark (len % c) ≡ 2 * (len / c) → home' (len % c) ≡ some none → ((j : ℕ) → j < c → j ≢ len % c → home' j ≡ home j)
           → LaneOk c (lane_of l.sent true l.done (put l.cells (len % c) (len, writing))) head ending mark home'
-      lane_holds home' at found eo = let i : ℕ = len % c in let k = subst (CellOk c head l.sent l.held i (mark i) (home i)) at (cell_of len) in
+      lane_holds home' at found out eo = let i : ℕ = len % c in let k = subst (CellOk c head l.sent l.held i (mark i) (home i)) at (cell_of len) in
           lane_moves l.sent true l.done head ending mark home' i (len, writing) ok.ended (le_refl head) (le_refl len) (λ p x e. e) ok.behind ok.within ok.limit (λ q n e. e) (λ q n e. e) (λ q n e. e) (λ q n e h. refl) (λ j _ _. refl) eo
-          record { lies = refl; freed = k.freed; waits = k.waits; phase = (found, refl); in_hand = λ _. refl } (λ _. put_here l.cells i (len, writing))
+          record { lies = refl; freed = k.freed; waits = k.waits; phase = (found, refl, out); in_hand = λ _. refl } (λ _. put_here l.cells i (len, writing))
 
       -- a part is published
       pub lane_puts : (x : T) (mark' : ℕ → ℕ) (home' : ℕ → maybe.Option (Home T)) → l.held ≡ true → l.done ≡ false → len < 4294967295 → mark' (len % c) ≡ 2 * (len / c) + 1 → home' (len % c) ≡ some (some (Some x))
@@ -159,8 +159,8 @@ module _ {T : Type 0} where
       abbrev pub IsFull : ℕ → Type 0
       IsFull h = (l.cells (h % c) ≡ (h, full)) × (mark (h % c) ≡ 2 * (h / c) + 1) × ((x : T) × (get_elem? l.sent h ≡ some x) × (home (h % c) ≡ some (some (Some x))))
 
-      -- the part at the head is at home
-      pub full_found : (h : ℕ) → head ≡ h → h < len → IsFull h
+      -- a part from the head on is at home
+      pub full_found : (h : ℕ) → head ≤ h → h < len → IsFull h
       full_found h at lt = let i : ℕ = h % c in let k = cell_of h in let q : ℕ = (l.cells i).0 in let f : q < head + c = k.freed in let w : len ≤ q + c = k.waits in
           let is : q ≡ h = near_one c h q (omega arith) (omega arith) k.lies in go (l.cells i) refl is k.phase
         where
@@ -170,12 +170,12 @@ module _ {T : Type 0} where
           go (n, full) e is k = subst (λ (z : ℕ). (l.cells (h % c) ≡ (z, full)) × (mark (h % c) ≡ 2 * (z / c) + 1) × ((x : T) × (get_elem? l.sent z ≡ some x) × (home (h % c) ≡ some (some (Some x))))) is (e, k.0, k.3)
           go (n, reading r) e is k = let b : n < head = k.1 in absurd (omega arith)
 
-      pub lane_takes : (h r head' : ℕ) (home' : ℕ → maybe.Option (Home T)) → head ≡ h → h < len → head' ≡ h + 1 → ((j : ℕ) → j < c → j ≢ h % c → home' j ≡ home j)
+      pub lane_takes : (h r head' : ℕ) (home' : ℕ → maybe.Option (Home T)) → head ≡ h → h < len → head' ≡ h + 1 → home' (h % c) ≡ some none → ((j : ℕ) → j < c → j ≢ h % c → home' j ≡ home j)
           → LaneOk c (lane_of l.sent l.held l.done (put l.cells (h % c) (h, reading r))) head' ending mark home'
-      lane_takes h r head' home' at lt next eo = let i : ℕ = h % c in let fl = full_found h at lt in let k = subst (CellOk c head l.sent l.held i (mark i) (home i)) fl.0 (cell_of h) in let w : len ≤ head + c = ok.within in let f : h < head + c = k.freed in let n : ℕ = len in
+      lane_takes h r head' home' at lt next out eo = let i : ℕ = h % c in let fl = full_found h (omega arith) lt in let k = subst (CellOk c head l.sent l.held i (mark i) (home i)) fl.0 (cell_of h) in let w : len ≤ head + c = ok.within in let f : h < head + c = k.freed in let n : ℕ = len in
           lane_moves l.sent l.held l.done head' ending mark home' i (h, reading r) ok.ended (omega arith) (le_refl len) (λ p x e. e) (omega arith) (omega arith) ok.limit (λ q n e. e)
           (λ q other le. let ne : q ≢ h = λ e. other (ap (λ (z : ℕ). z % c) e) in omega arith) (λ q n e. e) (λ q n e h. h) (λ j _ _. refl) eo
-          record { lies = refl; freed = (let g : h < head' + c = omega arith in g); waits = k.waits; phase = (fl.1, (let g : h < head' = omega arith in g)); in_hand = λ e. let e' : reading r ≡ writing = e in cc }
+          record { lies = refl; freed = (let g : h < head' + c = omega arith in g); waits = k.waits; phase = (fl.1, (let g : h < head' = omega arith in g), out); in_hand = λ e. let e' : reading r ≡ writing = e in cc }
           (λ e. at_put l.cells i (h, reading r) (λ m x. m ≡ len % c → x ≡ (len, writing)) (len % c) (λ is. clash e is fl.0) (λ _ _. ok.writes e) refl)
         where
           clash : {A : Type 0} → l.held ≡ true → h % c ≡ len % c → l.cells (h % c) ≡ (h, full) → A

@@ -10,11 +10,15 @@ use Rattle.kmc_partqueue.specs.declared.views.Reading.{Reading}
 use Rattle.kmc_partqueue.specs.declared.views.Ending.{Ending}
 use Rattle.kmc_partcore.specs.declared.shape.QueueShape.{QueueShape}
 use Rattle.kmc_partqueue.specs.Counts.{Each, Among}
-use Rattle.kmc_partqueue.specs.Rule.{head_at, end_at, mark_at, LanesRule}
+use Rattle.kmc_partqueue.specs.Reached.{IsReached}
+use Rattle.kmc_partqueue.specs.Ends.{SawAllEnds}
+use Rattle.kmc_partqueue.specs.Rule.{head_at, end_at, mark_at}
 use Rattle.kmc_partqueue.specs.Dealing.{one_of_readers}
 use Rattle.kmc_partqueue.specs.Plays.{Seated, seen_slot_of, looking, seeing, taking, freeing, ending, read_head, saw_published_part, claimed_part, released_slot, read_end}
 use Rattle.kmc_partqueue.specs.Seats.{Between, Noted}
 use Rattle.kmc_partqueue.proofs.Sums.{each_append}
+use Rattle.kmc_partqueue.proofs.Members.{among_left, among_last}
+use Rattle.kmc_partqueue.proofs.Final.{each_at}
 use Rattle.kmc_partqueue.proofs.Allowed.{reads_head, sees_published_part, reads_end, claims_part, releases_slot}
 
 module _ {T : Type 0} where
@@ -58,20 +62,20 @@ module _ {T : Type 0} where
     after_free r e told = told b [] e
 
 module _ {T : Type 0} (k : QueueShape) (n id : ℕ) (b : Reading T) (me : Seated T) where
-  pub head_call : (w i : ℕ) → me ≡ alone b → i ≡ head_at k w → b.held ≡ false → w < k.writers → Allows (LanesRule k) n id me i (λ y. y) (read_head (step n i 0 0 none) me)
-  head_call w i e is empty near = subst (λ (m : Seated T). Allows (LanesRule k) n id m i (λ y. y) (read_head (step n i 0 0 none) m)) (sym e) (reads_head k n id b [] w i near is empty)
+  pub head_call : (w i : ℕ) → me ≡ alone b → i ≡ head_at k w → b.held ≡ false → w < k.writers → Allows (IsReached k) n id me i (λ y. y) (read_head (step n i 0 0 none) me)
+  head_call w i e is empty near = subst (λ (m : Seated T). Allows (IsReached k) n id m i (λ y. y) (read_head (step n i 0 0 none) m)) (sym e) (reads_head k n id b [] w i near is empty)
 
-  pub ready_call : (i : ℕ) → me ≡ alone b → i ≡ mark_at k b.lane (b.head % k.per_writer) → Allows (LanesRule k) n id me i (λ y. y) (saw_published_part (step n i 0 0 none) me)
-  ready_call i e is = subst (λ (m : Seated T). Allows (LanesRule k) n id m i (λ y. y) (saw_published_part (step n i 0 0 none) m)) (sym e) (sees_published_part k n id b [] i is)
+  pub ready_call : (i : ℕ) → me ≡ alone b → i ≡ mark_at k b.lane (b.head % k.per_writer) → Allows (IsReached k) n id me i (λ y. y) (saw_published_part (step n i 0 0 none) me)
+  ready_call i e is = subst (λ (m : Seated T). Allows (IsReached k) n id m i (λ y. y) (saw_published_part (step n i 0 0 none) m)) (sym e) (sees_published_part k n id b [] i is)
 
-  pub end_call : (i : ℕ) → me ≡ alone b → i ≡ end_at k b.lane → Allows (LanesRule k) n id me i (λ y. y) (read_end (step n i 0 0 none) me)
-  end_call i e is = subst (λ (m : Seated T). Allows (LanesRule k) n id m i (λ y. y) (read_end (step n i 0 0 none) m)) (sym e) (reads_end k n id b [] i is)
+  pub end_call : (i : ℕ) → me ≡ alone b → i ≡ end_at k b.lane → ¬ SawAllEnds k.writers b.ends → Allows (IsReached k) n id me i (λ y. y) (read_end (step n i 0 0 none) me)
+  end_call i e is before = subst (λ (m : Seated T). Allows (IsReached k) n id m i (λ y. y) (read_end (step n i 0 0 none) m)) (sym e) (reads_end k n id b [] i is before)
 
-  pub take_call : (i old new : ℕ) → me ≡ alone b → i ≡ head_at k b.lane → old ≡ b.head → new ≡ b.head + 1 → b.ready ≡ true → b.held ≡ false → Allows (LanesRule k) n id me i (λ y. either (eqb y old) new y) (claimed_part (step n i old new none) me)
-  take_call i old new e is o m ready empty = subst (λ (x : Seated T). Allows (LanesRule k) n id x i (λ y. either (eqb y old) new y) (claimed_part (step n i old new none) x)) (sym e) (claims_part k n id b [] i old new is o m ready empty)
+  pub take_call : (i old new : ℕ) → me ≡ alone b → i ≡ head_at k b.lane → old ≡ b.head → new ≡ b.head + 1 → b.ready ≡ true → b.held ≡ false → Allows (IsReached k) n id me i (λ y. either (eqb y old) new y) (claimed_part (step n i old new none) me)
+  take_call i old new e is o m ready empty = subst (λ (x : Seated T). Allows (IsReached k) n id x i (λ y. either (eqb y old) new y) (claimed_part (step n i old new none) x)) (sym e) (claims_part k n id b [] i old new is o m ready empty)
 
-  pub free_call : (i new : ℕ) → me ≡ with_slot b None → i ≡ mark_at k b.lane (b.head % k.per_writer) → new ≡ 2 * (b.head / k.per_writer) + 2 → b.held ≡ true → Allows (LanesRule k) n id me i (λ _. new) (λ _. released_slot (step n i new 0 none) me new)
-  free_call i new e is m held = subst (λ (x : Seated T). Allows (LanesRule k) n id x i (λ _. new) (λ _. released_slot (step n i new 0 none) x new)) (sym e) (releases_slot k n id b [] i new is m held)
+  pub free_call : (i new : ℕ) → me ≡ with_slot b None → i ≡ mark_at k b.lane (b.head % k.per_writer) → new ≡ 2 * (b.head / k.per_writer) + 2 → b.held ≡ true → Allows (IsReached k) n id me i (λ _. new) (λ _. released_slot (step n i new 0 none) me new)
+  free_call i new e is m held = subst (λ (x : Seated T). Allows (IsReached k) n id x i (λ _. new) (λ _. released_slot (step n i new 0 none) x new)) (sym e) (releases_slot k n id b [] i new is m held)
 
 -- notes of a lane more
 pub set_same : {A : Type 0} (l : List A) (i : ℕ) (a : A) → i < length l → slice_get (set l i a) i ≡ Some a
@@ -86,24 +90,12 @@ set_rest (x ∷ xs) zero (suc j) a n = refl
 set_rest (x ∷ xs) (suc i) zero a n = refl
 set_rest (x ∷ xs) (suc i) (suc j) a n = set_rest xs i j a (λ e. n (ap suc e))
 
-among_more : {A : Type 0} (x y : A) (l : List A) → Among x l → Among x (l ++ y ∷ [])
-among_more x y [] p = let e : None ≡ Some x = p.1 in absurd (clash e)
-  where
-    clash : {A : Type 0} {x : A} → None ≡ Some x → ⊥
-    clash e = cc
-among_more x y (z ∷ l) (zero, e) = (zero, e)
-among_more x y (z ∷ l) (suc i, e) = let r = among_more x y l (i, e) in (suc r.0, r.1)
-
-among_last : {A : Type 0} (x : A) (l : List A) → Among x (l ++ x ∷ [])
-among_last x [] = (0, refl)
-among_last x (z ∷ l) = let r = among_last x l in (suc r.0, r.1)
-
 pub noted_more : (es : List Ending) (ts : List (Option ℕ)) (w t : ℕ) → Noted es ts → slice_get ts w ≡ Some None → w < length ts → Noted (es ++ record { writer = w; total = t } ∷ []) (set ts w (Some t))
 noted_more es ts w t n new inside = record {
   kept = λ v u e. dite (ℕ_discrete v w)
       (λ is. let same : Some (Some t) ≡ Some (Some u) = sym (set_same ts w (Some t) inside) ∙ ap (slice_get (set ts w (Some t))) (sym is) ∙ e in let tu : t ≡ u = inner same in
       subst (λ (z : Ending). Among z (es ++ record { writer = w; total = t } ∷ [])) (λ j. record { writer = sym is j; total = tu j }) (among_last (record { writer = w; total = t }) es))
-      (λ other. among_more (record { writer = v; total = u }) (record { writer = w; total = t }) es (n.kept v u (sym (set_rest ts w v (Some t) other) ∙ e)));
+      (λ other. among_left (record { writer = v; total = u }) es (record { writer = w; total = t } ∷ []) (n.kept v u (sym (set_rest ts w v (Some t) other) ∙ e)));
   all = each_append (λ (e : Ending). slice_get (set ts w (Some t)) e.writer ≡ Some (Some e.total)) es (record { writer = w; total = t } ∷ []) (olds es n.all) (set_same ts w (Some t) inside, tt);
 }
   where
@@ -124,3 +116,7 @@ between b me number per_writer next writers totals e n ws r h t long l few = rec
 -- no lane is open and at its end
 pub open_or_ended : {x : Option (Option ℕ)} {t : ℕ} → x ≡ Some None → x ≡ Some (Some t) → ⊥
 open_or_ended {x} {t} a b = let e : Some None ≡ Some (Some t) = sym a ∙ b in cc
+
+-- a lane that is open was not seen at its end
+pub not_all_seen : (ends : List Ending) (totals : List (Option ℕ)) (n w : ℕ) → Noted ends totals → slice_get totals w ≡ Some None → w < n → ¬ SawAllEnds n ends
+not_all_seen ends totals n w noted none_yet near all = let t = all w near in open_or_ended none_yet (each_at (λ (e : Ending). slice_get totals e.writer ≡ Some (Some e.total)) ends noted.all t.1.0 record { writer = w; total = t.0 } t.1.1)

@@ -32,6 +32,11 @@ module _ {T : Type 0} (k : QueueShape) where
     pub own : ReaderOk k r.lanes (heads_of k s.words) b
     own = (r.each_seat id (one_of_readers b) at).1.0
 
+    -- no other seat has the reader
+    pub alone : (j : ℕ) (u : View T) → j ≢ id → get_elem? s.views j ≡ some u → readers_of b.number u ≡ 0
+    alone j u n e = let t = total_two (readers_of b.number) s.views j id u (one_of_readers b) n e at in let o = r.one_reader b.number own.known in let m : ℕ = same b.number b.number in let one : m ≡ 1 = same_refl b.number b.number refl in
+        let x : ℕ = readers_of b.number u in let t' : x + (m + 0) ≤ 1 = subst (λ (z : ℕ). x + (m + 0) ≤ z) o t in omega arith
+
   rises_more : (es : List (Received T)) (x : Received T) → Rises es → Each (λ (f : Received T). f.writer ≡ x.writer → f.number < x.number) es → Rises (es ++ x ∷ [])
   rises_more [] x p q = (tt, tt)
   rises_more (e ∷ es) x p q = (each_append (λ (f : Received T). f.writer ≡ e.writer → e.number < f.number) es (x ∷ []) p.0 ((λ is. q.0 (sym is)), tt), rises_more es x p.1 q.1)
@@ -55,12 +60,12 @@ module _ {T : Type 0} (k : QueueShape) where
   takes_kept s r id b at set_ready at_head = let p = own s r id b at in let w₀ : ℕ = b.lane in let l : Lane T = r.lanes w₀ in let C : ℕ = k.per_writer in let ok = r.each_lane w₀ p.lane in let h : ℕ = b.head in
       let lt : h < length l.sent = p.ready set_ready in let new : ℕ = h + 1 in let next : new ≡ h + 1 = refl in
       let i₀ : ℕ = h % C in let h₀ : ℕ = get_or s.words (head_at k w₀) 0 in let e₀ : ℕ = get_or s.words (end_at k w₀) 0 in let ms = λ (j : ℕ). get_or s.words (mark_at k w₀ j) 0 in let os = λ (j : ℕ). get_elem? s.homes (slot_at k w₀ j) in
-      let fl = full_found C r.some_room l h₀ e₀ ms os ok h at_head lt in let x : T = fl.2.0 in let near : i₀ < C = mod-lt h r.some_room in
+      let fl = full_found C r.some_room l h₀ e₀ ms os ok h (omega arith) lt in let x : T = fl.2.0 in let near : i₀ < C = mod-lt h r.some_room in
       let eslot : seen_slot_of b ≡ slot_at k w₀ i₀ = ap (λ (z : ℕ). w₀ * z + h % z) p.per_writer in let at_slot : ℕ = slot_at k w₀ i₀ in let cell' : Cell = (h, reading b.number) in let l' : Lane T = recelled l i₀ cell' in let ls : ℕ → Lane T = put r.lanes w₀ l' in
       let ws' : List ℕ = set s.words (head_at k w₀) new in let homes' : List (maybe.Option (Option T)) = set s.homes at_slot none in let hs = heads_of k s.words in let hs' = heads_of k ws' in
       let prod : ℕ = k.writers * k.per_writer in let low : w₀ < k.writers = p.lane in let inside : head_at k w₀ < length s.words = subst (λ (z : ℕ). head_at k w₀ < z) (sym r.wide) (let g : k.writers + w₀ < 2 * k.writers + prod = omega arith in g) in
       let here_head : get_or ws' (head_at k w₀) 0 ≡ h + 1 = get_or-set_same s.words (head_at k w₀) new 0 inside ∙ next in
-      let here = lane_takes C r.some_room l h₀ e₀ ms os ok h b.number (get_or ws' (head_at k w₀) 0) (λ (j : ℕ). get_elem? homes' (slot_at k w₀ j)) at_head lt here_head (λ j lj other. home_else k s.homes w₀ i₀ p.lane near none w₀ j lj (λ e. other e.1)) in
+      let here = lane_takes C r.some_room l h₀ e₀ ms os ok h b.number (get_or ws' (head_at k w₀) 0) (λ (j : ℕ). get_elem? homes' (slot_at k w₀ j)) at_head lt here_head (set_here s.homes at_slot none (subst (λ (z : ℕ). at_slot < z) (sym r.slots) (slot_within k w₀ i₀ p.lane near))) (λ j lj other. home_else k s.homes w₀ i₀ p.lane near none w₀ j lj (λ e. other e.1)) in
       let g : Grows k r.lanes ls hs hs' = grows_put k r.lanes hs hs' w₀ l' (λ w lw. heads_up s.words (head_at k w₀) new (head_at k w) inside (let n₀ : h₀ ≤ new = omega arith in n₀)) (λ w _ other. head_head k s.words w₀ p.lane new w other) (le_refl (length l.sent)) (λ q z e. e)
       (λ d e. let long : length l.sent ≡ h₀ = e in absurd (omega arith)) in
       let hands : (q : ℕ) → Hands k r.lanes ls q = λ q. hands_put k r.lanes w₀ i₀ l.sent l.held l.done cell' q (λ e. let z : full ≡ reading q = ap (λ (z : Cell). z.1) (sym fl.0) ∙ e in cc) in
@@ -138,10 +143,6 @@ module _ {T : Type 0} (k : QueueShape) where
       who : Phase → ℕ
       who (reading q) = q
       who _ = 0
-
-      alone : (s : St T) (r : LanesRule k s) (id : ℕ) (b : Reading T) (at : get_elem? s.views id ≡ some (one_of_readers b)) (j : ℕ) (u : View T) → j ≢ id → get_elem? s.views j ≡ some u → readers_of b.number u ≡ 0
-      alone s r id b at j u n e = let t = total_two (readers_of b.number) s.views j id u (one_of_readers b) n e at in let o = r.one_reader b.number (own s r id b at).known in let m : ℕ = same b.number b.number in let one : m ≡ 1 = same_refl b.number b.number refl in
-          let x : ℕ = readers_of b.number u in let t' : x + (m + 0) ≤ 1 = subst (λ (z : ℕ). x + (m + 0) ≤ z) o t in omega arith
 
   module _ (s : St T) (r : LanesRule k s) (id : ℕ) (b : Reading T) (at : get_elem? s.views id ≡ some (one_of_readers b)) where
     abbrev hs : ℕ → ℕ

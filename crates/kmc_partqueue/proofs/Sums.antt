@@ -46,6 +46,10 @@ module _ {A : Type 0} (P Q : A → Type 0) where
   each_absent num w go (x ∷ xs) z p = let t : ℕ = total_of (λ (y : A). same (num y) w) xs in let z' : same (num x) w + t ≡ 0 = z in let u : ℕ = same (num x) w in
       (dite (ℕ_discrete (num x) w) (λ e. let one : u ≡ 1 = same_refl (num x) w e in absurd (omega arith)) (λ n. go x n p.0), each_absent num w go xs (omega arith) p.1)
 
+pub each_both : {A : Type 0} (P Q : A → Type 0) (l : List A) → Each P l → Each Q l → Each (λ x. P x × Q x) l
+each_both P Q [] p q = tt
+each_both P Q (x ∷ l) p q = ((p.0, q.0), each_both P Q l p.1 q.1)
+
 pub each_append : {A : Type 0} (P : A → Type 0) (l m : List A) → Each P l → Each P m → Each P (l ++ m)
 each_append P [] m p q = q
 each_append P (x ∷ xs) m p q = (p.0, each_append P xs m p.1 q)

@@ -23,6 +23,11 @@ module _ (c : ℕ) where
     pub next_slot : (h : ℕ) → (h + c) % c ≡ h % c
     next_slot h = add-mod_right h c
 
+  -- of two numbers of one slot the later has a later use
+  pub later_use : (p q : ℕ) → p < q → p % c ≡ q % c → p / c < q / c
+  later_use p q lt m = let a : ℕ = p / c in let b : ℕ = q / c in let i : ℕ = p % c in let j : ℕ = q % c in let m' : i ≡ j = m in let p' : a * c + i ≡ p = div-add-mod' p c in let q' : b * c + j ≡ q = div-add-mod' q c in
+      dite (dec_le b a) (λ le. let x : ℕ = a * c in let y : ℕ = b * c in let le' : y ≤ x = mul-le-mul_right c le in absurd (omega arith)) (λ no. lt_of_not-le no)
+
 -- slots of different lanes are different
 pub other_lane : (c w v i j : ℕ) → i < c → j < c → w ≢ v → w * c + i ≢ v * c + j
 other_lane c w v i j a b n e = dite (dec_le (suc w) v)

@@ -5,7 +5,8 @@ use Rattle.std.specs.Prelude.{Option, Some, None}
 use Rattle.atomic_table.specs.Table.{step, Allows}
 use Rattle.kmc_partqueue.specs.declared.views.Writing.{Writing}
 use Rattle.kmc_partcore.specs.declared.shape.QueueShape.{QueueShape}
-use Rattle.kmc_partqueue.specs.Rule.{end_at, mark_at, LanesRule}
+use Rattle.kmc_partqueue.specs.Reached.{IsReached}
+use Rattle.kmc_partqueue.specs.Rule.{end_at, mark_at}
 use Rattle.kmc_partqueue.specs.Dealing.{one_of_writers}
 use Rattle.kmc_partqueue.specs.Plays.{Seated, next_slot_of, holding, completed, claimed_free_slot, published_part, closed_lane}
 use Rattle.kmc_partqueue.specs.Seats.{open_writer, sent_of, AtRest}
@@ -38,16 +39,16 @@ module _ {T : Type 0} where
       told a x [] (e ∙ (λ j. (one_of_writers a, ((is ∙ ap (λ (z : ℕ). number * per_writer + z % per_writer) (sym l)) j, Some x) ∷ [])))
 
 module _ {T : Type 0} (k : QueueShape) where
-  pub free_call : (n id : ℕ) (me : Seated T) (number per_writer count i : ℕ) → AtRest me number per_writer count false → i ≡ mark_at k number (count % k.per_writer) → Allows (LanesRule k) n id me i (λ y. y) (claimed_free_slot (step n i 0 0 none) me)
-  free_call n id me number per_writer count i at is = let s : List T = sent_of me.0 in subst (λ (m : Seated T). Allows (LanesRule k) n id m i (λ y. y) (claimed_free_slot (step n i 0 0 none) m)) (sym at.0)
+  pub free_call : (n id : ℕ) (me : Seated T) (number per_writer count i : ℕ) → AtRest me number per_writer count false → i ≡ mark_at k number (count % k.per_writer) → Allows (IsReached k) n id me i (λ y. y) (claimed_free_slot (step n i 0 0 none) me)
+  free_call n id me number per_writer count i at is = let s : List T = sent_of me.0 in subst (λ (m : Seated T). Allows (IsReached k) n id m i (λ y. y) (claimed_free_slot (step n i 0 0 none) m)) (sym at.0)
       (claims_free_slot k n id (open_writer number per_writer s false) [] i (is ∙ ap (λ (z : ℕ). mark_at k number (z % k.per_writer)) (sym at.1)) refl)
 
   pub send_call : (n id : ℕ) (me : Seated T) (number per_writer count slot i new : ℕ) (s : List T) (x : T) → me ≡ with_slot number per_writer s slot (Some x) → length s ≡ count → count < 4294967295 → slot ≡ number * per_writer + count % per_writer → i ≡ mark_at k number (count % k.per_writer) → new ≡ 2 * (count / k.per_writer) + 1
-      → Allows (LanesRule k) n id me i (λ _. new) (λ _. published_part (step n i new 0 none) me new)
+      → Allows (IsReached k) n id me i (λ _. new) (λ _. published_part (step n i new 0 none) me new)
   send_call n id me number per_writer count slot i new s x e l small is index marks = let a : Writing T = holding (open_writer number per_writer s false) in
-      subst (λ (m : Seated T). Allows (LanesRule k) n id m i (λ _. new) (λ _. published_part (step n i new 0 none) m new)) (sym (e ∙ (λ j. (one_of_writers a, ((is ∙ ap (λ (z : ℕ). number * per_writer + z % per_writer) (sym l)) j, Some x) ∷ []))))
+      subst (λ (m : Seated T). Allows (IsReached k) n id m i (λ _. new) (λ _. published_part (step n i new 0 none) m new)) (sym (e ∙ (λ j. (one_of_writers a, ((is ∙ ap (λ (z : ℕ). number * per_writer + z % per_writer) (sym l)) j, Some x) ∷ []))))
       (publishes_part k n id a x [] i new (index ∙ ap (λ (z : ℕ). mark_at k number (z % k.per_writer)) (sym l)) (marks ∙ ap (λ (z : ℕ). 2 * (z / k.per_writer) + 1) (sym l)) refl refl (subst (λ (z : ℕ). z < 4294967295) (sym l) small))
 
-  pub end_call : (n id : ℕ) (me : Seated T) (number per_writer count i new : ℕ) → AtRest me number per_writer count false → i ≡ end_at k number → new ≡ suc count → Allows (LanesRule k) n id me i (λ _. new) (λ _. closed_lane (step n i new 0 none) me new)
-  end_call n id me number per_writer count i new at index is = let s : List T = sent_of me.0 in subst (λ (m : Seated T). Allows (LanesRule k) n id m i (λ _. new) (λ _. closed_lane (step n i new 0 none) m new)) (sym at.0)
+  pub end_call : (n id : ℕ) (me : Seated T) (number per_writer count i new : ℕ) → AtRest me number per_writer count false → i ≡ end_at k number → new ≡ suc count → Allows (IsReached k) n id me i (λ _. new) (λ _. closed_lane (step n i new 0 none) me new)
+  end_call n id me number per_writer count i new at index is = let s : List T = sent_of me.0 in subst (λ (m : Seated T). Allows (IsReached k) n id m i (λ _. new) (λ _. closed_lane (step n i new 0 none) m new)) (sym at.0)
       (closes_lane k n id (open_writer number per_writer s false) [] i new index (is ∙ ap suc (sym at.1)) refl)

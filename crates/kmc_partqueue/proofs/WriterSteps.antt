@@ -90,7 +90,7 @@ module _ {T : Type 0} (k : QueueShape) where
       let go : LanesRule k record { words = s.words; homes = homes'; views = set s.views id (one_of_writers (holding a)) } = writer_moves s r id a at (holding a) (lane_of l.sent true l.done (put l.cells i₀ (length l.sent, writing))) s.words homes' refl refl p.sent refl p.done
       refl (length-set s.homes (slot_at k a.number i₀) none) (λ w _. refl)
       (λ w _ other. (refl, refl, (λ j _. refl), (λ j lj. home_else k s.homes a.number i₀ p.known near none w j lj (λ b. other b.0))))
-      (lane_holds C r.some_room l h₀ e₀ ms os ok (λ (j : ℕ). get_elem? homes' (slot_at k a.number j)) fr.0 found (λ j lj other. home_else k s.homes a.number i₀ p.known near none a.number j lj (λ b. other b.1)))
+      (lane_holds C r.some_room l h₀ e₀ ms os ok (λ (j : ℕ). get_elem? homes' (slot_at k a.number j)) fr.0 found (set_here s.homes (slot_at k a.number i₀) none (subst (λ (z : ℕ). slot_at k a.number i₀ < z) (sym r.slots) (slot_within k a.number i₀ p.known near))) (λ j lj other. home_else k s.homes a.number i₀ p.known near none a.number j lj (λ b. other b.1)))
       (le_refl (length l.sent)) (λ q x e. e) (λ d. (d, refl)) (λ q. hands_put k r.lanes a.number i₀ l.sent true l.done (length l.sent, writing) q (λ e. let x : free ≡ reading q = ap (λ (z : Cell). z.1) (sym fr.0) ∙ e in cc)) in
       subst (λ (z : ℕ). LanesRule k record { words = s.words; homes = set s.homes z none; views = set s.views id (one_of_writers (holding a)) }) (sym eslot) go
 

@@ -4,14 +4,14 @@ use Rattle.kmc_partcore.specs.declared.event.Taken.{Taken}
 use Rattle.kmc_partcore.specs.declared.event.Taken.TheVariants as taken
 use Rattle.kmc_partqueue.specs.declared.reader.TryTaken.{TryTaken}
 use Rattle.kmc_partqueue.specs.declared.reader.TryTaken.TheVariants.{Got, NotNow, Finished}
-use Rattle.kmc_partqueue.specs.Seats.{ReaderState, AllEnded, AreTotals}
+use Rattle.kmc_partqueue.specs.Seats.{ReaderState, AllEnded, AreKeptTotals}
 
 module _ {T : Type 0} where
   -- Finished exactly where the seat then has the total of each lane
   abbrev pub Answers : ReaderState T → ReaderState T → TryTaken T → Type 0
   Answers old new (Got x) = (new.got ≡ old.got ++ x ∷ []) × ¬ AllEnded new.writers new.totals
   Answers old new NotNow = (new.got ≡ old.got) × ¬ AllEnded new.writers new.totals
-  Answers old new (Finished counts) = (new.got ≡ old.got) × AllEnded new.writers new.totals × AreTotals new.writers new.totals counts
+  Answers old new (Finished counts) = (new.got ≡ old.got) × AllEnded new.writers new.totals × AreKeptTotals new.writers new.totals counts
 
   abbrev pub IsFinished : TryTaken T → Type 0
   IsFinished (Got x) = ⊥
@@ -22,7 +22,7 @@ module _ {T : Type 0} where
   abbrev pub TakeAnswers : ReaderState T → ReaderState T → Taken T → Type 0
   TakeAnswers old new (taken.Got x) = (new.got ≡ old.got ++ x ∷ []) × ¬ AllEnded new.writers new.totals
   TakeAnswers old new taken.Empty = ⊥
-  TakeAnswers old new (taken.Finished counts) = (new.got ≡ old.got) × AllEnded new.writers new.totals × AreTotals new.writers new.totals counts
+  TakeAnswers old new (taken.Finished counts) = (new.got ≡ old.got) × AllEnded new.writers new.totals × AreKeptTotals new.writers new.totals counts
 
   abbrev pub IsLast : Taken T → Type 0
   IsLast (taken.Got x) = ⊥

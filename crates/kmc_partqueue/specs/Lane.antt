@@ -1,7 +1,7 @@
 -- One lane: what its words and slots show.
 -- The part n of a writer lies in the slot n % c, for the use n / c. The mark of a slot is 2 j while it is free for the use j, and 2 j + 1 from the store that puts that part until the store that frees the slot for the next use.
 use Rattle.std.specs.Prelude.{◌≡◌, ℕ, suc, ◌+◌, ◌*◌, ◌/◌, ◌%◌, ◌<◌, ◌≤◌, Bool, true, false, List, length, Option, Some, None}
-use mathlib.Core.Option.{some}
+use mathlib.Core.Option.{none, some}
 use mathlib.Core.Option as maybe
 use lib.ListN.{get_elem?}
 use Rattle.kmc_partcore.specs.declared.shape.TheConstants.{MAX_ITEMS}
@@ -30,9 +30,9 @@ pub record Lane (T : Type 0) : Type 0 where
 module _ {T : Type 0} (c head : ℕ) (sent : List T) (mark : ℕ) (home : maybe.Option (Home T)) (n : ℕ) where
   abbrev pub InPhase : Phase → Type 0
   InPhase free = (mark ≡ 2 * (n / c)) × (length sent ≤ n) × (home ≡ some (some None))
-  InPhase writing = (mark ≡ 2 * (n / c)) × (n ≡ length sent)
+  InPhase writing = (mark ≡ 2 * (n / c)) × (n ≡ length sent) × (home ≡ some none)
   InPhase full = (mark ≡ 2 * (n / c) + 1) × (head ≤ n) × (n < length sent) × ((x : T) × (get_elem? sent n ≡ some x) × (home ≡ some (some (Some x))))
-  InPhase (reading r) = (mark ≡ 2 * (n / c) + 1) × (n < head)
+  InPhase (reading r) = (mark ≡ 2 * (n / c) + 1) × (n < head) × (home ≡ some none)
 
 pub record CellOk {T : Type 0} (c head : ℕ) (sent : List T) (held : Bool) (i mark : ℕ) (home : maybe.Option (Home T)) (cell : Cell) : Type 0 where
   pub lies : cell.0 % c ≡ i

@@ -8,5 +8,9 @@ pub mod Refusals
 pub mod Answers
 pub mod Gathered
 pub mod Shown
+pub mod Ends
 pub mod Steps
+pub mod Reached
+pub mod PartPlaces
+pub mod Told
 pub mod Laws

@@ -1,4 +1,4 @@
--- The rule of the lanes: what is true of all words, slots and views between any two atomic steps.
+-- The rule of the lanes: what is true of all words, slots and views between any two atomic steps, wherever the steps lead.
 -- With W writers and c slots a lane, word w is the end of lane w, word W + w its head, and word 2 W + (w c + i) the mark of its slot i, which is slot w c + i of the table.
 use Rattle.std.specs.Prelude.{◌≡◌, ℕ, ◌+◌, ◌*◌, ◌%◌, ◌<◌, ◌≤◌, true, List, [], ◌∷◌, ◌++◌, length, slice_index, Option}
 use mathlib.Core.Option.{some}

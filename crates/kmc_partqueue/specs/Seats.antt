@@ -33,8 +33,8 @@ abbrev pub AllEnded : ℕ → List (Option ℕ) → Type 0
 AllEnded writers totals = (w : ℕ) → w < writers → (t : ℕ) × (slice_get totals w ≡ Some (Some t))
 
 -- these are the totals that are kept
-abbrev pub AreTotals : ℕ → List (Option ℕ) → List ℕ → Type 0
-AreTotals writers totals counts = (length counts ≡ writers) × ((w : ℕ) → w < writers → (t : ℕ) × (slice_get totals w ≡ Some (Some t)) × (slice_get counts w ≡ Some t))
+abbrev pub AreKeptTotals : ℕ → List (Option ℕ) → List ℕ → Type 0
+AreKeptTotals writers totals counts = (length counts ≡ writers) × ((w : ℕ) → w < writers → (t : ℕ) × (slice_get totals w ≡ Some (Some t)) × (slice_get counts w ≡ Some t))
 
 module _ {T : Type 0} where
   -- a seat of a queue with this table and shape

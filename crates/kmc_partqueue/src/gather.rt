@@ -2,12 +2,13 @@
 ghost use Rattle.std.specs.Prelude.{◌≡◌, ℕ, ◌+◌, ◌-◌, ◌<◌, List, ◌++◌, length, Some, slice_get, Option};
 ghost use Rattle.std.specs.Slots.{IsFull};
 ghost use Rattle.atomic_table.specs.Table.{State, Seen};
-ghost use Rattle.kmc_partqueue.specs.Rule.{LanesRule};
+ghost use Rattle.kmc_partqueue.specs.Reached.{IsReached};
 ghost use Rattle.kmc_partqueue.specs.declared.views.View.{View};
 ghost use Rattle.kmc_partqueue.specs.Counts.{Each, Among, total_of, same};
 ghost use Rattle.kmc_partqueue.specs.Seats.{ReaderState, AllEnded, IsWriterOf, IsReaderOf};
-ghost use Rattle.kmc_partqueue.specs.Counts.{Among};
 ghost use Rattle.kmc_partqueue.specs.Gathered.{Pairs, WriterPairs, IsGathered};
+ghost use Rattle.kmc_partqueue.specs.Told.{IsHistoryOf};
+ghost use Rattle.kmc_partcore.specs.History.{History};
 
 use crate::done::DoneSeat;
 use crate::lanes::Lanes;
@@ -47,7 +48,7 @@ impl<T: Drop> Lanes<T> {
     /// What the last state shows beside the seat's view.
     fn close(self, seat: Seat<Option<T>, View<T>>)
         requires { seat.table_id ≡ self.table.shared.table_id }
-        ensures { (s : State (Option T) (View T)) × Seen (LanesRule self.table.shared.key) seat.id seat.me.0 s }
+        ensures { (s : State (Option T) (View T)) × Seen (IsReached self.table.shared.key) seat.id seat.me.0 s }
     {
         let Lanes { table, shape: _ } = self;
         drain(table.close_with(seat));
@@ -87,13 +88,14 @@ impl<T: Drop> Lanes<T> {
         }
     }
 
-    /// All seats of the queue come back, each number once, in any order, one of the readers having seen each lane at its end. Each part that was put was got once, by one reader, and nothing else was. It answers how many parts each writer put.
+    /// All seats of the queue come back, each number once, in any order, one of the readers having seen each lane at its end. Each part that was put was got once, by one reader, and nothing else was. The run had a legal history, in which each part was put, and left to the reader that got it, at its number, and each reader that saw all lanes at their ends was told once that the queue is finished. It answers how many parts each writer put.
     pub fn gather(self, writers: Vec<DoneSeat<T>>, mut readers: Vec<ReaderSeat<T>>) -> Totals
         requires queue { Each (IsWriterOf self.table.shared.table_id self.shape) writers.items × Each (IsReaderOf self.table.shared.table_id self.shape) readers.items }
         requires writers { (w : ℕ) → w < self.shape.writers → total_of (λ s. same s.number w) writers.items ≡ 1 }
         requires readers { (q : ℕ) → q < self.shape.readers → total_of (λ s. same s.number q) readers.items ≡ 1 }
         requires finished { (s : ReaderState T) × Among s readers.items × AllEnded s.writers s.totals }
         ensures gathered { IsGathered writers.items readers.items }
+        ensures history { (h : History T) × IsHistoryOf self.shape writers.items readers.items h }
         ensures totals { (length result ≡ self.shape.writers) × Each (λ s. slice_get result s.number ≡ Some (length s.sent)) writers.items }
     {
         let totals = readers[first_finished(readers.as_slice())].all_totals();

@@ -2,7 +2,7 @@
 ghost use Rattle.std.specs.Prelude.{◌≡◌, ◌+◌, ◌*◌, ◌-◌, ◌<◌, [], Option, None, IfOk};
 
 use crate::reader::ReaderSeat;
-use crate::rule::Kept;
+use crate::rule::Reached;
 use crate::steps::{SplitReader, SplitWriter};
 use crate::views::View;
 use crate::writer::WriterSeat;
@@ -15,7 +15,7 @@ use std::alloc::{AllocError, Global};
 /// What the readers got together is known once all seats are back (`gather`); a caller that never gathers its seats learns what each of them knows, and no more.
 #[derive(Drop)]
 pub struct Lanes<T> {
-    pub(crate) table: Table<Option<T>, View<T>, QueueShape, Kept, Global>,
+    pub(crate) table: Table<Option<T>, View<T>, QueueShape, Reached, Global>,
     pub(crate) shape: QueueShape,
     ghost shaped: { table.shared.key ≡ shape },
     ghost sized: { (table.shared.table_id.words ≡ 2 * shape.writers + shape.writers * shape.per_writer) × (table.shared.table_id.slots ≡ shape.writers * shape.per_writer) },

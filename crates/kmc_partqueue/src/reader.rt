@@ -1,6 +1,6 @@
 //! What a reader does with its seat.
 ghost use Rattle.std.specs.Prelude.{◌≡◌, ℕ, ◌+◌, ◌*◌, ◌-◌, ◌/◌, ◌%◌, ◌<◌, ◌↔◌, [], ◌∷◌, ◌++◌, MatchOption, Option, Some, None, slice_get, true, false};
-ghost use Rattle.kmc_partqueue.specs.Seats.{IsReaderOf, KeepsNotes, AllEnded, AreTotals};
+ghost use Rattle.kmc_partqueue.specs.Seats.{IsReaderOf, KeepsNotes, AllEnded, AreKeptTotals};
 ghost use Rattle.kmc_partqueue.specs.Answers.{Answers, IsFinished, TakeAnswers, IsLast};
 
 use crate::gate::{Gate, Point};
@@ -35,7 +35,7 @@ impl<T> Model for ReaderSeat<T> {
 }
 
 /// What a try to take answers.
-#[derive(Drop)]
+#[derive(Drop, Clone, PartialEq, Eq, Debug)]
 pub enum TryTaken<T> {
     /// A part, which is no longer in the queue.
     Got(Received<T>),
@@ -87,7 +87,7 @@ impl<T> ReaderSeat<T> {
     /// The total of each lane.
     pub(crate) fn all_totals(&self) -> Totals
         requires { AllEnded self.now.writers self.now.totals }
-        ensures { AreTotals self.now.writers self.now.totals result }
+        ensures { AreKeptTotals self.now.writers self.now.totals result }
     {
         let mut counts = [0u64; MAX_WRITERS];
         for lane in 0..self.writers {

@@ -145,12 +145,8 @@ impl<T> Lanes<T> {
         let mut part = part;
         for _ in rt.forever() {
             match self.try_put(s, part, gate) {
-                Ok(number) => return Ok(number),
-                Err((TryPutError::NumbersSpent, back)) => return Err((
-                    TryPutError::NumbersSpent,
-                    back,
-                )),
                 Err((TryPutError::Full, back)) => part = back,
+                answer => return answer,
             }
             thread::yield_now();
         }

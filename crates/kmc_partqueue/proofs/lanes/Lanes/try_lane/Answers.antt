@@ -2,7 +2,7 @@ use Rattle.std.proofs.Common.{rules, arith, refl, sym, ap, ◌∙◌, ◌≡◌,
 use Rattle.kmc_partqueue.specs.Seats.{got_of}
 use Rattle.kmc_partqueue.specs.Plays.{looking, seeing, taking, freeing, ending}
 use Rattle.kmc_partqueue.proofs.Turns.{lane_within}
-use Rattle.kmc_partqueue.proofs.ReaderCalls.{after_head, after_ready, after_not_ready, after_take, after_miss, after_out, after_free, after_end, after_no_end, head_call, ready_call, end_call, take_call, free_call, noted_more, between}
+use Rattle.kmc_partqueue.proofs.ReaderCalls.{after_head, after_ready, after_not_ready, after_take, after_miss, after_out, after_free, after_end, after_no_end, head_call, ready_call, end_call, take_call, free_call, noted_more, not_all_seen, between}
 use Rattle.kmc_partqueue.proofs.lanes.Lanes.try_lane.Goals as goal
 use Rattle.kmc_partqueue.proofs.lanes.Lanes.try_lane.Goals.{then-lane-self, else-lane-self}
 
@@ -127,7 +127,7 @@ load-end-requires g c = let me = c.args.self.now in let k = me.table.shared.key 
     let id = ap (λ v. v.table) vi ∙ c.requires.queue.0 in let got = sym (ap (λ m. got_of m.0) inv.is) ∙ ap (λ v. v.got) vi in
     let h : ℕ = c.load-head.result in let b₁ = looking b lane h in let bw = inv.writers_is ∙ ap (λ v. v.writers) vi ∙ c.requires.queue.2 in let H = after_head b c.s.inside.seat.me c.load-head.new.seat.me me.table.shared.table_id.slots (me.shape.writers + lane) lane h inv.is (λ j. sym bw j + lane) c.load-head.ensures.2 in let id₁ = c.load-head.ensures.0 ∙ id in let small : h ≤ 4294967295 = H.1 in let q : ℕ = h / per_writer in let ql : q ≤ h = div_le h per_writer in
     let S = after_not_ready b₁ c.load-head.new.seat.me c.load-seen.new.seat.me c.load-seen.result H.0 c.load-seen.ensures.2 (λ e. c.if-seen-turn.false (e ∙ ap (λ (z : ℕ). 2 * (h / z) + 1) br)) in let id₂ = c.load-seen.ensures.0 ∙ id₁ in
-    (id₂, subst (λ (z : ℕ). lane < z) (sym me.sized.0) (let x : lane < 2 * me.shape.writers + all = omega arith in x), end_call k _ _ b₁ c.load-seen.new.seat.me lane S refl)
+    (id₂, subst (λ (z : ℕ). lane < z) (sym me.sized.0) (let x : lane < 2 * me.shape.writers + all = omega arith in x), end_call k _ _ b₁ c.load-seen.new.seat.me lane S refl (not_all_seen b.ends c.s.inside.totals k.writers lane inv.noted (ap (λ v. slice_get v.totals lane) vi ∙ c.requires.lane.1) (subst (λ (z : ℕ). lane < z) ws near)))
 
 pub overflow_add-head-2 : goal.overflow_add-head-2
 overflow_add-head-2 g c = let me = c.args.self.now in let k = me.table.shared.key in let inv = c.s.invariant in let b = inv.view in let vi = c.s.view_is in let lane : ℕ = c.args.lane in let per_writer : ℕ = me.shape.per_writer in let near : lane < me.shape.writers = c.requires.lane.0 in

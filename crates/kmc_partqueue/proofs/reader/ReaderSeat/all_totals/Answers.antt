@@ -1,5 +1,5 @@
 use Rattle.std.proofs.Common.{ℕ, ◌<◌, take, length-set, sym, ap, ◌∙◌, subst, arith, slice_get, Some, None}
-use Rattle.kmc_partqueue.specs.Seats.{AreTotals}
+use Rattle.kmc_partqueue.specs.Seats.{AreKeptTotals}
 use Rattle.kmc_partqueue.proofs.Counted.{get_at, counts_more, counts_first, not_ended}
 use Rattle.kmc_partqueue.proofs.reader.ReaderSeat.all_totals.Goals as goal
 
@@ -14,4 +14,4 @@ loop-lane-preserved g c = let inv = c.self.invariant in let vi = c.self.view_is 
 pub returns : goal.returns
 returns g c = let inv = c.self.invariant in let vi = c.self.view_is in let li = c.loop-lane.invariant in let few = inv.few in let wide = li.0 in let n : ℕ = c.self.inside.writers in let end = c.loop-lane-test.false in
     let is = ap (λ v. v.writers) vi in let first = counts_first c.args.self.now.totals n c.loop-lane.lane c.loop-lane.counts li.1 end (omega arith) in
-    subst (AreTotals c.args.self.now.writers c.args.self.now.totals) (sym c.new.ensures) (subst (λ (z : ℕ). AreTotals z c.args.self.now.totals (take n c.loop-lane.counts)) is first)
+    subst (AreKeptTotals c.args.self.now.writers c.args.self.now.totals) (sym c.new.ensures) (subst (λ (z : ℕ). AreKeptTotals z c.args.self.now.totals (take n c.loop-lane.counts)) is first)
