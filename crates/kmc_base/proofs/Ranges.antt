@@ -1,7 +1,7 @@
 -- Codes in range, said of each place and said by recursion.
 use Rattle.std.proofs.Common.{ℕ, ◌<◌, All, List, [], ◌∷◌}
 use Rattle.std.proofs.lemmas.List.Elements.{All-head, All-tail}
-use Rattle.kmc_base.specs.Packs.{AreCodes}
+use Rattle.kmc_base.specs.Lemmas.Packs.{AreCodes}
 
 pub codes_each : (w : List ℕ) → All (λ c. c < 4) w → AreCodes w
 codes_each [] h = tt

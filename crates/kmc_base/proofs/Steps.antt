@@ -5,7 +5,7 @@ use Rattle.std.proofs.lemmas.Bool.Decides.{nat_tests}
 use Rattle.std.specs.Ordering.{nat_cmp, is_lt}
 use Rattle.kmc_base.specs.Words.{complement, rev_comp, word_cmp, canonical}
 use Rattle.kmc_base.specs.Packed.{unpack}
-use Rattle.kmc_base.specs.Packing.{length_unpack, unpack_more, rev_comp_more, cmp_unpack}
+use Rattle.kmc_base.specs.Lemmas.Packing.{length_unpack, unpack_more, rev_comp_more, cmp_unpack}
 
 -- a code of the reverse complement is made
 pub code_made : (n i p rest : ℕ) (whole : List ℕ) → i < n → unpack i p ++ rev_comp (unpack (n - i) rest) ≡ whole

@@ -3,10 +3,10 @@ use Rattle.std.proofs.Common.{◌≡◌, ℕ, zero, suc, ◌+◌, ◌*◌, ◌-�
 use Rattle.std.proofs.lemmas.List.{take_at, drop_at}
 use Rattle.std.proofs.Math.Arith.{mod-mul}
 use Rattle.std.proofs.Math.Nat.{div-div-eq-div-mul, pow-succ'}
-use Rattle.kmc_base.specs.Powers.{pow_quad, pow_some, masked, low_fits}
+use Rattle.kmc_base.specs.Lemmas.Powers.{pow_quad, pow_some, masked, low_fits}
 use Rattle.kmc_base.specs.Words.{window}
 use Rattle.kmc_base.specs.Packed.{unpack}
-use Rattle.kmc_base.specs.Packing.{length_unpack}
+use Rattle.kmc_base.specs.Lemmas.Packing.{length_unpack}
 
 low_digits : (m p : ℕ) → p % 4 ^ suc m ≡ (p / 4 % 4 ^ m) * 4 + p % 4
 low_digits m p =

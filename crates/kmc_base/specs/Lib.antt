@@ -1,11 +1,8 @@
 pub mod Words
 pub mod Packed
-pub mod Packing
-pub mod Packs
-pub mod Powers
 pub mod Strands
-pub mod Rolling
-pub mod Keys
 pub mod Stretches
 pub mod Segments
 pub mod Places
+pub mod Laws
+pub mod Lemmas

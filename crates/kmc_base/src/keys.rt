@@ -28,7 +28,8 @@ pub fn push_keys<W: Word + Drop>(
     requires some { 1 ≤ k }
     requires most { k ≤ W.most }
     requires codes { All (λ c. c < 4) codes.now }
-    ensures { OnOk result (map W.number words.new.items ≡ map W.number words.old.items ++ map pack (keys strands k codes.now)) }
+    ensures { OnOk result (map W.number words.new.items
+        ≡ map W.number words.old.items ++ map pack (keys strands k codes.now)) }
 {
     let top = W::top(k);
     let mut forward = W::zero();

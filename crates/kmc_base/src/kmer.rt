@@ -27,7 +27,7 @@ pub struct Kmer {
 impl Model for Kmer {
     ghost use Rattle.std.specs.Prelude.{ℕ, List, length};
     ghost use Rattle.kmc_base.specs.Packed.{unpack, pack, IsPacked};
-    ghost use Rattle.kmc_base.specs.Packing.{pack_unpack};
+    ghost use Rattle.kmc_base.specs.Lemmas.Packing.{pack_unpack};
 
     ghost Value = { List ℕ };
 
@@ -113,7 +113,7 @@ impl Kmer {
     }
 
     /// How many codes.
-    #[tactic(auto, using(crate::specs::Packing::length_unpack))]
+    #[tactic(auto, using(crate::specs::Lemmas::Packing::length_unpack))]
     pub fn k(&self) -> usize
         ensures is { result ≡ length self.now }
         ensures some { 1 ≤ result }

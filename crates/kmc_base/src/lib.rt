@@ -10,6 +10,4 @@ pub mod laws;
 pub mod segment;
 pub mod strands;
 pub mod stretch;
-#[cfg(test)]
-mod tests;
 pub mod word;

@@ -4,7 +4,7 @@ use Rattle.std.specs.List.{AllByRecursion}
 use Rattle.std.specs.List.Sorted.{IsPermutation}
 use Rattle.kmc_base.specs.declared.strands.Strands.{Strands}
 use Rattle.kmc_base.specs.Packed.{pack, unpack}
-use Rattle.kmc_base.specs.Keys.{AreWords, words_append, keys_are_words}
+use Rattle.kmc_base.specs.Lemmas.Keys.{AreWords, words_append, keys_are_words}
 use Rattle.kmc_base.specs.Strands.{keys}
 use Rattle.kmc_record.specs.Record.{IsSpelled, IsBodyOf}
 use Rattle.kmc_record.specs.RecordWords.{record_keys}

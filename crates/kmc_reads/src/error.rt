@@ -33,6 +33,3 @@ impl From<AllocError> for ReadsError {
         ReadsError::Memory
     }
 }
-
-#[cfg(test)]
-mod tests;

@@ -21,6 +21,3 @@ pub fn read_all(alloc: Global, bytes: &[u8], format: Format) -> Result<Vec<Vec<u
         Format::Fastq => read_fastq(alloc, bytes),
     }
 }
-
-#[cfg(test)]
-mod tests;

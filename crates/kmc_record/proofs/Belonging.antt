@@ -4,11 +4,15 @@ use Rattle.std.proofs.lemmas.List.{take_at, take-append-drop, length-take-le}
 use Rattle.std.specs.List.{All}
 use Rattle.kmc_base.specs.Words.{windows}
 use Rattle.kmc_split.specs.Signature.{signature_of}
-use Rattle.kmc_split.specs.SuperKmer.{Stretch, words_of}
+use Rattle.kmc_split.specs.SuperKmer.{Piece, piece_words}
 use Rattle.kmc_record.specs.Record.{spelling, IsSpelled}
 use Rattle.kmc_record.specs.Shapes.{Sizes}
 use Rattle.kmc_record.specs.Parts.{Parcel, IsPart, capped}
-use Rattle.kmc_record.specs.Bodies.{AreRecordsOfBin, Belong}
+use Rattle.kmc_record.specs.Bodies.{AreRecordsOfBin, Belong, IsFirstError}
+use Rattle.kmc_record.specs.Faults.{IsShort, IsPadded}
+use Rattle.kmc_record.specs.Refusals.{IsRefused, part_error}
+use Rattle.kmc_record.specs.declared.fault.RecordError.{RecordError}
+use Rattle.kmc_record.specs.declared.fault.RecordError.TheVariants.{Short, Padding, Memory}
 use Rattle.kmc_record.proofs.Parcels.{part_grown}
 
 pub part_none : (bin : ℕ) (shape : Sizes) → bin < shape.n → IsPart bin shape [] 0
@@ -22,6 +26,13 @@ part_none bin shape h = record {
 
 pub records_of_part : (bin : ℕ) (shape : Sizes) (body : List ℕ) (words : ℕ) → IsPart bin shape body words → AreRecordsOfBin bin shape body
 records_of_part bin shape body words h = record { super_kmers = h.super_kmers; records = h.records; belong = h.belong }
+
+-- a refusal to read the record at the offset, behind records of the bin
+pub refused_at : (bin : ℕ) (shape : Sizes) (k offset : ℕ) (e : RecordError) (body : List ℕ) → k ≡ shape.k → offset < length body → AreRecordsOfBin bin shape (take offset body)
+    → IsRefused k e (drop offset body) → IsFirstError bin shape (part_error e offset) body
+refused_at bin shape k offset Short body same inside front h = (inside, front, subst (λ j. IsShort j (drop offset body)) same h)
+refused_at bin shape k offset Padding body same inside front h = (inside, front, subst (λ j. IsPadded j (drop offset body)) same h)
+refused_at bin shape k offset Memory body same inside front h = tt
 
 front_joined : (body w rest : List ℕ) (offset next : ℕ) → offset ≤ length body → drop offset body ≡ w ++ rest → next ≡ length body - length rest → take next body ≡ take offset body ++ w
 front_joined body w rest offset next inside is at =
@@ -47,22 +58,22 @@ part_more bin shape body rest codes k offset next words n more same h inside spe
 
 -- ---- what is asked of a super-k-mer, and of its codes
 
-same_stretch : (shape : Sizes) (k : ℕ) (s t : Stretch) → k ≡ shape.k → s.k ≡ k → t ≡ s → t ≡ record { k = shape.k; codes = s.codes }
-same_stretch shape k s t ek sk ts = ts ∙ (λ i. record { k = (sk ∙ ek) i; codes = s.codes })
+same_piece : (shape : Sizes) (k : ℕ) (s t : Piece) → k ≡ shape.k → s.k ≡ k → t ≡ s → t ≡ record { k = shape.k; codes = s.codes }
+same_piece shape k s t ek sk ts = ts ∙ (λ i. record { k = (sk ∙ ek) i; codes = s.codes })
 
-pub belongs_here : (bin : ℕ) (shape : Sizes) (k m n : ℕ) (s t : Stretch) → k ≡ shape.k → m ≡ shape.m → n ≡ shape.n → s.k ≡ k → t ≡ s
-    → All (λ w. signature_of m w % n ≡ bin) (words_of t) → Belong bin shape (windows shape.k s.codes)
+pub belongs_here : (bin : ℕ) (shape : Sizes) (k m n : ℕ) (s t : Piece) → k ≡ shape.k → m ≡ shape.m → n ≡ shape.n → s.k ≡ k → t ≡ s
+    → All (λ w. signature_of m w % n ≡ bin) (piece_words t) → Belong bin shape (windows shape.k s.codes)
 belongs_here bin shape k m n s t ek em en sk ts h =
-    let path = same_stretch shape k s t ek sk ts in
+    let path = same_piece shape k s t ek sk ts in
     subst (λ (x : Sizes). Belong bin x (windows shape.k s.codes)) (λ i. record { k = ek i; m = em i; n = en i })
-    (subst (λ (x : Stretch). All (λ w. signature_of m w % n ≡ bin) (words_of x)) path h)
+    (subst (λ (x : Piece). All (λ w. signature_of m w % n ≡ bin) (piece_words x)) path h)
 
-pub asked_here : (bin : ℕ) (shape : Sizes) (k m n : ℕ) (s t : Stretch) → k ≡ shape.k → m ≡ shape.m → n ≡ shape.n → s.k ≡ k → t ≡ s
-    → Belong bin shape (windows shape.k s.codes) → All (λ w. signature_of m w % n ≡ bin) (words_of t)
+pub asked_here : (bin : ℕ) (shape : Sizes) (k m n : ℕ) (s t : Piece) → k ≡ shape.k → m ≡ shape.m → n ≡ shape.n → s.k ≡ k → t ≡ s
+    → Belong bin shape (windows shape.k s.codes) → All (λ w. signature_of m w % n ≡ bin) (piece_words t)
 asked_here bin shape k m n s t ek em en sk ts h =
-    let path = sym (same_stretch shape k s t ek sk ts) in
-    subst (λ (x : Stretch). All (λ w. signature_of m w % n ≡ bin) (words_of x)) path
+    let path = sym (same_piece shape k s t ek sk ts) in
+    subst (λ (x : Piece). All (λ w. signature_of m w % n ≡ bin) (piece_words x)) path
     (subst (λ (x : Sizes). Belong bin x (windows shape.k s.codes)) (λ i. record { k = sym ek i; m = sym em i; n = sym en i }) h)
 
-pub counted_here : (shape : Sizes) (k c : ℕ) (s t : Stretch) → k ≡ shape.k → s.k ≡ k → t ≡ s → c ≡ length (words_of t) → c ≡ length (windows shape.k s.codes)
-counted_here shape k c s t ek sk ts h = h ∙ ap (λ (x : Stretch). length (words_of x)) (same_stretch shape k s t ek sk ts)
+pub counted_here : (shape : Sizes) (k c : ℕ) (s t : Piece) → k ≡ shape.k → s.k ≡ k → t ≡ s → c ≡ length (piece_words t) → c ≡ length (windows shape.k s.codes)
+counted_here shape k c s t ek sk ts h = h ∙ ap (λ (x : Piece). length (piece_words x)) (same_piece shape k s t ek sk ts)

@@ -1,7 +1,7 @@
 -- The codes in bytes, place by place.
 use Rattle.std.proofs.Common.{◌≡◌, ℕ, zero, suc, ◌+◌, ◌*◌, ◌-◌, ◌/◌, ◌%◌, ◌^◌, ◌<◌, List, [], ◌∷◌, ◌++◌, length, get_or, take, refl, sym, ap, ◌∙◌, arith}
 use Rattle.std.proofs.lemmas.List.{get_or-take}
-use Rattle.kmc_base.specs.Packs.{AreCodes}
+use Rattle.kmc_base.specs.Lemmas.Packs.{AreCodes}
 use Rattle.kmc_record.specs.Record.{quarters, codes_in}
 
 pub length_codes : (bs : List ℕ) → length (codes_in bs) ≡ 4 * length bs

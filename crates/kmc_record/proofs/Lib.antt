@@ -1,6 +1,7 @@
 pub mod Codes
 pub mod Spelled
 pub mod Whole
+pub mod LaidOut
 pub mod Unique
 pub mod Written
 pub mod Parcels

@@ -2,7 +2,7 @@
 use Rattle.std.proofs.Common.{◌≡◌, ℕ, ◌*◌, ◌-◌, ◌<◌, ◌≤◌, List, [], ◌∷◌, ◌++◌, length, get_or, take, drop, refl, sym, ap, subst, ◌∙◌, arith, append_assoc, length-append, length-drop}
 use Rattle.std.proofs.lemmas.List.{take_at, drop_at, take-append-drop, get_or_append_left, get_or-append_right}
 use Rattle.std.specs.List.{flat_map, AllByRecursion}
-use Rattle.kmc_base.specs.Packs.{AreCodes}
+use Rattle.kmc_base.specs.Lemmas.Packs.{AreCodes}
 use Rattle.kmc_record.specs.Record.{packed_codes, spelling, IsSpelled, IsBodyOf, codes_in, size_of, quarters}
 use Rattle.kmc_record.specs.Faults.{HasFault, IsFirstFault}
 use Rattle.kmc_record.specs.declared.fault.RecordFault.{RecordFault}

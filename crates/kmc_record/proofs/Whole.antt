@@ -5,7 +5,7 @@ use Rattle.std.proofs.Math.Seq.{take-add}
 use Rattle.std.specs.List.{flat_map, AllByRecursion}
 use Rattle.kmc_base.specs.declared.strands.Strands.{Strands}
 use Rattle.kmc_base.specs.Packed.{pack}
-use Rattle.kmc_base.specs.Rolling.{codes_front}
+use Rattle.kmc_base.specs.Lemmas.Rolling.{codes_front}
 use Rattle.kmc_base.specs.Strands.{keys}
 use Rattle.kmc_record.specs.Record.{packed_codes, spelling, IsSpelled, IsBodyOf, codes_in, size_of}
 use Rattle.kmc_record.specs.RecordWords.{record_keys}

@@ -2,7 +2,7 @@
 use Rattle.std.proofs.Common.{◌≡◌, ℕ, zero, suc, ◌+◌, ◌*◌, ◌-◌, ◌<◌, ◌≤◌, List, [], ◌∷◌, ◌++◌, length, get_or, take, drop, set, refl, sym, ap, ◌∙◌, arith}
 use Rattle.std.proofs.lemmas.List.{get_or-drop, take_more, take_more_set, take_all}
 use Rattle.std.proofs.lemmas.List.Elements.{recursion_from_All, All-from_recursion}
-use Rattle.kmc_base.specs.Packs.{AreCodes}
+use Rattle.kmc_base.specs.Lemmas.Packs.{AreCodes}
 use Rattle.kmc_base.specs.declared.kmer.TheConstants.{MAX_K}
 use Rattle.kmc_split.specs.SuperKmer.{IsSuperKmer}
 use Rattle.kmc_record.specs.Record.{packed_codes, spelling, IsSpelled, size_of}

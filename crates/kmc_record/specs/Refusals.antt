@@ -2,6 +2,10 @@
 use Rattle.std.specs.Prelude.{◌≡◌, ℕ, List, ◌++◌}
 use Rattle.kmc_record.specs.Record.{spelling, IsSpelled}
 use Rattle.kmc_record.specs.Faults.{IsShort, IsPadded}
+use Rattle.kmc_record.specs.declared.fault.RecordFault.{RecordFault}
+use Rattle.kmc_record.specs.declared.fault.RecordFault.TheVariants.{Short as ShortFault, Padding as PaddingFault}
+use Rattle.kmc_record.specs.declared.fault.PartError.{PartError}
+use Rattle.kmc_record.specs.declared.fault.PartError.TheVariants.{Damaged, Memory as MemoryOfPart}
 use Rattle.kmc_record.specs.declared.fault.RecordError.{RecordError}
 use Rattle.kmc_record.specs.declared.fault.RecordError.TheVariants.{Short, Padding, Memory}
 
@@ -17,3 +21,14 @@ abbrev pub IsRefused : ℕ → RecordError → List ℕ → Type 0
 IsRefused k Short bytes = IsShort k bytes
 IsRefused k Padding bytes = IsPadded k bytes
 IsRefused k Memory bytes = BeginsRecord k bytes
+
+-- a fault of a record, as a refusal to read it
+abbrev pub refusal : RecordFault → RecordError
+refusal ShortFault = Short
+refusal PaddingFault = Padding
+
+-- a refusal to read the record that begins at this offset of a body, as a refusal of the body
+abbrev pub part_error : RecordError → ℕ → PartError
+part_error Short offset = Damaged ShortFault offset
+part_error Padding offset = Damaged PaddingFault offset
+part_error Memory offset = MemoryOfPart

@@ -2,6 +2,7 @@
 use Rattle.std.specs.Prelude.{ℕ, ◌≤◌}
 use Rattle.kmc_base.specs.declared.kmer.TheConstants.{MAX_K}
 use Rattle.kmc_split.specs.declared.signature.TheConstants.{MAX_M}
+use Rattle.kmc_record.specs.declared.shape.TheConstants.{LEAST_P, MOST_BINS}
 
 -- the symbols of a word, those of an m-mer that signatures are made of, and the number of bins
 pub record Sizes : Type 0 where
@@ -12,11 +13,11 @@ pub record Sizes : Type 0 where
 -- the limits on k, on what m is at most, and on the number of bins
 pub record AreWithinLimits (k p n : ℕ) : Type 0 where
   pub some_k : 1 ≤ k
-  pub most_k : k ≤ 64
-  pub some_p : 5 ≤ p
-  pub most_p : p ≤ 11
+  pub most_k : k ≤ MAX_K
+  pub some_p : LEAST_P ≤ p
+  pub most_p : p ≤ MAX_M
   pub some_n : 1 ≤ n
-  pub most_n : n ≤ 2000
+  pub most_n : n ≤ MOST_BINS
 
 -- what a `Shape` can hold
 pub record IsShape (k m n : ℕ) : Type 0 where
@@ -26,4 +27,4 @@ pub record IsShape (k m n : ℕ) : Type 0 where
   pub most_m : m ≤ MAX_M
   pub within : m ≤ k
   pub some_n : 1 ≤ n
-  pub most_n : n ≤ 2000
+  pub most_n : n ≤ MOST_BINS

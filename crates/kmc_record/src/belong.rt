@@ -4,7 +4,7 @@ ghost use Rattle.kmc_record.specs.Parts.{IsPart};
 ghost use Rattle.kmc_record.specs.Bodies.{IsFirstError};
 
 use crate::decode::decode;
-use crate::fault::{PartError, RecordError, RecordFault};
+use crate::fault::PartError;
 use crate::shape::Shape;
 use std::alloc::Global;
 
@@ -27,12 +27,7 @@ pub(crate) fn count_words(
     while offset < body.len() {
         let (s, rest) = match decode(alloc, &body[offset..], k) {
             Ok(found) => found,
-            Err(RecordError::Short) => return Err(PartError::Damaged(RecordFault::Short, offset)),
-            Err(RecordError::Padding) => return Err(PartError::Damaged(
-                RecordFault::Padding,
-                offset,
-            )),
-            Err(RecordError::Memory) => return Err(PartError::Memory),
+            Err(e) => return Err(e.at(offset)),
         };
         if !s.in_bin(m, n, bin) {
             return Err(PartError::WrongBin(offset));

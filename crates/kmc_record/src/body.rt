@@ -23,7 +23,8 @@ pub fn push_body<W: Word + Drop>(
     requires some { 1 ≤ k }
     requires most { k ≤ W.most }
     requires limit { k ≤ MAX_K }
-    ensures ok { OnOk result ((ss : List (List ℕ)) × IsBodyOf k ss body.now × (map W.number words.new.items ≡ map W.number words.old.items ++ map pack (record_keys strands k ss))) }
+    ensures ok { OnOk result ((ss : List (List ℕ)) × IsBodyOf k ss body.now
+        × (map W.number words.new.items ≡ map W.number words.old.items ++ map pack (record_keys strands k ss))) }
     ensures damaged { (fault : RecordFault) (offset : ℕ) → IsErrOf result (BodyError.Damaged fault offset) → IsFirstFault k fault offset body.now }
 {
     let mut offset = 0;
@@ -34,11 +35,8 @@ pub fn push_body<W: Word + Drop>(
             Err(fault) => return Err(BodyError::Damaged(fault, offset)),
         };
         let size = (symbols + 3) / 4;
-        let codes = &rest[1..1 + size];
-        match push_record(words, codes, symbols, k, strands) {
-            Ok(()) => offset += 1 + size,
-            Err(_) => return Err(BodyError::Memory),
-        }
+        push_record(words, &rest[1..1 + size], symbols, k, strands)?;
+        offset += 1 + size;
     }
     Ok(())
 }

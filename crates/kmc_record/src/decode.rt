@@ -3,7 +3,7 @@ ghost use Rattle.std.specs.Prelude.{◌≡◌, ◌+◌, ◌*◌, ◌≤◌, ◌<
 ghost use Rattle.kmc_record.specs.Record.{spelling, IsSpelled, codes_in};
 ghost use Rattle.kmc_record.specs.Refusals.{IsRefused};
 
-use crate::fault::{RecordError, RecordFault};
+use crate::fault::RecordError;
 use crate::record::{code_at, first_symbols};
 use kmc_base::kmer::MAX_K;
 use kmc_split::super_kmer::SuperKmer;
@@ -37,16 +37,9 @@ pub fn decode<'a>(
     if bytes.is_empty() {
         return Err(RecordError::Short);
     }
-    let symbols = match first_symbols(bytes, k) {
-        Ok(symbols) => symbols,
-        Err(RecordFault::Short) => return Err(RecordError::Short),
-        Err(RecordFault::Padding) => return Err(RecordError::Padding),
-    };
+    let symbols = first_symbols(bytes, k)?;
     let size = (symbols + 3) / 4;
-    let codes = match unpacked(alloc, &bytes[1..1 + size], symbols) {
-        Ok(codes) => codes,
-        Err(_) => return Err(RecordError::Memory),
-    };
+    let codes = unpacked(alloc, &bytes[1..1 + size], symbols)?;
     match SuperKmer::new(codes, k) {
         Some(s) => Ok((s, &bytes[1 + size..])),
         None => unreachable!(),

@@ -15,5 +15,3 @@ pub mod parts;
 mod record;
 pub mod shape;
 pub mod spell;
-#[cfg(test)]
-mod tests;

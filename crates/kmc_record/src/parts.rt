@@ -17,7 +17,7 @@ use kmc_split::runs::Run;
 use std::alloc::{AllocError, Global};
 
 /// Some reads of an input, and which chunk of it they are.
-#[derive(Drop)]
+#[derive(Debug, PartialEq, Eq, Drop)]
 pub struct Chunk {
     pub number: u64,
     pub reads: Vec<Vec<u8>>,

@@ -3,7 +3,7 @@ ghost use Rattle.std.specs.Prelude.{◌≡◌, ◌≢◌, ℕ, ◌+◌, ◌-◌,
 ghost use Rattle.kmc_base.specs.Packed.{pack};
 ghost use Rattle.kmc_base.specs.Strands.{keys};
 ghost use Rattle.kmc_record.specs.Record.{codes_in, size_of};
-ghost use Rattle.kmc_base.specs.Rolling.{ahead, behind};
+ghost use Rattle.kmc_base.specs.Lemmas.Rolling.{ahead_byte, behind_byte};
 ghost use Rattle.kmc_record.specs.Faults.{HasFault};
 
 use crate::fault::RecordFault;
@@ -60,8 +60,8 @@ pub fn first_symbols(bytes: &[u8], k: usize) -> Result<usize, RecordFault>
 fn slide_byte<W: Word + Drop>(forward: W, back: W, byte: u8, top: W) -> (W, W)
     requires top { (j : ℕ) × (j < W.most) × (W.number top ≡ 4 ^ j) }
     requires back { W.number back / 4 < W.number top }
-    ensures ahead { W.number result.0 ≡ ahead (W.number top) (ahead (W.number top) (ahead (W.number top) (ahead (W.number top) (W.number forward) (byte / 64 % 4)) (byte / 16 % 4)) (byte / 4 % 4)) (byte % 4) }
-    ensures behind { W.number result.1 ≡ behind (W.number top) (behind (W.number top) (behind (W.number top) (behind (W.number top) (W.number back) (byte / 64 % 4)) (byte / 16 % 4)) (byte / 4 % 4)) (byte % 4) }
+    ensures ahead { W.number result.0 ≡ ahead_byte (W.number top) (W.number forward) byte }
+    ensures behind { W.number result.1 ≡ behind_byte (W.number top) (W.number back) byte }
 {
     let a = byte / 64 % 4;
     let b = byte / 16 % 4;
@@ -92,7 +92,8 @@ pub fn push_record<W: Word + Drop>(
     requires long { k ≤ symbols }
     requires inside { symbols ≤ 4 * length bytes.now }
     requires few { length bytes.now < 1000 }
-    ensures { OnOk result (map W.number words.new.items ≡ map W.number words.old.items ++ map pack (keys strands k (take symbols (codes_in bytes.now)))) }
+    ensures { OnOk result (map W.number words.new.items
+        ≡ map W.number words.old.items ++ map pack (keys strands k (take symbols (codes_in bytes.now)))) }
 {
     let top = W::top(k);
     let mut forward = W::zero();

@@ -6,16 +6,15 @@ use kmc_base::kmer::MAX_K;
 use kmc_split::signature::MAX_M;
 use std::marker::Model;
 
-/// The least and the most that may be asked for as m, and the most bins.
-const LEAST_P: usize = 5;
+/// The fewest symbols that may be asked for as those of a signature; the most are [`MAX_M`].
+pub const LEAST_P: usize = 5;
 
-const MOST_P: usize = MAX_M;
-
-const MOST_BINS: usize = 2000;
+/// The most bins; every limit on bins is this one.
+pub const MOST_BINS: usize = 2000;
 
 /// The number k of symbols of a word, the number m of symbols of the m-mers that signatures are made of, and the
 /// number n of bins.
-#[derive(Clone, Copy, PartialEq, Eq)]
+#[derive(Clone, Copy, Debug, PartialEq, Eq)]
 pub struct Shape {
     k: usize,
     m: usize,
@@ -41,7 +40,7 @@ impl Shape {
         ensures { MatchOption result (¬ (AreWithinLimits k p n)) (λ s. (s.k ≡ k) × (s.m ≡ min p k) × (s.n ≡ n) × AreWithinLimits k p n) }
     {
         let words = 1 <= k && k <= MAX_K;
-        let mmers = LEAST_P <= p && p <= MOST_P;
+        let mmers = LEAST_P <= p && p <= MAX_M;
         if words && mmers && 1 <= n && n <= MOST_BINS {
             Some(Shape { k, m: p.min(k), n })
         } else {

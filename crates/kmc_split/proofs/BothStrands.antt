@@ -4,8 +4,8 @@ use Rattle.std.specs.Ordering.{is_lt}
 use Rattle.std.proofs.lemmas.List.{same_lists, get_or-take, get_or-drop, get_or-reverse, get_or-map, length-map}
 use Rattle.kmc_base.specs.Words.{complement, rev_comp, canonical, word_cmp, window}
 use Rattle.kmc_base.specs.Packed.{pack}
-use Rattle.kmc_base.specs.Packs.{AreCodes, length_rev_comp, length_canonical, canonical_rev_comp}
-use Rattle.kmc_base.specs.Rolling.{codes_part}
+use Rattle.kmc_base.specs.Lemmas.Packs.{AreCodes, length_rev_comp, length_canonical, canonical_rev_comp}
+use Rattle.kmc_base.specs.Lemmas.Rolling.{codes_part}
 use Rattle.kmc_split.specs.Signature.{is_allowed, signature_of}
 use Rattle.kmc_split.specs.Offers.{offer}
 use Rattle.kmc_split.proofs.Lowest.{low_back}

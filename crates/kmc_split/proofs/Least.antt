@@ -4,7 +4,7 @@ use Rattle.std.specs.List.{filter, range_with_len}
 use Rattle.std.proofs.lemmas.List.{drop-drop}
 use Rattle.kmc_base.specs.Words.{canonical, window, windows}
 use Rattle.kmc_base.specs.Packed.{pack, unpack}
-use Rattle.kmc_base.specs.Packing.{pack_of_unpack}
+use Rattle.kmc_base.specs.Lemmas.Packing.{pack_of_unpack}
 use Rattle.kmc_split.specs.declared.runs.Run.{Run}
 use Rattle.kmc_split.specs.Cut.{AreRuns, IsCut}
 use Rattle.kmc_split.specs.Signature.{is_allowed, least, signature_of}

@@ -1,7 +1,7 @@
 -- The least value of a window, by its bounds.
 use Rattle.std.proofs.Common.{◌≡◌, ℕ, zero, suc, ◌+◌, ◌<◌, ◌≤◌, ◌-◌, ◌^◌, List, length, take, drop, slice_index, min, refl, sym, ap, ◌∙◌, arith, ◌⊎◌, inl, inr, add-one, zero-add, add-zero}
 use Rattle.std.proofs.lemmas.List.{get_or-take, get_or-drop}
-use Rattle.kmc_base.specs.Packing.{pow_up}
+use Rattle.kmc_base.specs.Lemmas.Powers.{pow_up}
 use Rattle.kmc_split.specs.Minima.{low}
 
 first_or_later : (i j : ℕ) → i ≤ j → (j ≡ i) ⊎ (i + 1 ≤ j)

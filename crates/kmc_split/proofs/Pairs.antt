@@ -6,10 +6,10 @@ use Rattle.std.specs.Cmp.Lexicographic.{pointwise}
 use Rattle.kmc_base.specs.Packed.{unpack}
 use Rattle.std.proofs.lemmas.Nat.{one_shl}
 use Rattle.std.proofs.Math.Nat.{div-div-eq-div-mul, pow-succ'}
-use Rattle.kmc_base.specs.Packing.{length_unpack, pow_up}
-use Rattle.kmc_base.specs.Powers.{pow_quad}
+use Rattle.kmc_base.specs.Lemmas.Packing.{length_unpack}
+use Rattle.kmc_base.specs.Lemmas.Powers.{pow_up, pow_quad}
 use Rattle.kmc_split.specs.Signature.{has_pair, begins, is_allowed}
-use Rattle.kmc_split.specs.Offers.{quarters}
+use Rattle.kmc_split.specs.Offers.{pair_marks}
 
 -- 1 for an A
 abbrev pub is_a : ℕ → ℕ
@@ -20,7 +20,7 @@ either p = bit_or p (p / 2)
 
 -- a mark at each A among the n last codes
 abbrev pub marks : ℕ → ℕ → ℕ
-marks n p = quarters n - bit_and (either p) (quarters n)
+marks n p = pair_marks n - bit_and (either p) (pair_marks n)
 
 below4 : (r : ℕ) → r < 4 → (r ≡ 0) ⊎ ((r ≡ 1) ⊎ ((r ≡ 2) ⊎ (r ≡ 3)))
 below4 r h = grind arith
@@ -58,18 +58,18 @@ either_high p =
 either_low : (p : ℕ) → either p % 4 ≡ bit_or (p % 4) (p / 2 % 4)
 either_low p = or_mod p (p / 2) 2
 
-and_more : (x n : ℕ) → bit_and x (quarters (suc n)) ≡ bit_and (x / 4) (quarters n) * 4 + bit_and (x % 4) 1
+and_more : (x n : ℕ) → bit_and x (pair_marks (suc n)) ≡ bit_and (x / 4) (pair_marks n) * 4 + bit_and (x % 4) 1
 and_more x n =
-    ap (λ (y : ℕ). bit_and y (quarters n * 4 + 1)) (split4 x)
-    ∙ and_block 2 (x / 4) (quarters n) (x % 4) 1 (omega arith) (omega arith)
+    ap (λ (y : ℕ). bit_and y (pair_marks n * 4 + 1)) (split4 x)
+    ∙ and_block 2 (x / 4) (pair_marks n) (x % 4) 1 (omega arith) (omega arith)
 
 pub marks_more : (n p : ℕ) → marks (suc n) p ≡ marks n (p / 4) * 4 + is_a (p % 4)
 marks_more n p =
     let all = and_more (either p) n in
-    let high : bit_and (either p / 4) (quarters n) ≡ bit_and (either (p / 4)) (quarters n) = ap (λ (y : ℕ). bit_and y (quarters n)) (either_high p) in
+    let high : bit_and (either p / 4) (pair_marks n) ≡ bit_and (either (p / 4)) (pair_marks n) = ap (λ (y : ℕ). bit_and y (pair_marks n)) (either_high p) in
     let low : bit_and (either p % 4) 1 ≡ bit_and (bit_or (p % 4) (p / 2 % 4)) 1 = ap (λ (y : ℕ). bit_and y 1) (either_low p) in
     let is = low_pair (p % 4) (p / 2 % 4) (omega arith) (omega arith) (omega arith) in
-    let most = and_le_r (either (p / 4)) (quarters n) in
+    let most = and_le_r (either (p / 4)) (pair_marks n) in
     let one = and_le_r (bit_or (p % 4) (p / 2 % 4)) 1 in
     omega arith
 
@@ -182,7 +182,7 @@ head_fits (suc j) p h =
     let same : p / 4 / 4 ^ j ≡ p / 4 ^ suc j = div-div-eq-div-mul p 4 (4 ^ j) ∙ ap (λ d. p / d) (sym (pow-succ' 4 j)) in
     omega arith
 
-pub allowed_long : (m p marks_given : ℕ) → 3 ≤ m → p < 4 ^ m → marks_given ≡ quarters (m - 1)
+pub allowed_long : (m p marks_given : ℕ) → 3 ≤ m → p < 4 ^ m → marks_given ≡ pair_marks (m - 1)
     → ((not (nat_eq (p / 2 ^ (2 * (m - 3))) 0) && not (nat_eq (p / 2 ^ (2 * (m - 3))) 4)) && nat_eq (bit_and (marks_given - bit_and (either p) marks_given) ((marks_given - bit_and (either p) marks_given) / 4)) 0) ≡ is_allowed (unpack m p)
 allowed_long zero p g some fits e = absurd (omega arith)
 allowed_long (suc zero) p g some fits e = absurd (omega arith)
@@ -197,12 +197,12 @@ allowed_long (suc (suc (suc j))) p g some fits e =
     let is_aaa : begins (0 ∷ 0 ∷ 0 ∷ []) w ≡ nat_eq h 0 = ap (λ (t : List ℕ). pointwise nat_eq t (0 ∷ 0 ∷ 0 ∷ [])) (first_three j p) ∙ aaa (h / 4 / 4 % 4) (h / 4 % 4) (h % 4) h (omega arith) in
     let is_aca : begins (0 ∷ 1 ∷ 0 ∷ []) w ≡ nat_eq h 4 = ap (λ (t : List ℕ). pointwise nat_eq t (0 ∷ 1 ∷ 0 ∷ [])) (first_three j p) ∙ aca (h / 4 / 4 % 4) (h / 4 % 4) (h % 4) h (omega arith) (omega arith) (omega arith) (omega arith) in
     let is_apart : nat_eq (bit_and (g - bit_and (either p) g) ((g - bit_and (either p) g) / 4)) 0 ≡ not (has_pair (drop 1 w)) =
-    ap (λ (y : ℕ). nat_eq (bit_and (y - bit_and (either p) y) ((y - bit_and (either p) y) / 4)) 0) (e ∙ ap quarters less) ∙ no_pair (suc (suc j)) p ∙ ap (λ (t : List ℕ). not (has_pair t)) (sym (drop_unpack (suc (suc j)) p)) in
+    ap (λ (y : ℕ). nat_eq (bit_and (y - bit_and (either p) y) ((y - bit_and (either p) y) / 4)) 0) (e ∙ ap pair_marks less) ∙ no_pair (suc (suc j)) p ∙ ap (λ (t : List ℕ). not (has_pair t)) (sym (drop_unpack (suc (suc j)) p)) in
     let ra = sym is_aaa in
     let rc = sym is_aca in
     (λ i. (not (nat_eq (head i) 0) && not (nat_eq (head i) 4)) && is_apart i) ∙ (λ i. (not (ra i) && not (rc i)) && not (has_pair (drop 1 w)))
 
-pub allowed_short : (m p marks_given : ℕ) → 1 ≤ m → m < 3 → marks_given ≡ quarters (m - 1)
+pub allowed_short : (m p marks_given : ℕ) → 1 ≤ m → m < 3 → marks_given ≡ pair_marks (m - 1)
     → nat_eq (bit_and (marks_given - bit_and (either p) marks_given) ((marks_given - bit_and (either p) marks_given) / 4)) 0 ≡ is_allowed (unpack m p)
 allowed_short zero p g some most e = absurd (omega arith)
 allowed_short (suc zero) p g some most e =
@@ -218,18 +218,18 @@ allowed_short (suc (suc zero)) p g some most e =
     alone c d = grind (arith, nat_tests)
 allowed_short (suc (suc (suc j))) p g some most e = absurd (omega arith)
 
-pub quarters_fit : (n : ℕ) → quarters n < 4 ^ n
-quarters_fit zero = omega arith
-quarters_fit (suc n) = let h = quarters_fit n in omega arith
+pub pair_marks_fit : (n : ℕ) → pair_marks n < 4 ^ n
+pair_marks_fit zero = omega arith
+pair_marks_fit (suc n) = let h = pair_marks_fit n in omega arith
 
-pub quarters_more : (n : ℕ) → quarters (n + 1) ≡ quarters n * 4 + 1
-quarters_more n = rw add-one refl
+pub pair_marks_more : (n : ℕ) → pair_marks (n + 1) ≡ pair_marks n * 4 + 1
+pair_marks_more n = rw add-one refl
 
-pub marks_room : (n : ℕ) → n < 15 → quarters n * 4 + 1 < 2 ^ 32
+pub marks_room : (n : ℕ) → n < 15 → pair_marks n * 4 + 1 < 2 ^ 32
 marks_room n less =
     let parts : (14 - n) + n ≡ 14 = omega arith in
     let up : 4 ^ n ≤ 4 ^ 14 = rw parts at (pow_up n (14 - n)) in
-    omega (arith, quarters_fit n)
+    omega (arith, pair_marks_fit n)
 
 pub none_is : (m : ℕ) → m ≤ 15 → (1 * 2 ^ (2 * m)) % 2 ^ 32 ≡ 4 ^ m
 none_is m most = one_shl (2 * m) 32 (omega arith) ∙ sym (pow_quad m)

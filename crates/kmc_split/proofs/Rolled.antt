@@ -3,9 +3,9 @@ use Rattle.std.proofs.Common.{◌≡◌, ℕ, ◌+◌, ◌-◌, ◌^◌, ◌<◌
 use Rattle.kmc_base.specs.declared.strands.Strands.TheVariants.{Joined}
 use Rattle.kmc_base.specs.Words.{canonical, window}
 use Rattle.kmc_base.specs.Packed.{pack, unpack}
-use Rattle.kmc_base.specs.Packs.{AreCodes, unpack_pack, pack_fits}
-use Rattle.kmc_base.specs.Rolling.{IsRolling, roll_key}
-use Rattle.kmc_base.specs.Keys.{IsWord, key_is_word, window_is_word}
+use Rattle.kmc_base.specs.Lemmas.Packs.{AreCodes, unpack_pack, pack_fits}
+use Rattle.kmc_base.specs.Lemmas.Rolling.{IsRolling, roll_key}
+use Rattle.kmc_base.specs.Lemmas.Keys.{IsWord, key_is_word, window_is_word}
 
 -- a number below 4 ^ m that unpacks to the canonical form
 pub record Holds (m : ℕ) (w : List ℕ) (x : ℕ) : Type 0 where

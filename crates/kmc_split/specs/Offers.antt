@@ -14,6 +14,6 @@ abbrev pub packed_offer : ℕ → ℕ → ℕ
 packed_offer m p = cond (is_allowed (unpack m p)) p (4 ^ m)
 
 -- 1 in each of n pairs of bits
-abbrev pub quarters : ℕ → ℕ
-quarters zero = 0
-quarters (suc n) = quarters n * 4 + 1
+abbrev pub pair_marks : ℕ → ℕ
+pair_marks zero = 0
+pair_marks (suc n) = pair_marks n * 4 + 1

@@ -1,11 +1,11 @@
--- Super-k-mers: stretches of overlapping words of one signature.
+-- Super-k-mers: overlapping words of one signature.
 use Rattle.std.specs.Prelude.{ℕ, ◌+◌, ◌<◌, ◌≤◌, List, length}
 use Rattle.std.specs.List.{All, flat_map}
 use Rattle.kmc_base.specs.declared.kmer.TheConstants.{MAX_K}
 use Rattle.kmc_base.specs.Words.{windows}
 
 -- k, and the codes that the words of k codes stand in
-pub record Stretch : Type 0 where
+pub record Piece : Type 0 where
   pub k : ℕ
   pub codes : List ℕ
 
@@ -18,9 +18,9 @@ pub record IsSuperKmer (k : ℕ) (w : List ℕ) : Type 0 where
   pub codes : All (λ c. c < 4) w
 
 -- the words of a super-k-mer, in the order of their places
-abbrev pub words_of : Stretch → List (List ℕ)
-words_of s = windows s.k s.codes
+abbrev pub piece_words : Piece → List (List ℕ)
+piece_words s = windows s.k s.codes
 
 -- the words of super-k-mers, one super-k-mer after another
-abbrev pub all_words : List Stretch → List (List ℕ)
-all_words pieces = flat_map words_of pieces
+abbrev pub all_words : List Piece → List (List ℕ)
+all_words pieces = flat_map piece_words pieces

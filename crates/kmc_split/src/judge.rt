@@ -4,7 +4,7 @@ ghost use Rattle.std.specs.List.{All};
 ghost use Rattle.kmc_base.specs.Words.{window};
 ghost use Rattle.kmc_base.specs.Packed.{unpack};
 ghost use Rattle.kmc_split.specs.Signature.{is_allowed};
-ghost use Rattle.kmc_split.specs.Offers.{quarters, offer, packed_offer};
+ghost use Rattle.kmc_split.specs.Offers.{pair_marks, offer, packed_offer};
 
 use crate::rolling::canonical_values;
 use crate::signature::MAX_M;
@@ -12,7 +12,7 @@ use crate::signature::MAX_M;
 /// 1 in each of n pairs of bits.
 pub(crate) fn marks_for(n: usize) -> u32
     requires { n ≤ MAX_M }
-    ensures { result ≡ quarters n }
+    ensures { result ≡ pair_marks n }
 {
     let mut marks = 0;
     for _i in 0..n {
@@ -26,7 +26,7 @@ pub(crate) fn is_allowed_with(p: u32, m: usize, marks: u32) -> bool
     requires some { 1 ≤ m }
     requires most { m ≤ MAX_M }
     requires fits { p < 4 ^ m }
-    requires marks { marks ≡ quarters (m - 1) }
+    requires marks { marks ≡ pair_marks (m - 1) }
     ensures { result ≡ is_allowed (unpack m p) }
 {
     // a mark at each A but the first code: where both bits of its pair are zero
@@ -52,7 +52,7 @@ fn offer_with(p: u32, m: usize, marks: u32, none: u32) -> u32
     requires some { 1 ≤ m }
     requires most { m ≤ MAX_M }
     requires fits { p < 4 ^ m }
-    requires marks { marks ≡ quarters (m - 1) }
+    requires marks { marks ≡ pair_marks (m - 1) }
     requires none { none ≡ 4 ^ m }
     ensures { result ≡ packed_offer m p }
 {

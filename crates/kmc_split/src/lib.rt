@@ -13,5 +13,3 @@ mod rolling;
 pub mod runs;
 pub mod signature;
 pub mod super_kmer;
-#[cfg(test)]
-mod tests;

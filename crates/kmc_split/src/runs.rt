@@ -6,7 +6,7 @@ use crate::signature::{MAX_M, Sig};
 use std::alloc::AllocError;
 
 /// Words that stand at neighbouring places of a segment and have one signature.
-#[derive(Clone, Copy)]
+#[derive(Clone, Copy, Debug, PartialEq, Eq)]
 pub struct Run {
     /// The place of the first word, from 0.
     pub start: usize,

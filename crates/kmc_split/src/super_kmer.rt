@@ -4,7 +4,7 @@ ghost use Rattle.std.specs.List.{All};
 ghost use Rattle.kmc_base.specs.Words.{window, windows};
 ghost use Rattle.kmc_split.specs.Signature.{signature_of};
 ghost use Rattle.kmc_split.specs.Minima.{low};
-ghost use Rattle.kmc_split.specs.SuperKmer.{IsSuperKmer, words_of, all_words};
+ghost use Rattle.kmc_split.specs.SuperKmer.{IsSuperKmer, piece_words, all_words};
 ghost use Rattle.kmc_split.specs.Pieces.{IsCutInto, piece};
 
 use crate::cut::{Scratch, cut};
@@ -24,16 +24,16 @@ const MOST_ABOVE: usize = 255;
 const MOST_SYMBOLS: usize = MAX_K + MOST_ABOVE;
 
 /// Overlapping words of k symbols, 1 to 256 of them, which contracts see as k and the codes that they stand in.
-#[derive(Drop)]
+#[derive(Debug, Drop)]
 pub struct SuperKmer {
     k: usize,
     codes: Vec<u8>,
 }
 
 impl Model for SuperKmer {
-    ghost use Rattle.kmc_split.specs.SuperKmer.{Stretch, IsSuperKmer};
+    ghost use Rattle.kmc_split.specs.SuperKmer.{Piece, IsSuperKmer};
 
-    ghost Value = { Stretch };
+    ghost Value = { Piece };
 
     ghost view = { λ a. record { k = a.k; codes = a.codes.items } };
 
@@ -74,7 +74,7 @@ impl SuperKmer {
 
     /// How many words it has, 1 to 256.
     pub fn words(&self) -> usize
-        ensures is { result ≡ length (words_of self.now) }
+        ensures is { result ≡ length (piece_words self.now) }
         ensures count { result + self.now.k ≡ length self.now.codes + 1 }
         ensures some { 1 ≤ result }
         ensures most { result ≤ 256 }
@@ -99,7 +99,7 @@ impl SuperKmer {
         requires most { m ≤ MAX_M }
         requires within { m ≤ self.now.k }
         requires bins { 1 ≤ n }
-        ensures { IsTrue result ↔ All (λ w. signature_of m w % n ≡ bin) (words_of self.now) }
+        ensures { IsTrue result ↔ All (λ w. signature_of m w % n ≡ bin) (piece_words self.now) }
     {
         let mut room = [0; MOST_SYMBOLS];
         let count = self.codes.len() + 1 - m;

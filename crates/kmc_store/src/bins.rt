@@ -9,7 +9,7 @@ use std::alloc::{AllocError, Global};
 use std::marker::Model;
 
 /// For each bin of a shape the records that came to it, and how many words they have.
-#[derive(Drop)]
+#[derive(Debug, Drop)]
 pub struct Bins {
     shape: Shape,
     bodies: Vec<Vec<u8>>,
@@ -57,7 +57,7 @@ impl Bins {
         let body = &mut self.bodies[bin];
         match body.extend_from_slice(part.body()) {
             Ok(()) => {}
-            Err(_) => return Err(part),
+            Err(AllocError) => return Err(part),
         }
         self.words[bin] = self.words[bin].saturating_add(part.words());
         Ok(())
@@ -73,7 +73,7 @@ impl Bins {
     {
         match make_room(&mut self.bodies, &other.bodies) {
             Ok(()) => {}
-            Err(_) => return Err(other),
+            Err(AllocError) => return Err(other),
         }
         let Bins {
             mut bodies,

@@ -41,7 +41,7 @@ fn append_body(own: &mut Vec<u8>, more: &mut Vec<u8>)
     } else {
         match own.extend_from_slice(more) {
             Ok(()) => {}
-            Err(_) => unreachable!(),
+            Err(AllocError) => unreachable!(),
         }
     }
 }

@@ -7,5 +7,3 @@
 pub mod bins;
 mod growth;
 pub mod laws;
-#[cfg(test)]
-mod tests;

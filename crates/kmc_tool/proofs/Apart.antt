@@ -8,7 +8,7 @@ use Rattle.kmc_base.specs.declared.strands.Strands.{Strands}
 use Rattle.kmc_base.specs.declared.strands.Strands.TheVariants.{Joined, Apart}
 use Rattle.kmc_base.specs.Words.{windows}
 use Rattle.kmc_base.specs.Strands.{key}
-use Rattle.kmc_base.specs.Keys.{IsWord, keys_are_words}
+use Rattle.kmc_base.specs.Lemmas.Keys.{IsWord, keys_are_words}
 use Rattle.kmc_split.specs.Signature.{signature_of}
 use Rattle.kmc_split.specs.Laws.{CanonicalFixesSignature}
 use Rattle.kmc_record.specs.Shapes.{Sizes}

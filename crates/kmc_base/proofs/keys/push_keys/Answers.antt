@@ -1,6 +1,6 @@
 use Rattle.std.proofs.Common.{◌≡◌, ◌+◌, ◌-◌, ◌++◌, length, get_or, map, ap, sym, ◌∙◌, arith, append-nil}
 use Rattle.std.proofs.lemmas.List.{map_push}
-use Rattle.kmc_base.specs.Rolling.{roll_start, roll_key, step_at, fits_at, keys_upto, one_more}
+use Rattle.kmc_base.specs.Lemmas.Rolling.{roll_start, roll_key, step_at, fits_at, keys_upto, one_more}
 use Rattle.kmc_base.proofs.Ranges.{codes_each}
 use Rattle.kmc_base.proofs.keys.push_keys.Goals as goal
 use Rattle.kmc_base.proofs.keys.push_keys.Goals.{then-i-k+in_ok-push, else-i-k}

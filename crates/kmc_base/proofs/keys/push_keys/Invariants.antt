@@ -1,5 +1,5 @@
 use Rattle.std.proofs.Common.{◌≡◌, ◌+◌, ◌-◌, ◌++◌, map}
-use Rattle.kmc_base.specs.Rolling.{IsRolling, keys_upto}
+use Rattle.kmc_base.specs.Lemmas.Rolling.{IsRolling, keys_upto}
 use Rattle.kmc_base.proofs.keys.push_keys.Given as goal
 
 abbrev pub invariant-loop-i : goal.invariant-loop-i

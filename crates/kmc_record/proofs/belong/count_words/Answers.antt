@@ -1,8 +1,19 @@
 use Rattle.std.proofs.Common.{rules, ◌≡◌, IsTrue, ◌++◌, take, refl, sym, subst, ◌∙◌, arith}
 use Rattle.std.proofs.lemmas.List.{take_rest}
 use Rattle.kmc_record.specs.Record.{spelling, IsSpelled}
-use Rattle.kmc_record.proofs.Belonging.{records_of_part, part_more, belongs_here, asked_here, counted_here}
+use Rattle.kmc_record.specs.Refusals.{IsRefused}
+use Rattle.kmc_record.specs.Bodies.{IsFirstError}
+use Rattle.kmc_record.proofs.Belonging.{records_of_part, refused_at, part_more, belongs_here, asked_here, counted_here}
 use Rattle.kmc_record.proofs.belong.count_words.Goals as goal
+
+pub returns-in-Err-clause-first : goal.returns-in-Err-clause-first
+returns-in-Err-clause-first c =
+    let shape = c.args.shape in
+    let body = c.args.body.now in
+    let offset = c.loop-offset.offset in
+    subst (λ e. IsFirstError c.args.bin shape e body) (sym c.at.ensures)
+    (refused_at c.args.bin shape c.k-k.result offset c.in-Err.e body c.k-k.ensures.is c.loop-offset-test.true (records_of_part c.args.bin shape (take offset body) c.loop-offset.words c.loop-offset.invariant.part)
+    (subst (IsRefused c.k-k.result c.in-Err.e) (take_rest body offset) c.in-Err.ensures.refused))
 
 pub returns-then-not-in_bin-clause-first : goal.returns-then-not-in_bin-clause-first
 returns-then-not-in_bin-clause-first c =

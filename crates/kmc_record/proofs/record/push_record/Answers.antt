@@ -1,7 +1,7 @@
 use Rattle.std.proofs.Common.{◌≡◌, ℕ, ◌+◌, ◌-◌, ◌*◌, ◌/◌, ◌<◌, ◌≤◌, ◌++◌, List, length, take, map, ap, sym, ◌∙◌, arith, append-nil}
 use Rattle.std.proofs.lemmas.List.{length-take-le, get_or-take, map_push}
-use Rattle.kmc_base.specs.Packs.{AreCodes}
-use Rattle.kmc_base.specs.Rolling.{codes_front, roll_start, roll_key, step_at, byte_step, fits_at, keys_upto, one_more}
+use Rattle.kmc_base.specs.Lemmas.Packs.{AreCodes}
+use Rattle.kmc_base.specs.Lemmas.Rolling.{codes_front, roll_start, roll_key, step_at, byte_step, fits_at, keys_upto, one_more}
 use Rattle.kmc_record.specs.Record.{codes_in}
 use Rattle.kmc_record.proofs.Codes.{are_codes, length_codes, byte_codes}
 use Rattle.kmc_record.proofs.record.push_record.Goals as goal

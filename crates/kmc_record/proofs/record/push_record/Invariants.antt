@@ -1,5 +1,5 @@
 use Rattle.std.proofs.Common.{◌≡◌, ◌+◌, ◌*◌, ◌-◌, ◌++◌, take, map}
-use Rattle.kmc_base.specs.Rolling.{IsRolling, keys_upto}
+use Rattle.kmc_base.specs.Lemmas.Rolling.{IsRolling, keys_upto}
 use Rattle.kmc_record.specs.Record.{codes_in}
 use Rattle.kmc_record.proofs.record.push_record.Given as goal
 

@@ -1,5 +1,5 @@
 use Rattle.std.proofs.Common.{◌/◌, ◌%◌}
-use Rattle.kmc_base.specs.Powers.{back_below}
+use Rattle.kmc_base.specs.Lemmas.Powers.{back_below}
 use Rattle.kmc_record.proofs.record.slide_byte.Goals as goal
 
 pub behind-back_d-requires-clause-back : goal.behind-back_d-requires-clause-back

@@ -1,5 +1,5 @@
 use Rattle.std.proofs.Common.{◌+◌, ◌*◌, arith, ap, ◌∙◌, sym, ℕ}
-use Rattle.kmc_split.proofs.Pairs.{marks_room, quarters_more}
+use Rattle.kmc_split.proofs.Pairs.{marks_room, pair_marks_more}
 use Rattle.kmc_split.proofs.judge.marks_for.Goals as goal
 
 pub overflow_mul-marks : goal.overflow_mul-marks
@@ -9,4 +9,4 @@ pub overflow_add-marks : goal.overflow_add-marks
 overflow_add-marks c = omega (arith, marks_room c.loop-i._i (omega arith))
 
 pub loop-i-preserved : goal.loop-i-preserved
-loop-i-preserved c = ap (λ (x : ℕ). x * 4 + 1) c.loop-i.invariant ∙ sym (quarters_more c.loop-i._i)
+loop-i-preserved c = ap (λ (x : ℕ). x * 4 + 1) c.loop-i.invariant ∙ sym (pair_marks_more c.loop-i._i)

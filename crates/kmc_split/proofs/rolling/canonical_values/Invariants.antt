@@ -1,6 +1,6 @@
 use Rattle.std.proofs.Common.{ℕ, ◌+◌, ◌<◌, slice_index}
 use Rattle.kmc_base.specs.Words.{window}
-use Rattle.kmc_base.specs.Rolling.{IsRolling}
+use Rattle.kmc_base.specs.Lemmas.Rolling.{IsRolling}
 use Rattle.kmc_split.proofs.Rolled.{Holds}
 use Rattle.kmc_split.proofs.rolling.canonical_values.Given as goal
 

@@ -1,7 +1,7 @@
 use Rattle.std.proofs.Common.{◌≡◌, ℕ, ◌+◌, ◌*◌, ◌^◌, ◌<◌, ◌++◌, List, [], ◌∷◌, length, take, slice_index, ap, sym, subst, ◌∙◌, arith}
 use Rattle.std.proofs.lemmas.List.{take_all, take_more}
 use Rattle.kmc_base.specs.Packed.{unpack}
-use Rattle.kmc_base.specs.Packing.{fits_more, unpack_more}
+use Rattle.kmc_base.specs.Lemmas.Packing.{fits_more, unpack_more}
 use Rattle.kmc_split.proofs.Lowest.{fits_most}
 use Rattle.kmc_split.proofs.signature.packed.Goals as goal
 

@@ -3,7 +3,7 @@ use Rattle.std.proofs.lemmas.List.{take_all}
 use Rattle.std.proofs.lemmas.List.Folds.{flat_map-map}
 use Rattle.kmc_base.specs.Words.{windows}
 use Rattle.kmc_split.specs.Cut.{run_words}
-use Rattle.kmc_split.specs.SuperKmer.{words_of, all_words}
+use Rattle.kmc_split.specs.SuperKmer.{piece_words, all_words}
 use Rattle.kmc_split.specs.Pieces.{piece}
 use Rattle.kmc_split.proofs.super_kmer.super_kmers.Goals as goal
 
@@ -14,5 +14,5 @@ returns-clause-words c =
     let runs = c.cut.new.runs.items in
     let all : take c.loop-r.r-index c.deref-r-items.result.now ≡ runs = take_all c.loop-r.r-index c.deref-r-items.result.now c.loop-r-test.false ∙ c.deref-r-items.ensures.value in
     ap all_words (c.loop-r.invariant ∙ ap (map (piece k codes)) all)
-    ∙ flat_map-map words_of (piece k codes) runs
+    ∙ flat_map-map piece_words (piece k codes) runs
     ∙ ap (λ (l : List ℕ). run_words k l runs) (sym c.deref.ensures.value) ∙ c.in_ok-cut.ensures.words ∙ ap (windows k) c.deref.ensures.value

@@ -1,7 +1,7 @@
 use Rattle.std.proofs.Common.{◌≡◌, ◌*◌, ◌-◌, ◌∙◌, ap, sym, arith, bit_and, ◌/◌, ◌^◌, length, List, ℕ}
 use Rattle.kmc_base.specs.Words.{window}
 use Rattle.kmc_base.specs.Packed.{unpack}
-use Rattle.kmc_base.specs.Packing.{length_unpack}
+use Rattle.kmc_base.specs.Lemmas.Packing.{length_unpack}
 use Rattle.kmc_base.proofs.Subwords.{masked_fits, sub_is}
 use Rattle.kmc_base.proofs.kmer.Kmer.sub.Goals as goal
 

@@ -1,6 +1,6 @@
 use Rattle.std.proofs.Common.{◌*◌, ◌-◌, ◌∙◌, sym, arith}
 use Rattle.std.proofs.lemmas.Nat.{one_shl}
-use Rattle.kmc_base.specs.Powers.{pow_quad}
+use Rattle.kmc_base.specs.Lemmas.Powers.{pow_quad}
 use Rattle.kmc_base.proofs.word.U128Word.top.Goals as goal
 
 pub returns : goal.returns

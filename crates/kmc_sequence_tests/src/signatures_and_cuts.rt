@@ -1,37 +1,16 @@
-//! Worked rows, refusals, and a table from an independent program.
+//! Signatures and the cut: worked rows, refusals, and a table from an independent program.
 mod rows;
 
-use crate::cut::{Scratch, cut};
-use crate::laws;
-use crate::signature::{MAX_M, allowed, signature};
-use crate::super_kmer::{SuperKmer, super_kmers};
-use kmc_base::kmer::{Kmer, MAX_K};
-use kmc_base::segment::Segment;
-use kmc_base::stretch::segments;
+use crate::given::{one_segment, same_bytes, word_of};
+use kmc_base::kmer::MAX_K;
+use kmc_split::cut::{Scratch, cut};
+use kmc_split::laws;
+use kmc_split::signature::{MAX_M, allowed, signature};
+use kmc_split::super_kmer::{SuperKmer, super_kmers};
 use rows::ROWS;
-use std::alloc::{AllocError, Global};
+use std::alloc::Global;
 use std::process::Abort;
 use std::test::Fail;
-
-/// The whole text as one segment.
-fn one_segment(rt: &impl Abort, alloc: Global, letters: &[u8]) -> Result<Segment, AllocError> {
-    let mut found = segments(alloc, letters, 1)?;
-    let segment = found.pop();
-    Ok(segment.expect(rt, "letters of bases"))
-}
-
-/// The whole text as one word.
-fn word_of(rt: &impl Abort, alloc: Global, letters: &str) -> Result<Kmer, AllocError> {
-    let segment = one_segment(rt, alloc, letters.as_bytes())?;
-    Ok(Kmer::new(&segment.codes).expect(rt, "a word"))
-}
-
-/// So many equal bytes.
-fn same_bytes(alloc: Global, byte: u8, length: usize) -> Result<Vec<u8>, AllocError> {
-    let mut bytes = Vec::new(alloc);
-    bytes.resize(length, byte)?;
-    Ok(bytes)
-}
 
 /// The super-k-mers of the letters, as the number of words and the signature of the first word of each.
 fn pieces_text(

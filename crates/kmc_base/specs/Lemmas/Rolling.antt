@@ -3,15 +3,15 @@ use Rattle.std.proofs.Common.{◌≡◌, ℕ, zero, suc, ◌+◌, ◌*◌, ◌-�
 use Rattle.std.proofs.lemmas.List.{drop_more, take_more, take_at, drop_at, drop-drop, get_or-drop, get_or-append-add, length-replicate, length-take-le, map_push}
 use Rattle.std.proofs.lemmas.List.FromFn.{map-range_with_len_more}
 use Rattle.std.proofs.Math.Nat.{pow-succ'}
-use Rattle.kmc_base.specs.Powers.{pow_some}
+use Rattle.kmc_base.specs.Lemmas.Powers.{pow_some}
 use Rattle.std.specs.List.{range_with_len}
 use Rattle.kmc_base.specs.Words.{rev_comp, canonical, window}
 use Rattle.kmc_base.specs.declared.strands.Strands.{Strands}
 use Rattle.kmc_base.specs.declared.strands.Strands.TheVariants.{Joined, Apart}
 use Rattle.kmc_base.specs.Strands.{key, packed_key}
 use Rattle.kmc_base.specs.Packed.{pack}
-use Rattle.kmc_base.specs.Packing.{pack_after_append}
-use Rattle.kmc_base.specs.Packs.{AreCodes, codes_append, codes_rev_comp, length_rev_comp, rev_comp_cons, pack_fits, forward_step, back_step, pack_canonical}
+use Rattle.kmc_base.specs.Lemmas.Packing.{pack_after_append}
+use Rattle.kmc_base.specs.Lemmas.Packs.{AreCodes, codes_append, codes_rev_comp, length_rev_comp, rev_comp_cons, pack_fits, forward_step, back_step, pack_canonical}
 
 -- one code more in a packed window, and in its packed reverse complement
 abbrev pub ahead : ℕ → ℕ → ℕ → ℕ
@@ -19,6 +19,13 @@ ahead top forward c = forward % top * 4 + c
 
 abbrev pub behind : ℕ → ℕ → ℕ → ℕ
 behind top back c = back / 4 + (3 - c) * top
+
+-- the four codes of a byte more, the highest bits first
+abbrev pub ahead_byte : ℕ → ℕ → ℕ → ℕ
+ahead_byte top forward b = ahead top (ahead top (ahead top (ahead top forward (b / 64 % 4)) (b / 16 % 4)) (b / 4 % 4)) (b % 4)
+
+abbrev pub behind_byte : ℕ → ℕ → ℕ → ℕ
+behind_byte top back b = behind top (behind top (behind top (behind top back (b / 64 % 4)) (b / 16 % 4)) (b / 4 % 4)) (b % 4)
 
 -- where k zeros stand in front of the codes, the window that ends before place i
 abbrev pub trail : ℕ → List ℕ → ℕ → List ℕ

@@ -1,7 +1,7 @@
 #!/usr/bin/env python3
-"""Parts of chunks by their definitions, for the table of src/tests/rows.rt.
+"""Parts of chunks by their definitions, for the table of src/records_and_parts/rows.rt.
 
-    python3 parts_model.py > ../src/tests/rows.rt
+    python3 parts_model.py > ../src/records_and_parts/rows.rt
 
 Each word is taken apart into its m-mers anew, and a record is written bit by bit.
 """

@@ -9,8 +9,8 @@ use Rattle.kmc_base.specs.declared.strands.Strands.{Strands}
 use Rattle.kmc_base.specs.declared.strands.Strands.TheVariants.{Joined, Apart}
 use Rattle.kmc_base.specs.Words.{code_of, codes_of, window}
 use Rattle.kmc_base.specs.Packed.{unpack, pack}
-use Rattle.kmc_base.specs.Packs.{AreCodes, codes_canonical, length_canonical, unpack_pack, pack_fits}
-use Rattle.kmc_base.specs.Rolling.{codes_part}
+use Rattle.kmc_base.specs.Lemmas.Packs.{AreCodes, codes_canonical, length_canonical, unpack_pack, pack_fits}
+use Rattle.kmc_base.specs.Lemmas.Rolling.{codes_part}
 use Rattle.kmc_base.specs.Strands.{key, placed_key, keys}
 use Rattle.kmc_base.specs.Places.{word_at, counted_words}
 

@@ -1,7 +1,7 @@
 #!/usr/bin/env python3
-"""Signatures and cuts by their definitions, for the table of src/tests/rows.rt.
+"""Signatures and cuts by their definitions, for the table of src/signatures_and_cuts/rows.rt.
 
-    python3 split_model.py > ../src/tests/rows.rt
+    python3 split_model.py > ../src/signatures_and_cuts/rows.rt
 
 Nothing here rolls or keeps a window: each word is taken apart into its m-mers anew.
 """

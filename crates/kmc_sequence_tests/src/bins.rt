@@ -1,10 +1,10 @@
 //! Bins filled part by part, and merged.
-
-use crate::bins::Bins;
-use crate::laws;
+use crate::given::{chunk_of, push_bin, shape_of};
 use kmc_record::part::Part;
-use kmc_record::parts::{Chunk, parts_of};
+use kmc_record::parts::parts_of;
 use kmc_record::shape::Shape;
+use kmc_store::bins::Bins;
+use kmc_store::laws;
 use std::alloc::{AllocError, Global};
 use std::process::Abort;
 use std::test::Fail;
@@ -26,18 +26,6 @@ fn take_in(rt: &impl Abort, bins: &mut Bins, part: Part) {
             bins.absorb(part).ok().expect(rt, "room for the part");
         }
     }
-}
-
-/// The chunk of these reads, between which stand commas.
-fn chunk_of(alloc: Global, number: u64, reads: &str) -> Result<Chunk, AllocError> {
-    let mut chunk = Chunk {
-        number,
-        reads: Vec::new(alloc),
-    };
-    for read in reads.split(',') {
-        chunk.reads.push(read.as_bytes().to_vec(alloc)?)?;
-    }
-    Ok(chunk)
 }
 
 /// Bins that have taken in the parts of these chunks.
@@ -63,12 +51,7 @@ fn text_of(alloc: Global, bins: &Bins) -> Result<String, Fail> {
     for bin in 0..bins.shape().n() {
         let body = bins.bin(bin);
         if !body.is_empty() {
-            let words = bins.words(bin);
-            text.push_str(format!(in alloc; "{bin} {words} ")?.as_str())?;
-            for byte in body {
-                text.push_str(format!(in alloc; "{:02x}", *byte)?.as_str())?;
-            }
-            text.push(';')?;
+            push_bin(&mut text, alloc, bin, bins.words(bin), body)?;
         }
     }
     Ok(text)
@@ -81,7 +64,7 @@ const TWO: &str = "2 2 00b100b1;3 4 006c00c6006c00c6;6 4 001b001b001b001b;";
 #[test]
 fn new_bins_are_empty(rt: HostRuntime) -> Result<(), Fail> {
     let alloc = rt.alloc();
-    let shape = Shape::new(4, 9, 7).expect(&rt, "a shape");
+    let shape = shape_of(&rt, 4, 9, 7);
     let bins = Bins::new(alloc, shape)?;
     assert!(rt; bins.shape() == shape);
     assert_eq!(rt; bins.bodies().len(), 7);
@@ -96,7 +79,7 @@ fn new_bins_are_empty(rt: HostRuntime) -> Result<(), Fail> {
 #[test]
 fn each_part_goes_to_its_bin(rt: HostRuntime) -> Result<(), Fail> {
     let alloc = rt.alloc();
-    let shape = Shape::new(4, 9, 7).expect(&rt, "a shape");
+    let shape = shape_of(&rt, 4, 9, 7);
     let one = bins_of(&rt, alloc, shape, &["ACGTACGT"])?;
     assert_eq!(rt; text_of(alloc, &one)?.as_str(), ONE);
     let two = bins_of(&rt, alloc, shape, &["ACGTACGT", "ACGTACGT"])?;
@@ -111,7 +94,7 @@ fn each_part_goes_to_its_bin(rt: HostRuntime) -> Result<(), Fail> {
 #[test]
 fn a_long_run_is_two_records(rt: HostRuntime) -> Result<(), Fail> {
     let alloc = rt.alloc();
-    let shape = Shape::new(25, 9, 512).expect(&rt, "a shape");
+    let shape = shape_of(&rt, 25, 9, 512);
     let mut read = String::new(alloc);
     for _ in 0..300 {
         read.push('A')?;
@@ -128,7 +111,7 @@ fn a_long_run_is_two_records(rt: HostRuntime) -> Result<(), Fail> {
 #[test]
 fn takes_in_a_body_from_outside(rt: HostRuntime) -> Result<(), Fail> {
     let alloc = rt.alloc();
-    let shape = Shape::new(4, 9, 7).expect(&rt, "a shape");
+    let shape = shape_of(&rt, 4, 9, 7);
     assert!(rt; 6 < shape.n());
     let body = [0, 0x1B, 0, 0x1B].to_vec(alloc)?;
     let part = Part::from_body(alloc, 9, 6, shape, body)
@@ -159,7 +142,7 @@ fn merge_in(rt: &impl Abort, alloc: Global, bins: &mut Bins, other: Bins) -> Res
 #[test]
 fn merges_bin_by_bin(rt: HostRuntime) -> Result<(), Fail> {
     let alloc = rt.alloc();
-    let shape = Shape::new(4, 9, 7).expect(&rt, "a shape");
+    let shape = shape_of(&rt, 4, 9, 7);
     let mut bins = Bins::new(alloc, shape)?;
     merge_in(&rt, alloc, &mut bins, Bins::new(alloc, shape)?)?;
     assert_eq!(rt; text_of(alloc, &bins)?.as_str(), "");

@@ -1,14 +1,17 @@
-//! Worked records and parts, both directions, and a table from an independent program.
+//! Records and parts: worked values in both directions, refusals, and a table from an independent program.
 mod rows;
 
-use crate::decode::decode;
-use crate::fault::{PartError, RecordError, RecordFault};
-use crate::laws;
-use crate::part::Part;
-use crate::parts::{Chunk, parts_of};
-use crate::shape::Shape;
-use crate::spell::encode;
+use crate::given::{chunk_of, one_segment, push_bin, same_bytes, shape_of};
+use kmc_base::strands::Strands;
 use kmc_base::stretch::segments;
+use kmc_record::body::push_body;
+use kmc_record::decode::decode;
+use kmc_record::fault::{BodyError, PartError, RecordError, RecordFault};
+use kmc_record::laws;
+use kmc_record::part::Part;
+use kmc_record::parts::parts_of;
+use kmc_record::shape::Shape;
+use kmc_record::spell::encode;
 use kmc_split::signature::signature;
 use kmc_split::super_kmer::{SuperKmer, super_kmers};
 use rows::ROWS;
@@ -23,16 +26,8 @@ fn super_kmer_of(
     letters: &[u8],
     k: usize,
 ) -> Result<SuperKmer, AllocError> {
-    let mut found = segments(alloc, letters, 1)?;
-    let segment = found.pop().expect(rt, "letters of bases");
+    let segment = one_segment(rt, alloc, letters)?;
     Ok(SuperKmer::new(segment.codes, k).expect(rt, "a super-k-mer"))
-}
-
-/// So many equal bytes.
-fn same_bytes(alloc: Global, byte: u8, length: usize) -> Result<Vec<u8>, AllocError> {
-    let mut bytes = Vec::new(alloc);
-    bytes.resize(length, byte)?;
-    Ok(bytes)
 }
 
 #[test]
@@ -63,6 +58,21 @@ fn writes_records_of_every_length(rt: HostRuntime) -> Result<(), Fail> {
         assert_eq!(rt; long[0], first);
         assert_eq!(rt; &long[1..], same_bytes(alloc, 0, size)?.as_slice());
     }
+    Ok(())
+}
+
+#[test]
+fn writes_the_longest_words_of_t(rt: HostRuntime) -> Result<(), Fail> {
+    let alloc = rt.alloc();
+    let mut bytes = Vec::new(alloc);
+    encode(
+        &super_kmer_of(&rt, alloc, &same_bytes(alloc, b'T', 65)?, 64)?,
+        &mut bytes,
+    )?;
+    assert_eq!(rt; bytes.len(), 18);
+    assert_eq!(rt; bytes[0], 0x01);
+    assert_eq!(rt; &bytes[1..17], [0xFF; 16].as_slice());
+    assert_eq!(rt; bytes[17], 0xC0);
     Ok(())
 }
 
@@ -102,42 +112,14 @@ fn m_is_the_lesser_of_p_and_k(rt: HostRuntime) {
     assert!(rt; Shape::new(25, 9, 2001).is_none());
 }
 
-/// The chunk of these reads, behind each of which stands a comma.
-fn chunk_of(alloc: Global, reads: &str) -> Result<Chunk, AllocError> {
-    let mut chunk = Chunk {
-        number: 3,
-        reads: Vec::new(alloc),
-    };
-    for read in reads.split(',') {
-        chunk.reads.push(read.as_bytes().to_vec(alloc)?)?;
-    }
-    Ok(chunk)
-}
-
-/// A part as its bin, its number of words and its body.
-fn push_part(
-    text: &mut String,
-    alloc: Global,
-    bin: usize,
-    words: u64,
-    body: &[u8],
-) -> Result<(), Fail> {
-    text.push_str(format!(in alloc; "{bin} {words} ")?.as_str())?;
-    for byte in body {
-        text.push_str(format!(in alloc; "{:02x}", *byte)?.as_str())?;
-    }
-    text.push(';')?;
-    Ok(())
-}
-
 /// The parts of the reads.
 fn parts_text(rt: &impl Abort, alloc: Global, reads: &str, shape: Shape) -> Result<String, Fail> {
-    let chunk = chunk_of(alloc, reads)?;
+    let chunk = chunk_of(alloc, 3, reads)?;
     let mut text = String::new(alloc);
     for part in &parts_of(alloc, &chunk, shape)? {
         assert_eq!(rt; part.chunk(), 3);
         assert_eq!(rt; part.shape().k(), shape.k());
-        push_part(&mut text, alloc, part.bin(), part.words(), part.body())?;
+        push_bin(&mut text, alloc, part.bin(), part.words(), part.body())?;
     }
     Ok(text)
 }
@@ -151,7 +133,7 @@ fn plain_text(rt: &impl Abort, alloc: Global, reads: &str, shape: Shape) -> Resu
         bodies.push(Vec::new(alloc))?;
         counts.push(0_u64)?;
     }
-    for read in &chunk_of(alloc, reads)?.reads {
+    for read in &chunk_of(alloc, 3, reads)?.reads {
         for segment in &segments(alloc, read, k)? {
             assert!(rt; segment.codes.len() >= k);
             for piece in &super_kmers(alloc, segment, k, m)? {
@@ -168,7 +150,7 @@ fn plain_text(rt: &impl Abort, alloc: Global, reads: &str, shape: Shape) -> Resu
     let mut text = String::new(alloc);
     for (bin, (body, count)) in bodies.iter().zip(counts.iter()).enumerate() {
         if *count > 0 {
-            push_part(&mut text, alloc, bin, *count, body)?;
+            push_bin(&mut text, alloc, bin, *count, body)?;
         }
     }
     Ok(text)
@@ -177,8 +159,8 @@ fn plain_text(rt: &impl Abort, alloc: Global, reads: &str, shape: Shape) -> Resu
 #[test]
 fn gives_each_bin_its_records(rt: HostRuntime) -> Result<(), Fail> {
     let alloc = rt.alloc();
-    let four = Shape::new(4, 9, 7).expect(&rt, "a shape");
-    let seven = Shape::new(7, 5, 7).expect(&rt, "a shape");
+    let four = shape_of(&rt, 4, 9, 7);
+    let seven = shape_of(&rt, 7, 5, 7);
     let made = parts_text(&rt, alloc, "ACGTACGT", four)?;
     assert_eq!(rt; made.as_str(), "2 1 00b1;3 2 006c00c6;6 2 001b001b;");
     let made = parts_text(&rt, alloc, "AACCGTTAC", seven)?;
@@ -192,7 +174,7 @@ fn gives_each_bin_its_records(rt: HostRuntime) -> Result<(), Fail> {
 fn agrees_with_the_model_and_with_the_plain_body(rt: HostRuntime) -> Result<(), Fail> {
     let alloc = rt.alloc();
     for (k, p, n, reads, want) in &ROWS {
-        let shape = Shape::new(*k, *p, *n).expect(&rt, "a shape");
+        let shape = shape_of(&rt, *k, *p, *n);
         let made = parts_text(&rt, alloc, reads, shape)?;
         assert_eq!(rt; made.as_str(), *want, "{reads} at {k}, {p} and {n}");
         let plain = plain_text(&rt, alloc, reads, shape)?;
@@ -210,7 +192,7 @@ fn words_of_body(
     bytes: &[u8],
 ) -> Result<Result<u64, PartError>, AllocError> {
     let (k, p, n) = sizes;
-    let shape = Shape::new(k, p, n).expect(rt, "a shape");
+    let shape = shape_of(rt, k, p, n);
     assert!(rt; bin < shape.n());
     let body = bytes.to_vec(alloc)?;
     match Part::from_body(alloc, 0, bin, shape, body) {
@@ -243,8 +225,28 @@ fn takes_bodies_of_whole_records_of_the_bin(rt: HostRuntime) -> Result<(), Fail>
 }
 
 #[test]
+fn packs_the_words_of_a_body(rt: HostRuntime) -> Result<(), Fail> {
+    let alloc = rt.alloc();
+    let mut narrow: Vec<u64> = Vec::new(alloc);
+    push_body(
+        &mut narrow,
+        &[0x00, 0x1B, 0x01, 0x6C, 0x40],
+        4,
+        Strands::Apart,
+    )?;
+    assert_eq!(rt; narrow.as_slice(), [27, 108, 177].as_slice());
+    let mut wide: Vec<u128> = Vec::new(alloc);
+    push_body(&mut wide, &[0x01, 0xB1, 0xC0], 4, Strands::Joined)?;
+    assert_eq!(rt; wide.as_slice(), [177, 44].as_slice());
+    let damaged = push_body(&mut wide, &[0x00, 0x1B, 0x01, 0x6C], 4, Strands::Apart);
+    assert_eq!(rt; damaged, Err(BodyError::Damaged(RecordFault::Short, 2)));
+    Ok(())
+}
+
+#[test]
 fn laws_can_be_called() {
     laws::no_spelling_begins_another();
     laws::body_has_one_list();
     laws::spelling_has_no_fault();
+    laws::whole_body_has_no_fault();
 }

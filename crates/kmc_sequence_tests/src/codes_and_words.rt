@@ -1,32 +1,18 @@
-use crate::base::code;
-use crate::keys::push_keys;
-use crate::kmer::{Kmer, MAX_K};
-use crate::strands::Strands;
-use crate::stretch::segments;
+//! Codes of bases, words, segments and keys.
+use crate::given::{one_segment, word_of};
+use kmc_base::base::code;
+use kmc_base::keys::push_keys;
+use kmc_base::kmer::{Kmer, MAX_K};
+use kmc_base::laws;
+use kmc_base::strands::Strands;
+use kmc_base::stretch::segments;
 use std::alloc::{AllocError, Global};
 use std::test::Fail;
 
-/// The codes of a text of bases.
-fn codes_of(alloc: Global, text: &[u8]) -> Result<Vec<u8>, AllocError> {
-    let mut codes = Vec::new(alloc);
-    for b in text {
-        if let Some(c) = code(*b) {
-            codes.push(c)?;
-        }
-    }
-    Ok(codes)
-}
-
-fn word(alloc: Global, text: &[u8]) -> Result<Option<Kmer>, AllocError> {
-    let codes = codes_of(alloc, text)?;
-    Ok(Kmer::new(&codes))
-}
-
-fn text_of(alloc: Global, w: Option<Kmer>) -> Result<Vec<u8>, AllocError> {
+/// The letters of a word.
+fn letters_of(alloc: Global, w: Kmer) -> Result<Vec<u8>, AllocError> {
     let mut text = Vec::new(alloc);
-    if let Some(w) = w {
-        w.push_text(&mut text)?;
-    }
+    w.push_text(&mut text)?;
     Ok(text)
 }
 
@@ -55,12 +41,10 @@ fn reverse_complement_at_the_edges_of_the_widths(rt: HostRuntime) -> Result<(), 
     let text = b"ACGTTGCAACCGGTTAGATTACAGATTACACCGGTCATCATGGGACCATTTAACGCGTATCCGAT";
     let other = b"ATCGGATACGCGTTAAATGGTCCCATGATGACCGGTGTAATCTGTAATCTAACCGGTTGCAACGT";
     for k in [1, 2, 31, 32, 33, 63, 64] {
-        let w = word(rt.alloc(), &text[..k])?;
-        let Some(w) = w else {
-            return Err(Fail::from("no word"));
-        };
+        let segment = one_segment(&rt, rt.alloc(), &text[..k])?;
+        let w = Kmer::new(&segment.codes).expect(&rt, "a word");
         assert_eq!(rt; w.k(), k);
-        let turned = text_of(rt.alloc(), Some(w.rev_comp()))?;
+        let turned = letters_of(rt.alloc(), w.rev_comp())?;
         assert_eq!(rt; turned.as_slice(), &other[65 - k..]);
         assert!(rt; w.rev_comp().rev_comp() == w);
         assert!(rt; w.canon() == w.rev_comp().canon());
@@ -74,10 +58,10 @@ fn reverse_complement_at_the_edges_of_the_widths(rt: HostRuntime) -> Result<(), 
 #[test]
 fn orders_words_by_length_and_then_by_symbols(rt: HostRuntime) -> Result<(), Fail> {
     let alloc = rt.alloc();
-    let t = word(alloc, b"T")?;
-    let aa = word(alloc, b"AA")?;
-    let ac = word(alloc, b"AC")?;
-    let ca = word(alloc, b"CA")?;
+    let t = word_of(&rt, alloc, "T")?;
+    let aa = word_of(&rt, alloc, "AA")?;
+    let ac = word_of(&rt, alloc, "AC")?;
+    let ca = word_of(&rt, alloc, "CA")?;
     assert!(rt; t < aa && aa < ac && ac < ca);
     assert!(rt; aa != t);
     Ok(())
@@ -85,18 +69,18 @@ fn orders_words_by_length_and_then_by_symbols(rt: HostRuntime) -> Result<(), Fai
 
 #[test]
 fn takes_a_word_out_of_a_word(rt: HostRuntime) -> Result<(), Fail> {
-    let text = b"ACGTTGCAACCGGTTAGATTACAGATTACACCGGTCATCATGGGACCATTTAACGCGTATCCGA";
+    let text = "ACGTTGCAACCGGTTAGATTACAGATTACACCGGTCATCATGGGACCATTTAACGCGTATCCGA";
     let alloc = rt.alloc();
-    let Some(w) = word(alloc, text)? else {
-        return Err(Fail::from("no word"));
-    };
+    let w = word_of(&rt, alloc, text)?;
+    let letters = text.as_bytes();
+    assert_eq!(rt; letters.len(), 64);
     assert_eq!(rt; w.k(), 64);
     for m in [1, 5, 9, 63, 64] {
         let last = 64 - m;
-        let inner = text_of(alloc, Some(w.sub(last, m)))?;
-        assert_eq!(rt; inner.as_slice(), &text[last..]);
-        let first = text_of(alloc, Some(w.sub(0, m)))?;
-        assert_eq!(rt; first.as_slice(), &text[..m]);
+        let inner = letters_of(alloc, w.sub(last, m))?;
+        assert_eq!(rt; inner.as_slice(), &letters[last..]);
+        let first = letters_of(alloc, w.sub(0, m))?;
+        assert_eq!(rt; first.as_slice(), &letters[..m]);
     }
     assert_eq!(rt; w.code_at(0), 0);
     assert_eq!(rt; w.code_at(3), 3);
@@ -122,9 +106,8 @@ fn finds_the_maximal_stretches(rt: HostRuntime) -> Result<(), Fail> {
 #[test]
 fn rolls_the_keys_at_either_width(rt: HostRuntime) -> Result<(), Fail> {
     let alloc = rt.alloc();
-    let found = segments(alloc, b"ACGTACGT", 4)?;
-    assert_eq!(rt; found.len(), 1);
-    let codes = &found[0].codes;
+    let segment = one_segment(&rt, alloc, b"ACGTACGT")?;
+    let codes = &segment.codes;
     let mut narrow: Vec<u64> = Vec::new(alloc);
     push_keys(&mut narrow, codes, 4, Strands::Joined)?;
     assert_eq!(rt; narrow.as_slice(), [27, 108, 177, 108, 27].as_slice());
@@ -134,4 +117,13 @@ fn rolls_the_keys_at_either_width(rt: HostRuntime) -> Result<(), Fail> {
     push_keys(&mut wide, codes, 9, Strands::Apart)?;
     assert_eq!(rt; wide.len(), 5);
     Ok(())
+}
+
+#[test]
+fn laws_can_be_called() {
+    laws::segments_are_counted();
+    laws::segments_are_maximal();
+    laws::keys_of_segments();
+    laws::keys_unpack();
+    laws::one_canonical_form();
 }

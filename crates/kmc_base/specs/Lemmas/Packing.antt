@@ -9,6 +9,7 @@ use Rattle.std.specs.Cmp.Lexicographic.{slice_cmp}
 use Rattle.std.specs.declared.cmp.Ordering.{Ordering}
 use Rattle.std.specs.declared.cmp.Ordering.TheVariants.{Less, Equal, Greater}
 use Rattle.kmc_base.specs.declared.kmer.Kmer.TheInside.{Inside}
+use Rattle.kmc_base.specs.Lemmas.Powers.{pow_up, pow_quad}
 use Rattle.kmc_base.specs.Words.{complement, rev_comp}
 use Rattle.kmc_base.specs.Packed.{unpack, pack_after, pack, IsPacked}
 
@@ -40,10 +41,6 @@ unpack_more n p c small =
 
 pub fits_more : (n p c : ℕ) → p < 4 ^ n → c < 4 → p * 4 + c < 4 ^ (n + 1)
 fits_more n p c h small = rw add-one (grind arith)
-
-pub pow_up : (n d : ℕ) → 4 ^ n ≤ 4 ^ (d + n)
-pow_up n zero = rw zero-add (le_refl _)
-pow_up n (suc d) = rw suc-add (omega (arith, pow_up n d))
 
 -- there is room in 128 bits
 pub room : (n p c : ℕ) → n < 64 → p < 4 ^ n → c < 4 → p * 4 + c < 2 ^ 128
@@ -91,11 +88,6 @@ rev_comp_more n p = rw add-one (ap reverse (map-append complement (unpack n (p /
 
 -- ---- the code at a place
 
-pow_quad : (j : ℕ) → 2 ^ (2 * j) ≡ 4 ^ j
-pow_quad j =
-    let twice : 2 * j ≡ j + j = omega arith in
-    ap (λ e. 2 ^ e) twice ∙ pow-add 2 j j ∙ sym (mul-pow 2 2 j)
-
 quarter_at : (p j : ℕ) → p / 4 / 4 ^ j ≡ p / 4 ^ suc j
 quarter_at p j = div-div-eq-div-mul p 4 (4 ^ j) ∙ ap (λ d. p / d) (sym (pow-succ' 4 j))
 
@@ -110,4 +102,4 @@ code_from (suc n) p i (suc j) e =
     get_or_append_left (unpack n (p / 4)) (p % 4 ∷ []) 0 i inside ∙ code_from n (p / 4) i j (omega arith) ∙ ap (λ q. q % 4) (quarter_at p j)
 
 pub code_is : (n p i : ℕ) → i < n → p / 2 ^ (2 * (n - 1 - i)) % 4 ≡ get_or (unpack n p) i 0
-code_is n p i inside = rw (pow_quad (n - 1 - i)) (sym (code_from n p i (n - 1 - i) (omega arith)))
+code_is n p i inside = rw (← pow_quad (n - 1 - i)) (sym (code_from n p i (n - 1 - i) (omega arith)))

@@ -8,7 +8,7 @@ use Rattle.std.specs.List.{AllByRecursion}
 use Rattle.std.specs.Ordering.{nat_cmp, is_lt}
 use Rattle.kmc_base.specs.Words.{complement, rev_comp, word_cmp, canonical}
 use Rattle.kmc_base.specs.Packed.{unpack, pack_after, pack}
-use Rattle.kmc_base.specs.Packing.{pack_after_append, unpack_more, fits_more, cmp_unpack}
+use Rattle.kmc_base.specs.Lemmas.Packing.{pack_after_append, unpack_more, fits_more, cmp_unpack}
 
 -- each is a code
 abbrev pub AreCodes : List ℕ → Type 0

@@ -1,5 +1,10 @@
-use super::*;
+//! FASTQ and FASTA texts with their reads, or with the refusal of their first faulty line.
+use kmc_reads::error::ReadsError;
+use kmc_reads::format::Format;
+use kmc_reads::read_all::read_all;
+use std::alloc::Global;
 use std::process::Abort;
+use std::test::Fail;
 
 /// The answer, asked for once more where memory was refused: so the tests also pass where one
 /// growth is refused, whichever it is (`rt try --test --fail-alloc N`).
@@ -194,4 +199,25 @@ fn a_fasta_text_begins_with_a_header(rt: HostRuntime) {
         "\n\r\n@r\n>a\nACGT\n",
         ReadsError::BadHeader(3),
     );
+}
+
+#[test]
+fn a_refusal_is_told_with_its_line(rt: HostRuntime) -> Result<(), Fail> {
+    for (refusal, message) in [
+        (ReadsError::Memory, "out of memory"),
+        (ReadsError::BadHeader(3), "line 3: bad header"),
+        (ReadsError::BadPlus(4), "line 4: bad plus line"),
+        (
+            ReadsError::QualityLength(5),
+            "line 5: quality length differs",
+        ),
+        (
+            ReadsError::Truncated(18446744073709551615),
+            "line 18446744073709551615: record cut short",
+        ),
+    ] {
+        let told = format!(in rt.alloc(); "{refusal}")?;
+        assert_eq!(rt; told.as_str(), message);
+    }
+    Ok(())
 }

@@ -1,0 +1,7 @@
+-- Lemmas on the definitions beside this file, and the words that they are stated in: proofs cite them, here and in the
+-- crates above, and no promise needs them to be read.
+pub mod Packing
+pub mod Packs
+pub mod Powers
+pub mod Rolling
+pub mod Keys

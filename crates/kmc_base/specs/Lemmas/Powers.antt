@@ -1,0 +1,46 @@
+-- Powers of four: as masks, and as the room of a number that holds so many codes.
+use Rattle.std.proofs.Common.{◌≡◌, ℕ, zero, suc, ◌+◌, ◌*◌, ◌-◌, ◌/◌, ◌%◌, ◌^◌, ◌<◌, ◌≤◌, bit_and, le_refl, zero-add, suc-add, sym, ap, ◌∙◌, arith}
+use Rattle.std.proofs.lemmas.Nat.{and_mask, pow-add, mul-pow, mod_below, mul-le}
+use Rattle.std.proofs.Math.Nat.{pow-succ'}
+
+pub pow_up : (n d : ℕ) → 4 ^ n ≤ 4 ^ (d + n)
+pow_up n zero = rw zero-add (le_refl _)
+pow_up n (suc d) = rw suc-add (omega (arith, pow_up n d))
+
+pub pow_quad : (j : ℕ) → 4 ^ j ≡ 2 ^ (2 * j)
+pow_quad j =
+    let twice : 2 * j ≡ j + j = omega arith in
+    sym (ap (λ e. 2 ^ e) twice ∙ pow-add 2 j j ∙ sym (mul-pow 2 2 j))
+
+pub pow_some : (j : ℕ) → 1 ≤ 4 ^ j
+pow_some zero = omega arith
+pow_some (suc j) = omega (arith, pow_some j, pow-succ' 4 j)
+
+pub masked : (n t j : ℕ) → t ≡ 4 ^ j → bit_and n (t - 1) ≡ n % t
+masked n t j e =
+    let p : t ≡ 2 ^ (2 * j) = e ∙ pow_quad j in
+    rw p (and_mask n (2 * j))
+
+pub low_fits : (n t j : ℕ) → t ≡ 4 ^ j → n % t < 4 ^ j
+low_fits n t j e = rw e (mod_below n (4 ^ j) (let h = pow_some j in omega arith))
+
+pub back_below : (b t c r : ℕ) → b / 4 < t → r ≡ b / 4 + (3 - c) * t → r / 4 < t
+back_below b t c r h e =
+    let three : 3 - c ≤ 3 = omega arith in
+    omega (arith, mul-le (3 - c) t 3 t three (le_refl t), e)
+
+-- ---- in a number that holds m codes
+
+pub pow_most : (m j : ℕ) → j < m → 4 ^ j * 4 ≤ 4 ^ m
+pow_most m j less =
+    let parts : (m - suc j) + suc j ≡ m = omega arith in
+    let up : 4 ^ suc j ≤ 4 ^ m = rw parts at (pow_up (suc j) (m - suc j)) in
+    omega (arith, up, pow-succ' 4 j)
+
+pub room_low : (m n t j c : ℕ) → t ≡ 4 ^ j → j < m → c < 4 → n % t * 4 + c < 4 ^ m
+room_low m n t j c e less small = omega (arith, low_fits n t j e, pow_most m j less)
+
+pub room_back : (m b t j c : ℕ) → t ≡ 4 ^ j → j < m → b < t → b + (3 - c) * t < 4 ^ m
+room_back m b t j c e less below =
+    let three : 3 - c ≤ 3 = omega arith in
+    omega (arith, mul-le (3 - c) t 3 t three (le_refl t), pow_most m j less, e, below)
