@@ -32,7 +32,7 @@ recipes: $(KMC)
 install: $(KMC)
 	install -d "$(BIN)" "$(MAN)"
 	install -m 755 $(KMC) "$(BIN)/$(NAME)"
-	sed 's/^\.Nm kmc$$/.Nm $(NAME)/; s/^\.Dt KMC /.Dt $(NAME) /' docs/kmc.1 > "$(MAN)/$(NAME).1"
+	sed 's/^\.Nm kmc$$/.Nm $(NAME)/; s/^\.Dt KMC /.Dt $(NAME) /; /^\.Dl/ s/kmc -/$(NAME) -/' docs/kmc.1 > "$(MAN)/$(NAME).1"
 	chmod 644 "$(MAN)/$(NAME).1"
 
 uninstall:

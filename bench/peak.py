@@ -1,12 +1,13 @@
 #!/usr/bin/env python3
-"""Runs a command and tells its wall and processor time, and the memory of all its processes together at their peak.
+"""Runs a command and tells its wall and processor time, the peak of all its processes together, and of the greatest one.
 
 usage: peak.py COMMAND [WORD..]      (standard input and output are the command's; the figures go to standard error)
 
-Memory is the sum of the processes' proportional shares (Pss) in Linux's /proc, looked at twenty times a second, and so a
-little less than the true peak.
+The first peak is the greatest sum of the processes' resident memory in Linux's /proc, looked at some fifty times a second: a
+shorter peak is missed, and what processes share counts for each. The second is what the system kept, and exact.
 """
 import os
+import resource
 import subprocess
 import sys
 import time
@@ -37,11 +38,11 @@ def family(root):
     return members
 
 
-def share(process):
-    """The process's share of memory, in kB."""
+def resident(process):
+    """The process's resident memory, in bytes."""
     try:
-        with open("/proc/%d/smaps_rollup" % process) as file:
-            return next((int(line.split()[1]) for line in file if line.startswith("Pss:")), 0)
+        with open("/proc/%d/statm" % process) as file:
+            return int(file.read().split()[1]) * resource.getpagesize()
     except OSError:
         return 0
 
@@ -49,14 +50,17 @@ def share(process):
 def main():
     start = time.monotonic()
     command = subprocess.Popen(sys.argv[1:])
-    peak = 0
+    peak = looks = 0
     while command.poll() is None:
-        peak = max(peak, sum(share(process) for process in family(command.pid)))
-        time.sleep(0.05)
+        if looks % 5 == 0:
+            members = family(command.pid)
+        looks += 1
+        peak = max(peak, sum(resident(process) for process in members))
+        time.sleep(0.02)
     wall = time.monotonic() - start
-    used = os.times()
-    print("wall %.1f s, processor %.1f s, peak %.0f MB" % (
-        wall, used.children_user + used.children_system, peak / 1000), file=sys.stderr)
+    used = resource.getrusage(resource.RUSAGE_CHILDREN)
+    print("wall %.1f s, processor %.1f s, peak %.0f MB, of one process %.0f MB" % (
+        wall, used.ru_utime + used.ru_stime, peak / 1e6, used.ru_maxrss * 1024 / 1e6), file=sys.stderr)
     sys.exit(command.returncode)
 
 
