@@ -27,7 +27,7 @@ skipped=0
 package_of() {
     case $1 in
         gnuplot) echo gnuplot-nox ;;
-        dask) echo python3-distributed ;;
+        dask | dask-scheduler) echo python3-distributed ;;
         script) echo bsdutils ;;
         *) echo "$1" ;;
     esac
@@ -211,6 +211,7 @@ many_files_refuses_a_broken_file() {
     gzip < "$reads" | head -c 2000 > broken.gz
     ends 1 "$here/many-files" "$reads" broken.gz
     ends 1 "$here/many-files" "$reads" absent.fastq
+    ends 2 "$here/many-files" -zz "$reads"
 }
 
 many_files_shows_progress() {
@@ -275,7 +276,7 @@ genomescope_histogram_is_what_jellyfish_writes() {
 }
 
 cluster() {
-    "$dask_python" "$here/cluster" "$@"
+    timeout 300 "$dask_python" "$here/cluster" "$@"
 }
 
 cluster_gives_the_dump_of_one_run_though_a_worker_dies() {
@@ -291,12 +292,12 @@ SCRIPT
     export KMC_STARTS=$work/starts KMC_ITSELF=$KMC
     KMC=$work/slow-kmc cluster --workers 4 --megabytes 0.005 "$reads" > given &
     local run=$!
-    # the first start is the client's, which tries the options; the third comes while the second, a worker's, runs
+    # the first start is the client's, which tries the options; the latest is a worker's, which still waits its second
     for _ in $(seq 300); do
         [ "$(wc -l < starts)" -lt 3 ] || break
         sleep 0.1
     done
-    kill -KILL "$(sed -n 2p starts)"
+    kill -KILL "$(tail -n 1 starts)"
     wait "$run"
     cmp "$whole" given
     # 8 parts and the client's start, and once more what died
