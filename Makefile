@@ -1,7 +1,13 @@
 # The k-mer counter: `make count` builds it and counts the example, `make check` is the gate.
 KMC := ./kmc
 
-.PHONY: all count check hostile bench clean
+# where `make install` puts the program and its page, and under which name: Debian's `kmc` is KMC 3
+PREFIX := /usr/local
+NAME := futoncrane-kmc
+BIN = $(DESTDIR)$(PREFIX)/bin
+MAN = $(DESTDIR)$(PREFIX)/share/man/man1
+
+.PHONY: all count check recipes install uninstall hostile bench clean
 
 all: count
 
@@ -19,6 +25,18 @@ count: $(KMC)
 
 check:
 	rt ci
+
+recipes: $(KMC)
+	KMC="$(abspath $(KMC))" recipes/test.sh
+
+install: $(KMC)
+	install -d "$(BIN)" "$(MAN)"
+	install -m 755 $(KMC) "$(BIN)/$(NAME)"
+	sed 's/^\.Nm kmc$$/.Nm $(NAME)/; s/^\.Dt KMC /.Dt $(NAME) /; /^\.Dl/ s/kmc -/$(NAME) -/' docs/kmc.1 > "$(MAN)/$(NAME).1"
+	chmod 644 "$(MAN)/$(NAME).1"
+
+uninstall:
+	rm -f "$(BIN)/$(NAME)" "$(MAN)/$(NAME).1"
 
 hostile:
 	bench/refuse_memory.sh

@@ -1,0 +1,429 @@
+#!/usr/bin/env bash
+# Tests the recipes on examples/reads.fastq. What they write is compared with what plain programs make of the same reads.
+#
+# usage: make recipes    (or recipes/test.sh, with the program in $KMC)
+#
+# A test whose tools are not installed is skipped, and their Debian packages are named. The last line is
+# 'N passed, M failed, L skipped', and the status is 1 where a test failed.
+set -u
+here=$(cd "$(dirname "$0")" && pwd)
+top=$(dirname "$here")
+KMC=$(realpath "${KMC:-$top/kmc}")
+export KMC
+reads=$top/examples/reads.fastq
+whole=$top/examples/reads.dump
+greatest=9223372036854775808
+work=$(mktemp -d)
+trap 'rm -rf "$work"' EXIT
+mkdir "$work/tmp"
+export TMPDIR=$work/tmp
+cd "$work" || exit 1
+
+passed=0
+failed=0
+skipped=0
+
+# the Debian package of a command
+package_of() {
+    case $1 in
+        gnuplot) echo gnuplot-nox ;;
+        dask | dask-scheduler) echo python3-distributed ;;
+        script) echo bsdutils ;;
+        *) echo "$1" ;;
+    esac
+}
+
+# the python that has dask.distributed, or nothing
+dask_python=''
+for python in python3 /usr/bin/python3; do
+    if command -v "$python" > /dev/null && "$python" -c 'import distributed' 2> /dev/null; then
+        dask_python=$python
+        break
+    fi
+done
+
+is_installed() {
+    if [ "$1" = dask ]; then
+        [ -n "$dask_python" ]
+    else
+        command -v "$1" > /dev/null
+    fi
+}
+
+# try FUNCTION [TOOL..]: runs the test, where the tools are there. A test is a function whose status is 0 where it passed.
+try() {
+    local name=$1 tool
+    shift
+    for tool in "$@"; do
+        if ! is_installed "$tool"; then
+            echo "skipped  $name: $tool is not installed (Debian's package $(package_of "$tool"))"
+            skipped=$((skipped + 1))
+            return
+        fi
+    done
+    # not as the condition of an `if`: there the shell would pass over the commands that fail
+    (set -e; "$name") > "$work/said" 2>&1
+    local status=$?
+    if [ "$status" -eq 0 ]; then
+        echo "passed   $name"
+        passed=$((passed + 1))
+    else
+        echo "FAILED   $name"
+        sed 's/^/         /' "$work/said"
+        failed=$((failed + 1))
+    fi
+}
+
+# plainly K CI CX CS: the dump of the reads on standard input, by the plain program
+plainly() {
+    python3 "$top/bench/count_plainly.py" "$@"
+}
+
+# ends STATUS COMMAND..: whether the command ends with this status and writes nothing
+ends() {
+    local wanted=$1 status=0
+    shift
+    "$@" > "$work/written" || status=$?
+    [ "$status" -eq "$wanted" ] && [ ! -s "$work/written" ]
+}
+
+each_shows_its_help() {
+    for recipe in histogram genome-size solid many-files compare genomescope-histogram; do
+        "$here/$recipe" --help | grep -q '^usage: '
+    done
+    python3 "$here/cluster" --help | grep -q '^usage: '
+}
+
+histogram_is_that_of_the_plain_dump() {
+    plainly 21 1 $greatest $greatest < "$reads" | cut -f 2 | sort -n | uniq -c | awk '{ print $2 "\t" $1 }' > wanted
+    "$here/histogram" -k21 -sp1 < "$reads" > given
+    cmp wanted given
+}
+
+histogram_draws_a_picture() {
+    "$here/histogram" -k21 --png 'a picture.png' < "$reads" > given
+    [ "$(head -c 8 'a picture.png' | od -An -tx1 | tr -d ' ')" = 89504e470d0a1a0a ]
+    [ -s given ]
+}
+
+histogram_draws_with_characters() {
+    "$here/histogram" --text -k21 < "$reads" > given 2> drawn
+    grep -q '\*' drawn
+    grep -q 'count' drawn
+    [ -s given ]
+}
+
+limits_of_a_recipe_are_not_taken() {
+    ends 2 "$here/histogram" -ci3 < "$reads"
+    ends 2 "$here/solid" --cs=7 < "$reads"
+    ends 2 "$here/genomescope-histogram" -cx10 < "$reads"
+}
+
+refused_reads_are_refused() {
+    printf '@r\nACGT\n+\nII\n' > bad.fastq
+    ends 1 "$here/histogram" -k3 < bad.fastq
+    ends 1 "$here/solid" -k3 < bad.fastq
+    ends 1 "$here/many-files" -k3 bad.fastq
+}
+
+genome_size_is_near_the_genomes() {
+    python3 "$top/bench/simulate_reads.py" 9000 100 20000 5 0.005 > simulated.fastq
+    "$here/histogram" -k21 < simulated.fastq | "$here/genome-size" > given
+    awk -F '\t' '$1 == "size" { size = $2 } END { exit !(size > 19000 && size < 21000) }' given
+}
+
+genome_size_wants_a_peak() {
+    printf '1\t90\n2\t20\n3\t4\n' > falling
+    ends 1 "$here/genome-size" < falling
+    # worked by hand: the valley is 3 and the peak 5, so the words are 3*2 + 4*6 + 5*20 + 10*2 = 150
+    printf '1\t90\n2\t5\n3\t2\n4\t6\n5\t20\n10\t2\n' > peaked
+    printf 'valley\t3\npeak\t5\nk-mers read\t250\nk-mers taken for errors\t100\nsize\t30\n' > wanted
+    "$here/genome-size" < peaked > given
+    cmp wanted given
+    "$here/genome-size" --peak 10 < peaked | grep -qx 'size	15'
+}
+
+solid_has_the_kmers_within_the_limits() {
+    plainly 31 3 9 $greatest < "$reads" | awk '{ print ">" NR " count=" $2; print $1 }' > wanted
+    "$here/solid" -k31 -ci3 -cx9 < "$reads" > given
+    cmp wanted given
+}
+
+solid_is_what_jellyfish_dumps() {
+    jellyfish count -m 21 -C -s 1M -o counted.jf "$reads"
+    jellyfish dump -L 3 counted.jf | paste - - | LC_ALL=C sort > wanted
+    "$here/solid" -k21 -ci3 --jellyfish < "$reads" | paste - - | LC_ALL=C sort > given
+    cmp wanted given
+}
+
+# the example in three files: two of 80 records, the second with no line feed at its end, and the rest
+thirds() {
+    head -n 320 "$reads" > 'first third.fastq'
+    sed -n 321,640p "$reads" | head -c -1 > second.fastq
+    tail -n +641 "$reads" > third.fastq
+}
+
+many_files_are_one_stream() {
+    thirds
+    "$here/many-files" 'first third.fastq' second.fastq ./third.fastq > given
+    cmp "$whole" given
+}
+
+many_files_unpacks_gzip() {
+    thirds
+    gzip < second.fastq > second.packed
+    "$here/many-files" -sp1 'first third.fastq' second.packed third.fastq > given
+    cmp "$whole" given
+}
+
+many_files_unpacks_bzip2() {
+    thirds
+    bzip2 < second.fastq > second.packed
+    "$here/many-files" 'first third.fastq' second.packed third.fastq > given
+    cmp "$whole" given
+}
+
+many_files_unpacks_zstd() {
+    thirds
+    zstd -q < second.fastq > second.packed
+    "$here/many-files" 'first third.fastq' second.packed third.fastq > given
+    cmp "$whole" given
+}
+
+many_files_of_fasta() {
+    printf '>a\nACGTA\nCGT' > a.fa
+    printf '>b\nACGTACG' > b.fa
+    # the words of ACGTACGT and ACGTACG, strands joined, by hand: ACG 5 with CGT, GTA 3 with TAC
+    "$here/many-files" -k3 -ci1 a.fa b.fa > given
+    printf 'ACG\t7\nGTA\t4\n' > wanted
+    cmp wanted given
+}
+
+many_files_refuses_a_mixture() {
+    printf '>a\nACGTACGT\n' > a.fa
+    ends 1 "$here/many-files" "$reads" a.fa
+    ends 1 "$here/many-files" -fq a.fa
+    printf 'ACGTACGT\n' > bare.txt
+    ends 1 "$here/many-files" bare.txt
+}
+
+many_files_refuses_a_broken_file() {
+    gzip < "$reads" | head -c 2000 > broken.gz
+    ends 1 "$here/many-files" "$reads" broken.gz
+    ends 1 "$here/many-files" "$reads" absent.fastq
+    ends 2 "$here/many-files" -zz "$reads"
+}
+
+many_files_shows_progress() {
+    gzip < "$reads" > packed.fastq.gz
+    script -qec "'$here/many-files' packed.fastq.gz > given" /dev/null < /dev/null > shown
+    grep -q 'packed.fastq.gz.*100%' shown
+    cmp "$whole" given
+}
+
+compare_counts_what_is_in_common() {
+    head -n 400 "$reads" | plainly 21 1 > one.dump
+    tail -n 400 "$reads" | plainly 21 1 > 'other one.dump'
+    python3 - one.dump 'other one.dump' << 'SCRIPT'
+import sys
+one, other = (dict(line.split() for line in open(path)) for path in sys.argv[1:])
+both = sorted(set(one) & set(other))
+with open("wanted", "w") as out:
+    print("in both", len(both), sep="\t", file=out)
+    print("in the first alone", len(set(one) - set(other)), sep="\t", file=out)
+    print("in the second alone", len(set(other) - set(one)), sep="\t", file=out)
+    print("Jaccard index", "%.6f" % (len(both) / len(set(one) | set(other))), sep="\t", file=out)
+rows = {"common": [(word, one[word], other[word]) for word in both],
+        "first": [(word, one[word]) for word in sorted(set(one) - set(other))],
+        "second": [(word, other[word]) for word in sorted(set(other) - set(one))],
+        "same": [(word, one[word]) for word in both if one[word] == other[word]]}
+for name, lines in rows.items():
+    with open("wanted." + name, "w") as out:
+        out.writelines("\t".join(line) + "\n" for line in lines)
+SCRIPT
+    "$here/compare" one.dump 'other one.dump' > given
+    cmp wanted given
+    for name in common first second same; do
+        [ -s "wanted.$name" ]
+        "$here/compare" "--$name" one.dump 'other one.dump' > given
+        cmp "wanted.$name" given
+    done
+}
+
+compare_refuses_what_it_cannot_compare() {
+    plainly 20 < "$reads" > shorter.dump
+    ends 1 "$here/compare" "$whole" shorter.dump
+    tac "$whole" > unsorted.dump
+    ends 1 "$here/compare" "$whole" unsorted.dump
+    ends 1 "$here/compare" "$whole" absent.dump
+    ends 2 "$here/compare" "$whole"
+}
+
+genomescope_histogram_has_each_count() {
+    plainly 21 1 $greatest 12 < "$reads" | cut -f 2 | sort -n | uniq -c | awk '{ print $2 " " $1 }' > wanted
+    "$here/genomescope-histogram" -k21 --top 12 < "$reads" > given
+    cmp wanted given
+    "$here/genomescope-histogram" -k21 < "$reads" > given
+    [ "$(wc -l < given)" -eq 10000 ]
+    [ "$(tail -n 1 given)" = '10000 0' ]
+}
+
+genomescope_histogram_is_what_jellyfish_writes() {
+    jellyfish count -m 21 -C -s 1M -o counted.jf "$reads"
+    jellyfish histo -f -h 9999 counted.jf | tail -n +2 > wanted
+    "$here/genomescope-histogram" -k21 < "$reads" > given
+    cmp wanted given
+}
+
+cluster() {
+    timeout 300 "$dask_python" "$here/cluster" "$@"
+}
+
+cluster_gives_the_dump_of_one_run_though_a_worker_dies() {
+    # the program as the workers run it: it tells which process started it, and takes its time
+    cat > slow-kmc << 'SCRIPT'
+#!/bin/sh
+echo "$PPID" >> "$KMC_STARTS"
+sleep 1
+exec "$KMC_ITSELF" "$@"
+SCRIPT
+    chmod +x slow-kmc
+    : > starts
+    export KMC_STARTS=$work/starts KMC_ITSELF=$KMC
+    KMC=$work/slow-kmc cluster --workers 4 --megabytes 0.005 "$reads" > given &
+    local run=$!
+    # the first start is the client's, which tries the options; the latest is a worker's, which still waits its second
+    for _ in $(seq 300); do
+        [ "$(wc -l < starts)" -lt 3 ] || break
+        sleep 0.1
+    done
+    kill -KILL "$(tail -n 1 starts)"
+    wait "$run"
+    cmp "$whole" given
+    # 8 parts and the client's start, and once more what died
+    [ "$(wc -l < starts)" -gt "$((1 + 8))" ]
+}
+
+cluster_judges_the_sums() {
+    gzip < "$reads" > packed.gz
+    cat "$reads" "$reads" "$reads" | plainly 31 20 40 35 > wanted
+    cluster --workers 2 --megabytes 0.02 --ranges 3 -k31 -ci20 -cx40 -cs35 "$reads" packed.gz "$reads" > given
+    [ -s wanted ]
+    cmp wanted given
+}
+
+cluster_cuts_fasta_at_headers() {
+    awk 'NR % 4 == 1 { print ">" NR } NR % 4 == 2 { print substr($0, 1, 60); print substr($0, 61) }' "$reads" > reads.fa
+    plainly 25 1 $greatest $greatest < "$reads" > wanted
+    cluster --workers 2 --megabytes 0.003 -fm -ci1 "-cx$greatest" "-cs$greatest" reads.fa > given
+    cmp wanted given
+}
+
+cluster_works_for_a_scheduler() {
+    dask-scheduler --host 127.0.0.1 --port 0 --no-dashboard --scheduler-file where.json > /dev/null 2>&1 &
+    local scheduler=$!
+    for _ in 1 2; do
+        dask-worker --scheduler-file where.json --nthreads 1 --no-dashboard --local-directory "$work" --death-timeout 60 > /dev/null 2>&1 &
+    done
+    for _ in $(seq 300); do
+        [ ! -s where.json ] || break
+        sleep 0.1
+    done
+    mkdir shared
+    local status=0
+    cluster --scheduler "$(python3 -c 'import json; print(json.load(open("where.json"))["address"])')" \
+        --directory "$work/shared" --megabytes 0.01 "$reads" > given || status=$?
+    # shellcheck disable=SC2046
+    kill $(jobs -p) && wait
+    [ "$scheduler" -gt 0 ] && [ "$status" -eq 0 ]
+    cmp "$whole" given
+    rmdir shared
+}
+
+cluster_merges_by_kmc_merge() {
+    mkdir -p merger
+    cat > merger/kmc_merge << 'SCRIPT'
+#!/usr/bin/env python3
+import sys
+limits = {word[1:3]: int(word[3:]) for word in sys.argv[1:4]}
+sums = {}
+for path in sys.argv[4:]:
+    for line in open(path):
+        sums[line.split()[0]] = sums.get(line.split()[0], 0) + int(line.split()[1])
+for word in sorted(sums):
+    if limits["ci"] <= sums[word] <= limits["cx"]:
+        print(word, min(sums[word], limits["cs"]), sep="\t")
+open("merged-by-it", "w")
+SCRIPT
+    sed -i "s|merged-by-it|$work/merged-by-it|" merger/kmc_merge
+    chmod +x merger/kmc_merge
+    PATH=$work/merger:$PATH cluster --workers 1 --megabytes 0.02 -cs9 "$reads" > given
+    plainly 25 2 1000000000 9 < "$reads" > wanted
+    cmp wanted given
+    [ -e merged-by-it ]
+}
+
+cluster_writes_nothing_after_a_fault() {
+    head -n 777 "$reads" > cut.fastq
+    ends 1 cluster --workers 1 --megabytes 0.01 "$reads" cut.fastq
+    gzip < "$reads" | head -c 2000 > broken.gz
+    ends 1 cluster --workers 1 "$reads" broken.gz
+    ends 2 cluster --workers 1 -k99 "$reads"
+    ends 2 cluster --workers 1
+}
+
+manual_page_has_no_fault() {
+    mandoc -Tlint "$top/docs/kmc.1"
+}
+
+installs_and_uninstalls() {
+    make -s -C "$top" install DESTDIR="$work/root" PREFIX=/opt/k NAME=counter
+    root/opt/k/bin/counter < "$reads" > given
+    cmp "$whole" given
+    grep -qx '\.Nm counter' root/opt/k/share/man/man1/counter.1
+    make -s -C "$top" uninstall DESTDIR="$work/root" PREFIX=/opt/k NAME=counter
+    [ -z "$(find root -type f)" ]
+}
+
+scripts_have_no_fault() {
+    shellcheck -x "$here"/{common.sh,test.sh,histogram,solid,compare,genomescope-histogram} "$top"/bench/*.sh
+}
+
+nothing_is_left_behind() {
+    [ -z "$(ls -A "$TMPDIR")" ]
+}
+
+try each_shows_its_help
+try histogram_is_that_of_the_plain_dump
+try histogram_draws_a_picture gnuplot
+try histogram_draws_with_characters gnuplot
+try limits_of_a_recipe_are_not_taken
+try refused_reads_are_refused
+try genome_size_is_near_the_genomes
+try genome_size_wants_a_peak
+try solid_has_the_kmers_within_the_limits
+try solid_is_what_jellyfish_dumps jellyfish
+try many_files_are_one_stream
+try many_files_unpacks_gzip gzip
+try many_files_unpacks_bzip2 bzip2
+try many_files_unpacks_zstd zstd
+try many_files_of_fasta
+try many_files_refuses_a_mixture
+try many_files_refuses_a_broken_file gzip
+try many_files_shows_progress pv script
+try compare_counts_what_is_in_common
+try compare_refuses_what_it_cannot_compare
+try genomescope_histogram_has_each_count
+try genomescope_histogram_is_what_jellyfish_writes jellyfish
+try cluster_gives_the_dump_of_one_run_though_a_worker_dies dask
+try cluster_judges_the_sums dask
+try cluster_cuts_fasta_at_headers dask
+try cluster_works_for_a_scheduler dask dask-scheduler
+try cluster_merges_by_kmc_merge dask
+try cluster_writes_nothing_after_a_fault dask
+try manual_page_has_no_fault mandoc
+try installs_and_uninstalls
+try scripts_have_no_fault shellcheck
+try nothing_is_left_behind
+echo "$passed passed, $failed failed, $skipped skipped"
+[ "$failed" -eq 0 ]
