@@ -13,12 +13,11 @@ mod glued;
 mod number;
 mod reading;
 
-
 use command::parse;
 use error::ParamsError;
+use given::given;
 use glued::long_form;
 use kmc_tool::params::Params;
-use given::given;
 use std::alloc::{AllocError, Global};
 
 /// The command line in long form, word by word: KMC's `-k31` becomes `--k=31`, its `-fa` becomes

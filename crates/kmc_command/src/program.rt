@@ -53,8 +53,10 @@ pub fn count<T: Threads + Wait + Sync, R: Read, W: Write>(
     ensures silent { IfErr result (λ e. e ≢ Fault.Run RunError.Write → writer.new ≡ writer.old) }
 {
     let params = settings(alloc, argv)?;
-    let lines = run(rt, alloc, reader, writer, &params, &NoGate)?;
-    Ok(lines)
+    match run(rt, alloc, reader, writer, &params, &NoGate) {
+        Ok(lines) => Ok(lines),
+        Err(error) => Err(Fault::Run(error)),
+    }
 }
 
 /// Shows a fault, and gives the exit status: 0 where there is none. A line that cannot be written changes nothing of

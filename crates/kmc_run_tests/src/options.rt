@@ -1,6 +1,6 @@
+use kmc_base::strands::Strands;
 use kmc_command::options::error::ParamsError;
 use kmc_command::options::{params, words};
-use kmc_base::strands::Strands;
 use kmc_reads::format::Format;
 use kmc_tool::params::Params;
 use kmc_tool::setting::Setting;

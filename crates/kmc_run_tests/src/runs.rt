@@ -4,14 +4,14 @@ mod queues;
 mod rows;
 
 use crate::devices::{Full, NarrowWriter, PieceReader};
-use kmc_tool::error::RunError;
-use kmc_tool::params::Params;
-use kmc_tool::run::run;
 use kmc_base::strands::Strands;
 use kmc_count::device::Counted;
 use kmc_count::limits::Limits;
 use kmc_partqueue::NoGate;
 use kmc_reads::format::Format;
+use kmc_tool::error::RunError;
+use kmc_tool::params::Params;
+use kmc_tool::run::run;
 use std::alloc::{AllocError, Global};
 use std::sync::Wait;
 use std::test::Fail;

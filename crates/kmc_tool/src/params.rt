@@ -171,4 +171,3 @@ impl Default for Params {
         }
     }
 }
-

@@ -1,5 +1,5 @@
 -- From the seats that the workers hand back to bins that hold the reads.
-use Rattle.std.proofs.Common.{◌≡◌, ℕ, ◌*◌, ◌<◌, ◌≤◌, List, length, get_or, ap, ◌∙◌, arith}
+use Rattle.std.proofs.Common.{◌≡◌, ℕ, ◌*◌, ◌<◌, ◌≤◌, List, length, get_or, ap, sym, subst, ◌∙◌, arith}
 use Rattle.std.specs.List.{AllZip, sum_by, range_with_len}
 use Rattle.kmc_record.specs.Shapes.{Sizes}
 use Rattle.kmc_record.specs.Parts.{Parcel}
@@ -46,6 +46,12 @@ module _ (shape : Sizes) (batch : ℕ) (reads : List (List ℕ)) (id : TableId) 
     -- the parts of its chunks
     dealt : (w : ℕ) → w < q.writers → AreDealt shape batch reads q.writers w (chunks_of batch (length reads)) (sent w)
     dealt w lt = (its_writer id q shape batch reads q.writers done all w (new_writer id q 0) (omega (arith, many))).sent
+
+    -- the parts of the chunks of each
+    pub each_dealt : Each (λ (s : WriterState Parcel). AreDealt shape batch reads q.writers s.number (chunks_of batch (length reads)) s.sent) done
+    each_dealt = each_from (λ (s : WriterState Parcel). AreDealt shape batch reads q.writers s.number (chunks_of batch (length reads)) s.sent) done
+        (λ j d lt. let back = its_writer id q shape batch reads q.writers done all j d lt in
+            subst (λ (n : ℕ). AreDealt shape batch reads q.writers n (chunks_of batch (length reads)) (get_or done j d).sent) (sym back.seat.number) back.sent)
 
     each_once : Each (λ (s : WriterState Parcel). total_of (λ (t : WriterState Parcel). same t.number s.number) done ≡ 1) done
     each_once =

@@ -5,6 +5,7 @@ ghost use Rattle.kmc_store.specs.Bodies.{AreBodies};
 ghost use Rattle.kmc_store.specs.Holds.{HoldsReads};
 ghost use Rattle.kmc_partqueue.specs.Counts.{Each};
 ghost use Rattle.kmc_workers.specs.Causes.{IsCause};
+ghost use Rattle.kmc_workers.specs.Shards.{IsPassage};
 ghost use Rattle.kmc_workers.specs.Workers.{items_of};
 
 use crate::pass_parts::pass_parts;
@@ -51,7 +52,8 @@ fn merge_shards(
 }
 
 /// Bins that hold the reads, and how many parts each splitter put: the parts of the reads pass through a queue of this
-/// shape, as [`pass_parts`] says, all seats are gathered, and the bins of all storers are merged. Refusals are those of
+/// shape, as [`pass_parts`] says, all seats are gathered, and the bins of all storers are merged. The contract tells the
+/// queue's history too: it is legal, and what was put and taken in it is what lies in the bins. Refusals are those of
 /// [`pass_parts`].
 pub fn fill_bins<R: Threads + Wait + Sync, G: Gate + Sync>(
     rt: &R,
@@ -63,6 +65,7 @@ pub fn fill_bins<R: Threads + Wait + Sync, G: Gate + Sync>(
 ) -> Result<(Bins, Totals), Refusal>
     ensures shape { IfOk result (λ b. b.0.shape ≡ plan.shape) }
     ensures holds { IfOk result (λ b. HoldsReads plan.shape (map (λ r. r.items) reads.now) b.0.bodies) }
+    ensures passage { IfOk result (λ b. IsPassage plan.shape plan.batch (map (λ r. r.items) reads.now) queue b.0.bodies) }
     ensures cause { IfErr result (IsCause plan.shape plan.batch (map (λ r. r.items) reads.now) queue.writers) }
 {
     // what was sent was got once, so bins that are the bodies of what was got hold the reads

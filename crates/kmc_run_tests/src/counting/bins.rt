@@ -1,14 +1,14 @@
 //! Bodies written by hand, symbol by symbol, and the pairs that they hold.
 ghost use Rattle.std.specs.Prelude.{◌≡◌, [], ◌∷◌, map, IfOk};
 
+use kmc_base::kmer::Kmer;
+use kmc_base::strands::Strands;
 use kmc_count::bin::{CountError, count_bin};
 use kmc_count::bins::count_bins;
 use kmc_count::device::Counted;
 use kmc_count::dump::write_dump;
 use kmc_count::limits::Limits;
 use kmc_count::merge::merge_bins;
-use kmc_base::kmer::Kmer;
-use kmc_base::strands::Strands;
 use kmc_record::fault::RecordFault;
 use std::alloc::{AllocError, Global};
 use std::process::Abort;

@@ -1,8 +1,8 @@
 //! Any number of threads fills the bins as one thread does.
-use crate::dice::Dice;
 use super::one_thread::{assert_records, assert_sizes, assert_totals, by_one_thread};
 use super::outcome::passed;
 use super::reads_of;
+use crate::dice::Dice;
 use kmc_partcore::QueueShape;
 use kmc_partqueue::NoGate;
 use kmc_record::shape::Shape;

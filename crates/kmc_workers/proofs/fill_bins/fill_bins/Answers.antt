@@ -1,6 +1,8 @@
-use Rattle.std.proofs.Common.{◌<◌, ℕ, Vec, Global, map, arith}
+use Rattle.std.proofs.Common.{◌<◌, ℕ, Vec, Global, map, subst, arith}
+use Rattle.kmc_partcore.specs.declared.shape.QueueShape.{QueueShape}
+use Rattle.kmc_partqueue.specs.Told.{IsHistoryOf}
 use Rattle.kmc_workers.proofs.Returned.{writers_of, writers_once, readers_of, readers_once, one_ended}
-use Rattle.kmc_workers.proofs.Stored.{held, shards_shaped}
+use Rattle.kmc_workers.proofs.Stored.{held, each_dealt, shards_shaped}
 use Rattle.kmc_workers.proofs.fill_bins.fill_bins.Goals as goal
 
 pub merge_shards-requires : goal.merge_shards-requires
@@ -39,3 +41,18 @@ returns-clause-holds g c =
     let within = queue.within in let some_w : 0 < queue.writers = omega arith in
     held plan.shape plan.batch reads id queue c.in-Ok.passed.1.items c.in-Ok.ensures.done c.gathered.ensures c.gathered_bins_hold_reads.ensures
     c.in_ok-bins.seats.items c.in_ok-bins.bins.bodies plan.some.1 some_w plan.some.0 c.gather-totals.ensures.gathered c.in_ok-bins.ensures.bodies
+
+pub returns-clause-passage : goal.returns-clause-passage
+returns-clause-passage g c =
+    let plan = c.args.plan in let queue = c.args.queue in let id = c.in-Ok.passed.0.table.shared.table_id in
+    let reads = map (λ (r : Vec ℕ Global). r.items) c.args.reads.now in let done = c.in-Ok.passed.1.items in
+    let history = c.gather-totals.ensures.history in
+    record {
+      writers = done;
+      readers = c.in_ok-bins.seats.items;
+      history = history.0;
+      told = subst (λ (q : QueueShape). IsHistoryOf q done c.in_ok-bins.seats.items history.0) c.in-Ok.ensures.queue history.1;
+      dealt = each_dealt plan.shape plan.batch reads id queue done c.in-Ok.ensures.done;
+      every_writer = writers_once id queue plan.shape plan.batch reads queue.writers done c.in-Ok.ensures.done;
+      stored = c.in_ok-bins.ensures.bodies;
+    }
