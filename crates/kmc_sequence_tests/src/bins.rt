@@ -80,14 +80,15 @@ fn new_bins_are_empty(rt: HostRuntime) -> Result<(), Fail> {
 fn each_part_goes_to_its_bin(rt: HostRuntime) -> Result<(), Fail> {
     let alloc = rt.alloc();
     let shape = shape_of(&rt, 4, 9, 7);
-    let one = bins_of(&rt, alloc, shape, &["ACGTACGT"])?;
-    assert_eq!(rt; text_of(alloc, &one)?.as_str(), ONE);
-    let two = bins_of(&rt, alloc, shape, &["ACGTACGT", "ACGTACGT"])?;
-    assert_eq!(rt; text_of(alloc, &two)?.as_str(), TWO);
-    let together = bins_of(&rt, alloc, shape, &["ACGTACGT,ACGTACGT"])?;
-    assert_eq!(rt; text_of(alloc, &together)?.as_str(), TWO);
-    let nothing = bins_of(&rt, alloc, shape, &["NNNN", "ACG"])?;
-    assert_eq!(rt; text_of(alloc, &nothing)?.as_str(), "");
+    for (chunks, want) in [
+        (["ACGTACGT"].as_slice(), ONE),
+        (["ACGTACGT", "ACGTACGT"].as_slice(), TWO),
+        (["ACGTACGT,ACGTACGT"].as_slice(), TWO),
+        (["NNNN", "ACG"].as_slice(), ""),
+    ] {
+        let bins = bins_of(&rt, alloc, shape, chunks)?;
+        assert_eq!(rt; text_of(alloc, &bins)?.as_str(), want);
+    }
     Ok(())
 }
 
@@ -144,25 +145,19 @@ fn merges_bin_by_bin(rt: HostRuntime) -> Result<(), Fail> {
     let alloc = rt.alloc();
     let shape = shape_of(&rt, 4, 9, 7);
     let mut bins = Bins::new(alloc, shape)?;
-    merge_in(&rt, alloc, &mut bins, Bins::new(alloc, shape)?)?;
-    assert_eq!(rt; text_of(alloc, &bins)?.as_str(), "");
-    merge_in(
-        &rt,
-        alloc,
-        &mut bins,
-        bins_of(&rt, alloc, shape, &["ACGTACGT"])?,
-    )?;
-    assert_eq!(rt; text_of(alloc, &bins)?.as_str(), ONE);
-    merge_in(&rt, alloc, &mut bins, Bins::new(alloc, shape)?)?;
-    assert_eq!(rt; text_of(alloc, &bins)?.as_str(), ONE);
-    merge_in(
-        &rt,
-        alloc,
-        &mut bins,
-        bins_of(&rt, alloc, shape, &["CCCCC,ACGTA"])?,
-    )?;
-    let want = "1 2 015540;2 1 00b1;3 3 006c00c6006c;6 3 001b001b001b;";
-    assert_eq!(rt; text_of(alloc, &bins)?.as_str(), want);
+    for (chunks, want) in [
+        ([].as_slice(), ""),
+        (["ACGTACGT"].as_slice(), ONE),
+        ([].as_slice(), ONE),
+        (
+            ["CCCCC,ACGTA"].as_slice(),
+            "1 2 015540;2 1 00b1;3 3 006c00c6006c;6 3 001b001b001b;",
+        ),
+    ] {
+        let others = bins_of(&rt, alloc, shape, chunks)?;
+        merge_in(&rt, alloc, &mut bins, others)?;
+        assert_eq!(rt; text_of(alloc, &bins)?.as_str(), want);
+    }
     Ok(())
 }
 

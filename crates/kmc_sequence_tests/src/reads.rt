@@ -31,81 +31,46 @@ fn refuses(rt: &impl Abort, alloc: Global, format: Format, text: &str, want: Rea
 }
 
 #[test]
-fn a_fastq_read_is_its_sequence_line(rt: HostRuntime) {
-    for (text, read) in [
-        ("@r\nACGTACGT\n+\nIIIIIIII\n", "ACGTACGT"),
-        ("@r\r\nACGTACGT\r\n+\r\nIIIIIIII", "ACGTACGT"),
-        ("@r\nACGT\n+r again\nIIII", "ACGT"),
-        ("@\nacNt.\n+\n@@@@@\n", "acNt."),
+fn fastq_reads_are_the_sequence_lines(rt: HostRuntime) {
+    let between = "\n@a\nAC\n+\nII\n\r\n\n@b\n\n+\n\n@c\nGGT\n+\nIII\n\n";
+    for (text, reads) in [
+        ("@r\nACGTACGT\n+\nIIIIIIII\n", ["ACGTACGT"].as_slice()),
+        ("@r\r\nACGTACGT\r\n+\r\nIIIIIIII", ["ACGTACGT"].as_slice()),
+        ("@r\nACGT\n+r again\nIIII", ["ACGT"].as_slice()),
+        ("@\nacNt.\n+\n@@@@@\n", ["acNt."].as_slice()),
+        // an empty read has an empty quality line
+        ("@r\n\n+\n\n", [""].as_slice()),
+        // one carriage return at the end of a line is not its content
+        ("@r\n\n+\n\r", [""].as_slice()),
+        ("@r\nACGT\n+\nIIII\r", ["ACGT"].as_slice()),
+        // blank lines between records are passed over
+        (between, ["AC", "", "GGT"].as_slice()),
     ] {
-        gives(&rt, rt.alloc(), Format::Fastq, text, &[read]);
+        gives(&rt, rt.alloc(), Format::Fastq, text, reads);
     }
 }
 
 #[test]
-fn fastq_records_stand_in_order_with_blank_lines_between(rt: HostRuntime) {
-    let text = "\n@a\nAC\n+\nII\n\r\n\n@b\n\n+\n\n@c\nGGT\n+\nIII\n\n";
-    gives(&rt, rt.alloc(), Format::Fastq, text, &["AC", "", "GGT"]);
-}
-
-#[test]
-fn an_empty_read_needs_its_empty_quality_line(rt: HostRuntime) {
-    gives(&rt, rt.alloc(), Format::Fastq, "@r\n\n+\n\n", &[""]);
-    refuses(
-        &rt,
-        rt.alloc(),
-        Format::Fastq,
-        "@r\n\n+\n",
-        ReadsError::Truncated(4),
-    );
+fn fasta_reads_are_all_lines_up_to_the_next_header(rt: HostRuntime) {
+    let three = ["ACGT", "", "ACGT"];
+    for (text, reads) in [
+        (">a\r\nAC\r\nGT\r\n>b\n>c\nACGT", three.as_slice()),
+        ("\n>a\nACGT\n\nACGT", ["ACGTACGT"].as_slice()),
+        (">", [""].as_slice()),
+        // neither a semicolon nor a header behind a space begins anything
+        (">a\n;note\nAC\n >b\nGT\n", [";noteAC >bGT"].as_slice()),
+    ] {
+        gives(&rt, rt.alloc(), Format::Fasta, text, reads);
+    }
 }
 
 #[test]
 fn a_text_with_no_record_has_no_reads(rt: HostRuntime) {
     for text in ["", "\n", "\r", "\n\r\n"] {
-        gives(&rt, rt.alloc(), Format::Fastq, text, &[]);
-        gives(&rt, rt.alloc(), Format::Fasta, text, &[]);
+        for format in [Format::Fastq, Format::Fasta] {
+            gives(&rt, rt.alloc(), format, text, &[]);
+        }
     }
-}
-
-#[test]
-fn one_carriage_return_at_the_end_of_a_line_is_not_its_content(rt: HostRuntime) {
-    gives(&rt, rt.alloc(), Format::Fastq, "@r\n\n+\n\r", &[""]);
-    gives(
-        &rt,
-        rt.alloc(),
-        Format::Fastq,
-        "@r\nACGT\n+\nIIII\r",
-        &["ACGT"],
-    );
-    refuses(
-        &rt,
-        rt.alloc(),
-        Format::Fastq,
-        "@r\n\r",
-        ReadsError::Truncated(3),
-    );
-    refuses(
-        &rt,
-        rt.alloc(),
-        Format::Fastq,
-        "@r\nACGT\n\r",
-        ReadsError::BadPlus(3),
-    );
-    refuses(
-        &rt,
-        rt.alloc(),
-        Format::Fastq,
-        "\r\r\n",
-        ReadsError::BadHeader(1),
-    );
-    refuses(
-        &rt,
-        rt.alloc(),
-        Format::Fasta,
-        "\r\r\n",
-        ReadsError::BadHeader(1),
-    );
 }
 
 #[test]
@@ -113,92 +78,44 @@ fn a_fastq_refusal_names_the_first_faulty_line(rt: HostRuntime) {
     for (text, refusal) in [
         ("r\nACGT\n+\nIIII\n", ReadsError::BadHeader(1)),
         ("@r\nACGT\n+\nIIII\nr", ReadsError::BadHeader(5)),
+        ("\r\r\n", ReadsError::BadHeader(1)),
         ("\n@r\nACGT\nx\nIIII\n", ReadsError::BadPlus(4)),
         ("@r\nACGT\n\n+\nIIII\n", ReadsError::BadPlus(3)),
         ("@r\nACGT\n\n", ReadsError::BadPlus(3)),
+        ("@r\nACGT\n\r", ReadsError::BadPlus(3)),
         ("@r\nACGT\n+\nIII\n", ReadsError::QualityLength(4)),
         ("@r\nACGT\n+\nIII", ReadsError::QualityLength(4)),
         ("@r\nACGT\n+\nIIIII\n", ReadsError::QualityLength(4)),
         ("@r\nACGT\n+\n\n", ReadsError::QualityLength(4)),
         ("@r", ReadsError::Truncated(2)),
         ("@r\nACGT\n", ReadsError::Truncated(3)),
+        ("@r\n\r", ReadsError::Truncated(3)),
         ("@r\nACGT\n+\n", ReadsError::Truncated(4)),
+        ("@r\n\n+\n", ReadsError::Truncated(4)),
+        // a faulty line comes before a missing one
+        ("x", ReadsError::BadHeader(1)),
+        ("@r\nA\nx", ReadsError::BadPlus(3)),
     ] {
         refuses(&rt, rt.alloc(), Format::Fastq, text, refusal);
     }
 }
 
 #[test]
-fn a_faulty_line_comes_before_a_missing_one(rt: HostRuntime) {
-    refuses(
-        &rt,
-        rt.alloc(),
-        Format::Fastq,
-        "x",
-        ReadsError::BadHeader(1),
-    );
-    refuses(
-        &rt,
-        rt.alloc(),
-        Format::Fastq,
-        "@r\nA\nx",
-        ReadsError::BadPlus(3),
-    );
-}
-
-#[test]
-fn a_fasta_read_is_all_lines_up_to_the_next_header(rt: HostRuntime) {
-    gives(
-        &rt,
-        rt.alloc(),
-        Format::Fasta,
-        ">a\r\nAC\r\nGT\r\n>b\n>c\nACGT",
-        &["ACGT", "", "ACGT"],
-    );
-    gives(
-        &rt,
-        rt.alloc(),
-        Format::Fasta,
-        "\n>a\nACGT\n\nACGT",
-        &["ACGTACGT"],
-    );
-    gives(&rt, rt.alloc(), Format::Fasta, ">", &[""]);
-}
-
-#[test]
-fn fasta_knows_no_comment_lines_and_no_indented_headers(rt: HostRuntime) {
-    gives(
-        &rt,
-        rt.alloc(),
-        Format::Fasta,
-        ">a\n;note\nAC\n >b\nGT\n",
-        &[";noteAC >bGT"],
-    );
-    refuses(
-        &rt,
-        rt.alloc(),
-        Format::Fasta,
-        ";note\n>a\nAC\n",
-        ReadsError::BadHeader(1),
-    );
-}
-
-#[test]
 fn a_fasta_text_begins_with_a_header(rt: HostRuntime) {
-    refuses(
-        &rt,
-        rt.alloc(),
-        Format::Fasta,
-        "ACGT\n",
-        ReadsError::BadHeader(1),
-    );
-    refuses(
-        &rt,
-        rt.alloc(),
-        Format::Fasta,
-        "\n\r\n@r\n>a\nACGT\n",
-        ReadsError::BadHeader(3),
-    );
+    for (text, line) in [
+        ("ACGT\n", 1),
+        ("\n\r\n@r\n>a\nACGT\n", 3),
+        ("\r\r\n", 1),
+        (";note\n>a\nAC\n", 1),
+    ] {
+        refuses(
+            &rt,
+            rt.alloc(),
+            Format::Fasta,
+            text,
+            ReadsError::BadHeader(line),
+        );
+    }
 }
 
 #[test]

@@ -31,48 +31,42 @@ fn super_kmer_of(
 }
 
 #[test]
-fn writes_one_record_behind_what_is_there(rt: HostRuntime) -> Result<(), Fail> {
+fn writes_records_behind_what_is_there(rt: HostRuntime) -> Result<(), Fail> {
     let alloc = rt.alloc();
     let mut bytes = [7].to_vec(alloc)?;
-    encode(&super_kmer_of(&rt, alloc, b"ACGTAC", 5)?, &mut bytes)?;
-    assert_eq!(rt; bytes.as_slice(), [7, 0x01, 0x1B, 0x10].as_slice());
-    Ok(())
-}
-
-#[test]
-fn writes_records_of_every_length(rt: HostRuntime) -> Result<(), Fail> {
-    let alloc = rt.alloc();
-    let mut bytes = Vec::new(alloc);
-    encode(&super_kmer_of(&rt, alloc, b"AACCGTT", 7)?, &mut bytes)?;
-    encode(&super_kmer_of(&rt, alloc, b"ACCGTTAC", 7)?, &mut bytes)?;
-    encode(&super_kmer_of(&rt, alloc, b"ACGT", 4)?, &mut bytes)?;
-    let want = [0x00, 0x05, 0xBC, 0x01, 0x16, 0xF1, 0x00, 0x1B];
-    assert_eq!(rt; bytes.as_slice(), want.as_slice());
-    for (length, k, first, size) in [(280, 25, 0xFF, 70), (44, 25, 0x13, 11), (319, 64, 0xFF, 80)] {
-        let mut long = Vec::new(alloc);
+    for (letters, k) in [("ACGTAC", 5), ("AACCGTT", 7), ("ACCGTTAC", 7), ("ACGT", 4)] {
         encode(
-            &super_kmer_of(&rt, alloc, &same_bytes(alloc, b'A', length)?, k)?,
-            &mut long,
+            &super_kmer_of(&rt, alloc, letters.as_bytes(), k)?,
+            &mut bytes,
         )?;
-        assert_eq!(rt; long.len(), 1 + size);
-        assert_eq!(rt; long[0], first);
-        assert_eq!(rt; &long[1..], same_bytes(alloc, 0, size)?.as_slice());
     }
+    let want = [
+        7, 0x01, 0x1B, 0x10, 0x00, 0x05, 0xBC, 0x01, 0x16, 0xF1, 0x00, 0x1B,
+    ];
+    assert_eq!(rt; bytes.as_slice(), want.as_slice());
     Ok(())
 }
 
 #[test]
-fn writes_the_longest_words_of_t(rt: HostRuntime) -> Result<(), Fail> {
+fn writes_long_records(rt: HostRuntime) -> Result<(), Fail> {
     let alloc = rt.alloc();
-    let mut bytes = Vec::new(alloc);
-    encode(
-        &super_kmer_of(&rt, alloc, &same_bytes(alloc, b'T', 65)?, 64)?,
-        &mut bytes,
-    )?;
-    assert_eq!(rt; bytes.len(), 18);
-    assert_eq!(rt; bytes[0], 0x01);
-    assert_eq!(rt; &bytes[1..17], [0xFF; 16].as_slice());
-    assert_eq!(rt; bytes[17], 0xC0);
+    for (letter, length, k, first, size, byte, last) in [
+        (b'A', 280, 25, 0xFF, 70, 0x00, 0x00),
+        (b'A', 44, 25, 0x13, 11, 0x00, 0x00),
+        (b'A', 319, 64, 0xFF, 80, 0x00, 0x00),
+        (b'T', 65, 64, 0x01, 17, 0xFF, 0xC0),
+    ] {
+        let letters = same_bytes(alloc, letter, length)?;
+        let mut record = Vec::new(alloc);
+        encode(&super_kmer_of(&rt, alloc, &letters, k)?, &mut record)?;
+        assert_eq!(rt; record.len(), 1 + size);
+        assert_eq!(rt; record[0], first);
+        assert_eq!(rt;
+            &record[1..size],
+            same_bytes(alloc, byte, size - 1)?.as_slice()
+        );
+        assert_eq!(rt; record[size], last);
+    }
     Ok(())
 }
 
@@ -90,26 +84,32 @@ fn reads_one_record_and_leaves_the_rest(rt: HostRuntime) -> Result<(), Fail> {
 #[test]
 fn refuses_damaged_records(rt: HostRuntime) -> Result<(), Fail> {
     let alloc = rt.alloc();
-    let padded = decode(alloc, &[0x01, 0x1B, 0x11], 5).err();
-    assert_eq!(rt; padded, Some(RecordError::Padding));
-    let cut_off = decode(alloc, &[0x01, 0x1B], 5).err();
-    assert_eq!(rt; cut_off, Some(RecordError::Short));
-    let nothing = decode(alloc, &[], 5).err();
-    assert_eq!(rt; nothing, Some(RecordError::Short));
+    for (bytes, refusal) in [
+        ([0x01, 0x1B, 0x11].as_slice(), RecordError::Padding),
+        ([0x01, 0x1B].as_slice(), RecordError::Short),
+        ([].as_slice(), RecordError::Short),
+    ] {
+        assert_eq!(rt; decode(alloc, bytes, 5).err(), Some(refusal));
+    }
     Ok(())
 }
 
 #[test]
 fn m_is_the_lesser_of_p_and_k(rt: HostRuntime) {
-    let wide = Shape::new(64, 11, 2000).expect(&rt, "the widest shape");
-    assert_eq!(rt; (wide.k(), wide.m(), wide.n()), (64, 11, 2000));
-    let narrow = Shape::new(4, 9, 7).expect(&rt, "a narrow shape");
-    assert_eq!(rt; narrow.m(), 4);
-    assert!(rt; Shape::new(65, 9, 7).is_none());
-    assert!(rt; Shape::new(25, 4, 7).is_none());
-    assert!(rt; Shape::new(25, 12, 7).is_none());
-    assert!(rt; Shape::new(25, 9, 0).is_none());
-    assert!(rt; Shape::new(25, 9, 2001).is_none());
+    for (k, p, n, m) in [(64, 11, 2000, 11), (4, 9, 7, 4), (25, 5, 1, 5)] {
+        let shape = shape_of(&rt, k, p, n);
+        assert_eq!(rt; (shape.k(), shape.m(), shape.n()), (k, m, n));
+    }
+    for (k, p, n) in [
+        (0, 9, 7),
+        (65, 9, 7),
+        (25, 4, 7),
+        (25, 12, 7),
+        (25, 9, 0),
+        (25, 9, 2001),
+    ] {
+        assert!(rt; Shape::new(k, p, n).is_none(), "{k}, {p}, {n}");
+    }
 }
 
 /// The parts of the reads.
@@ -161,12 +161,14 @@ fn gives_each_bin_its_records(rt: HostRuntime) -> Result<(), Fail> {
     let alloc = rt.alloc();
     let four = shape_of(&rt, 4, 9, 7);
     let seven = shape_of(&rt, 7, 5, 7);
-    let made = parts_text(&rt, alloc, "ACGTACGT", four)?;
-    assert_eq!(rt; made.as_str(), "2 1 00b1;3 2 006c00c6;6 2 001b001b;");
-    let made = parts_text(&rt, alloc, "AACCGTTAC", seven)?;
-    assert_eq!(rt; made.as_str(), "1 1 0005bc;5 2 0116f1;");
-    let made = parts_text(&rt, alloc, "NNNN,ACG", four)?;
-    assert_eq!(rt; made.as_str(), "");
+    for (reads, shape, want) in [
+        ("ACGTACGT", four, "2 1 00b1;3 2 006c00c6;6 2 001b001b;"),
+        ("AACCGTTAC", seven, "1 1 0005bc;5 2 0116f1;"),
+        ("NNNN,ACG", four, ""),
+    ] {
+        let made = parts_text(&rt, alloc, reads, shape)?;
+        assert_eq!(rt; made.as_str(), want);
+    }
     Ok(())
 }
 
@@ -207,20 +209,59 @@ fn words_of_body(
 #[test]
 fn takes_bodies_of_whole_records_of_the_bin(rt: HostRuntime) -> Result<(), Fail> {
     let alloc = rt.alloc();
-    let short = |offset| Err(PartError::Damaged(RecordFault::Short, offset));
-    let padded = Err(PartError::Damaged(RecordFault::Padding, 0));
-    let other = |offset| Err(PartError::WrongBin(offset));
-    assert!(rt; words_of_body(&rt, alloc, (4, 9, 7), 6, &[0, 0x1B, 0, 0x1B])? == Ok(2));
-    assert!(rt; words_of_body(&rt, alloc, (4, 9, 7), 6, &[0, 0x1B, 0])? == short(2));
-    assert!(rt; words_of_body(&rt, alloc, (4, 9, 7), 6, &[0])? == short(0));
-    assert!(rt; words_of_body(&rt, alloc, (4, 9, 7), 6, &[])? == Ok(0));
-    assert!(rt; words_of_body(&rt, alloc, (4, 9, 7), 6, &[0, 0x1B, 0, 0x6C])? == other(2));
-    assert!(rt; words_of_body(&rt, alloc, (4, 9, 7), 6, &[0, 0x6C, 0])? == other(0));
-    assert!(rt; words_of_body(&rt, alloc, (4, 9, 7), 6, &[1, 0x1B, 0])? == other(0));
-    assert!(rt; words_of_body(&rt, alloc, (4, 9, 7), 3, &[1, 0x1B, 0])? == other(0));
-    assert!(rt; words_of_body(&rt, alloc, (4, 9, 1), 0, &[1, 0x1B, 0])? == Ok(2));
-    assert!(rt; words_of_body(&rt, alloc, (5, 5, 1), 0, &[1, 0x1B, 0x11])? == padded);
-    assert!(rt; words_of_body(&rt, alloc, (5, 5, 1), 0, &[1, 0x1B, 0x10])? == Ok(2));
+    for (sizes, bin, bytes, want) in [
+        ((4, 9, 7), 6, [0, 0x1B, 0, 0x1B].as_slice(), Ok(2)),
+        (
+            (4, 9, 7),
+            6,
+            [0, 0x1B, 0].as_slice(),
+            Err(PartError::Damaged(RecordFault::Short, 2)),
+        ),
+        (
+            (4, 9, 7),
+            6,
+            [0].as_slice(),
+            Err(PartError::Damaged(RecordFault::Short, 0)),
+        ),
+        ((4, 9, 7), 6, [].as_slice(), Ok(0)),
+        (
+            (4, 9, 7),
+            6,
+            [0, 0x1B, 0, 0x6C].as_slice(),
+            Err(PartError::WrongBin(2)),
+        ),
+        (
+            (4, 9, 7),
+            6,
+            [0, 0x6C, 0].as_slice(),
+            Err(PartError::WrongBin(0)),
+        ),
+        (
+            (4, 9, 7),
+            6,
+            [1, 0x1B, 0].as_slice(),
+            Err(PartError::WrongBin(0)),
+        ),
+        (
+            (4, 9, 7),
+            3,
+            [1, 0x1B, 0].as_slice(),
+            Err(PartError::WrongBin(0)),
+        ),
+        ((4, 9, 1), 0, [1, 0x1B, 0].as_slice(), Ok(2)),
+        (
+            (5, 5, 1),
+            0,
+            [1, 0x1B, 0x11].as_slice(),
+            Err(PartError::Damaged(RecordFault::Padding, 0)),
+        ),
+        ((5, 5, 1), 0, [1, 0x1B, 0x10].as_slice(), Ok(2)),
+    ] {
+        assert!(rt;
+            words_of_body(&rt, alloc, sizes, bin, bytes)? == want,
+            "{bytes:?} in {bin}"
+        );
+    }
     Ok(())
 }
 

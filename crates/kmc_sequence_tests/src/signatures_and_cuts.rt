@@ -92,16 +92,21 @@ fn cuts_where_the_signature_changes(rt: HostRuntime) -> Result<(), Fail> {
     let segment = one_segment(&rt, alloc, b"AACCGTTAC")?;
     assert!(rt; segment.codes.len() >= 7);
     let pieces = super_kmers(alloc, &segment, 7, 5)?;
-    assert_eq!(rt; pieces.len(), 2);
-    assert_eq!(rt; pieces[0].codes(), [0, 0, 1, 1, 2, 3, 3].as_slice());
-    assert_eq!(rt; pieces[1].codes(), [0, 1, 1, 2, 3, 3, 0, 1].as_slice());
-    assert_eq!(rt; pieces[1].k(), 7);
-    assert_eq!(rt;
-        pieces_text(&rt, alloc, "AACCGTTAC", 7, 5)?.as_str(),
-        "1:22 2:26"
-    );
-    let five = pieces_text(&rt, alloc, "ACGTACGT", 4, 4)?;
-    assert_eq!(rt; five.as_str(), "1:27 1:108 1:177 1:108 1:27");
+    let wanted = [
+        [0, 0, 1, 1, 2, 3, 3].as_slice(),
+        [0, 1, 1, 2, 3, 3, 0, 1].as_slice(),
+    ];
+    assert_eq!(rt; pieces.len(), wanted.len());
+    for (piece, codes) in pieces.iter().zip(&wanted) {
+        assert_eq!(rt; piece.k(), 7);
+        assert_eq!(rt; piece.codes(), *codes);
+    }
+    for (letters, k, m, want) in [
+        ("AACCGTTAC", 7, 5, "1:22 2:26"),
+        ("ACGTACGT", 4, 4, "1:27 1:108 1:177 1:108 1:27"),
+    ] {
+        assert_eq!(rt; pieces_text(&rt, alloc, letters, k, m)?.as_str(), want);
+    }
     Ok(())
 }
 
