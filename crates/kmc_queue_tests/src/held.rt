@@ -106,19 +106,19 @@ fn a_slot_stays_with_the_reader_that_is_held(rt: HostRuntime) -> Result<(), Fail
     let first = readers.pop().expect(&rt, "a reader");
     let put = queue.try_put(&mut writer, 10, &NoGate).ok();
     assert!(rt; put == Some(0));
-    let hold = Hold::new(Point::PartClaimed(0, 0, 0));
+    let hold = Hold::new(Point::PartClaimed(1, 0, 0));
     let lanes = &queue;
     let gate = &hold;
     let ((item, _), (held, refused, mut back)) = thread::join(
         &rt,
         move || -> (Item, ReaderSeat<u8>)
-            requires { IsReaderOf lanes.now.table.shared.table_id lanes.now.shape first }
-        { take_held(lanes, first, gate) },
+            requires { IsReaderOf lanes.now.table.shared.table_id lanes.now.shape second }
+        { take_held(lanes, second, gate) },
         move || -> (bool, bool, WriterSeat<u8>)
             requires writer { IsWriterOf lanes.now.table.shared.table_id lanes.now.shape writer }
-            requires reader { IsReaderOf lanes.now.table.shared.table_id lanes.now.shape second }
+            requires reader { IsReaderOf lanes.now.table.shared.table_id lanes.now.shape first }
             ensures { IsWriterOf lanes.entry.now.table.shared.table_id lanes.entry.now.shape result.2 }
-        { try_beside(lanes, writer, second, gate) },
+        { try_beside(lanes, writer, first, gate) },
     );
     assert!(rt; held && refused && !hold.spent.load(Ordering::SeqCst));
     assert!(rt; item == Some((0, 0, 10)));
@@ -127,7 +127,7 @@ fn a_slot_stays_with_the_reader_that_is_held(rt: HostRuntime) -> Result<(), Fail
     Ok(())
 }
 
-/// While writer 0 is held: writer 1 puts a part and completes, and the reader gets it and then nothing.
+/// While writer 1 is held: writer 0 puts a part and completes, and the reader gets it and then nothing.
 fn pass_by(
     lanes: &Lanes<u8>,
     mut writer: WriterSeat<u8>,
@@ -144,7 +144,7 @@ fn pass_by(
     let item = got(lanes.try_take(&mut reader, &NoGate));
     let none = is_not_now(lanes.try_take(&mut reader, &NoGate));
     gate.let_go.store(true, Ordering::SeqCst);
-    let right = put == Some(0) && done.number() == 1 && item == Some((1, 0, 30)) && none;
+    let right = put == Some(0) && done.number() == 0 && item == Some((0, 0, 30)) && none;
     (held, right, reader)
 }
 
@@ -159,26 +159,26 @@ fn a_held_writer_does_not_stop_another(rt: HostRuntime) -> Result<(), Fail> {
     let second = writers.pop().expect(&rt, "a writer");
     let first = writers.pop().expect(&rt, "a writer");
     let reader = readers.pop().expect(&rt, "a reader");
-    let hold = Hold::new(Point::SlotHeld(0, 0));
+    let hold = Hold::new(Point::SlotHeld(1, 0));
     let lanes = &queue;
     let gate = &hold;
     let ((number, writer), (held, right, mut back)) = thread::join(
         &rt,
         move || -> (Option<u64>, WriterSeat<u8>)
-            requires { IsWriterOf lanes.now.table.shared.table_id lanes.now.shape first }
+            requires { IsWriterOf lanes.now.table.shared.table_id lanes.now.shape second }
             ensures { IsWriterOf lanes.entry.now.table.shared.table_id lanes.entry.now.shape result.1 }
-        { put_held(lanes, first, gate) },
+        { put_held(lanes, second, gate) },
         move || -> (bool, bool, ReaderSeat<u8>)
-            requires writer { IsWriterOf lanes.now.table.shared.table_id lanes.now.shape second }
+            requires writer { IsWriterOf lanes.now.table.shared.table_id lanes.now.shape first }
             requires reader { IsReaderOf lanes.now.table.shared.table_id lanes.now.shape reader }
             ensures { IsReaderOf lanes.entry.now.table.shared.table_id lanes.entry.now.shape result.2 }
-        { pass_by(lanes, second, reader, gate) },
+        { pass_by(lanes, first, reader, gate) },
     );
     assert!(rt; held && right && !hold.spent.load(Ordering::SeqCst) && number == Some(0));
     let done = queue.complete(writer);
-    assert!(rt; done.number() == 0);
+    assert!(rt; done.number() == 1);
     let item = got(queue.try_take(&mut back, &NoGate));
-    assert!(rt; item == Some((0, 0, 20)));
+    assert!(rt; item == Some((1, 0, 20)));
     let end = totals(queue.try_take(&mut back, &NoGate)).expect(&rt, "finished");
     assert!(rt; end.of(0) == Some(1) && end.of(1) == Some(1));
     Ok(())
