@@ -51,7 +51,7 @@ module _ (shape : Sizes) (batch : ℕ) (reads : List (List ℕ)) (id : TableId) 
     pub each_dealt : Each (λ (s : WriterState Parcel). AreDealt shape batch reads q.writers s.number (chunks_of batch (length reads)) s.sent) done
     each_dealt = each_from (λ (s : WriterState Parcel). AreDealt shape batch reads q.writers s.number (chunks_of batch (length reads)) s.sent) done
         (λ j d lt. let back = its_writer id q shape batch reads q.writers done all j d lt in
-            subst (λ (n : ℕ). AreDealt shape batch reads q.writers n (chunks_of batch (length reads)) (get_or done j d).sent) (sym back.seat.number) back.sent)
+        subst (λ (n : ℕ). AreDealt shape batch reads q.writers n (chunks_of batch (length reads)) (get_or done j d).sent) (sym back.seat.number) back.sent)
 
     each_once : Each (λ (s : WriterState Parcel). total_of (λ (t : WriterState Parcel). same t.number s.number) done ≡ 1) done
     each_once =
