@@ -1,5 +1,5 @@
 #!/usr/bin/env python3
-"""Refuses each allocation of runs of ./kmc in turn, and then each and all that follow it.
+"""Refuses each allocation of runs of ./kmc in turn, and then each together with all that follow it.
 
 usage: hostile.py [--workers N] [--step N]
 
@@ -22,6 +22,7 @@ import subprocess
 import sys
 import tempfile
 
+sys.dont_write_bytecode = True  # no files beside the scripts
 import fuzz
 
 IN_A_ROW = 10  # runs without a refusal that end a row

@@ -140,9 +140,21 @@ fails "a closed input" 'kmc: read failed'
 "$kmc" -k25 0> "$work/none" > "$out" 2> "$err"
 status=$?
 fails "an input that is open for writing only" 'kmc: read failed'
+# descriptor 0 is a pipe that is held open, holds no byte, and does not wait for one
+python3 -c 'import os, sys
+given, held = os.pipe()
+os.set_blocking(given, False)
+os.dup2(given, 0)
+os.set_inheritable(held, True)
+os.execv(sys.argv[1], ["kmc", "-k25"])' "$kmc" > "$out" 2> "$err"
+status=$?
+fails "an input that does not wait" 'kmc: read failed'
 "$kmc" -k25 < /dev/null > "$out" 2> "$err"
 status=$?
 ends "an empty input" 0
+"$kmc" -k25 < /dev/null > /dev/full 2> "$err"
+status=$?
+ends "an empty input and a full disk, to which nothing is written" 0
 : > "$err"
 "$kmc" -k0 < /dev/null > "$out" 2> /dev/full
 status=$?
@@ -159,6 +171,11 @@ fails "a file that may not become longer than 64 KB" 'kmc: write failed'
 head -c "$(wc -c < "$work/part")" "$work/dump" > "$out"
 [ -s "$work/part" ] && cmp -s "$out" "$work/part" && status=0 || status=1
 judge "what that file holds, which should be the dump's beginning" "$([ $status -eq 0 ] && echo yes)"
+: > "$out"
+
+"$kmc" -k25 -ci1 < "$work/reads.fastq" 2> "$err" | { sleep 1 && cat; } > "$out"
+status=${PIPESTATUS[0]}
+judge "a pipe that is read late" "$(is_dump && echo yes)"
 : > "$out"
 
 # a pipe that closes early: the dump is far longer than a pipe holds
