@@ -7,7 +7,7 @@ NAME := futoncrane-kmc
 BIN = $(DESTDIR)$(PREFIX)/bin
 MAN = $(DESTDIR)$(PREFIX)/share/man/man1
 
-.PHONY: all count check recipes install uninstall hostile bench clean
+.PHONY: all count check recipes install uninstall fuzz hostile limits threads bench clean
 
 all: count
 
@@ -38,8 +38,20 @@ install: $(KMC)
 uninstall:
 	rm -f "$(BIN)/$(NAME)" "$(MAN)/$(NAME).1"
 
-hostile:
-	bench/refuse_memory.sh
+# docs/HOSTILE.md tells what these four try; each takes some minutes. `make fuzz SEED=2` tries other texts
+SEED := 1
+
+fuzz: $(KMC)
+	KMC="$(abspath $(KMC))" bench/fuzz.py --seed $(SEED)
+
+hostile: $(KMC)
+	KMC="$(abspath $(KMC))" bench/hostile.py
+
+limits: $(KMC)
+	KMC="$(abspath $(KMC))" bench/system_limits.sh
+
+threads: $(KMC)
+	KMC="$(abspath $(KMC))" bench/hostile_threads.sh
 
 bench: $(KMC)
 	bench/compare.sh

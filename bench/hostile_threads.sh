@@ -1,0 +1,43 @@
+#!/usr/bin/env bash
+# Runs ./kmc many times in a row while other processes keep the processors busy: the same dump each time.
+#
+# usage: bench/hostile_threads.sh [RUNS [BUSY]]
+#
+# RUNS (200) runs in turn with -sp4 -sr4 and -sp16 -sr16, each of 12000 reads, three chunks, and ended after 120 seconds if it
+# has not ended by then; BUSY (4) processes that do nothing else run beside them. The dump is that of bench/count_plainly.py. The
+# variable KMC names another program.
+set -u
+top=$(cd "$(dirname "$0")/.." && pwd)
+kmc=${KMC:-$top/kmc}
+runs=${1:-200}
+busy=${2:-4}
+work=$(mktemp -d) || exit 1
+pids=()
+trap '[ "${#pids[@]}" -eq 0 ] || kill "${pids[@]}"; rm -rf "$work"' EXIT
+
+python3 "$top/bench/simulate_reads.py" 12000 60 20000 9 > "$work/reads.fastq" || exit 1
+python3 "$top/bench/count_plainly.py" 21 2 < "$work/reads.fastq" > "$work/dump" || exit 1
+
+number=0
+while [ "$number" -lt "$busy" ]; do
+    nice -n 10 timeout 600 bash -c 'while :; do :; done' &
+    pids+=($!)
+    number=$((number + 1))
+done
+
+tried=0
+wrong=0
+started=$(date +%s)
+while [ "$tried" -lt "$runs" ]; do
+    threads=$((tried % 2 == 0 ? 4 : 16))
+    timeout 120 "$kmc" -k21 -sp$threads -sr$threads < "$work/reads.fastq" > "$work/out" 2> "$work/err"
+    status=$?
+    tried=$((tried + 1))
+    if [ "$status" -ne 0 ] || [ -s "$work/err" ] || ! cmp -s "$work/out" "$work/dump"; then
+        wrong=$((wrong + 1))
+        echo "threads: run $tried with -sp$threads -sr$threads is wrong: status $status, $(head -c 300 "$work/err")"
+    fi
+done
+echo "threads: $busy busy processes, $(wc -l < "$work/dump") k-mers, $(($(date +%s) - started)) seconds"
+echo "$tried tried, $wrong wrong"
+[ "$wrong" -eq 0 ]
