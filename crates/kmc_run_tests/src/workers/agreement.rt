@@ -20,6 +20,7 @@ fn any_queue_gives_the_bins_of_one_thread(rt: HostRuntime) -> Result<(), Fail> {
             let queue = QueueShape::new(writers, per_writer, readers).expect(&rt, "a queue");
             let plan = Plan { shape, batch: 1 };
             let made = passed(&rt, alloc, &reads, plan, queue, &NoGate)?;
+            let plan = Plan { shape, batch: 1 };
             let plain = by_one_thread(&rt, alloc, &reads, plan, queue)?;
             assert_totals(&rt, &made, &plain, queue);
             assert_sizes(&rt, &made.bins, &plain.bins);

@@ -44,9 +44,9 @@ impl Gate for Passes {
 #[test]
 fn six_parts_pass_each_point_once(rt: HostRuntime) -> Result<(), Fail> {
     let alloc = rt.alloc();
-    let plan = one_read_a_chunk().expect(&rt, "a plan");
     let reads = reads_of(alloc, TWICE)?;
     for readers in [1, 2] {
+        let plan = one_read_a_chunk().expect(&rt, "a plan");
         let queue = two_writers(readers).expect(&rt, "a queue");
         let passes = Passes::new();
         let made = passed(&rt, alloc, &reads, plan, queue, &passes)?;

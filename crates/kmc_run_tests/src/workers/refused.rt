@@ -30,8 +30,8 @@ fn refused_memory_of_workers_is_answered(rt: HostRuntime) -> Result<(), Fail> {
 fn all_seats_come_back(rt: HostRuntime) -> Result<(), Fail> {
     let alloc = rt.alloc();
     let reads = reads_of(alloc, TWICE)?;
-    let plan = one_read_a_chunk().expect(&rt, "a plan");
     for readers in [1, 8] {
+        let plan = one_read_a_chunk().expect(&rt, "a plan");
         let queue = two_writers(readers).expect(&rt, "a queue");
         match pass_parts(&rt, alloc, &reads, plan, queue, &NoGate) {
             Ok((_, done, shards)) => {
