@@ -386,7 +386,7 @@ installs_and_uninstalls() {
 }
 
 scripts_have_no_fault() {
-    shellcheck -x "$here"/{common.sh,test.sh,histogram,solid,compare,genomescope-histogram} "$top"/bench/*.sh
+    shellcheck -S warning -x "$here"/{common.sh,test.sh,histogram,solid,compare,genomescope-histogram} "$top"/bench/*.sh
 }
 
 nothing_is_left_behind() {
