@@ -1,12 +1,12 @@
 //! The program: from its arguments to the dump and the exit status.
-ghost use Rattle.std.specs.Prelude.{◌≡◌, ◌≢◌, ℕ, ◌+◌, ◌-◌, ◌^◌, ◌<◌, List, IfOk, IfErr, IsErrOf, Ok, Err, map, string_bytes};
-ghost use Rattle.std.specs.Io.KnownBytes.{Appends};
+ghost use Rattle.std.specs.Prelude.{◌≡◌, ◌≢◌, ℕ, ◌+◌, ◌-◌, ◌^◌, ◌<◌, ◌≤◌, ◌⊎◌, List, IfOk, IfErr, IsErrOf, Ok, Err, length, map, string_bytes};
+ghost use Rattle.std.specs.Io.KnownBytes.{Appends, Consumes};
 ghost use Rattle.std.specs.Process.{exit_status};
-ghost use Rattle.kmc_count.specs.Device.{GaveAll};
+ghost use Rattle.kmc_count.specs.Device.{AppendsFront, GaveAll};
 ghost use Rattle.kmc_reads.specs.Reads.{reads_of};
 ghost use Rattle.kmc_command.specs.Glued.{Word, long_forms};
 ghost use Rattle.kmc_command.specs.Options.{Explains};
-ghost use Rattle.kmc_command.specs.Program.{IsAnswered, IsAsked};
+ghost use Rattle.kmc_command.specs.Program.{HasTooManyParts, IsAnswered, IsAsked};
 ghost use Rattle.kmc_command.specs.Status.{status_of_answer};
 
 use crate::fault::Fault;
@@ -42,6 +42,7 @@ pub fn count<T: Threads + Wait + Sync, R: Read, W: Write>(
         × GaveAll (R.remaining reader.old.inner) (R.remaining reader.new.inner) bytes
         × IsAnswered (long_forms (map string_bytes argv.items)) bytes text lines
         × Appends (W.contents writer.old.inner) (W.contents writer.new.inner) text) }
+    ensures sound { IfOk result (λ lines. (reader.new.failures ≡ reader.old.failures) × (writer.new.failures ≡ writer.old.failures)) }
     ensures options { (e : ParamsError) → IsErrOf result (Fault.Options e)
         → Explains (long_forms (map string_bytes argv.items)) e × (reader.new ≡ reader.old) }
     ensures run { (e : RunError) → IsErrOf result (Fault.Run e)
@@ -50,7 +51,21 @@ pub fn count<T: Threads + Wait + Sync, R: Read, W: Write>(
         → (asked : IsAsked (long_forms (map string_bytes argv.items))) × (bytes : List ℕ)
         × GaveAll (R.remaining reader.old.inner) (R.remaining reader.new.inner) bytes
         × (reads_of asked.params.format bytes ≡ Err e) }
+    ensures read { IsErrOf result (Fault.Run RunError.Read) → reader.new.failures ≡ reader.old.failures + 1 }
+    ensures write { IsErrOf result (Fault.Run RunError.Write) → (writer.new.failures ≡ writer.old.failures + 1)
+        × (bytes text : List ℕ) × (lines : ℕ)
+        × GaveAll (R.remaining reader.old.inner) (R.remaining reader.new.inner) bytes
+        × IsAnswered (long_forms (map string_bytes argv.items)) bytes text lines
+        × AppendsFront (W.contents writer.old.inner) (W.contents writer.new.inner) text }
+    ensures long { IsErrOf result (Fault.Run RunError.TooLong) → (reader.new.reads ≡ reader.old.reads + 2 ^ 32)
+        × (bytes : List ℕ)
+        × Consumes (R.remaining reader.old.inner) (R.remaining reader.new.inner) bytes
+        × (2 ^ 32 ≤ length bytes) }
+    ensures spent { IsErrOf result (Fault.Run RunError.NumbersSpent) → (bytes : List ℕ)
+        × GaveAll (R.remaining reader.old.inner) (R.remaining reader.new.inner) bytes
+        × HasTooManyParts (long_forms (map string_bytes argv.items)) bytes }
     ensures silent { IfErr result (λ e. e ≢ Fault.Run RunError.Write → writer.new ≡ writer.old) }
+    ensures kept { IfErr result (λ e. e ≢ Fault.Run RunError.Read → reader.new.failures ≡ reader.old.failures) }
 {
     let params = settings(alloc, argv)?;
     match run(rt, alloc, reader, writer, &params, &NoGate) {
@@ -84,7 +99,7 @@ fn arguments<T: Env + Alloc<A = Global>>(rt: &T) -> Result<Vec<String>, ParamsEr
 
 /// The whole program: counts the reads of the reader by the settings that the process's arguments give, and writes
 /// their dump; a fault is shown in one line on standard error. The exit status is 0 where the dump was written, 2 where
-/// the command line is at fault, and else 1.
+/// the command line is at fault, and else 1; then nothing was written, or a write failed.
 pub fn program<T: Threads + Wait + Sync + Env + Eprint + Alloc<A = Global>, R: Read, W: Write>(
     rt: &T,
     reader: &mut Counted<R>,
@@ -97,7 +112,9 @@ pub fn program<T: Threads + Wait + Sync + Env + Eprint + Alloc<A = Global>, R: R
         × GaveAll (R.remaining reader.old.inner) (R.remaining reader.new.inner) bytes
         × IsAnswered words bytes text lines
         × Appends (W.contents writer.old.inner) (W.contents writer.new.inner) text }
+    ensures failed { exit_status result ≡ 1 → (writer.new ≡ writer.old) ⊎ (writer.new.failures ≡ writer.old.failures + 1) }
     ensures misused { exit_status result ≡ 2 → (reader.new ≡ reader.old) × (writer.new ≡ writer.old) }
+    ensures statuses { exit_status result ≤ 2 }
 {
     let argv = match arguments(rt) {
         Ok(argv) => argv,

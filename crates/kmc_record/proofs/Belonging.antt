@@ -10,7 +10,7 @@ use Rattle.kmc_record.specs.Shapes.{Sizes}
 use Rattle.kmc_record.specs.Parts.{Parcel, IsPart, capped}
 use Rattle.kmc_record.specs.Bodies.{AreRecordsOfBin, Belong, IsFirstError}
 use Rattle.kmc_record.specs.Faults.{IsShort, IsPadded}
-use Rattle.kmc_record.specs.Refusals.{IsRefused, part_error}
+use Rattle.kmc_record.specs.Refusals.{BeginsRecord, IsRefused, part_error}
 use Rattle.kmc_record.specs.declared.fault.RecordError.{RecordError}
 use Rattle.kmc_record.specs.declared.fault.RecordError.TheVariants.{Short, Padding, Memory}
 use Rattle.kmc_record.proofs.Parcels.{part_grown}
@@ -32,7 +32,7 @@ pub refused_at : (bin : ℕ) (shape : Sizes) (k offset : ℕ) (e : RecordError) 
     → IsRefused k e (drop offset body) → IsFirstError bin shape (part_error e offset) body
 refused_at bin shape k offset Short body same inside front h = (inside, front, subst (λ j. IsShort j (drop offset body)) same h)
 refused_at bin shape k offset Padding body same inside front h = (inside, front, subst (λ j. IsPadded j (drop offset body)) same h)
-refused_at bin shape k offset Memory body same inside front h = tt
+refused_at bin shape k offset Memory body same inside front h = (offset, inside, front, subst (λ j. BeginsRecord j (drop offset body)) same h)
 
 front_joined : (body w rest : List ℕ) (offset next : ℕ) → offset ≤ length body → drop offset body ≡ w ++ rest → next ≡ length body - length rest → take next body ≡ take offset body ++ w
 front_joined body w rest offset next inside is at =

@@ -9,6 +9,7 @@ use Rattle.kmc_base.specs.Lemmas.Rolling.{codes_front}
 use Rattle.kmc_base.specs.Strands.{keys}
 use Rattle.kmc_record.specs.Record.{packed_codes, spelling, IsSpelled, IsBodyOf, codes_in, size_of}
 use Rattle.kmc_record.specs.RecordWords.{record_keys}
+use Rattle.kmc_record.specs.Refusals.{BeginsRecord}
 use Rattle.kmc_record.proofs.Codes.{length_codes, are_codes}
 use Rattle.kmc_record.proofs.Spelled.{AreBytes, zeros_each, packed_back}
 
@@ -78,6 +79,18 @@ pub first_read : (k n : ℕ) (bytes : List ℕ) → AreBytes bytes → n ≡ get
     → All (λ c. c ≡ 0) (drop n (codes_in (take (size_of n) (drop 1 bytes)))) → bytes ≡ spelling k (first_codes n bytes) ++ drop (1 + size_of n) bytes
 first_read k n bytes are count inside rest =
     sym (take-append-drop (1 + size_of n) bytes) ∙ ap (λ (t : List ℕ). t ++ drop (1 + size_of n) bytes) (spelled_is k n bytes are count inside rest)
+
+-- the bytes begin with the record that was found there
+pub begins_here : (k n : ℕ) (rest bytes : List ℕ) → rest ≡ bytes → AreBytes bytes → n ≡ get_or rest 0 0 + k → 1 + size_of n ≤ length rest
+    → All (λ c. c ≡ 0) (drop n (codes_in (take (size_of n) (drop 1 rest)))) → BeginsRecord k bytes
+begins_here k n rest bytes is are count inside clean =
+    let bytes_of_rest : AreBytes rest = subst AreBytes (sym is) are in
+    record {
+      codes = first_codes n rest;
+      rest = drop (1 + size_of n) rest;
+      spelled = first_spelled k n rest bytes_of_rest count inside;
+      is = sym is ∙ first_read k n rest bytes_of_rest count inside clean;
+    }
 
 pub next_body : (k n offset next : ℕ) (ss : List (List ℕ)) (body rest : List ℕ) → AreBytes body → rest ≡ drop offset body → IsBodyOf k ss (take offset body) → next ≡ offset + (1 + size_of n)
     → n ≡ get_or rest 0 0 + k → 1 + size_of n ≤ length rest

@@ -1,6 +1,6 @@
 -- Why no record was read.
-use Rattle.std.specs.Prelude.{◌≡◌, ℕ, List, ◌++◌}
-use Rattle.kmc_record.specs.Record.{spelling, IsSpelled}
+use Rattle.std.specs.Prelude.{◌≡◌, ℕ, ◌<◌, List, ◌++◌, length, take, drop}
+use Rattle.kmc_record.specs.Record.{spelling, IsBodyOf, IsSpelled}
 use Rattle.kmc_record.specs.Faults.{IsShort, IsPadded}
 use Rattle.kmc_record.specs.declared.fault.RecordFault.{RecordFault}
 use Rattle.kmc_record.specs.declared.fault.RecordFault.TheVariants.{Short as ShortFault, Padding as PaddingFault}
@@ -15,6 +15,14 @@ pub record BeginsRecord (k : ℕ) (bytes : List ℕ) : Type 0 where
   pub rest : List ℕ
   pub spelled : IsSpelled k codes
   pub is : bytes ≡ spelling k codes ++ rest
+
+-- whole records up to some place inside the body, and there one more: memory was wanted for that
+pub record StopsAtRecord (k : ℕ) (body : List ℕ) : Type 0 where
+  pub offset : ℕ
+  pub inside : offset < length body
+  pub before : List (List ℕ)
+  pub whole : IsBodyOf k before (take offset body)
+  pub here : BeginsRecord k (drop offset body)
 
 -- when each refusal comes
 abbrev pub IsRefused : ℕ → RecordError → List ℕ → Type 0

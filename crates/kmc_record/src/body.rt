@@ -4,6 +4,7 @@ ghost use Rattle.kmc_base.specs.Packed.{pack};
 ghost use Rattle.kmc_record.specs.Record.{IsBodyOf};
 ghost use Rattle.kmc_record.specs.RecordWords.{record_keys};
 ghost use Rattle.kmc_record.specs.Faults.{IsFirstFault};
+ghost use Rattle.kmc_record.specs.Refusals.{StopsAtRecord};
 ghost use Rattle.kmc_record.specs.declared.fault.RecordFault.{RecordFault};
 
 use crate::fault::BodyError;
@@ -26,6 +27,7 @@ pub fn push_body<W: Word + Drop>(
     ensures ok { OnOk result ((ss : List (List ℕ)) × IsBodyOf k ss body.now
         × (map W.number words.new.items ≡ map W.number words.old.items ++ map pack (record_keys strands k ss))) }
     ensures damaged { (fault : RecordFault) (offset : ℕ) → IsErrOf result (BodyError.Damaged fault offset) → IsFirstFault k fault offset body.now }
+    ensures memory { IsErrOf result BodyError.Memory → StopsAtRecord k body.now }
 {
     let mut offset = 0;
     while offset < body.len() {

@@ -15,3 +15,32 @@ returns-in-Ok-clause-ok g c =
       record { asked = record { taken = asked.0; params = c.in_ok-params.params; given = asked.1 }; dump = told.3 },
       told.4,
     )
+
+pub returns-in-Err-clause-write : goal.returns-in-Err-clause-write
+returns-in-Err-clause-write g c = λ is.
+    let asked = c.in_ok-params.ensures.answer in
+    let told = c.in-Err.ensures.write (cc) in (
+      told.0,
+      told.1,
+      told.2,
+      told.3,
+      told.4,
+      record { asked = record { taken = asked.0; params = c.in_ok-params.params; given = asked.1 }; dump = told.5 },
+      told.6,
+    )
+
+pub returns-in-Err-clause-spent : goal.returns-in-Err-clause-spent
+returns-in-Err-clause-spent g c = λ is.
+    let asked = c.in_ok-params.ensures.answer in
+    let told = c.in-Err.ensures.spent (cc) in (
+      told.0,
+      told.2,
+      record {
+        asked = record { taken = asked.0; params = c.in_ok-params.params; given = asked.1 };
+        reads = told.1;
+        are_reads = told.3;
+        splitter = told.4;
+        is_one = told.5;
+        too_many = told.6;
+      },
+    )

@@ -3,9 +3,25 @@ use Rattle.std.proofs.lemmas.List.{take_rest}
 use Rattle.kmc_base.specs.Packed.{pack}
 use Rattle.kmc_base.specs.Strands.{keys}
 use Rattle.kmc_record.specs.Record.{codes_in}
-use Rattle.kmc_record.proofs.Spelled.{bytes_each}
-use Rattle.kmc_record.proofs.Whole.{next_body, next_keys, first_codes}
+use Rattle.kmc_record.proofs.Spelled.{AreBytes, bytes_each}
+use Rattle.kmc_record.proofs.Whole.{begins_here, bytes_drop, next_body, next_keys, first_codes}
 use Rattle.kmc_record.proofs.body.push_body.Goals as goal
+
+pub returns-in_err-push_record-clause-memory : goal.returns-in_err-push_record-clause-memory
+returns-in_err-push_record-clause-memory g c = λ is.
+    let body = c.args.body.now in
+    let offset = c.loop-offset.offset in
+    let n = c.in-Ok.symbols in
+    let there : take (length body - offset) (drop offset body) ≡ drop offset body = take_rest body offset in
+    let are : AreBytes (drop offset body) = bytes_drop offset body (bytes_each body (λ i. omega (arith, c.type_inv.body i))) in
+    let h = c.loop-offset.invariant.records in
+    record {
+      offset = offset;
+      inside = c.loop-offset-test.true;
+      before = h.0;
+      whole = h.1;
+      here = begins_here c.args.k n _ (drop offset body) there are c.in-Ok.ensures.count c.in-Ok.ensures.inside c.in-Ok.ensures.rest;
+    }
 
 pub loop-offset-preserved : goal.loop-offset-preserved
 loop-offset-preserved g c =
