@@ -60,8 +60,8 @@ found words = matches_of command words
 abbrev pub is_set : List Row → Flag → Bool
 is_set rows f = option_map_or (bytes_eq (codes "true")) (first_of (flag_name f) rows) false
 
-abbrev pub text_of : List Row → Setting → Option Word
-text_of rows s = first_of (name_of s) rows
+abbrev pub given_text : List Row → Setting → Option Word
+given_text rows s = first_of (name_of s) rows
 
 -- one or more ASCII digits, with leading zeros or without
 abbrev pub number_of : Word → Option ℕ
@@ -78,7 +78,7 @@ chosen b (Some text) = option_and_then (within b) (number_of text)
 
 -- the number of an option; none where what is given for it is out of range
 abbrev pub value_of : List Row → Setting → Option ℕ
-value_of rows s = chosen (bounds_of s) (text_of rows s)
+value_of rows s = chosen (bounds_of s) (given_text rows s)
 
 -- ---- formats and strands
 

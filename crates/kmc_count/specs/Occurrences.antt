@@ -19,6 +19,8 @@ abbrev pub is_key_of : Strands → List ℕ → Option (List ℕ) → Bool
 is_key_of strands x None = false
 is_key_of strands x (Some w) = same_word (key strands w) x
 
--- the direct count: the number of pairs of a read and a counted place in it whose word has the key x
+-- the direct count: the number of pairs of a read and a counted place in it whose word has the key x. In the read ACGTACGT
+-- with both strands as one, ACGT is counted 2 times, at places 0 and 4; CGTA 2 times, at place 1 and for TACG at place 3;
+-- TACG, which is no key, 0 times
 abbrev pub count_of : Strands → ℕ → List (List ℕ) → List ℕ → ℕ
 count_of strands k reads x = sum_by (λ read. count_by (λ i. is_key_of strands x (word_at k read i)) (range_with_len 0 (length read))) reads

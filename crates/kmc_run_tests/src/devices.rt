@@ -59,6 +59,52 @@ pub struct NarrowWriter {
     flushes: bool,
 }
 
+/// A writer that takes all, and fails in one of its flushes; flushes are numbered from 1.
+#[derive(Drop)]
+pub struct FlushCounter {
+    out: Vec<u8>,
+    flushes: u64,
+    failing: u64,
+}
+
+impl FlushCounter {
+    pub fn new(out: Vec<u8>, failing: u64) -> FlushCounter {
+        FlushCounter {
+            out,
+            flushes: 0,
+            failing,
+        }
+    }
+
+    /// How often it was told to flush.
+    pub fn flushes(&self) -> u64 {
+        self.flushes
+    }
+
+    /// What it took.
+    pub fn bytes(&self) -> &[u8] {
+        &self.out
+    }
+}
+
+impl Write for FlushCounter {
+    ghost contents = { λ w. Some w.out.items };
+
+    fn write(&mut self, buf: &[u8]) -> io::Result<usize> {
+        self.out.extend_from_slice(buf)?;
+        Ok(buf.len())
+    }
+
+    fn flush(&mut self) -> io::Result<()> {
+        self.flushes = self.flushes.saturating_add(1);
+        if self.flushes == self.failing {
+            Err(io::Error::from(ErrorKind::Other))
+        } else {
+            Ok(())
+        }
+    }
+}
+
 impl NarrowWriter {
     pub fn new(out: Vec<u8>, width: usize, left: usize, full: Full, flushes: bool) -> NarrowWriter {
         NarrowWriter {

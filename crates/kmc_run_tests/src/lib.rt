@@ -15,6 +15,8 @@ mod options;
 #[cfg(test)]
 mod params;
 #[cfg(test)]
+mod passes;
+#[cfg(test)]
 mod runs;
 #[cfg(test)]
 mod stages;

@@ -1,6 +1,7 @@
 //! Reads that pass through queues to threads: which points are passed, which workers run side by side, and what lies in
 //! the bins at the end.
 mod agreement;
+mod full_lane;
 mod in_turn;
 mod meeting;
 mod nothing;

@@ -171,3 +171,33 @@ fn laws_can_be_called() {
     laws::merged_bins_are_bodies();
     laws::held_records_are_the_runs();
 }
+
+/// A read of so many symbols, without a long run of one of them.
+fn long_read(alloc: Global, symbols: u64) -> Result<String, AllocError> {
+    let mut read = String::new(alloc);
+    for i in 0..symbols {
+        let turn = i.wrapping_mul(i).wrapping_add(i / 3) / 7;
+        read.push(['A', 'C', 'G', 'T'][(turn % 4) as usize])?;
+    }
+    Ok(read)
+}
+
+/// All words of a read of 10,000 symbols lie in one part where there is one bin, and in many where there are 2,000.
+#[test]
+fn takes_in_and_merges_the_words_of_a_long_read(rt: HostRuntime) -> Result<(), Fail> {
+    let alloc = rt.alloc();
+    let read = long_read(alloc, 10_000)?;
+    for n in [1, 2000] {
+        let shape = shape_of(&rt, 25, 9, n);
+        let mut bins = bins_of(&rt, alloc, shape, &[read.as_str()])?;
+        let other = bins_of(&rt, alloc, shape, &[read.as_str()])?;
+        assert!(rt; bins.shape() == other.shape());
+        merge_in(&rt, alloc, &mut bins, other)?;
+        let mut words: u64 = 0;
+        for bin in 0..bins.shape().n() {
+            words = words.saturating_add(bins.words(bin));
+        }
+        assert_eq!(rt; words, 2 * 9976);
+    }
+    Ok(())
+}

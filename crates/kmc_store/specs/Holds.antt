@@ -11,7 +11,8 @@ use Rattle.kmc_store.specs.Bins.{body_at}
 abbrev pub SameMembers : {A : Type 0} → List A → List A → Type 0
 SameMembers {A} xs ys = (F : A → ℕ) → sum_by F xs ≡ sum_by F ys
 
--- the records of each bin are those of the reads' runs of that bin, each as often, in any order
+-- the records of each bin are those of the reads' runs of that bin, each as often, in any order. Of the read ACGTACGT, words
+-- of 4 symbols over 7 bins: bin 2 has GTAC, bin 3 CGTA and TACG, bin 6 ACGT and ACGT, and the others nothing
 pub record HoldsReads (shape : Sizes) (reads : List (List ℕ)) (bodies : List (List ℕ)) : Type 0 where
   pub wide : length bodies ≡ shape.n
   pub cuts : List (List Run)

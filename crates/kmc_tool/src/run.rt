@@ -55,6 +55,8 @@ pub fn run<T: Threads + Wait + Sync, R: Read, W: Write, G: Gate + Sync>(
         × (reads_of params.now.format bytes ≡ Ok reads)
         × (w : ℕ) × (w < params.now.sp) × AreTooMany (shape_of params.now) params.now.batch reads params.now.sp (chunks_of params.now.batch (length reads)) w }
 
+    ensures faulty { IfErr result (λ e. e ≢ RunError.Input ReadsError.Memory) }
+
     // Only a failed write leaves anything written, and no other refusal passes over a failure.
     ensures silent { IfErr result (λ e. e ≢ RunError.Write → writer.new ≡ writer.old) }
     ensures reader_kept { IfErr result (λ e. e ≢ RunError.Read → reader.new.failures ≡ reader.old.failures) }

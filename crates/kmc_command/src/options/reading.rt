@@ -20,7 +20,7 @@ pub fn value(matches: &ArgMatches<'_>, setting: Setting) -> Result<u64, ParamsEr
         (λ e. (value_of (rows_of (found_of matches.now)) setting ≡ None)
         × (e ≡ OutOfRange setting)) }
 {
-    match chosen(setting, text_of(matches, setting.name())) {
+    match chosen(setting, given_text(matches, setting.name())) {
         Some(number) => Ok(number),
         None => Err(ParamsError::OutOfRange(setting)),
     }
@@ -57,13 +57,13 @@ pub fn strands(matches: &ArgMatches<'_>) -> Strands
 fn is_set(matches: &ArgMatches<'_>, flag: Flag) -> bool
     ensures { result ≡ is_set (rows_of (found_of matches.now)) flag }
 {
-    match text_of(matches, flag.name()) {
+    match given_text(matches, flag.name()) {
         Some(text) => "true" == text,
         None => false,
     }
 }
 
-fn text_of<'a>(matches: &ArgMatches<'a>, id: &str) -> Option<&'a str>
+fn given_text<'a>(matches: &ArgMatches<'a>, id: &str) -> Option<&'a str>
     ensures { option_map (λ text. text.now) result
         ≡ first_of id.now (rows_of (found_of matches.now)) }
 {

@@ -34,8 +34,8 @@ fn counts_the_words_of_two_records(rt: HostRuntime) -> Result<(), Fail> {
     // CGTA, and TACG behind it.
     let body = [0x00, 0x6c, 0x00, 0xc6];
     for (strands, want) in [
-        (Strands::Joined, &b"CGTA\t2\n"[..]),
-        (Strands::Apart, &b"CGTA\t1\nTACG\t1\n"[..]),
+        (Strands::Joined, b"CGTA\t2\n".as_slice()),
+        (Strands::Apart, b"CGTA\t1\nTACG\t1\n".as_slice()),
     ] {
         let pairs = count_bin(alloc, &body, 4, strands, &LIMITS)?;
         assert_eq!(rt; text_of(&rt, alloc, &pairs).as_slice(), want);

@@ -1,5 +1,6 @@
 //! Inputs that are refused, and devices that fail.
 use super::*;
+use crate::devices::FlushCounter;
 use kmc_reads::error::ReadsError;
 
 const TEXT: &[u8] = b"@r\nACGTACGT\n+\nIIIIIIII\n";
@@ -89,5 +90,43 @@ fn a_failed_flush_fails_the_run(rt: HostRuntime) -> Result<(), Fail> {
         assert_eq!(rt; made.written.as_slice(), dump);
         assert_eq!(rt; made.write_failures, 1);
     }
+    Ok(())
+}
+
+/// The device is told to flush once, behind the last byte, and a flush that fails is told and not tried again.
+#[test]
+fn a_dump_is_flushed_once(rt: HostRuntime) -> Result<(), Fail> {
+    let alloc = rt.alloc();
+    let params = settings(4, 1, BILLION, 255)?;
+    for (failing, answer) in [(0, Ok(3)), (1, Err(RunError::Write)), (2, Ok(3))] {
+        let mut reader = Counted::new(PieceReader::new(TEXT, 100, 0));
+        let mut writer = Counted::new(FlushCounter::new(Vec::new(alloc), failing));
+        let made = run(&rt, alloc, &mut reader, &mut writer, &params, &NoGate);
+        assert_eq!(rt; made, answer);
+        assert_eq!(rt; writer.failures(), u64::from(failing == 1));
+        let device = writer.into_inner();
+        assert_eq!(rt; device.flushes(), 1);
+        assert_eq!(rt; device.bytes(), DUMP);
+    }
+    Ok(())
+}
+
+/// A reader that gives as much as it is asked for is asked for large pieces.
+#[test]
+fn a_long_text_is_read_in_few_pieces(rt: HostRuntime) -> Result<(), Fail> {
+    let alloc = rt.alloc();
+    let read = [b'A'; 1000];
+    let text = fastq(alloc, &[read.as_slice(); 100])?;
+    let mut reader = Counted::new(PieceReader::new(&text, 1_000_000, 0));
+    let mut writer = Counted::new(FlushCounter::new(Vec::new(alloc), 0));
+    let params = settings(25, 2, BILLION, 255)?;
+    let made = run(&rt, alloc, &mut reader, &mut writer, &params, &NoGate);
+    assert_eq!(rt; made, Ok(1));
+    assert!(rt; text.len() > 200_000);
+    assert!(rt; reader.reads() <= 5);
+    assert_eq!(rt;
+        writer.into_inner().bytes(),
+        b"AAAAAAAAAAAAAAAAAAAAAAAAA\t255\n".as_slice()
+    );
     Ok(())
 }

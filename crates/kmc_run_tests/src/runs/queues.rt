@@ -1,7 +1,9 @@
 //! Runs over queues of many shapes: whichever worker is first, the dump is that of the direct count.
 use super::*;
+use crate::passes::Passes;
 use kmc_count::direct::count_direct;
 use kmc_count::dump::write_dump;
+use std::sync::atomic::Ordering;
 
 /// The dump of the direct count of these reads.
 fn direct_dump(alloc: Global, reads: &[&[u8]], params: &Params) -> Result<Vec<u8>, Fail> {
@@ -89,5 +91,27 @@ fn every_queue_gives_the_dumps_of_small_texts(rt: HostRuntime) -> Result<(), Fai
             b"ACGT\t4\nCGTA\t4\nGTAC\t2\n".as_slice()
         );
     }
+    Ok(())
+}
+
+/// Two reads, each a chunk of its own, give three parts each.
+#[test]
+fn a_run_tells_its_gate_of_each_part(rt: HostRuntime) -> Result<(), Fail> {
+    let alloc = rt.alloc();
+    let text = fastq(alloc, &[b"ACGTACGT", b"ACGTACGT"])?;
+    let limits = Limits::new(1, BILLION, 255).ok_or("limits in range")?;
+    let options = Params::new(Format::Fastq, 4, 5, 7, 2, 2, limits).ok_or("options in range")?;
+    let params = options.with_queue(2, 8, 1).ok_or("queue in range")?;
+    let passes = Passes::new();
+    let mut reader = Counted::new(PieceReader::new(&text, 1000, 0));
+    let device = NarrowWriter::new(Vec::new(alloc), 1000, 1000, Full::Fails, true);
+    let mut writer = Counted::new(device);
+    let made = run(&rt, alloc, &mut reader, &mut writer, &params, &passes);
+    assert_eq!(rt; made, Ok(3));
+    assert_eq!(rt; passes.before_put.load(Ordering::SeqCst), 6);
+    assert_eq!(rt; passes.after_put.load(Ordering::SeqCst), 6);
+    assert_eq!(rt; passes.slot_held.load(Ordering::SeqCst), 6);
+    assert_eq!(rt; passes.part_claimed.load(Ordering::SeqCst), 6);
+    assert_eq!(rt; passes.after_take.load(Ordering::SeqCst), 6);
     Ok(())
 }
