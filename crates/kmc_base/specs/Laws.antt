@@ -1,12 +1,13 @@
 -- Laws of segments, keys and canonical forms.
-use Rattle.std.specs.Prelude.{◌≡◌, ℕ, ◌^◌, ◌<◌, ◌≤◌, All, List, map}
-use Rattle.std.specs.List.{flat_map}
+use Rattle.std.specs.Prelude.{◌≡◌, ℕ, ◌*◌, ◌^◌, ◌<◌, ◌≤◌, All, List, length, map}
+use Rattle.std.specs.List.{flat_map, range_with_len}
 use Rattle.kmc_base.specs.declared.strands.Strands.{Strands}
 use Rattle.kmc_base.specs.Words.{rev_comp, canonical}
 use Rattle.kmc_base.specs.Packed.{pack, unpack}
 use Rattle.kmc_base.specs.Strands.{placed_key, keys}
 use Rattle.kmc_base.specs.Stretches.{segments_of}
 use Rattle.kmc_base.specs.Places.{IsSegment, counted_words, placed_words}
+use Rattle.kmc_base.specs.Pieces.{moved_on, piece, piece_count, pieces, step_of}
 
 -- the places of the segments, with their words, are the counted places of the read, in order
 abbrev pub SegmentsAreCounted : Type 0
@@ -29,3 +30,13 @@ KeysUnpack = (strands : Strands) (k : ℕ) (w : List ℕ) → All (λ c. c < 4) 
 -- a word and its reverse complement have one canonical form
 abbrev pub OneCanonicalForm : Type 0
 OneCanonicalForm = (w : List ℕ) → All (λ c. c < 4) w → canonical (rev_comp w) ≡ canonical w
+
+-- the counted places of a read's pieces, each moved on by where its piece begins, are those of the read, in order
+abbrev pub PiecesAreCounted : Type 0
+PiecesAreCounted = (k l : ℕ) (read : List ℕ) → 1 ≤ k → k ≤ l
+    → flat_map (λ c. map (moved_on (c * step_of k l)) (counted_words k (piece k l read c))) (range_with_len 0 (piece_count k l (length read))) ≡ counted_words k read
+
+-- the keys of the words at the counted places of the pieces, one after another, are those of the read
+abbrev pub KeysOfPieces : Type 0
+KeysOfPieces = (strands : Strands) (k l : ℕ) (read : List ℕ) → 1 ≤ k → k ≤ l
+    → flat_map (λ p. map (placed_key strands) (counted_words k p)) (pieces k l read) ≡ map (placed_key strands) (counted_words k read)

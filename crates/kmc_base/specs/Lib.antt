@@ -4,5 +4,7 @@ pub mod Strands
 pub mod Stretches
 pub mod Segments
 pub mod Places
+pub mod Pieces
+pub mod Bytes
 pub mod Laws
 pub mod Lemmas

@@ -1,5 +1,5 @@
 //! Laws over the definitions alone. Each call does nothing: its contract is the law, for the proofs of its callers.
-ghost use Rattle.kmc_base.specs.Laws.{SegmentsAreCounted, SegmentsAreMaximal, KeysOfSegments, KeysUnpack, OneCanonicalForm};
+ghost use Rattle.kmc_base.specs.Laws.{SegmentsAreCounted, SegmentsAreMaximal, KeysOfSegments, KeysUnpack, OneCanonicalForm, PiecesAreCounted, KeysOfPieces};
 
 /// The places of the segments, with their words, are the counted places of the read, in order.
 pub fn segments_are_counted()
@@ -24,4 +24,14 @@ pub fn keys_unpack()
 /// A word and its reverse complement have one canonical form.
 pub fn one_canonical_form()
     ensures { OneCanonicalForm }
+{}
+
+/// The counted places of the pieces of a read, each moved on by where its piece begins, are those of the read, in order.
+pub fn pieces_are_counted()
+    ensures { PiecesAreCounted }
+{}
+
+/// The keys of the words at the counted places of the pieces, one after another, are those of the read.
+pub fn keys_of_pieces()
+    ensures { KeysOfPieces }
 {}

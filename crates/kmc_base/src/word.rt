@@ -2,6 +2,9 @@
 ghost use Rattle.std.specs.Prelude.{◌≡◌, ℕ, ◌+◌, ◌-◌, ◌*◌, ◌/◌, ◌%◌, ◌^◌, ◌<◌, ◌≤◌, ◌↔◌, IsTrue, map, min};
 ghost use Rattle.std.specs.List.Sorted.{IsSorted, IsPermutation};
 ghost use Rattle.std.specs.Ordering.{nat_cmp};
+ghost use Rattle.kmc_base.specs.Bytes.{ahead_byte, behind_byte};
+
+use crate::turned::turned;
 
 /// An unsigned number in which k codes lie, two bits each, the last one lowest.
 pub trait Word: Copy {
@@ -37,6 +40,17 @@ pub trait Word: Copy {
         requires top { (j : ℕ) × (j < most) × (number top ≡ 4 ^ j) }
         requires back { number self / 4 < number top }
         ensures { number result ≡ number self / 4 + (3 - code) * number top };
+
+    /// The window with its first four codes dropped and those of a byte at its end.
+    fn ahead_byte(self, byte: u8, top: Self) -> Self
+        requires top { (j : ℕ) × (3 ≤ j) × (j < most) × (number top ≡ 4 ^ j) }
+        ensures { number result ≡ ahead_byte (number top) (number self) byte };
+
+    /// The reverse complement of that window, from the one before.
+    fn behind_byte(self, byte: u8, top: Self) -> Self
+        requires top { (j : ℕ) × (3 ≤ j) × (j < most) × (number top ≡ 4 ^ j) }
+        requires back { number self / 4 < number top }
+        ensures { number result ≡ behind_byte (number top) (number self) byte };
 
     fn lesser(self, other: Self) -> Self
         ensures { number result ≡ min (number self) (number other) };
@@ -76,6 +90,14 @@ impl Word for u64 {
 
     fn behind(self, code: u8, top: u64) -> u64 {
         self / 4 + u64::from(3 - code) * top
+    }
+
+    fn ahead_byte(self, byte: u8, top: u64) -> u64 {
+        (self & (top / 64 - 1)) * 256 + u64::from(byte)
+    }
+
+    fn behind_byte(self, byte: u8, top: u64) -> u64 {
+        self / 256 + u64::from(turned(byte)) * (top / 64)
     }
 
     fn lesser(self, other: u64) -> u64 {
@@ -118,6 +140,14 @@ impl Word for u128 {
 
     fn behind(self, code: u8, top: u128) -> u128 {
         self / 4 + u128::from(3 - code) * top
+    }
+
+    fn ahead_byte(self, byte: u8, top: u128) -> u128 {
+        (self & (top / 64 - 1)) * 256 + u128::from(byte)
+    }
+
+    fn behind_byte(self, byte: u8, top: u128) -> u128 {
+        self / 256 + u128::from(turned(byte)) * (top / 64)
     }
 
     fn lesser(self, other: u128) -> u128 {

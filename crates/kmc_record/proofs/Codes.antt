@@ -22,7 +22,7 @@ four P a b c d (suc (suc (suc (suc r)))) h = absurd (omega arith)
 quarter_at : (b r : ℕ) (more : List ℕ) → r < 4 → get_or (quarters b ++ more) r 0 ≡ b / 2 ^ (6 - 2 * r) % 4
 quarter_at b r more h = four (λ r. get_or (quarters b ++ more) r 0 ≡ b / 2 ^ (6 - 2 * r) % 4) refl refl refl (omega arith) r h
 
-at : (bs : List ℕ) (q r : ℕ) → q < length bs → r < 4 → get_or (codes_in bs) (4 * q + r) 0 ≡ get_or bs q 0 / 2 ^ (6 - 2 * r) % 4
+pub at : (bs : List ℕ) (q r : ℕ) → q < length bs → r < 4 → get_or (codes_in bs) (4 * q + r) 0 ≡ get_or bs q 0 / 2 ^ (6 - 2 * r) % 4
 at [] q r h s = absurd (omega arith)
 at (b ∷ bs) zero r h s = let e : 4 * 0 + r ≡ r = omega arith in rw e (quarter_at b r (codes_in bs) s)
 at (b ∷ bs) (suc q) r h s = let e : 4 * suc q + r ≡ suc (suc (suc (suc (4 * q + r)))) = omega arith in rw e (at bs q r (omega arith) s)

@@ -7,3 +7,4 @@ pub mod Written
 pub mod Parcels
 pub mod Chunks
 pub mod Belonging
+pub mod Filling

@@ -1,9 +1,9 @@
 //! The codes of one record.
-ghost use Rattle.std.specs.Prelude.{◌≡◌, ◌≢◌, ℕ, ◌+◌, ◌-◌, ◌*◌, ◌/◌, ◌%◌, ◌^◌, ◌<◌, ◌≤◌, ◌++◌, length, map, take, drop, slice_index, OnOk, IfOk, IfErr, All, IsTrue};
+ghost use Rattle.std.specs.Prelude.{◌≡◌, ◌≢◌, ℕ, ◌+◌, ◌-◌, ◌*◌, ◌/◌, ◌%◌, ◌^◌, ◌<◌, ◌≤◌, ◌++◌, ◌∷◌, [], length, map, take, drop, slice_index, vec_len, vec_capacity, OnOk, IfOk, IfErr, All, IsTrue};
 ghost use Rattle.kmc_base.specs.Packed.{pack};
-ghost use Rattle.kmc_base.specs.Strands.{keys};
+ghost use Rattle.kmc_base.specs.Strands.{keys, packed_key};
 ghost use Rattle.kmc_record.specs.Record.{codes_in, size_of};
-ghost use Rattle.kmc_base.specs.Lemmas.Rolling.{ahead_byte, behind_byte};
+ghost use Rattle.kmc_base.specs.Lemmas.Rolling.{ahead, ahead_quarters, behind, behind_quarters};
 ghost use Rattle.kmc_record.specs.Faults.{HasFault};
 
 use crate::fault::RecordFault;
@@ -58,28 +58,41 @@ pub fn first_symbols(bytes: &[u8], k: usize) -> Result<usize, RecordFault>
 
 /// A window over the codes and its reverse complement, both with the four codes of a byte more.
 fn slide_byte<W: Word + Drop>(forward: W, back: W, byte: u8, top: W) -> (W, W)
-    requires top { (j : ℕ) × (j < W.most) × (W.number top ≡ 4 ^ j) }
+    requires top { (j : ℕ) × (3 ≤ j) × (j < W.most) × (W.number top ≡ 4 ^ j) }
     requires back { W.number back / 4 < W.number top }
-    ensures ahead { W.number result.0 ≡ ahead_byte (W.number top) (W.number forward) byte }
-    ensures behind { W.number result.1 ≡ behind_byte (W.number top) (W.number back) byte }
+    ensures ahead { W.number result.0 ≡ ahead_quarters (W.number top) (W.number forward) byte }
+    ensures behind { W.number result.1 ≡ behind_quarters (W.number top) (W.number back) byte }
 {
-    let a = byte / 64 % 4;
-    let b = byte / 16 % 4;
-    let c = byte / 4 % 4;
-    let d = byte % 4;
-    let forward_d = forward
-        .ahead(a, top)
-        .ahead(b, top)
-        .ahead(c, top)
-        .ahead(d, top);
-    let back_a = back.behind(a, top);
-    let back_b = back_a.behind(b, top);
-    let back_c = back_b.behind(c, top);
-    let back_d = back_c.behind(d, top);
-    (forward_d, back_d)
+    (forward.ahead_byte(byte, top), back.behind_byte(byte, top))
 }
 
-/// Appends the packed keys of the words of a record's symbols, in the order of their places.
+/// A window and its reverse complement with one code more, whose key is appended.
+fn push_code<W: Word + Drop>(
+    words: &mut Vec<W>,
+    forward: W,
+    back: W,
+    code: u8,
+    top: W,
+    strands: Strands,
+) -> (W, W)
+    requires code { code < 4 }
+    requires top { (j : ℕ) × (j < W.most) × (W.number top ≡ 4 ^ j) }
+    requires back { W.number back / 4 < W.number top }
+    requires room { vec_len words.old < vec_capacity words.old }
+    ensures ahead { W.number result.0 ≡ ahead (W.number top) (W.number forward) code }
+    ensures behind { W.number result.1 ≡ behind (W.number top) (W.number back) code }
+    ensures pushed { map W.number words.new.items ≡ map W.number words.old.items ++ packed_key strands (W.number result.0) (W.number result.1) ∷ [] }
+    ensures len { vec_len words.new ≡ vec_len words.old + 1 }
+    ensures capacity { vec_capacity words.new ≡ vec_capacity words.old }
+{
+    let next = forward.ahead(code, top);
+    let other = back.behind(code, top);
+    words.push_reserved(packed_key(strands, next, other));
+    (next, other)
+}
+
+/// Appends the packed keys of the words of a record's symbols, in the order of their places. Room for all of them is had
+/// first; the symbols in front of the first word's last one enter the window a byte at a time.
 pub fn push_record<W: Word + Drop>(
     words: &mut Vec<W>,
     bytes: &[u8],
@@ -95,20 +108,36 @@ pub fn push_record<W: Word + Drop>(
     ensures { OnOk result (map W.number words.new.items
         ≡ map W.number words.old.items ++ map pack (keys strands k (take symbols (codes_in bytes.now)))) }
 {
+    words.reserve(symbols + 1 - k)?;
     let top = W::top(k);
     let mut forward = W::zero();
     let mut back = W::ones(k);
     let whole = (k - 1) / 4;
-    for j in 0..whole {
+    let begun = (k + 2) / 4;
+    let near = symbols.min(4 * begun);
+    let last = near.max(4 * (symbols / 4));
+    'front: for j in 0..whole {
         (forward, back) = slide_byte(forward, back, bytes[j], top);
     }
-    for i in 4 * whole..symbols {
+    'head: for i in 4 * whole..k - 1 {
         let code = code_at(bytes, i);
         forward = forward.ahead(code, top);
         back = back.behind(code, top);
-        if i + 1 >= k {
-            words.push(packed_key(strands, forward, back))?;
+    }
+    'near: for i in k - 1..near {
+        let code = code_at(bytes, i);
+        (forward, back) = push_code(words, forward, back, code, top, strands);
+    }
+    'bytes: for j in begun..symbols / 4 {
+        let byte = bytes[j];
+        'codes: for r in 0..4_usize {
+            let code = (byte >> (6 - 2 * r)) % 4;
+            (forward, back) = push_code(words, forward, back, code, top, strands);
         }
+    }
+    'rest: for i in last..symbols {
+        let code = code_at(bytes, i);
+        (forward, back) = push_code(words, forward, back, code, top, strands);
     }
     Ok(())
 }

@@ -1,5 +1,5 @@
 //! Bins filled part by part, and merged.
-use crate::given::{chunk_of, push_bin, shape_of};
+use crate::given::{chunk_of, long_read, push_bin, shape_of};
 use kmc_record::part::Part;
 use kmc_record::parts::parts_of;
 use kmc_record::shape::Shape;
@@ -170,16 +170,6 @@ fn laws_can_be_called() {
     laws::absorbed_bins_are_bodies();
     laws::merged_bins_are_bodies();
     laws::held_records_are_the_runs();
-}
-
-/// A read of so many symbols, without a long run of one of them.
-fn long_read(alloc: Global, symbols: u64) -> Result<String, AllocError> {
-    let mut read = String::new(alloc);
-    for i in 0..symbols {
-        let turn = i.wrapping_mul(i).wrapping_add(i / 3) / 7;
-        read.push(['A', 'C', 'G', 'T'][(turn % 4) as usize])?;
-    }
-    Ok(read)
 }
 
 /// All words of a read of 10,000 symbols lie in one part where there is one bin, and in many where there are 2,000.

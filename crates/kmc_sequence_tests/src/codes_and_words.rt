@@ -4,6 +4,7 @@ use kmc_base::base::code;
 use kmc_base::keys::push_keys;
 use kmc_base::kmer::{Kmer, MAX_K};
 use kmc_base::laws;
+use kmc_base::pieces::{piece_count, push_pieces};
 use kmc_base::strands::Strands;
 use kmc_base::stretch::segments;
 use std::alloc::{AllocError, Global};
@@ -126,10 +127,36 @@ fn rolls_the_keys_at_either_width(rt: HostRuntime) -> Result<(), Fail> {
 }
 
 #[test]
+fn pieces_overlap_by_one_symbol_less_than_a_word(rt: HostRuntime) -> Result<(), Fail> {
+    let alloc = rt.alloc();
+    for (read, k, l, want) in [
+        (b"ACGTACGT".as_slice(), 3, 5, ["ACGTA", "TACGT"].as_slice()),
+        (b"ACGTACGT", 3, 8, ["ACGTACGT"].as_slice()),
+        (b"ACGTACGT", 3, 7, ["ACGTACG", "CGT"].as_slice()),
+        (b"ACGTACGT", 8, 8, ["ACGTACGT"].as_slice()),
+        (b"ACGTACGT", 9, 9, [].as_slice()),
+        (b"ACGN", 2, 2, ["AC", "CG", "GN"].as_slice()),
+        (b"ACG", 1, 1, ["A", "C", "G"].as_slice()),
+        (b"", 1, 5, [].as_slice()),
+    ] {
+        let mut found = Vec::new(alloc);
+        push_pieces(&mut found, read, k, l)?;
+        assert_eq!(rt; found.len(), want.len());
+        assert_eq!(rt; piece_count(read.len(), k, l), want.len());
+        for (own, wanted) in found.iter().zip(want.iter()) {
+            assert_eq!(rt; *own, wanted.as_bytes());
+        }
+    }
+    Ok(())
+}
+
+#[test]
 fn laws_can_be_called() {
     laws::segments_are_counted();
     laws::segments_are_maximal();
     laws::keys_of_segments();
     laws::keys_unpack();
     laws::one_canonical_form();
+    laws::pieces_are_counted();
+    laws::keys_of_pieces();
 }

@@ -32,6 +32,16 @@ pub(crate) fn same_bytes(alloc: Global, byte: u8, length: usize) -> Result<Vec<u
     Ok(bytes)
 }
 
+/// A read of so many bases, without a long run of one of them.
+pub(crate) fn long_read(alloc: Global, symbols: usize) -> Result<String, AllocError> {
+    let mut read = String::new(alloc);
+    for i in 0..symbols {
+        let turn = i.wrapping_mul(i).wrapping_add(i / 3) / 7;
+        read.push(['A', 'C', 'G', 'T'][turn % 4])?;
+    }
+    Ok(read)
+}
+
 /// The shape of k, p and n.
 pub(crate) fn shape_of(rt: &impl Abort, k: usize, p: usize, n: usize) -> Shape {
     Shape::new(k, p, n).expect(rt, "a shape")

@@ -1,7 +1,8 @@
 //! Records and parts: worked values in both directions, refusals, and a table from an independent program.
 mod rows;
 
-use crate::given::{chunk_of, one_segment, push_bin, same_bytes, shape_of};
+use crate::given::{chunk_of, long_read, one_segment, push_bin, same_bytes, shape_of};
+use kmc_base::keys::push_keys;
 use kmc_base::strands::Strands;
 use kmc_base::stretch::segments;
 use kmc_record::body::push_body;
@@ -281,6 +282,53 @@ fn packs_the_words_of_a_body(rt: HostRuntime) -> Result<(), Fail> {
     assert_eq!(rt; wide.as_slice(), [177, 44].as_slice());
     let damaged = push_body(&mut wide, &[0x00, 0x1B, 0x01, 0x6C], 4, Strands::Apart);
     assert_eq!(rt; damaged, Err(BodyError::Damaged(RecordFault::Short, 2)));
+    Ok(())
+}
+
+/// Whether a record of these letters is unpacked, byte by byte, to the keys that a window rolled symbol by symbol gives.
+fn unpacks_as_rolled(
+    rt: &impl Abort,
+    alloc: Global,
+    letters: &[u8],
+    k: usize,
+    strands: Strands,
+) -> Result<bool, Fail> {
+    let s = super_kmer_of(rt, alloc, letters, k)?;
+    let mut record = Vec::new(alloc);
+    encode(&s, &mut record)?;
+    assert!(rt; 1 <= k && k <= 64);
+    let mut rolled: Vec<u128> = Vec::new(alloc);
+    push_keys(&mut rolled, s.codes(), k, strands)?;
+    let mut wide: Vec<u128> = Vec::new(alloc);
+    push_body(&mut wide, &record, k, strands)?;
+    if k > 32 {
+        return Ok(wide == rolled);
+    }
+    let mut narrow: Vec<u64> = Vec::new(alloc);
+    push_body(&mut narrow, &record, k, strands)?;
+    let same = narrow
+        .iter()
+        .zip(wide.iter())
+        .all(|(a, b)| u128::from(*a) == *b);
+    Ok(wide == rolled && narrow.len() == wide.len() && same)
+}
+
+#[test]
+fn records_are_unpacked_by_bytes_as_by_symbols(rt: HostRuntime) -> Result<(), Fail> {
+    let alloc = rt.alloc();
+    let read = long_read(alloc, 400)?;
+    for k in [1, 2, 3, 4, 5, 6, 7, 8, 9, 25, 31, 32, 33, 63, 64] {
+        for more in [0, 1, 2, 3, 4, 5, 6, 7, 8, 254, 255] {
+            for strands in [Strands::Joined, Strands::Apart] {
+                let start = 7 * more % 60;
+                let letters = &read.as_bytes()[start..start + k + more];
+                assert!(rt;
+                    unpacks_as_rolled(&rt, alloc, letters, k, strands)?,
+                    "{more} symbols more than {k}"
+                );
+            }
+        }
+    }
     Ok(())
 }
 

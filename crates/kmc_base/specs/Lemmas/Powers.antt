@@ -44,3 +44,24 @@ pub room_back : (m b t j c : ℕ) → t ≡ 4 ^ j → j < m → b < t → b + (3
 room_back m b t j c e less below =
     let three : 3 - c ≤ 3 = omega arith in
     omega (arith, mul-le (3 - c) t 3 t three (le_refl t), pow_most m j less, e, below)
+
+-- ---- the weight of the fourth of the codes
+
+pub part_of_top : (t j : ℕ) → 3 ≤ j → t ≡ 4 ^ j → t / 64 ≡ 4 ^ (j - 3)
+part_of_top t j least e =
+    let parts : j ≡ suc (suc (suc (j - 3))) = omega arith in
+    omega (arith, e, ap (λ n. 4 ^ n) parts, pow-succ' 4 (suc (suc (j - 3))), pow-succ' 4 (suc (j - 3)), pow-succ' 4 (j - 3))
+
+pub parts_of_top : (t j : ℕ) → 3 ≤ j → t ≡ 4 ^ j → t ≡ t / 64 * 64
+parts_of_top t j least e =
+    let parts : j ≡ suc (suc (suc (j - 3))) = omega arith in
+    omega (arith, e, ap (λ n. 4 ^ n) parts, pow-succ' 4 (suc (suc (j - 3))), pow-succ' 4 (suc (j - 3)), pow-succ' 4 (j - 3))
+
+pub part_some : (t j : ℕ) → 3 ≤ j → t ≡ 4 ^ j → 1 ≤ t / 64
+part_some t j least e = omega (arith, part_of_top t j least e, pow_some (j - 3))
+
+pub part_most : (t j : ℕ) → 3 ≤ j → t ≡ 4 ^ j → j < 32 → t / 64 ≤ 4 ^ 28
+part_most t j least e less = omega (arith, e, pow_most 32 j less)
+
+pub part_most_wide : (t j : ℕ) → 3 ≤ j → t ≡ 4 ^ j → j < 64 → t / 64 ≤ 4 ^ 60
+part_most_wide t j least e less = omega (arith, e, pow_most 64 j less)

@@ -2,6 +2,8 @@
 use Rattle.std.proofs.Common.{◌≡◌, ℕ, zero, suc, ◌+◌, ◌*◌, ◌-◌, ◌/◌, ◌%◌, ◌^◌, ◌<◌, ◌≤◌, min, List, [], ◌∷◌, ◌++◌, length, map, get_or, take, drop, replicate, refl, sym, ap, ◌∙◌, arith, append_assoc, add-one, length-append, length-drop}
 use Rattle.std.proofs.lemmas.List.{drop_more, take_more, take_at, drop_at, drop-drop, get_or-drop, get_or-append-add, length-replicate, length-take-le, map_push}
 use Rattle.std.proofs.lemmas.List.FromFn.{map-range_with_len_more}
+use Rattle.std.proofs.lemmas.Nat.{mod-mul-add, mod_below}
+use Rattle.std.proofs.Math.Arith.{mod-mul}
 use Rattle.std.proofs.Math.Nat.{pow-succ'}
 use Rattle.kmc_base.specs.Lemmas.Powers.{pow_some}
 use Rattle.std.specs.List.{range_with_len}
@@ -10,6 +12,7 @@ use Rattle.kmc_base.specs.declared.strands.Strands.{Strands}
 use Rattle.kmc_base.specs.declared.strands.Strands.TheVariants.{Joined, Apart}
 use Rattle.kmc_base.specs.Strands.{key, packed_key}
 use Rattle.kmc_base.specs.Packed.{pack}
+use Rattle.kmc_base.specs.Bytes.{ahead_byte, behind_byte, turned}
 use Rattle.kmc_base.specs.Lemmas.Packing.{pack_after_append}
 use Rattle.kmc_base.specs.Lemmas.Packs.{AreCodes, codes_append, codes_rev_comp, length_rev_comp, rev_comp_cons, pack_fits, forward_step, back_step, pack_canonical}
 
@@ -21,11 +24,11 @@ abbrev pub behind : ℕ → ℕ → ℕ → ℕ
 behind top back c = back / 4 + (3 - c) * top
 
 -- the four codes of a byte more, the highest bits first
-abbrev pub ahead_byte : ℕ → ℕ → ℕ → ℕ
-ahead_byte top forward b = ahead top (ahead top (ahead top (ahead top forward (b / 64 % 4)) (b / 16 % 4)) (b / 4 % 4)) (b % 4)
+abbrev pub ahead_quarters : ℕ → ℕ → ℕ → ℕ
+ahead_quarters top forward b = ahead top (ahead top (ahead top (ahead top forward (b / 64 % 4)) (b / 16 % 4)) (b / 4 % 4)) (b % 4)
 
-abbrev pub behind_byte : ℕ → ℕ → ℕ → ℕ
-behind_byte top back b = behind top (behind top (behind top (behind top back (b / 64 % 4)) (b / 16 % 4)) (b / 4 % 4)) (b % 4)
+abbrev pub behind_quarters : ℕ → ℕ → ℕ → ℕ
+behind_quarters top back b = behind top (behind top (behind top (behind top back (b / 64 % 4)) (b / 16 % 4)) (b / 4 % 4)) (b % 4)
 
 -- where k zeros stand in front of the codes, the window that ends before place i
 abbrev pub trail : ℕ → List ℕ → ℕ → List ℕ
@@ -200,3 +203,76 @@ byte_step k some s i a b c d f g top x y h inside ea eb ec ed t ex ey rolling =
     let r2 = step_at k some s (i + 1) b _ _ (ahead top (ahead top f a) b) (behind top (behind top g a) b) top h (omega arith) eb t refl refl r1 in
     let r3 = step_at k some s (i + 2) c _ _ (ahead top (ahead top (ahead top f a) b) c) (behind top (behind top (behind top g a) b) c) top h (omega arith) ec t refl refl (rw one at r2) in
     rw three at (step_at k some s (i + 3) d _ _ x y top h (omega arith) ed t ex ey (rw two at r3))
+
+-- ---- four codes at once are four times one
+
+low_twice : (m r x : ℕ) → 1 ≤ m → 1 ≤ r → x % (r * m) % m ≡ x % m
+low_twice m r x some more =
+    let here : zero < m = omega arith in
+    let there : zero < r = omega arith in
+    ap (λ n. n % m) (mod-mul x there here) ∙ mod-mul-add (x / m % r) m (x % m) (mod_below x m here)
+
+-- where the window has at least m codes, m codes of the next one
+low_ahead : (m r x a : ℕ) → 1 ≤ m → 1 ≤ r → a < 4 → (x % (r * m) * 4 + a) % (m * 4) ≡ x % m * 4 + a
+low_ahead m r x a some more small =
+    let here : zero < m = omega arith in
+    let four : zero < 4 = omega arith in
+    let y = x % (r * m) in
+    let high : (y * 4 + a) / 4 ≡ y = omega arith in
+    let low : (y * 4 + a) % 4 ≡ a = omega arith in
+    mod-mul (y * 4 + a) here four ∙ (λ i. high i % m * 4 + low i) ∙ ap (λ n. n * 4 + a) (low_twice m r x some more)
+
+pub ahead_four : (top q f a b c d : ℕ) → 1 ≤ q → top ≡ q * 64 → a < 4 → b < 4 → c < 4 → d < 4
+    → ahead top (ahead top (ahead top (ahead top f a) b) c) d ≡ f % q * 256 + (a * 64 + b * 16 + c * 4 + d)
+ahead_four top q f a b c d some e ha hb hc hd =
+    let t1 : top ≡ 64 * q = omega arith in
+    let t2 : top ≡ 16 * (q * 4) = omega arith in
+    let t3 : top ≡ 4 * (q * 16) = omega arith in
+    let t4 : top ≡ q * 16 * 4 = omega arith in
+    let s1 = ahead top f a in
+    let s2 = ahead top s1 b in
+    let s3 = ahead top s2 c in
+    let e1 : s1 % (q * 4) ≡ f % q * 4 + a = ap (λ t. (f % t * 4 + a) % (q * 4)) t1 ∙ low_ahead q 64 f a some (omega arith) ha in
+    let u2 : q * 16 ≡ q * 4 * 4 = omega arith in
+    let e2 : s2 % (q * 16) ≡ s1 % (q * 4) * 4 + b = (λ i. (s1 % t2 i * 4 + b) % u2 i) ∙ low_ahead (q * 4) 16 s1 b (omega arith) (omega arith) hb in
+    let e3 : s3 % top ≡ s2 % (q * 16) * 4 + c = (λ i. (s2 % t3 i * 4 + c) % t4 i) ∙ low_ahead (q * 16) 4 s2 c (omega arith) (omega arith) hc in
+    omega (arith, e1, e2, e3)
+
+pub behind_four : (top q x a b c d : ℕ) → top ≡ q * 64
+    → behind top (behind top (behind top (behind top x a) b) c) d ≡ x / 256 + ((3 - d) * 64 + (3 - c) * 16 + (3 - b) * 4 + (3 - a)) * q
+behind_four top q x a b c d e = go (3 - a) (3 - b) (3 - c) (3 - d)
+  where
+    go : (a b c d : ℕ) → (((x / 4 + a * top) / 4 + b * top) / 4 + c * top) / 4 + d * top ≡ x / 256 + (d * 64 + c * 16 + b * 4 + a) * q
+    go a b c d =
+        let ea : a * top ≡ 64 * (a * q) = ap (λ t. a * t) e ∙ omega arith in
+        let eb : b * top ≡ 64 * (b * q) = ap (λ t. b * t) e ∙ omega arith in
+        let ec : c * top ≡ 64 * (c * q) = ap (λ t. c * t) e ∙ omega arith in
+        let ed : d * top ≡ 64 * (d * q) = ap (λ t. d * t) e ∙ omega arith in
+        omega (arith, ea, eb, ec, ed)
+
+pub ahead_bytes : (top q f b : ℕ) → 1 ≤ q → top ≡ q * 64 → b < 256 → ahead_byte top f b ≡ ahead top (ahead top (ahead top (ahead top f (b / 64 % 4)) (b / 16 % 4)) (b / 4 % 4)) (b % 4)
+ahead_bytes top q f b some e small =
+    let part : top / 64 ≡ q = omega arith in
+    let whole : b ≡ b / 64 % 4 * 64 + b / 16 % 4 * 16 + b / 4 % 4 * 4 + b % 4 = omega arith in
+    (λ i. f % part i * 256 + whole i) ∙ sym (ahead_four top q f (b / 64 % 4) (b / 16 % 4) (b / 4 % 4) (b % 4) some e (omega arith) (omega arith) (omega arith) (omega arith))
+
+pub behind_bytes : (top q x b : ℕ) → top ≡ q * 64 → behind_byte top x b ≡ behind top (behind top (behind top (behind top x (b / 64 % 4)) (b / 16 % 4)) (b / 4 % 4)) (b % 4)
+behind_bytes top q x b e =
+    let part : top / 64 ≡ q = omega arith in
+    ap (λ n. x / 256 + turned b * n) part ∙ sym (behind_four top q x (b / 64 % 4) (b / 16 % 4) (b / 4 % 4) (b % 4) e)
+
+-- ---- one word more
+
+-- the window behind i codes, and the keys of the words that end there or before
+pub record IsFilled (strands : Strands) (k : ℕ) (s : List ℕ) (i forward back : ℕ) (old new : List ℕ) : Type 0 where
+  pub rolling : IsRolling k s i forward back
+  pub pushed : new ≡ old ++ keys_upto strands k s (i + 1 - k)
+
+pub fill_one : (strands : Strands) (k : ℕ) → 1 ≤ k → (s : List ℕ) (i c f b g d top : ℕ) (old new next : List ℕ) → AreCodes s → i < length s → k ≤ i + 1 → c ≡ get_or s i 0 → top ≡ 4 ^ (k - 1)
+    → g ≡ ahead top f c → d ≡ behind top b c → next ≡ new ++ packed_key strands g d ∷ [] → IsFilled strands k s i f b old new → IsFilled strands k s (i + 1) g d old next
+fill_one strands k some s i c f b g d top old new next h inside enough is t eg ed more filled =
+    let rolled = step_at k some s i c f b g d top h inside is t eg ed filled.rolling in
+    record {
+      rolling = rolled;
+      pushed = one_more strands k s (i + 1 - k) (i + 1 + 1 - k) (packed_key strands g d) new next old more (roll_key strands k s (i + 1) g d h enough rolled) (omega arith) filled.pushed;
+    }

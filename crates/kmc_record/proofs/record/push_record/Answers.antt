@@ -1,91 +1,172 @@
-use Rattle.std.proofs.Common.{◌≡◌, ℕ, ◌+◌, ◌-◌, ◌*◌, ◌/◌, ◌<◌, ◌≤◌, ◌++◌, List, length, take, map, ap, sym, ◌∙◌, arith, append-nil}
-use Rattle.std.proofs.lemmas.List.{length-take-le, get_or-take, map_push}
+use Rattle.std.proofs.Common.{◌≡◌, ℕ, ◌+◌, ◌*◌, ◌-◌, ◌/◌, ◌%◌, ◌^◌, ◌<◌, ◌≤◌, ◌++◌, min, List, length, take, map, get_or, vec_len, vec_capacity, ap, sym, refl, ◌∙◌, arith}
+use Rattle.std.proofs.lemmas.List.{length-take-le, get_or-take}
 use Rattle.kmc_base.specs.Lemmas.Packs.{AreCodes}
-use Rattle.kmc_base.specs.Lemmas.Rolling.{codes_front, roll_start, roll_key, step_at, byte_step, fits_at, keys_upto, one_more}
+use Rattle.kmc_base.specs.Lemmas.Rolling.{codes_front, roll_start, step_at, byte_step, fits_at}
 use Rattle.kmc_record.specs.Record.{codes_in}
-use Rattle.kmc_record.proofs.Codes.{are_codes, length_codes, byte_codes}
+use Rattle.kmc_record.proofs.Codes.{are_codes, length_codes, byte_codes, at}
+use Rattle.kmc_record.proofs.Filling.{fits, held_first, held_more, held_all, behind_bytes}
 use Rattle.kmc_record.proofs.record.push_record.Goals as goal
-use Rattle.kmc_record.proofs.record.push_record.Goals.{then-i-k+in_ok-push, else-i-k}
 
 long : (bs : List ℕ) (n : ℕ) → n ≤ 4 * length bs → length (take n (codes_in bs)) ≡ n
 long bs n h = length-take-le n (codes_in bs) (omega (arith, length_codes bs))
 
+within : (bs : List ℕ) (n : ℕ) → n ≤ 4 * length bs → n ≤ length (codes_in bs)
+within bs n h = omega (arith, length_codes bs)
+
 small : (bs : List ℕ) (n : ℕ) → AreCodes (take n (codes_in bs))
 small bs n = codes_front n (codes_in bs) (are_codes bs)
 
-pub loop-j-init : goal.loop-j-init
-loop-j-init g c = roll_start c.args.k (take c.args.symbols (codes_in c.args.bytes.now)) _ _ c.zero-forward.ensures c.ones-back.ensures
+pub front-init : goal.front-init
+front-init g c = roll_start c.args.k (take c.args.symbols (codes_in c.args.bytes.now)) _ _ c.zero-forward.ensures c.ones-back.ensures
 
 pub slide_byte-requires-clause-back : goal.slide_byte-requires-clause-back
 slide_byte-requires-clause-back g c =
     let num = g.W.Word.number in
     let bs = c.args.bytes.now in
-    fits_at c.args.k c.requires.some (take c.args.symbols (codes_in bs)) (4 * c.loop-j.j) (num c.loop-j.forward) (num c.loop-j.back) (num c.top-top.result) (small bs c.args.symbols)
-    (omega (arith, long bs c.args.symbols c.requires.inside)) c.top-top.ensures c.loop-j.invariant
+    fits_at c.args.k c.requires.some (take c.args.symbols (codes_in bs)) (4 * c.front.j) (num c.front.forward) (num c.front.back) (num c.top-top.result) (small bs c.args.symbols)
+    (omega (arith, long bs c.args.symbols c.requires.inside)) c.top-top.ensures c.front.invariant
 
-pub loop-j-preserved : goal.loop-j-preserved
-loop-j-preserved g c =
+pub front-preserved : goal.front-preserved
+front-preserved g c =
     let num = g.W.Word.number in
     let bs = c.args.bytes.now in
     let n = c.args.symbols in
-    let j = c.loop-j.j in
+    let j = c.front.j in
     let s = take n (codes_in bs) in
     let codes = byte_codes bs j (omega arith) in
     let up : 4 * j + 4 ≡ 4 * (j + 1) = omega arith in
-    let r = byte_step c.args.k c.requires.some s (4 * j) _ _ _ _ (num c.loop-j.forward) (num c.loop-j.back) (num c.top-top.result) (num c.slide_byte.result.0) (num c.slide_byte.result.1) (small bs n)
+    let r = byte_step c.args.k c.requires.some s (4 * j) _ _ _ _ (num c.front.forward) (num c.front.back) (num c.top-top.result) (num c.slide_byte.result.0) (num c.slide_byte.result.1) (small bs n)
     (omega (arith, long bs n c.requires.inside))
     (codes.0 ∙ sym (get_or-take n (codes_in bs) (4 * j) 0 (omega arith)))
     (codes.1 ∙ sym (get_or-take n (codes_in bs) (4 * j + 1) 0 (omega arith)))
     (codes.2 ∙ sym (get_or-take n (codes_in bs) (4 * j + 2) 0 (omega arith)))
     (codes.3 ∙ sym (get_or-take n (codes_in bs) (4 * j + 3) 0 (omega arith)))
-    c.top-top.ensures c.slide_byte.ensures.ahead c.slide_byte.ensures.behind c.loop-j.invariant in
+    c.top-top.ensures c.slide_byte.ensures.ahead c.slide_byte.ensures.behind c.front.invariant in
     rw up at r
 
-pub loop-i-init : goal.loop-i-init
-loop-i-init g c =
-    let none : 4 * ((c.args.k - 1) / 4) + 1 - c.args.k ≡ 0 = omega arith in
-    let s = take c.args.symbols (codes_in c.args.bytes.now) in
-    let old = map g.W.Word.number c.args.words.now.items in
-    let end : c.loop-j.j ≡ (c.args.k - 1) / 4 = omega arith in
-    record {
-      rolling = rw end at c.loop-j.invariant;
-      pushed = sym (ap (λ n. old ++ keys_upto c.args.strands c.args.k s n) none ∙ append-nil old);
-    }
+pub head-init : goal.head-init
+head-init g c =
+    let end : c.front.j ≡ (c.args.k - 1) / 4 = omega arith in
+    rw end at c.front.invariant
 
 pub behind-back-requires-clause-back : goal.behind-back-requires-clause-back
 behind-back-requires-clause-back g c =
     let num = g.W.Word.number in
     let bs = c.args.bytes.now in
-    fits_at c.args.k c.requires.some (take c.args.symbols (codes_in bs)) c.loop-i.i (num c.loop-i.forward) (num c.loop-i.back) (num c.top-top.result) (small bs c.args.symbols)
-    (omega (arith, long bs c.args.symbols c.requires.inside)) c.top-top.ensures c.loop-i.invariant.rolling
+    fits c.args.strands c.args.k c.args.symbols c.requires.some (codes_in bs) (are_codes bs) (within bs c.args.symbols c.requires.inside) (num c.top-top.result) c.top-top.ensures
+    c.head.i (num c.head.forward) (num c.head.back) (omega arith) c.head.invariant
 
-pub loop-i-preserved : goal.loop-i-preserved
-loop-i-preserved g c =
+pub head-preserved : goal.head-preserved
+head-preserved g c =
     let num = g.W.Word.number in
     let bs = c.args.bytes.now in
-    let k = c.args.k in
-    let s = take c.args.symbols (codes_in bs) in
-    let inside : c.loop-i.i < length s = omega (arith, long bs c.args.symbols c.requires.inside) in
-    let is = c.code_at-code.ensures.is ∙ sym (get_or-take c.args.symbols (codes_in bs) c.loop-i.i 0 c.loop-i-test.true) in
-    let rolled = step_at k c.requires.some s c.loop-i.i c.code_at-code.result (num c.loop-i.forward) (num c.loop-i.back) (num c.ahead-forward.result) (num c.behind-back.result) (num c.top-top.result)
-    (small bs c.args.symbols) inside is c.top-top.ensures c.ahead-forward.ensures c.behind-back.ensures c.loop-i.invariant.rolling in
+    let n = c.args.symbols in
+    let less : c.head.i < n = omega arith in
+    step_at c.args.k c.requires.some (take n (codes_in bs)) c.head.i c.code_at-code.result (num c.head.forward) (num c.head.back) (num c.ahead-forward.result) (num c.behind-back.result) (num c.top-top.result)
+    (small bs n) (omega (arith, long bs n c.requires.inside)) (c.code_at-code.ensures.is ∙ sym (get_or-take n (codes_in bs) c.head.i 0 less)) c.top-top.ensures c.ahead-forward.ensures c.behind-back.ensures c.head.invariant
+
+pub near-init : goal.near-init
+near-init g c =
+    let num = g.W.Word.number in
+    let bs = c.args.bytes.now in
+    let n = c.args.symbols in
     let old = map num c.args.words.now.items in
+    let end : c.head.i ≡ c.args.k - 1 = omega arith in
+    let r = held_first c.args.strands c.args.k n c.requires.some (codes_in bs) (are_codes bs) (within bs n c.requires.inside) (num c.top-top.result) c.top-top.ensures (c.args.k - 1) (num c.head.forward) (num c.head.back) old (vec_len c.reserve.new.self) (vec_capacity c.reserve.new.self) (omega arith)
+    (omega (arith, c.in_ok-reserve.ensures.ok)) (rw end at c.head.invariant) in
     record {
-      rolling = rolled;
-      pushed = elim c.if-i-k.branch [
-        | then-i-k+in_ok-push w ↦ one_more c.args.strands k s (c.loop-i.i + 1 - k) (c.loop-i.i + 1 + 1 - k) (num w.packed_key.result) (map num c.loop-i.words.items) _ old
-            (ap (λ v. map num v.items) w.words-is ∙ ap (map num) w.in_ok-push.ensures.items ∙ map_push num c.loop-i.words.items w.packed_key.result)
-            (w.packed_key.ensures ∙ roll_key c.args.strands k s (c.loop-i.i + 1) (num c.ahead-forward.result) (num c.behind-back.result) (small bs c.args.symbols) w.if-i-k.true rolled)
-            (omega arith) c.loop-i.invariant.pushed
-        | else-i-k w ↦
-            let same : c.loop-i.i + 1 - k ≡ c.loop-i.i + 1 + 1 - k = omega (arith, w.if-i-k.false) in
-            ap (λ v. map num v.items) w.words-is ∙ c.loop-i.invariant.pushed ∙ ap (λ n. old ++ keys_upto c.args.strands k s n) same
-      ];
+      filled = record { rolling = r.filled.rolling; pushed = ap (map num) c.reserve.ensures.items ∙ r.filled.pushed };
+      room = r.room;
     }
+
+pub push_code-requires-clause-back : goal.push_code-requires-clause-back
+push_code-requires-clause-back g c =
+    let num = g.W.Word.number in
+    let bs = c.args.bytes.now in
+    let n = c.args.symbols in
+    fits c.args.strands c.args.k n c.requires.some (codes_in bs) (are_codes bs) (within bs n c.requires.inside) (num c.top-top.result) c.top-top.ensures c.near.i (num c.near.forward) (num c.near.back) (omega (arith, c.min-near.ensures)) c.near.invariant.filled.rolling
+
+pub near-preserved : goal.near-preserved
+near-preserved g c =
+    let num = g.W.Word.number in
+    let bs = c.args.bytes.now in
+    let n = c.args.symbols in
+    held_more c.args.strands c.args.k n c.requires.some (codes_in bs) (are_codes bs) (within bs n c.requires.inside) (num c.top-top.result) c.top-top.ensures c.near.i _ (num c.near.forward) (num c.near.back) (num c.push_code.result.0) (num c.push_code.result.1)
+    (map num c.args.words.now.items) (map num c.near.words.items) (map num c.push_code.new.words.items) (vec_len c.near.words) (vec_capacity c.near.words) (vec_len c.push_code.new.words) (vec_capacity c.push_code.new.words)
+    (omega (arith, c.min-near.ensures)) (omega arith) c.code_at-code-in-near.ensures.is c.push_code.ensures.ahead c.push_code.ensures.behind c.push_code.ensures.pushed c.push_code.ensures.len c.push_code.ensures.capacity c.near.invariant
+
+pub bytes-init : goal.bytes-init
+bytes-init g c =
+    let num = g.W.Word.number in
+    let bs = c.args.bytes.now in
+    let n = c.args.symbols in
+    let here : c.near.i ≡ min (4 * ((c.args.k + 2) / 4)) n = omega (arith, c.min-near.ensures) in
+    rw here at c.near.invariant
+
+pub codes-init : goal.codes-init
+codes-init g c =
+    let num = g.W.Word.number in
+    let bs = c.args.bytes.now in
+    let n = c.args.symbols in
+    let here : min (4 * c.bytes.j) n ≡ 4 * c.bytes.j + 0 = omega arith in
+    rw here at c.bytes.invariant
+
+pub push_code-requires-in-codes-clause-back : goal.push_code-requires-in-codes-clause-back
+push_code-requires-in-codes-clause-back g c =
+    let num = g.W.Word.number in
+    let bs = c.args.bytes.now in
+    let n = c.args.symbols in
+    fits c.args.strands c.args.k n c.requires.some (codes_in bs) (are_codes bs) (within bs n c.requires.inside) (num c.top-top.result) c.top-top.ensures (4 * c.bytes.j + c.codes.r) (num c.codes.forward) (num c.codes.back) (omega arith) c.codes.invariant.filled.rolling
+
+pub codes-preserved : goal.codes-preserved
+codes-preserved g c =
+    let num = g.W.Word.number in
+    let bs = c.args.bytes.now in
+    let n = c.args.symbols in
+    let up : 4 * c.bytes.j + c.codes.r + 1 ≡ 4 * c.bytes.j + (c.codes.r + 1) = omega arith in
+    let r = held_more c.args.strands c.args.k n c.requires.some (codes_in bs) (are_codes bs) (within bs n c.requires.inside) (num c.top-top.result) c.top-top.ensures (4 * c.bytes.j + c.codes.r) _ (num c.codes.forward) (num c.codes.back) (num c.push_code-in-codes.result.0) (num c.push_code-in-codes.result.1)
+    (map num c.args.words.now.items) (map num c.codes.words.items) (map num c.push_code-in-codes.new.words.items) (vec_len c.codes.words) (vec_capacity c.codes.words) (vec_len c.push_code-in-codes.new.words) (vec_capacity c.push_code-in-codes.new.words)
+    (omega arith) (omega arith) (sym (at bs c.bytes.j c.codes.r (omega arith) c.codes-test.true)) c.push_code-in-codes.ensures.ahead c.push_code-in-codes.ensures.behind c.push_code-in-codes.ensures.pushed c.push_code-in-codes.ensures.len c.push_code-in-codes.ensures.capacity c.codes.invariant in
+    rw up at r
+
+pub bytes-preserved : goal.bytes-preserved
+bytes-preserved g c =
+    let num = g.W.Word.number in
+    let bs = c.args.bytes.now in
+    let n = c.args.symbols in
+    let here : 4 * c.bytes.j + c.codes.r ≡ min (4 * (c.bytes.j + 1)) n = omega arith in
+    rw here at c.codes.invariant
+
+pub rest-init : goal.rest-init
+rest-init g c =
+    let num = g.W.Word.number in
+    let bs = c.args.bytes.now in
+    let n = c.args.symbols in
+    let here = behind_bytes ((c.args.k + 2) / 4) n c.min-near.result c.max-last.result c.bytes.j c.min-near.ensures c.max-last.ensures c.bytes.auto.j c.bytes-test.false c.bytes.auto.j-end in
+    rw here at c.bytes.invariant
+
+pub push_code-requires-in-rest-clause-back : goal.push_code-requires-in-rest-clause-back
+push_code-requires-in-rest-clause-back g c =
+    let num = g.W.Word.number in
+    let bs = c.args.bytes.now in
+    let n = c.args.symbols in
+    fits c.args.strands c.args.k n c.requires.some (codes_in bs) (are_codes bs) (within bs n c.requires.inside) (num c.top-top.result) c.top-top.ensures c.rest.i (num c.rest.forward) (num c.rest.back) c.rest-test.true c.rest.invariant.filled.rolling
+
+pub rest-preserved : goal.rest-preserved
+rest-preserved g c =
+    let num = g.W.Word.number in
+    let bs = c.args.bytes.now in
+    let n = c.args.symbols in
+    held_more c.args.strands c.args.k n c.requires.some (codes_in bs) (are_codes bs) (within bs n c.requires.inside) (num c.top-top.result) c.top-top.ensures c.rest.i _ (num c.rest.forward) (num c.rest.back) (num c.push_code-in-rest.result.0) (num c.push_code-in-rest.result.1)
+    (map num c.args.words.now.items) (map num c.rest.words.items) (map num c.push_code-in-rest.new.words.items) (vec_len c.rest.words) (vec_capacity c.rest.words) (vec_len c.push_code-in-rest.new.words) (vec_capacity c.push_code-in-rest.new.words)
+    c.rest-test.true (omega (arith, c.min-near.ensures, c.max-last.ensures)) c.code_at-code-in-rest.ensures.is c.push_code-in-rest.ensures.ahead c.push_code-in-rest.ensures.behind c.push_code-in-rest.ensures.pushed c.push_code-in-rest.ensures.len c.push_code-in-rest.ensures.capacity c.rest.invariant
 
 pub returns : goal.returns
 returns g c =
+    let num = g.W.Word.number in
     let bs = c.args.bytes.now in
-    let s = take c.args.symbols (codes_in bs) in
-    let end : c.loop-i.i + 1 - c.args.k ≡ length s + 1 - c.args.k = omega (arith, long bs c.args.symbols c.requires.inside) in
-    c.loop-i.invariant.pushed ∙ ap (λ n. map g.W.Word.number c.args.words.now.items ++ keys_upto c.args.strands c.args.k s n) end
+    let n = c.args.symbols in
+    let least : c.max-last.result ≤ n = omega (arith, c.min-near.ensures, c.max-last.ensures) in
+    let most : c.rest.i ≤ n = c.rest.auto.i-end least in
+    held_all c.args.strands c.args.k n c.requires.some (codes_in bs) (are_codes bs) (within bs n c.requires.inside) (num c.top-top.result) c.top-top.ensures c.rest.i (num c.rest.forward) (num c.rest.back) (map num c.args.words.now.items) (map num c.rest.words.items) (vec_len c.rest.words) (vec_capacity c.rest.words)
+    (omega arith) c.rest.invariant

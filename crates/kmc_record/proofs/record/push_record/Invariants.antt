@@ -1,15 +1,24 @@
-use Rattle.std.proofs.Common.{◌≡◌, ◌+◌, ◌*◌, ◌-◌, ◌++◌, take, map}
-use Rattle.kmc_base.specs.Lemmas.Rolling.{IsRolling, keys_upto}
+use Rattle.std.proofs.Common.{◌+◌, ◌*◌, min, take, map, vec_len, vec_capacity}
+use Rattle.kmc_base.specs.Lemmas.Rolling.{IsRolling}
+use Rattle.kmc_record.proofs.Filling.{Holds}
 use Rattle.kmc_record.specs.Record.{codes_in}
 use Rattle.kmc_record.proofs.record.push_record.Given as goal
 
 -- the window behind the first bytes
-abbrev pub invariant-loop-j : goal.invariant-loop-j
-invariant-loop-j g l = IsRolling l.k (take l.symbols (codes_in l.bytes)) (4 * l.j) (g.W.Word.number l.forward) (g.W.Word.number l.back)
+abbrev pub invariant-front : goal.invariant-front
+invariant-front g l = IsRolling l.k (take l.symbols (codes_in l.bytes)) (4 * l.j) (g.W.Word.number l.forward) (g.W.Word.number l.back)
 
--- the window behind i symbols, and the keys of the words that end there or before
-abbrev pub invariant-loop-i : goal.invariant-loop-i
-invariant-loop-i g l = record {
-  rolling : IsRolling l.k (take l.symbols (codes_in l.bytes)) l.i (g.W.Word.number l.forward) (g.W.Word.number l.back);
-  pushed : map g.W.Word.number l.words.items ≡ map g.W.Word.number l.initial.words.items ++ keys_upto l.strands l.k (take l.symbols (codes_in l.bytes)) (l.i + 1 - l.k);
-}
+abbrev pub invariant-head : goal.invariant-head
+invariant-head g l = IsRolling l.k (take l.symbols (codes_in l.bytes)) l.i (g.W.Word.number l.forward) (g.W.Word.number l.back)
+
+abbrev pub invariant-near : goal.invariant-near
+invariant-near g l = Holds l.strands l.k l.symbols l.i (g.W.Word.number l.forward) (g.W.Word.number l.back) (codes_in l.bytes) (map g.W.Word.number l.fn.words.items) (map g.W.Word.number l.words.items) (vec_len l.words) (vec_capacity l.words)
+
+abbrev pub invariant-bytes : goal.invariant-bytes
+invariant-bytes g l = Holds l.strands l.k l.symbols (min (4 * l.j) l.symbols) (g.W.Word.number l.forward) (g.W.Word.number l.back) (codes_in l.bytes) (map g.W.Word.number l.fn.words.items) (map g.W.Word.number l.words.items) (vec_len l.words) (vec_capacity l.words)
+
+abbrev pub invariant-codes : goal.invariant-codes
+invariant-codes g l = Holds l.strands l.k l.symbols (4 * l.j + l.r) (g.W.Word.number l.forward) (g.W.Word.number l.back) (codes_in l.bytes) (map g.W.Word.number l.fn.words.items) (map g.W.Word.number l.words.items) (vec_len l.words) (vec_capacity l.words)
+
+abbrev pub invariant-rest : goal.invariant-rest
+invariant-rest g l = Holds l.strands l.k l.symbols l.i (g.W.Word.number l.forward) (g.W.Word.number l.back) (codes_in l.bytes) (map g.W.Word.number l.fn.words.items) (map g.W.Word.number l.words.items) (vec_len l.words) (vec_capacity l.words)

@@ -1,11 +1,14 @@
-use Rattle.std.proofs.Common.{◌/◌, ◌%◌}
-use Rattle.kmc_base.specs.Lemmas.Powers.{back_below}
+use Rattle.std.proofs.Common.{◌≡◌, ◌/◌, ◌%◌, ◌*◌, ◌<◌, ◌∙◌, arith}
+use Rattle.kmc_base.specs.Lemmas.Powers.{part_some, parts_of_top}
+use Rattle.kmc_base.specs.Lemmas.Rolling.{ahead_bytes, behind_bytes}
 use Rattle.kmc_record.proofs.record.slide_byte.Goals as goal
 
-pub behind-back_d-requires-clause-back : goal.behind-back_d-requires-clause-back
-behind-back_d-requires-clause-back g c =
+pub returns : goal.returns
+returns g c =
     let num = g.W.Word.number in
-    let top = num c.args.top in
-    let a = back_below (num c.args.back) top (c.args.byte / 64 % 4) _ c.requires.back c.behind-back_a.ensures in
-    let b = back_below (num c.behind-back_a.result) top (c.args.byte / 16 % 4) _ a c.behind-back_b.ensures in
-    back_below (num c.behind-back_b.result) top (c.args.byte / 4 % 4) _ b c.behind-back_c.ensures
+    let t = num c.args.top in
+    let h = c.requires.top in
+    record {
+      ahead = c.ahead_byte.ensures ∙ ahead_bytes t (t / 64) (num c.args.forward) c.args.byte (part_some t h.0 h.1 h.3) (parts_of_top t h.0 h.1 h.3) c.ranges.byte.fits;
+      behind = c.behind_byte.ensures ∙ behind_bytes t (t / 64) (num c.args.back) c.args.byte (parts_of_top t h.0 h.1 h.3);
+    }
