@@ -6,6 +6,7 @@
 
 pub mod fill_bins;
 pub mod pass_parts;
+mod pause;
 pub mod plan;
 pub mod refusal;
 pub mod shard;

@@ -6,6 +6,7 @@ ghost use Rattle.kmc_store.specs.Deals.{chunk_at};
 ghost use Rattle.kmc_workers.specs.Workers.{chunks_of, IsSameWriter, IsFreshWriter, IsDone};
 ghost use Rattle.kmc_workers.specs.Causes.{IsCause};
 
+use crate::pause::Pause;
 use crate::plan::Plan;
 use crate::refusal::Refusal;
 use crate::way::Way;
@@ -14,9 +15,8 @@ use kmc_record::part::Part;
 use kmc_record::parts::parts_of_reads;
 use std::alloc::Global;
 use std::sync::Wait;
-use std::thread;
 
-/// Puts a part, and yields while the lane is full. The stop word is read before each try.
+/// Puts a part, and waits while the lane is full. The stop word is read before each try.
 fn put_part<R: Wait, G: Gate>(
     rt: &R,
     way: &Way,
@@ -31,6 +31,7 @@ fn put_part<R: Wait, G: Gate>(
 {
     gate.pass(Point::BeforePut(s.number(), s.next_number()));
     let mut part = part;
+    let mut pause = Pause::new();
     for _ in rt.forever() {
         if way.is_stopped() {
             return Err(Refusal::Stopped);
@@ -43,7 +44,7 @@ fn put_part<R: Wait, G: Gate>(
             Err((TryPutError::NumbersSpent, _)) => return Err(Refusal::NumbersSpent),
             Err((TryPutError::Full, back)) => {
                 part = back;
-                thread::yield_now();
+                pause.wait(rt, way);
             }
         }
     }

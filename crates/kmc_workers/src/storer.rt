@@ -4,6 +4,7 @@ ghost use Rattle.kmc_workers.specs.Workers.{IsFreshReader};
 ghost use Rattle.kmc_workers.specs.Causes.{IsStorersCause};
 ghost use Rattle.kmc_workers.specs.Shards.{IsShard};
 
+use crate::pause::Pause;
 use crate::refusal::Refusal;
 use crate::shard::Shard;
 use crate::way::Way;
@@ -14,7 +15,6 @@ use kmc_store::bins::Bins;
 use kmc_store::laws::{absorbed_bins_are_bodies, empty_bins_are_no_bodies};
 use std::alloc::Global;
 use std::sync::Wait;
-use std::thread;
 
 /// Takes parts until the queue is finished, and absorbs them. The stop word is read before each try. A part of another
 /// shape, which no splitter sends, ends it.
@@ -34,12 +34,14 @@ pub(crate) fn store<R: Wait, G: Gate>(
     empty_bins_are_no_bodies();
     absorbed_bins_are_bodies();
     let mut bins = Bins::new(alloc, shape)?;
+    let mut pause = Pause::new();
     for _ in rt.forever() {
         if way.is_stopped() {
             return Err(Refusal::Stopped);
         }
         match way.lanes.try_take(&mut seat, gate) {
             TryTaken::Got(received) => {
+                pause = Pause::new();
                 gate.pass(Point::AfterTake(seat.number()));
                 let part = received.item;
                 if part.shape() != shape {
@@ -50,7 +52,7 @@ pub(crate) fn store<R: Wait, G: Gate>(
                     Err(_) => return Err(Refusal::Memory),
                 }
             }
-            TryTaken::NotNow => thread::yield_now(),
+            TryTaken::NotNow => pause.wait(rt, way),
             TryTaken::Finished(_) => return Ok(Shard::new(seat, bins)),
         }
     }

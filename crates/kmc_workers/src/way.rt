@@ -3,14 +3,24 @@ ghost use Rattle.std.specs.Prelude.{◌≡◌};
 
 use kmc_partqueue::Lanes;
 use kmc_record::part::Part;
-use std::sync::atomic::{AtomicBool, Ordering};
+use std::sync::Wait;
+use std::sync::atomic::{AtomicU64, Ordering};
+use std::time::Duration;
+
+/// The stop word while all workers are to go on, and once they are to stop.
+const GOING: u64 = 0;
+
+const STOPPED: u64 = 1;
+
+/// The most microseconds of a sleep.
+const SLEEP: u64 = 100;
 
 /// The queue that the parts pass, with its number of writers, and the word that tells all workers to stop.
 #[derive(Drop)]
 pub(crate) struct Way {
     pub(crate) lanes: Lanes<Part>,
     pub(crate) writers: usize,
-    stop: AtomicBool,
+    stop: AtomicU64,
     ghost as_many: { writers ≡ lanes.shape.writers },
 }
 
@@ -23,18 +33,25 @@ impl Way {
         Way {
             lanes,
             writers,
-            stop: AtomicBool::new(false),
+            stop: AtomicU64::new(GOING),
         }
     }
 
-    /// Tells all workers to stop.
+    /// Tells all workers to stop, those that sleep too.
     pub(crate) fn stop(&self) {
-        self.stop.store(true, Ordering::SeqCst);
+        self.stop.store(STOPPED, Ordering::SeqCst);
+        self.stop.wake_all();
     }
 
     /// Whether the workers were told to stop.
     pub(crate) fn is_stopped(&self) -> bool {
-        self.stop.load(Ordering::SeqCst)
+        self.stop.load(Ordering::SeqCst) == STOPPED
+    }
+
+    /// Sleeps shortly, or not at all where the workers were told to stop.
+    pub(crate) fn sleep<R: Wait>(&self, rt: &R) {
+        self.stop
+            .park_timeout(rt, GOING as u32, Duration::from_micros(SLEEP));
     }
 
     /// The queue.
