@@ -77,8 +77,8 @@ range_text k weight from to lists = text_of (spelled k (within weight from to (w
 
 -- the slots at which ranges begin and end do not fall, and no range has more pairs than this
 abbrev pub AreBounds : ℕ → ℕ → List ℕ → List Listed → Type 0
-AreBounds weight widest bounds lists = (i : ℕ) (d : ℕ) → i + 1 < length bounds
-    → (slice_index_or bounds i d ≤ slice_index_or bounds (i + 1) d) × (count_within weight (slice_index_or bounds i d) (slice_index_or bounds (i + 1) d) lists ≤ widest)
+AreBounds weight widest bounds lists = (i : ℕ) → i + 1 < length bounds
+    → (slice_index_or bounds i 0 ≤ slice_index_or bounds (i + 1) 0) × (count_within weight (slice_index_or bounds i 0) (slice_index_or bounds (i + 1) 0) lists ≤ widest)
 
 -- the lists can be merged, and the ranges part their words: the first begins at the first slot, and every word lies
 -- before the end of the last
@@ -91,3 +91,7 @@ pub record AreRanges (r : Ranges) (lists : List Listed) : Type 0 where
   pub bounds : AreBounds (2 ^ r.shift) r.widest r.bounds.items lists
   pub first : slice_index_or r.bounds.items 0 0 ≡ 0
   pub last : All (λ p. p.0 / 2 ^ r.shift < slice_index_or r.bounds.items (length r.bounds.items - 1) 0) (joined (packs lists))
+
+-- at each slot how many pairs of the lists lie there
+abbrev pub AreSizes : ℕ → List ℕ → List Listed → Type 0
+AreSizes weight sizes lists = (i : ℕ) → i < length sizes → slice_index_or sizes i 0 ≡ count_within weight i (i + 1) lists

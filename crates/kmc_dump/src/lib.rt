@@ -7,9 +7,12 @@
 pub mod buffers;
 pub mod counts;
 pub mod laws;
+pub mod lists;
+mod parting;
 pub mod range;
 pub mod ranges;
 pub mod shown;
+mod slots;
 pub mod tally;
 pub mod wave;
 pub mod waves;
