@@ -4,6 +4,8 @@
 //! and that this dump is written whole or the device failed.
 #![tactic(auto)]
 
+mod bin;
+pub mod bins;
 pub mod buffers;
 pub mod counts;
 pub mod laws;
