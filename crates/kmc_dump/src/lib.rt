@@ -18,3 +18,4 @@ mod slots;
 pub mod tally;
 pub mod wave;
 pub mod waves;
+pub mod write;

@@ -2,7 +2,7 @@ use Rattle.std.proofs.Common.{sym, ◌∙◌}
 use Rattle.std.proofs.lemmas.List.Sorted.{length_permutation}
 use Rattle.kmc_dump.specs.Ranges.{joined, packs, whole}
 use Rattle.kmc_dump.proofs.Order.{in_order_moves}
-use Rattle.kmc_dump.proofs.lists.write_lists.Goals as goal
+use Rattle.kmc_dump.proofs.write.write_lists.Goals as goal
 
 pub returns-in-Ok-write_ranges-clause-lines : goal.returns-in-Ok-write_ranges-clause-lines
 returns-in-Ok-write_ranges-clause-lines g c =
