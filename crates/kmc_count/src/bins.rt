@@ -66,7 +66,7 @@ fn count_row(
 }
 
 /// How many of the bodies, from the first on, have about so many of `threads` parts of all bytes.
-fn share(bodies: &[Vec<u8>], parts: usize, threads: usize) -> usize
+pub fn share(bodies: &[Vec<u8>], parts: usize, threads: usize) -> usize
     requires some { 1 ≤ threads }
     requires part { parts ≤ threads }
     ensures { result ≤ length bodies.now }

@@ -118,4 +118,13 @@ impl Bins {
     {
         self.bodies.as_slice()
     }
+
+    /// The records of each bin, which the bins give up.
+    pub fn into_bodies(self) -> Vec<Vec<u8>>
+        ensures are { map (λ v. v.items) result.items ≡ self.bodies }
+        ensures kept { AreBins self.shape self.bodies self.words }
+    {
+        let Bins { bodies, .. } = self;
+        bodies
+    }
 }

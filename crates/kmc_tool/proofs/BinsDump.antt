@@ -14,7 +14,12 @@ use Rattle.kmc_count.specs.declared.limits.Limits.{Limits}
 use Rattle.kmc_count.specs.Bodies.{AreDumpsOfBodies, IsFirstDamaged}
 use Rattle.kmc_count.specs.Laws.{DumpsOfBodiesAreOfKeys}
 use Rattle.kmc_count.specs.Merge.{AreApart, AreDumps}
+use Rattle.kmc_dump.specs.Bodies.{AreListsOfBodies}
+use Rattle.kmc_dump.specs.Laws.{PackedDumpsAreOne}
+use Rattle.kmc_dump.specs.Listed.{Listed, spelled, pairs_of}
+use Rattle.kmc_dump.specs.Ranges.{CanBeMerged, whole}
 use Rattle.kmc_tool.specs.Laws.{BinsShareNoKey}
+use Rattle.kmc_tool.specs.Stages.{IsDumpOfBins}
 
 -- the super-k-mers of bodies that have dumps
 pub whole_lists : (strands : Strands) (k : ℕ) (l : Limits) (bodies : List (List ℕ)) (lists : List (List (List ℕ × ℕ))) → AreDumpsOfBodies strands k l bodies lists
@@ -62,3 +67,12 @@ counted share keyed strands k p n l shape given bodies words lists some_k some_p
       dumps = keyed strands k l bodies whole.0 lists dumps whole.1;
       apart = share strands record { k = k; m = min p k; n = n } bodies words whole.0 (some_least p k some_p some_k) (least_within p k) own whole.1;
     }
+
+-- the lists of bins can be merged, and their whole is the dump of all bins
+pub listed : BinsShareNoKey → DumpsOfBodiesAreOfKeys → PackedDumpsAreOne → (strands : Strands) (k p n : ℕ) (l : Limits) (shape : Sizes) (given bodies : List (List ℕ)) (words : List ℕ) (lists : List Listed)
+    → 1 ≤ k → 5 ≤ p → shape ≡ record { k = k; m = min p k; n = n } → AreBins shape bodies words → given ≡ bodies → AreListsOfBodies strands k l given lists
+    → CanBeMerged k lists × IsDumpOfBins strands k l bodies (spelled k (whole lists))
+listed share keyed packed strands k p n l shape given bodies words lists some_k some_p shaped are same h =
+    let done = counted share keyed strands k p n l shape given bodies words (map pairs_of lists) some_k some_p shaped are same h.dumps in
+    let made = packed l k (map (record_keys strands k) done.super_kmers) lists h.each done.dumps done.apart in
+    (made.0, record { super_kmers = done.super_kmers; records = done.records; dump = made.1; })

@@ -13,7 +13,8 @@ use crate::input::{ReadFault, read_text};
 use crate::params::Params;
 use crate::stages::count_by_bins;
 use kmc_count::device::Counted;
-use kmc_count::dump::write_dump;
+use kmc_dump::lists::write_bins;
+use kmc_dump::write::DumpError;
 use kmc_partqueue::Gate;
 use kmc_reads::error::ReadsError;
 use kmc_reads::read_all::read_all;
@@ -74,13 +75,14 @@ pub fn run<T: Threads + Wait + Sync, R: Read, W: Write, G: Gate + Sync>(
         Err(e) => return Err(RunError::Input(e)),
     };
     drop(text);
-    let pairs = match count_by_bins(rt, alloc, reads, params, gate) {
-        Ok(pairs) => pairs,
+    let lists = match count_by_bins(rt, alloc, reads, params, gate) {
+        Ok(lists) => lists,
         Err(RunError::NumbersSpent) => return Err(RunError::NumbersSpent),
         Err(_) => return Err(RunError::Memory),
     };
-    match write_dump(writer, &pairs) {
+    match write_bins(rt, alloc, writer, &lists, params.k, params.sr) {
         Ok(lines) => Ok(lines),
-        Err(_) => Err(RunError::Write),
+        Err(DumpError::Memory) => Err(RunError::Memory),
+        Err(DumpError::Write) => Err(RunError::Write),
     }
 }

@@ -1,37 +1,42 @@
-//! Stage two: each bin is counted by itself, and their lists become one.
+//! Stage two: each bin is counted by itself, and their lists make one dump.
 ghost use Rattle.std.specs.Prelude.{◌≡◌, IfOk};
+ghost use Rattle.kmc_dump.specs.Bodies.{AreListsOfBodies};
+ghost use Rattle.kmc_dump.specs.Listed.{spelled};
+ghost use Rattle.kmc_dump.specs.Lists.{lists_of};
+ghost use Rattle.kmc_dump.specs.Ranges.{CanBeMerged, whole};
 ghost use Rattle.kmc_tool.specs.Stages.{shape_of, IsDumpOfBins};
 
 use crate::laws::bins_share_no_key;
 use crate::params::Params;
-use kmc_base::kmer::Kmer;
 use kmc_count::bin::CountError;
-use kmc_count::bins::count_bins;
-use kmc_count::laws::{dumps_can_be_merged, dumps_of_bodies_are_of_keys, merged_dumps_are_one};
-use kmc_count::merge::merge_bins;
+use kmc_count::laws::dumps_of_bodies_are_of_keys;
+use kmc_dump::laws::packed_dumps_are_one;
+use kmc_dump::lists::{BinLists, list_bins};
 use kmc_record::laws::whole_body_has_no_fault;
 use kmc_store::bins::Bins;
 use std::alloc::{AllocError, Global};
 use std::thread::Threads;
 
-/// The dump of the words of all records in the bins: each bin is counted by itself, over `sr` threads, and since equal
-/// keys share a bin the lists are merged. It fails only for want of memory.
+/// A list for each bin, the dump of its records, counted over `sr` threads. Equal keys share a bin, so the lists share no
+/// word, and all their pairs in the order of the words are the dump of the words of all records. The bins are given up:
+/// their records are freed bin by bin. It fails only for want of memory.
 pub fn stage_two<R: Threads + Sync>(
     rt: &R,
     alloc: Global,
-    bins: &Bins,
+    bins: Bins,
     params: &Params,
-) -> Result<Vec<(Kmer, u64)>, AllocError>
-    requires { bins.now.shape ≡ shape_of params.now }
-    ensures { IfOk result (λ pairs. IsDumpOfBins params.now.strands params.now.k params.now.limits bins.now.bodies pairs.items) }
+) -> Result<BinLists, AllocError>
+    requires { bins.shape ≡ shape_of params.now }
+    ensures each { IfOk result (λ lists. AreListsOfBodies params.now.strands params.now.k params.now.limits bins.bodies (lists_of lists)) }
+    ensures merge { IfOk result (λ lists. CanBeMerged params.now.k (lists_of lists)) }
+    ensures all { IfOk result (λ lists. IsDumpOfBins params.now.strands params.now.k params.now.limits bins.bodies (spelled params.now.k (whole (lists_of lists)))) }
 {
     bins_share_no_key();
     whole_body_has_no_fault();
     dumps_of_bodies_are_of_keys();
-    dumps_can_be_merged();
-    merged_dumps_are_one();
-    let bodies = bins.bodies();
-    let lists = match count_bins(
+    packed_dumps_are_one();
+    let bodies = bins.into_bodies();
+    match list_bins(
         rt,
         alloc,
         bodies,
@@ -40,9 +45,8 @@ pub fn stage_two<R: Threads + Sync>(
         &params.limits,
         params.sr,
     ) {
-        Ok(lists) => lists,
-        Err(CountError::Memory) => return Err(AllocError),
+        Ok(lists) => Ok(lists),
+        Err(CountError::Memory) => Err(AllocError),
         Err(CountError::Damaged(_, _)) => unreachable!(),
-    };
-    Ok(merge_bins(rt, alloc, lists, params.sr)?)
+    }
 }

@@ -1,32 +1,28 @@
-use Rattle.std.proofs.Common.{map, ap, Err}
-use Rattle.kmc_record.specs.RecordWords.{record_keys}
-use Rattle.kmc_tool.proofs.BinsDump.{no_damage, counted}
+use Rattle.std.proofs.Common.{ℕ, List, ap, subst, Err}
+use Rattle.kmc_dump.specs.Bodies.{AreListsOfBodies}
+use Rattle.kmc_dump.specs.Lists.{lists_of}
+use Rattle.kmc_tool.proofs.BinsDump.{no_damage, listed}
 use Rattle.kmc_tool.proofs.stage_two.stage_two.Goals as goal
 
 pub unreachable-requires : goal.unreachable-requires
 unreachable-requires g c =
-    let bins = c.args.bins.now in let fault = c.in-Err-Damaged.field-0-0 in let offset = c.in-Err-Damaged.field-0-1 in
-    no_damage c.whole_body_has_no_fault.ensures bins.shape c.args.params.now.k _ bins.bodies bins.words fault offset (ap (λ s. s.k) c.requires) c.bodies-bodies.ensures.kept c.bodies-bodies.ensures.are
+    let bins = c.args.bins in let fault = c.in-Err-Damaged.field-0-0 in let offset = c.in-Err-Damaged.field-0-1 in
+    no_damage c.whole_body_has_no_fault.ensures bins.shape c.args.params.now.k _ bins.bodies bins.words fault offset (ap (λ s. s.k) c.requires) c.into_bodies-bodies.ensures.kept c.into_bodies-bodies.ensures.are
     (c.in-Err-Damaged.ensures.damaged fault offset (ap Err c.in-Err-Damaged.field-0-is))
 
-pub merge_bins-requires-clause-rise : goal.merge_bins-requires-clause-rise
-merge_bins-requires-clause-rise g c = λ κs within.
-    let params = c.args.params.now in let bins = c.args.bins.now in
-    let done = counted c.bins_share_no_key.ensures c.dumps_of_bodies_are_of_keys.ensures params.strands params.k params.p params.n params.limits bins.shape _ bins.bodies bins.words _ params.in_range.0.0.0 params.in_range.0.1.0 c.requires c.bodies-bodies.ensures.kept c.bodies-bodies.ensures.are c.in-Ok.ensures.ok in
-    (c.dumps_can_be_merged.ensures params.limits (map (record_keys params.strands params.k) done.super_kmers) _ done.dumps done.apart).1
+pub returns-in-Ok-clause-each : goal.returns-in-Ok-clause-each
+returns-in-Ok-clause-each g c =
+    let params = c.args.params.now in
+    subst (λ (t : List (List ℕ)). AreListsOfBodies params.strands params.k params.limits t (lists_of c.in-Ok.lists)) c.into_bodies-bodies.ensures.are c.in-Ok.ensures.ok
 
-pub merge_bins-requires-clause-apart : goal.merge_bins-requires-clause-apart
-merge_bins-requires-clause-apart g c = λ κs within.
-    let params = c.args.params.now in let bins = c.args.bins.now in
-    let done = counted c.bins_share_no_key.ensures c.dumps_of_bodies_are_of_keys.ensures params.strands params.k params.p params.n params.limits bins.shape _ bins.bodies bins.words _ params.in_range.0.0.0 params.in_range.0.1.0 c.requires c.bodies-bodies.ensures.kept c.bodies-bodies.ensures.are c.in-Ok.ensures.ok in
-    (c.dumps_can_be_merged.ensures params.limits (map (record_keys params.strands params.k) done.super_kmers) _ done.dumps done.apart).0
+pub returns-in-Ok-clause-merge : goal.returns-in-Ok-clause-merge
+returns-in-Ok-clause-merge g c =
+    let params = c.args.params.now in let bins = c.args.bins in
+    (listed c.bins_share_no_key.ensures c.dumps_of_bodies_are_of_keys.ensures c.packed_dumps_are_one.ensures params.strands params.k params.p params.n params.limits bins.shape _ bins.bodies bins.words (lists_of c.in-Ok.lists)
+    params.in_range.0.0.0 params.in_range.0.1.0 c.requires c.into_bodies-bodies.ensures.kept c.into_bodies-bodies.ensures.are c.in-Ok.ensures.ok).0
 
-pub returns : goal.returns
-returns g c =
-    let params = c.args.params.now in let bins = c.args.bins.now in
-    let done = counted c.bins_share_no_key.ensures c.dumps_of_bodies_are_of_keys.ensures params.strands params.k params.p params.n params.limits bins.shape _ bins.bodies bins.words _ params.in_range.0.0.0 params.in_range.0.1.0 c.requires c.bodies-bodies.ensures.kept c.bodies-bodies.ensures.are c.in-Ok.ensures.ok in
-    record {
-      super_kmers = done.super_kmers;
-      records = done.records;
-      dump = c.merged_dumps_are_one.ensures params.limits (map (record_keys params.strands params.k) done.super_kmers) _ c.in_ok-merge_bins.field-0.items done.dumps done.apart c.in_ok-merge_bins.ensures;
-    }
+pub returns-in-Ok-clause-all : goal.returns-in-Ok-clause-all
+returns-in-Ok-clause-all g c =
+    let params = c.args.params.now in let bins = c.args.bins in
+    (listed c.bins_share_no_key.ensures c.dumps_of_bodies_are_of_keys.ensures c.packed_dumps_are_one.ensures params.strands params.k params.p params.n params.limits bins.shape _ bins.bodies bins.words (lists_of c.in-Ok.lists)
+    params.in_range.0.0.0 params.in_range.0.1.0 c.requires c.into_bodies-bodies.ensures.kept c.into_bodies-bodies.ensures.are c.in-Ok.ensures.ok).1

@@ -1,0 +1,134 @@
+-- Ranges of slots, closed one after the other.
+use Rattle.std.proofs.Common.{◌≡◌, ℕ, ◌+◌, ◌-◌, ◌/◌, ◌<◌, ◌≤◌, ◌⊎◌, inl, inr, Bool, true, false, cond, nat_lt, List, [], ◌∷◌, ◌++◌, length, get_or, refl, sym, ap, subst, ◌∙◌, arith, ◌^◌, All, Vec, Global}
+use Rattle.std.specs.Ordering.{nat_cmp, ord_max, is_lt}
+use Rattle.std.proofs.lemmas.Bool.Decides.{nat_tests}
+use Rattle.std.proofs.lemmas.List.{length-append, get_or_append_left, get_or-append-add}
+use Rattle.kmc_dump.specs.Listed.{Listed}
+use Rattle.kmc_dump.specs.Ranges.{is_within, within, joined, packs, count_within, AreBounds, AreRanges, CanBeMerged}
+use Rattle.kmc_base.specs.declared.kmer.TheConstants.{MAX_K}
+
+-- one range behind the other has as many pairs as both
+module _ (w a b c : ℕ) (low : a ≤ b) (high : b ≤ c) where
+  both : (ps : List (ℕ × ℕ)) → length (within w a b ps) + length (within w b c ps) ≡ length (within w a c ps)
+  both [] = omega arith
+  both (p ∷ ps) = go (nat_lt (p.0 / w) a) (nat_lt (p.0 / w) b) (nat_lt (p.0 / w) c) refl refl refl (both ps)
+    where
+      is : (from to : ℕ) (t : Bool) → is_within w from to p ≡ t → length (within w from to (p ∷ ps)) ≡ length (cond t (p ∷ within w from to ps) (within w from to ps))
+      is from to t e = ap (λ u. length (cond u (p ∷ within w from to ps) (within w from to ps))) e
+
+      go : (x y z : Bool) → nat_lt (p.0 / w) a ≡ x → nat_lt (p.0 / w) b ≡ y → nat_lt (p.0 / w) c ≡ z → length (within w a b ps) + length (within w b c ps) ≡ length (within w a c ps)
+          → length (within w a b (p ∷ ps)) + length (within w b c (p ∷ ps)) ≡ length (within w a c (p ∷ ps))
+      go true y z e f g more =
+          let n1 : is_within w a b p ≡ false = grind (arith, nat_tests) in
+          let n2 : is_within w b c p ≡ false = grind (arith, nat_tests) in
+          let n3 : is_within w a c p ≡ false = grind (arith, nat_tests) in
+          omega (arith, is a b false n1, is b c false n2, is a c false n3, more)
+      go false true z e f g more =
+          let n1 : is_within w a b p ≡ true = grind (arith, nat_tests) in
+          let n2 : is_within w b c p ≡ false = grind (arith, nat_tests) in
+          let n3 : is_within w a c p ≡ true = grind (arith, nat_tests) in
+          omega (arith, is a b true n1, is b c false n2, is a c true n3, more)
+      go false false true e f g more =
+          let n1 : is_within w a b p ≡ false = grind (arith, nat_tests) in
+          let n2 : is_within w b c p ≡ true = grind (arith, nat_tests) in
+          let n3 : is_within w a c p ≡ true = grind (arith, nat_tests) in
+          omega (arith, is a b false n1, is b c true n2, is a c true n3, more)
+      go false false false e f g more =
+          let n1 : is_within w a b p ≡ false = grind (arith, nat_tests) in
+          let n2 : is_within w b c p ≡ false = grind (arith, nat_tests) in
+          let n3 : is_within w a c p ≡ false = grind (arith, nat_tests) in
+          omega (arith, is a b false n1, is b c false n2, is a c false n3, more)
+
+pub max_above : (a b : ℕ) → (a ≤ ord_max nat_cmp a b) × (b ≤ ord_max nat_cmp a b)
+max_above a b = go (is_lt (nat_cmp b a)) refl
+  where
+    go : (x : Bool) → is_lt (nat_cmp b a) ≡ x → (a ≤ cond x a b) × (b ≤ cond x a b)
+    go true e = let less : b < a = grind (arith, nat_tests) in (omega arith, omega (arith, less))
+    go false e = let less : a ≤ b = grind (arith, nat_tests) in (omega (arith, less), omega arith)
+
+-- the ranges are closed to the last bound, and so many pairs lie from there to before a slot
+pub record ArePartedTo (w widest : ℕ) (bounds : List ℕ) (to pending : ℕ) (lists : List Listed) : Type 0 where
+  pub some : 1 ≤ length bounds
+  pub first : get_or bounds 0 0 ≡ 0
+  pub low : get_or bounds (length bounds - 1) 0 ≤ to
+  pub are : AreBounds w widest bounds lists
+  pub held : pending ≡ count_within w (get_or bounds (length bounds - 1) 0) to lists
+
+pub along : (w to : ℕ) (lists : List Listed) (widest wider : ℕ) (bounds others : List ℕ) (n m : ℕ) → ArePartedTo w widest bounds to n lists → widest ≡ wider → bounds ≡ others → n ≡ m → ArePartedTo w wider others to m lists
+along w to lists widest wider bounds others n m h a b e = coe 0 1 (i. ArePartedTo w (a i) (b i) to (e i) lists) h
+
+none : (w a : ℕ) (ps : List (ℕ × ℕ)) → length (within w a a ps) ≡ 0
+none w a [] = refl
+none w a (p ∷ ps) =
+    let no : is_within w a a p ≡ false = grind (arith, nat_tests) in
+    ap (λ t. length (cond t (p ∷ within w a a ps) (within w a a ps))) no ∙ none w a ps
+
+pub no_range : (w : ℕ) (lists : List Listed) → ArePartedTo w 0 (0 ∷ []) 0 0 lists
+no_range w lists = record {
+  some = omega arith;
+  first = refl;
+  low = omega arith;
+  are = λ i inside. absurd (omega (arith, inside));
+  held = sym (none w 0 (joined (packs lists)));
+}
+
+-- one slot more
+pub slot_more : (w widest : ℕ) (bounds : List ℕ) (to pending : ℕ) (lists : List Listed) (size next all : ℕ) → ArePartedTo w widest bounds to pending lists
+    → next ≡ to + 1 → size ≡ count_within w to (to + 1) lists → all ≡ pending + size → ArePartedTo w widest bounds next all lists
+slot_more w widest bounds to pending lists size next all h step is sum =
+    let last = get_or bounds (length bounds - 1) 0 in
+    let more = both w last to (to + 1) h.low (omega arith) (joined (packs lists)) in
+    let there : all ≡ count_within w last (to + 1) lists = omega (arith, h.held, is, sum, more) in
+    record {
+      some = h.some;
+      first = h.first;
+      low = omega (arith, h.low, step);
+      are = h.are;
+      held = there ∙ ap (λ n. count_within w last n lists) (sym step);
+    }
+
+-- a range is closed
+module _ (w widest : ℕ) (bounds : List ℕ) (to pending wider : ℕ) (lists : List Listed) (h : ArePartedTo w widest bounds to pending lists) (less : widest ≤ wider) (fits : pending ≤ wider) where
+  abbrev bs : List ℕ
+  bs = bounds ++ to ∷ []
+
+  long : length bs ≡ length bounds + 1
+  long = length-append bounds (to ∷ [])
+
+  last_is : get_or bs (length bounds) 0 ≡ to
+  last_is = let e : length bounds ≡ length bounds + 0 = omega arith in ap (λ n. get_or bs n 0) e ∙ get_or-append-add bounds (to ∷ []) 0 0
+
+  last_place : get_or bs (length bs - 1) 0 ≡ to
+  last_place = let e : length bs - 1 ≡ length bounds = omega (arith, long) in ap (λ n. get_or bs n 0) e ∙ last_is
+
+  abbrev IsRange : ℕ → ℕ → Type 0
+  IsRange a b = (a ≤ b) × (count_within w a b lists ≤ wider)
+
+  are : AreBounds w wider bs lists
+  are i inside = go (nat_lt (i + 1) (length bounds)) refl
+    where
+      go : (x : Bool) → nat_lt (i + 1) (length bounds) ≡ x → IsRange (get_or bs i 0) (get_or bs (i + 1) 0)
+      go true e =
+          let before : i + 1 < length bounds = grind (arith, nat_tests) in
+          let a : get_or bs i 0 ≡ get_or bounds i 0 = get_or_append_left bounds (to ∷ []) 0 i (omega (arith, before)) in
+          let b : get_or bs (i + 1) 0 ≡ get_or bounds (i + 1) 0 = get_or_append_left bounds (to ∷ []) 0 (i + 1) before in
+          let old = h.are i before in
+          let same : count_within w (get_or bs i 0) (get_or bs (i + 1) 0) lists ≡ count_within w (get_or bounds i 0) (get_or bounds (i + 1) 0) lists = (λ j. count_within w (a j) (b j) lists) in
+          (omega (arith, a, b, old.0), omega (arith, same, old.1, less))
+      go false e =
+          let high : length bounds ≤ i + 1 = grind (arith, nat_tests) in
+          let next : i + 1 ≡ length bounds = omega (arith, high, inside, long) in
+          let place : i ≡ length bounds - 1 = omega (arith, next) in
+          let a : get_or bs i 0 ≡ get_or bounds (length bounds - 1) 0 = get_or_append_left bounds (to ∷ []) 0 i (omega (arith, next)) ∙ ap (λ n. get_or bounds n 0) place in
+          let b : get_or bs (i + 1) 0 ≡ to = ap (λ n. get_or bs n 0) next ∙ last_is in
+          let same : count_within w (get_or bs i 0) (get_or bs (i + 1) 0) lists ≡ count_within w (get_or bounds (length bounds - 1) 0) to lists = (λ j. count_within w (a j) (b j) lists) in
+          (omega (arith, a, b, h.low), omega (arith, same, h.held, fits))
+
+  pub closed : ArePartedTo w wider bs to 0 lists
+  closed = record {
+    some = omega (arith, long);
+    first = get_or_append_left bounds (to ∷ []) 0 0 (omega (arith, h.some)) ∙ h.first;
+    low = omega (arith, last_place);
+    are = are;
+    held = sym (ap (λ n. count_within w n to lists) last_place ∙ none w to (joined (packs lists)));
+  }

@@ -1,0 +1,79 @@
+-- Texts of ranges that follow one another.
+use Rattle.std.proofs.Common.{◌≡◌, ℕ, zero, suc, ◌+◌, ◌-◌, ◌/◌, ◌^◌, ◌<◌, ◌≤◌, true, false, List, [], ◌∷◌, ◌++◌, length, get_or, sym, ap, ◌∙◌, arith}
+use Rattle.std.specs.List.{AllByRecursion, flat_map}
+use Rattle.std.proofs.lemmas.Bool.Decides.{nat_tests}
+use Rattle.std.proofs.lemmas.List.{map-append}
+use Rattle.std.proofs.lemmas.Grind.{flat_map-append}
+use Rattle.std.proofs.lemmas.List.Elements.{recursion_from_All}
+use Rattle.std.proofs.lemmas.List.Sorted.{All-permutation}
+use Rattle.kmc_count.specs.Dump.{line_of, text_of}
+use Rattle.kmc_dump.specs.Listed.{Listed, spell, spelled}
+use Rattle.kmc_dump.specs.Ranges.{is_within, within, whole, joined, packs, range_text, AreRanges}
+use Rattle.kmc_dump.specs.declared.ranges.Ranges.{Ranges}
+use Rattle.kmc_dump.proofs.Order.{in_order_climbs, in_order_moves, ranges_join}
+use Rattle.kmc_dump.proofs.Cuts.{filter_every, filter_none}
+
+pub texts_join : (k w a b c : ℕ) (lists : List Listed) → 0 < w → a ≤ b → b ≤ c → range_text k w a b lists ++ range_text k w b c lists ≡ range_text k w a c lists
+texts_join k w a b c lists pos low high =
+    let all = whole lists in
+    let one = within w a b all in
+    let two = within w b c all in
+    sym (flat_map-append line_of (spelled k one) (spelled k two))
+    ∙ ap text_of (sym (map-append (spell k) one two) ∙ ap (spelled k) (ranges_join w pos a b c low high all (in_order_climbs (joined (packs lists)))))
+
+-- the range of all slots is the whole
+pub all_within : (w top : ℕ) (ps : List (ℕ × ℕ)) → AllByRecursion (λ p. p.0 / w < top) ps → within w 0 top ps ≡ ps
+all_within w top ps h = filter_every (is_within w 0 top) ps (go ps h)
+  where
+    go : (qs : List (ℕ × ℕ)) → AllByRecursion (λ p. p.0 / w < top) qs → AllByRecursion (λ p. is_within w 0 top p ≡ true) qs
+    go [] h = tt
+    go (q ∷ qs) h = let less : q.0 / w < top = h.0 in (grind (arith, nat_tests), go qs h.1)
+
+none_between : (w a : ℕ) (ps : List (ℕ × ℕ)) → within w a a ps ≡ []
+none_between w a ps = filter_none (is_within w a a) ps (go ps)
+  where
+    go : (qs : List (ℕ × ℕ)) → AllByRecursion (λ p. is_within w a a p ≡ false) qs
+    go [] = tt
+    go (q ∷ qs) = (grind (arith, nat_tests), go qs)
+
+pub no_text : (k w a : ℕ) (lists : List Listed) → range_text k w a a lists ≡ []
+no_text k w a lists = ap (λ (ps : List (ℕ × ℕ)). text_of (spelled k ps)) (none_between w a (whole lists))
+
+-- the texts of a wave, one after the other
+module _ (k w : ℕ) (pos : 0 < w) (lists : List Listed) (bounds : List ℕ) (up : (i : ℕ) → i + 1 < length bounds → get_or bounds i 0 ≤ get_or bounds (i + 1) 0) where
+  pub climb : (i n : ℕ) → i + n < length bounds → get_or bounds i 0 ≤ get_or bounds (i + n) 0
+  climb i zero inside = let e : i + 0 ≡ i = omega arith in rw e (omega arith)
+  climb i (suc n) inside =
+      let e : i + suc n ≡ (i + n) + 1 = omega arith in
+      let more : get_or bounds i 0 ≤ get_or bounds (i + n) 0 = climb i n (omega arith) in
+      let last : get_or bounds (i + n) 0 ≤ get_or bounds ((i + n) + 1) 0 = up (i + n) (omega arith) in
+      rw e (omega (arith, more, last))
+
+  pub wave_text : {S : Type 0} (f : S → List ℕ) (ss : List S) (first : ℕ) → first + length ss < length bounds
+      → ((i : ℕ) (d : S) → i < length ss → f (get_or ss i d) ≡ range_text k w (get_or bounds (first + i) 0) (get_or bounds (first + i + 1) 0) lists)
+      → flat_map f ss ≡ range_text k w (get_or bounds first 0) (get_or bounds (first + length ss) 0) lists
+  wave_text f [] first inside are =
+      let e : first + 0 ≡ first = omega arith in
+      sym (ap (λ n. range_text k w (get_or bounds first 0) (get_or bounds n 0) lists) e ∙ no_text k w (get_or bounds first 0) lists)
+  wave_text f (s ∷ ss) first inside are =
+      let zero_more : first + 0 ≡ first = omega arith in
+      let here : f s ≡ range_text k w (get_or bounds first 0) (get_or bounds (first + 1) 0) lists =
+      are 0 s (omega arith) ∙ ap (λ n. range_text k w (get_or bounds n 0) (get_or bounds (n + 1) 0) lists) zero_more in
+      let rest = wave_text f ss (first + 1) (omega (arith, inside)) (λ i d small.
+      let e : first + suc i ≡ (first + 1) + i = omega arith in
+      are (suc i) d (omega (arith, small)) ∙ ap (λ n. range_text k w (get_or bounds n 0) (get_or bounds (n + 1) 0) lists) e) in
+      let last : (first + 1) + length ss ≡ first + suc (length ss) = omega arith in
+      (λ i. here i ++ rest i)
+      ∙ texts_join k w (get_or bounds first 0) (get_or bounds (first + 1) 0) (get_or bounds ((first + 1) + length ss) 0) lists pos (up first (omega (arith, inside))) (climb (first + 1) (length ss) (omega (arith, inside)))
+      ∙ ap (λ n. range_text k w (get_or bounds first 0) (get_or bounds n 0) lists) last
+
+-- the ranges have the text of the whole
+pub all_text : (r : Ranges) (lists : List Listed) → AreRanges r lists
+    → range_text r.k (2 ^ r.shift) (get_or r.bounds.items 0 0) (get_or r.bounds.items (length r.bounds.items - 1) 0) lists ≡ text_of (spelled r.k (whole lists))
+all_text r lists are =
+    let all = joined (packs lists) in
+    let w = 2 ^ r.shift in
+    let top = get_or r.bounds.items (length r.bounds.items - 1) 0 in
+    let P : ℕ × ℕ → Type 0 = λ p. p.0 / w < top in
+    ap (λ n. range_text r.k w n top lists) are.first
+    ∙ ap (λ (ps : List (ℕ × ℕ)). text_of (spelled r.k ps)) (all_within w top (whole lists) (recursion_from_All P (whole lists) (All-permutation P all (whole lists) (in_order_moves all) are.last)))

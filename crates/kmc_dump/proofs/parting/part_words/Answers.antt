@@ -1,0 +1,13 @@
+use Rattle.std.proofs.Common.{◌*◌, ◌<◌, ◌^◌, arith}
+use Rattle.std.proofs.lemmas.Nat.{one_shl}
+use Rattle.kmc_dump.proofs.Histogram.{slot_fits}
+use Rattle.kmc_dump.proofs.parting.part_words.Goals as goal
+
+pub join_slots-requires-clause-shift : goal.join_slots-requires-clause-shift
+join_slots-requires-clause-shift g c = omega (arith, c.leading-symbols.ensures.some, c.requires.most)
+
+pub join_slots-requires-clause-inside : goal.join_slots-requires-clause-inside
+join_slots-requires-clause-inside g c = λ i d inside.
+    let s = c.leading-symbols.result in
+    let slots = one_shl (2 * s) 64 (omega (arith, c.leading-symbols.ensures.few)) in
+    omega (arith, slot_fits c.args.k s _ c.leading-symbols.ensures.within (c.requires.merge.fit i d inside), slots)

@@ -1,0 +1,10 @@
+use Rattle.std.proofs.Common.{take, ap}
+use Rattle.kmc_count.proofs.Devices.{on_err}
+use Rattle.kmc_dump.proofs.Pieces.{buffer_front}
+use Rattle.kmc_dump.proofs.waves.write_buffers.Goals as goal
+
+pub returns-in_err-write_text-clause-front : goal.returns-in_err-write_text-clause-front
+returns-in_err-write_text-clause-front g c =
+    on_err c.from_residual.result _
+    (buffer_front (λ s. take s.filled s.text.items) c.args.buffers.now c.loop-buffer.buffer-index c.buffer-item.result _ _ _ _ c.loop-buffer-test.true c.buffer-item.is
+    (ap (take c.buffer-item.result.filled) c.deref.ensures.value) c.loop-buffer.invariant.out c.in_err-write_text.ensures.front)

@@ -1,0 +1,109 @@
+//! The counts of all bins in packed form, over threads: each thread takes a row of neighbouring bins and frees the records
+//! of each as soon as it is counted.
+ghost use Rattle.std.specs.Prelude.{ℕ, ◌<◌, ◌≤◌, length, map, IfOk, IsErrOf};
+ghost use Rattle.std.specs.Thread.{IsSync};
+ghost use Rattle.kmc_record.specs.declared.fault.RecordFault.{RecordFault};
+ghost use Rattle.kmc_count.specs.Bodies.{IsFirstDamaged};
+ghost use Rattle.kmc_dump.specs.Bodies.{AreListsOfBodies, IsListingOfBodies};
+
+use crate::bin::list_body;
+use crate::counts::Counts;
+use crate::shown::Shown;
+use kmc_base::kmer::MAX_K;
+use kmc_base::strands::Strands;
+use kmc_base::word::Word;
+use kmc_count::bin::CountError;
+use kmc_count::bins::share;
+use kmc_count::limits::Limits;
+use std::alloc::Global;
+use std::thread;
+use std::thread::Threads;
+
+/// The lists of bodies, one after the other, with their words in one vector.
+fn list_row<W: Word + Drop, C: Shown + Drop>(
+    alloc: Global,
+    bodies: Vec<Vec<u8>>,
+    k: usize,
+    strands: Strands,
+    limits: &Limits,
+) -> Result<Vec<Counts<W, C>>, CountError>
+    requires some { 1 ≤ k }
+    requires most { k ≤ W.most }
+    requires limit { k ≤ MAX_K }
+    requires wide { limits.now.cs ≤ C.greatest }
+    ensures ok { IfOk result (λ lists. AreListsOfBodies strands k limits.now (map (λ b. b.items) bodies.items) lists.items) }
+    ensures damaged { (fault : RecordFault) (offset : ℕ) → IsErrOf result (CountError.Damaged fault offset) → IsFirstDamaged k fault offset (map (λ b. b.items) bodies.items) }
+{
+    let mut lists = match Vec::with_capacity(alloc, bodies.len()) {
+        Ok(lists) => lists,
+        Err(_) => return Err(CountError::Memory),
+    };
+    let mut words: Vec<W> = Vec::new(alloc);
+    for body in bodies {
+        let list = match list_body(&mut words, alloc, &body, k, strands, limits) {
+            Ok(list) => list,
+            Err(error) => return Err(error),
+        };
+        match lists.push(list) {
+            Ok(()) => {}
+            Err(_) => return Err(CountError::Memory),
+        }
+    }
+    Ok(lists)
+}
+
+/// The list of each body, in the order of the bodies, by at most so many threads. The bodies are parted by their bytes,
+/// and one side goes to another thread with its part of the threads, again and again. The records of a body are freed once
+/// it is counted. Where a body is damaged, the fault is that of the first such body, whichever thread met it. Where no
+/// thread can be made, the calling thread counts.
+#[cycle(rows)]
+pub fn list_bodies<R: Threads + Sync, W: Word + Drop + Send, C: Shown + Drop + Send>(
+    rt: &R,
+    alloc: Global,
+    bodies: Vec<Vec<u8>>,
+    k: usize,
+    strands: Strands,
+    limits: &Limits,
+    threads: usize,
+) -> Result<Vec<Counts<W, C>>, CountError>
+    requires some { 1 ≤ k }
+    requires most { k ≤ W.most }
+    requires limit { k ≤ MAX_K }
+    requires wide { limits.now.cs ≤ C.greatest }
+    requires threads { 1 ≤ threads }
+    ensures ok { IfOk result (λ lists. AreListsOfBodies strands k limits.now (map (λ b. b.items) bodies.items) lists.items) }
+    ensures damaged { (fault : RecordFault) (offset : ℕ) → IsErrOf result (CountError.Damaged fault offset) → IsFirstDamaged k fault offset (map (λ b. b.items) bodies.items) }
+{
+    if threads == 1 {
+        return list_row(alloc, bodies, k, strands, limits);
+    }
+    let few = threads / 2;
+    let others = threads - few;
+    let at = share(&bodies, few, threads);
+    let mut low = bodies;
+    let high = match low.split_off(at) {
+        Ok(high) => high,
+        Err(_) => return Err(CountError::Memory),
+    };
+    let front = move || -> Result<Vec<Counts<W, C>>, CountError>
+        requires { IsSync R.row × (1 ≤ k) × (k ≤ W.most) × (k ≤ MAX_K) × (limits.now.cs ≤ C.greatest) × (1 ≤ few) }
+        ensures { IsListingOfBodies strands k limits.entry.now low.items result }
+    { list_bodies(rt, alloc, low, k, strands, limits, few) };
+    let back = move || -> Result<Vec<Counts<W, C>>, CountError>
+        requires { IsSync R.row × (1 ≤ k) × (k ≤ W.most) × (k ≤ MAX_K) × (limits.now.cs ≤ C.greatest) × (1 ≤ others) }
+        ensures { IsListingOfBodies strands k limits.entry.now high.items result }
+    { list_bodies(rt, alloc, high, k, strands, limits, others) };
+    let (first, second) = thread::join(rt, front, back);
+    let mut lists = match first {
+        Ok(lists) => lists,
+        Err(error) => return Err(error),
+    };
+    let mut more = match second {
+        Ok(more) => more,
+        Err(error) => return Err(error),
+    };
+    match lists.append(&mut more) {
+        Ok(()) => Ok(lists),
+        Err(_) => Err(CountError::Memory),
+    }
+}

@@ -1,0 +1,53 @@
+//! Room for ranges, had before the first byte of a dump goes out.
+ghost use Rattle.std.specs.Prelude.{◌≡◌, ℕ, ◌*◌, ◌≤◌, List, length, All, vec_len, vec_capacity, IfOk};
+
+use crate::shown::Shown;
+use kmc_base::word::Word;
+use kmc_count::dump::LINE;
+use std::alloc::{AllocError, Global};
+
+/// Room for the pairs of one range, and for its text, of which the first `filled` bytes are written.
+#[derive(Drop)]
+pub struct Buffer<W, C> {
+    pub pairs: Vec<(W, C)>,
+    pub text: Vec<u8>,
+    pub filled: usize,
+}
+
+/// Room for so many pairs and bytes.
+fn make_buffer<W: Word + Drop, C: Shown + Drop>(
+    alloc: Global,
+    widest: usize,
+    bytes: usize,
+) -> Result<Buffer<W, C>, AllocError>
+    requires { widest * LINE ≤ bytes }
+    ensures { IfOk result (λ b. (widest ≤ vec_capacity b.pairs) × (widest * LINE ≤ length b.text.items)) }
+{
+    let pairs = Vec::with_capacity(alloc, widest)?;
+    let text = vec![in alloc; 0; bytes]?;
+    Ok(Buffer {
+        pairs,
+        text,
+        filled: 0,
+    })
+}
+
+/// So many buffers, each with room for `widest` pairs and their lines.
+pub fn make_buffers<W: Word + Drop, C: Shown + Drop>(
+    alloc: Global,
+    count: usize,
+    widest: usize,
+) -> Result<Vec<Buffer<W, C>>, AllocError>
+    ensures count { IfOk result (λ v. vec_len v ≡ count) }
+    ensures pairs { IfOk result (λ v. All (λ b. widest ≤ vec_capacity b.pairs) v.items) }
+    ensures text { IfOk result (λ v. All (λ b. widest * LINE ≤ length b.text.items) v.items) }
+{
+    let Some(bytes) = widest.checked_mul(LINE) else {
+        return Err(AllocError);
+    };
+    let mut buffers = Vec::with_capacity(alloc, count)?;
+    for _made in 0..count {
+        buffers.push(make_buffer(alloc, widest, bytes)?)?;
+    }
+    Ok(buffers)
+}

@@ -1,0 +1,166 @@
+//! The lists of all bins, with words and counts as narrow as k and the limits allow.
+ghost use Rattle.std.specs.Prelude.{◌≡◌, ℕ, ◌-◌, ◌^◌, ◌<◌, ◌≤◌, length, map, OnOk, IfOk, IsErrOf};
+ghost use Rattle.std.specs.Io.KnownBytes.{Appends};
+ghost use Rattle.kmc_record.specs.declared.fault.RecordFault.{RecordFault};
+ghost use Rattle.kmc_count.specs.Bodies.{IsFirstDamaged};
+ghost use Rattle.kmc_count.specs.Device.{AppendsFront, RisesByOne};
+ghost use Rattle.kmc_count.specs.Dump.{text_of};
+ghost use Rattle.kmc_dump.specs.Bodies.{AreListsOfBodies};
+ghost use Rattle.kmc_dump.specs.Lists.{sized_lists, lists_of};
+ghost use Rattle.kmc_dump.specs.Listed.{spelled};
+ghost use Rattle.kmc_dump.specs.Ranges.{CanBeMerged, whole};
+
+use crate::bins::list_bodies;
+use crate::counts::Counts;
+use crate::write::{DumpError, write_lists};
+use kmc_base::kmer::MAX_K;
+use kmc_base::strands::Strands;
+use kmc_base::word::Word;
+use kmc_count::bin::CountError;
+use kmc_count::device::Counted;
+use kmc_count::limits::Limits;
+use std::alloc::Global;
+use std::io::Write;
+use std::thread::Threads;
+
+/// The most symbols of a word that 64 bits hold.
+const NARROW_K: usize = 32;
+
+/// Lists whose counts are as wide as the greatest that is shown wants it.
+#[derive(Drop)]
+pub enum SizedLists<W: Word> {
+    Byte(Vec<Counts<W, u8>>),
+    Half(Vec<Counts<W, u32>>),
+    Full(Vec<Counts<W, u64>>),
+}
+
+/// The lists of bins: words of up to 32 symbols in 64 bits, longer ones in 128.
+#[derive(Drop)]
+pub enum BinLists {
+    Narrow(SizedLists<u64>),
+    Wide(SizedLists<u128>),
+}
+
+/// The lists of bodies, over words of one width.
+fn list_sized<R: Threads + Sync, W: Word + Drop + Send>(
+    rt: &R,
+    alloc: Global,
+    bodies: Vec<Vec<u8>>,
+    k: usize,
+    strands: Strands,
+    limits: &Limits,
+    threads: usize,
+) -> Result<SizedLists<W>, CountError>
+    requires some { 1 ≤ k }
+    requires most { k ≤ W.most }
+    requires limit { k ≤ MAX_K }
+    requires threads { 1 ≤ threads }
+    ensures ok { IfOk result (λ lists. AreListsOfBodies strands k limits.now (map (λ b. b.items) bodies.items) (sized_lists lists)) }
+    ensures damaged { (fault : RecordFault) (offset : ℕ) → IsErrOf result (CountError.Damaged fault offset) → IsFirstDamaged k fault offset (map (λ b. b.items) bodies.items) }
+{
+    if limits.cs <= u64::from(u8::MAX) {
+        match list_bodies(rt, alloc, bodies, k, strands, limits, threads) {
+            Ok(lists) => Ok(SizedLists::Byte(lists)),
+            Err(error) => Err(error),
+        }
+    } else if limits.cs <= u64::from(u32::MAX) {
+        match list_bodies(rt, alloc, bodies, k, strands, limits, threads) {
+            Ok(lists) => Ok(SizedLists::Half(lists)),
+            Err(error) => Err(error),
+        }
+    } else {
+        match list_bodies(rt, alloc, bodies, k, strands, limits, threads) {
+            Ok(lists) => Ok(SizedLists::Full(lists)),
+            Err(error) => Err(error),
+        }
+    }
+}
+
+/// The list of each bin's records, in the order of the bins, by at most so many threads. A pair takes 9 bytes up to k = 32
+/// and 17 above where cs is below 256, 4 more bytes in place of 1 where it is below 2^32, and 8 else. Records are freed as
+/// they are counted. Where a bin is damaged, the fault is that of the first such bin.
+pub fn list_bins<R: Threads + Sync>(
+    rt: &R,
+    alloc: Global,
+    bodies: Vec<Vec<u8>>,
+    k: usize,
+    strands: Strands,
+    limits: &Limits,
+    threads: usize,
+) -> Result<BinLists, CountError>
+    requires some { 1 ≤ k }
+    requires most { k ≤ MAX_K }
+    requires threads { 1 ≤ threads }
+    ensures ok { IfOk result (λ lists. AreListsOfBodies strands k limits.now (map (λ b. b.items) bodies.items) (lists_of lists)) }
+    ensures damaged { (fault : RecordFault) (offset : ℕ) → IsErrOf result (CountError.Damaged fault offset) → IsFirstDamaged k fault offset (map (λ b. b.items) bodies.items) }
+{
+    if k <= NARROW_K {
+        match list_sized(rt, alloc, bodies, k, strands, limits, threads) {
+            Ok(lists) => Ok(BinLists::Narrow(lists)),
+            Err(error) => Err(error),
+        }
+    } else {
+        match list_sized(rt, alloc, bodies, k, strands, limits, threads) {
+            Ok(lists) => Ok(BinLists::Wide(lists)),
+            Err(error) => Err(error),
+        }
+    }
+}
+
+/// Writes the dump of lists over words of one width.
+fn write_sized<R: Threads + Sync, D: Write, W: Word + Drop + Send + Sync>(
+    rt: &R,
+    alloc: Global,
+    writer: &mut Counted<D>,
+    lists: &SizedLists<W>,
+    k: usize,
+    threads: usize,
+) -> Result<u64, DumpError>
+    requires some { 1 ≤ k }
+    requires most { k ≤ MAX_K }
+    requires merge { CanBeMerged k (sized_lists lists.now) }
+    requires threads { 1 ≤ threads }
+    requires failures { writer.old.failures < 2 ^ 64 - 1 }
+    ensures ok { OnOk result (Appends (D.contents writer.old.inner) (D.contents writer.new.inner) (text_of (spelled k (whole (sized_lists lists.now))))) }
+    ensures lines { IfOk result (λ lines. lines ≡ length (whole (sized_lists lists.now))) }
+    ensures kept { OnOk result (writer.new.failures ≡ writer.old.failures) }
+    ensures failed { IsErrOf result DumpError.Write → RisesByOne writer.old.failures writer.new.failures }
+    ensures front { IsErrOf result DumpError.Write → AppendsFront (D.contents writer.old.inner) (D.contents writer.new.inner) (text_of (spelled k (whole (sized_lists lists.now)))) }
+    ensures silent { IsErrOf result DumpError.Memory → writer.new ≡ writer.old }
+{
+    match lists {
+        SizedLists::Byte(lists) => write_lists(rt, alloc, writer, lists, k, threads),
+        SizedLists::Half(lists) => write_lists(rt, alloc, writer, lists, k, threads),
+        SizedLists::Full(lists) => write_lists(rt, alloc, writer, lists, k, threads),
+    }
+}
+
+/// Writes the dump of the lists of bins that share no word: the lines of all their pairs in the order of the words, and
+/// nothing else. The answer is the number of lines. Ranges of words are made by so many threads, and written by the calling
+/// one. All memory is had before the first write: after a refusal other than `Write` nothing was written, and after
+/// `Write` a front of the dump.
+pub fn write_bins<R: Threads + Sync, D: Write>(
+    rt: &R,
+    alloc: Global,
+    writer: &mut Counted<D>,
+    lists: &BinLists,
+    k: usize,
+    threads: usize,
+) -> Result<u64, DumpError>
+    requires some { 1 ≤ k }
+    requires most { k ≤ MAX_K }
+    requires merge { CanBeMerged k (lists_of lists.now) }
+    requires threads { 1 ≤ threads }
+    requires failures { writer.old.failures < 2 ^ 64 - 1 }
+    ensures ok { OnOk result (Appends (D.contents writer.old.inner) (D.contents writer.new.inner) (text_of (spelled k (whole (lists_of lists.now))))) }
+    ensures lines { IfOk result (λ lines. lines ≡ length (whole (lists_of lists.now))) }
+    ensures kept { OnOk result (writer.new.failures ≡ writer.old.failures) }
+    ensures failed { IsErrOf result DumpError.Write → RisesByOne writer.old.failures writer.new.failures }
+    ensures front { IsErrOf result DumpError.Write → AppendsFront (D.contents writer.old.inner) (D.contents writer.new.inner) (text_of (spelled k (whole (lists_of lists.now)))) }
+    ensures silent { IsErrOf result DumpError.Memory → writer.new ≡ writer.old }
+{
+    match lists {
+        BinLists::Narrow(lists) => write_sized(rt, alloc, writer, lists, k, threads),
+        BinLists::Wide(lists) => write_sized(rt, alloc, writer, lists, k, threads),
+    }
+}

@@ -1,0 +1,92 @@
+//! The dump of lists that share no word, on a device.
+ghost use Rattle.std.specs.Prelude.{◌≡◌, ◌+◌, ◌-◌, ◌^◌, ◌<◌, ◌≤◌, length, OnOk, IfOk, IsErrOf};
+ghost use Rattle.std.specs.Io.KnownBytes.{Appends};
+ghost use Rattle.kmc_count.specs.Device.{AppendsFront, RisesByOne};
+ghost use Rattle.kmc_count.specs.Dump.{text_of};
+ghost use Rattle.kmc_dump.specs.Listed.{spelled};
+ghost use Rattle.kmc_dump.specs.Ranges.{CanBeMerged, joined, packs, whole};
+
+use crate::buffers::make_buffers;
+use crate::counts::Counts;
+use crate::parting::part_words;
+use crate::shown::Shown;
+use crate::waves::write_ranges;
+use kmc_base::kmer::MAX_K;
+use kmc_base::word::Word;
+use kmc_count::device::Counted;
+use std::alloc::{AllocError, Global};
+use std::io::Write;
+use std::thread::Threads;
+
+/// Why a dump was given up.
+#[derive(Clone, Copy, Debug, PartialEq, Eq)]
+pub enum DumpError {
+    /// A growth was refused. Nothing was written.
+    Memory,
+    /// A write or the flush failed, or a write took nothing of what was left.
+    Write,
+}
+
+/// How many pairs the lists have. It fails where there are more than a number tells, which no memory could hold.
+fn count_pairs<W: Word + Drop, C: Shown + Drop>(
+    lists: &[Counts<W, C>],
+) -> Result<usize, AllocError>
+    ensures { IfOk result (λ total. total ≡ length (joined (packs lists.now))) }
+{
+    let mut total: usize = 0;
+    for list in lists {
+        let Some(more) = total.checked_add(list.len()) else {
+            return Err(AllocError);
+        };
+        total = more;
+    }
+    Ok(total)
+}
+
+/// Writes the dump of lists that share no word: the lines of all their pairs in the order of the words, and nothing else.
+/// The answer is the number of lines. Ranges of words are gathered and sorted by so many threads, as many ranges at a
+/// time; no list of all pairs is made. All memory is had before the first write: after a refusal other than `Write`
+/// nothing was written, and after `Write` a front of the dump.
+pub fn write_lists<
+    R: Threads + Sync,
+    D: Write,
+    W: Word + Drop + Send + Sync,
+    C: Shown + Drop + Send + Sync,
+>(
+    rt: &R,
+    alloc: Global,
+    writer: &mut Counted<D>,
+    lists: &[Counts<W, C>],
+    k: usize,
+    threads: usize,
+) -> Result<u64, DumpError>
+    requires some { 1 ≤ k }
+    requires most { k ≤ MAX_K }
+    requires merge { CanBeMerged k lists.now }
+    requires threads { 1 ≤ threads }
+    requires failures { writer.old.failures < 2 ^ 64 - 1 }
+    ensures ok { OnOk result (Appends (D.contents writer.old.inner) (D.contents writer.new.inner) (text_of (spelled k (whole lists.now)))) }
+    ensures lines { IfOk result (λ lines. lines ≡ length (whole lists.now)) }
+    ensures kept { OnOk result (writer.new.failures ≡ writer.old.failures) }
+    ensures failed { IsErrOf result DumpError.Write → RisesByOne writer.old.failures writer.new.failures }
+    ensures front { IsErrOf result DumpError.Write → AppendsFront (D.contents writer.old.inner) (D.contents writer.new.inner) (text_of (spelled k (whole lists.now))) }
+    ensures silent { IsErrOf result DumpError.Memory → writer.new ≡ writer.old }
+{
+    let total = match count_pairs(lists) {
+        Ok(total) => total,
+        Err(_) => return Err(DumpError::Memory),
+    };
+    let ranges = match part_words(alloc, lists, k, total) {
+        Ok(ranges) => ranges,
+        Err(_) => return Err(DumpError::Memory),
+    };
+    let count = threads.min(ranges.bounds.len());
+    let mut buffers = match make_buffers(alloc, count, ranges.widest) {
+        Ok(buffers) => buffers,
+        Err(_) => return Err(DumpError::Memory),
+    };
+    match write_ranges(rt, writer, lists, &ranges, &mut buffers) {
+        Ok(()) => Ok(total as u64),
+        Err(_) => Err(DumpError::Write),
+    }
+}
