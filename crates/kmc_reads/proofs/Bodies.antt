@@ -3,12 +3,12 @@ use Rattle.std.proofs.Common.{◌≡◌, ℕ, Bool, true, false, cond, List, [],
 use Rattle.std.proofs.lemmas.Bool.{eq-eqb}
 use Rattle.kmc_reads.specs.Fasta.{is_header, onto_read, reads_after}
 
-onto_onto : (a b : List ℕ) (rs : List (List ℕ)) → onto_read a (onto_read b rs) ≡ onto_read (a ++ b) rs
+pub onto_onto : (a b : List ℕ) (rs : List (List ℕ)) → onto_read a (onto_read b rs) ≡ onto_read (a ++ b) rs
 onto_onto a b [] = refl
 onto_onto a b (r ∷ rs) = ap (λ (t : List ℕ). t ∷ rs) (sym (append_assoc a b r))
 
 -- there is always an open read
-onto_none : (ls : List (List ℕ)) → onto_read [] (reads_after ls) ≡ reads_after ls
+pub onto_none : (ls : List (List ℕ)) → onto_read [] (reads_after ls) ≡ reads_after ls
 onto_none [] = refl
 onto_none (l ∷ ls) = go (is_header l)
   where

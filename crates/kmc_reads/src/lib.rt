@@ -8,6 +8,10 @@
 pub mod error;
 mod fasta;
 mod fastq;
+pub mod feeder;
 pub mod format;
 mod line;
 pub mod read_all;
+pub mod reads;
+mod scan;
+mod stage;
