@@ -13,7 +13,7 @@ use Rattle.kmc_reads.specs.Lines.{line_past, pieces, lines, onto_first}
 use Rattle.kmc_reads.specs.Pieces.{lines_from}
 use Rattle.kmc_reads.specs.Stages.{first_spot, reads_from, answer_past, fault_of}
 use Rattle.kmc_reads.proofs.Bodies.{onto_onto, onto_none}
-use Rattle.kmc_reads.proofs.Walking.{with_none}
+use Rattle.kmc_reads.proofs.Answers.{with_none}
 
 -- a text at the front of pieces
 joined : List ℕ → List (List ℕ) → List (List ℕ)

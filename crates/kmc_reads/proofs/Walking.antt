@@ -1,17 +1,17 @@
 -- A scan goes over a piece line by line.
-use Rattle.std.proofs.Common.{◌≡◌, ℕ, suc, Bool, true, false, cond, ◌==◌, List, [], ◌∷◌, ◌++◌, length, take, drop, get_or, refl, sym, ap, subst, ◌∙◌, arith, append_assoc, append-nil, Some, None, Ok, Err}
+use Rattle.std.proofs.Common.{◌≡◌, ℕ, suc, Bool, true, false, cond, ◌==◌, List, [], ◌∷◌, ◌++◌, length, take, drop, get_or, refl, sym, ap, subst, ◌∙◌, arith, append_assoc, append-nil, Some, None}
 use Rattle.std.proofs.lemmas.Bool.{ne_eqb}
 use Rattle.std.specs.Io.BufRead.{strip_last}
 use Rattle.kmc_reads.specs.declared.scan.Scan.{Scan}
 use Rattle.kmc_reads.specs.declared.error.ReadsError.{ReadsError}
 use Rattle.kmc_reads.specs.declared.stage.Stage.TheVariants.{Body, Name}
-use Rattle.kmc_reads.specs.Answer.{Answer, with_reads}
+use Rattle.kmc_reads.specs.Answer.{with_reads}
 use Rattle.kmc_reads.specs.Fasta.{is_header}
 use Rattle.kmc_reads.specs.Lines.{line_past}
 use Rattle.kmc_reads.specs.Pieces.{whole_from, open_from, lines_from}
 use Rattle.kmc_reads.specs.Stages.{Spot, past, given_by, fault_of, fault_from, ended_from, or_else, unless, reads_from, answer_past}
 use Rattle.kmc_reads.specs.Standing.{At, Goes, Leads, HasFault, HasNoFeed, IsCut}
-use Rattle.kmc_reads.proofs.Records.{reads_join}
+use Rattle.kmc_reads.proofs.Answers.{with_none, reads_join}
 use Rattle.kmc_reads.proofs.Feeding.{header_stripped}
 
 -- a part of the piece, with which the rest makes the piece, was gone over
@@ -51,10 +51,6 @@ lines_open front (b ∷ p) rest unbroken =
     ∙ lines_open (front ++ b ∷ []) p rest (λ k h. unbroken (suc k) (grind arith))
     ∙ ap (λ t. lines_from t rest) (append_assoc front (b ∷ []) p)
 
-pub with_none : (r : Answer) → with_reads [] r ≡ r
-with_none (Ok more) = refl
-with_none (Err e) = refl
-
 pub open_leads : (s : Spot) (front p : List ℕ) → HasNoFeed p → Leads s front p [] s (front ++ p)
 open_leads s front p unbroken = record {
   fault = λ rest. ap (fault_from s) (whole_open front p rest unbroken);
@@ -79,24 +75,22 @@ module _ (s : Spot) (front : List ℕ) where
 
 -- the first byte of a header ends the open read, and what else the line has changes nothing
 module _ (n : ℕ) (read : List ℕ) where
-  body : Spot
+  abbrev pub body : Spot
   body = record { number = n; stage = Body; read = read }
 
-  named : Spot
+  abbrev pub named : Spot
   named = record { number = n; stage = Name; read = [] }
 
   header_is : (xs : List ℕ) → is_header (strip_last 13 (62 ∷ xs)) ≡ true
   header_is xs = header_stripped (62 ∷ xs)
 
   past_same : (l : List ℕ) → is_header l ≡ true → past body l ≡ past named l
-  unfolding body named
   past_same l h = λ i. record { number = line_past n 1; stage = Body; read = cond (h i) [] (read ++ l) }
 
   given_is : (l : List ℕ) → is_header l ≡ true → given_by Body read l ≡ read ∷ []
   given_is l h = ap (λ t. cond t (read ∷ []) []) h
 
   name_fault : (xs rest : List ℕ) → fault_from body (whole_from (62 ∷ xs) rest) ≡ fault_from named (whole_from (62 ∷ xs) rest)
-  unfolding body named
   name_fault xs [] = refl
   name_fault xs (b ∷ bs) = go (b == 10) (name_fault (xs ++ b ∷ []) bs)
     where
@@ -107,7 +101,6 @@ module _ (n : ℕ) (read : List ℕ) where
       go true h = ap (λ u. fault_from u (whole_from [] bs)) (past_same (strip_last 13 (62 ∷ xs)) (header_is xs))
 
   name_ended : (xs rest : List ℕ) → ended_from body (whole_from (62 ∷ xs) rest) (open_from (62 ∷ xs) rest) ≡ read ∷ ended_from named (whole_from (62 ∷ xs) rest) (open_from (62 ∷ xs) rest)
-  unfolding body named
   name_ended xs [] = refl
   name_ended xs (b ∷ bs) = go (b == 10) (name_ended (xs ++ b ∷ []) bs)
     where
@@ -118,12 +111,11 @@ module _ (n : ℕ) (read : List ℕ) where
       go true h = λ i. given_is (strip_last 13 (62 ∷ xs)) (header_is xs) i ++ ended_from (past_same (strip_last 13 (62 ∷ xs)) (header_is xs) i) (whole_from [] bs) (open_from [] bs)
 
   name_line : (l : List ℕ) (ls : List (List ℕ)) → is_header l ≡ true → reads_from body (l ∷ ls) ≡ with_reads (read ∷ []) (reads_from named (l ∷ ls))
-  unfolding body named
   name_line l ls h =
       (λ i. with_reads (given_is l h i) (reads_from (past_same l h i) ls))
       ∙ ap (with_reads (read ∷ [])) (sym (with_none (reads_from (past named l) ls)))
 
-  name_reads : (xs rest : List ℕ) → reads_from body (lines_from (62 ∷ xs) rest) ≡ with_reads (read ∷ []) (reads_from named (lines_from (62 ∷ xs) rest))
+  pub name_reads : (xs rest : List ℕ) → reads_from body (lines_from (62 ∷ xs) rest) ≡ with_reads (read ∷ []) (reads_from named (lines_from (62 ∷ xs) rest))
   name_reads xs [] = name_line (strip_last 13 (62 ∷ xs)) [] (header_is xs)
   name_reads xs (b ∷ bs) = go (b == 10) (name_reads (xs ++ b ∷ []) bs)
     where
@@ -134,7 +126,6 @@ module _ (n : ℕ) (read : List ℕ) where
       go true h = name_line (strip_last 13 (62 ∷ xs)) (lines_from [] bs) (header_is xs)
 
   pub name_leads : (p : List ℕ) → is_header p ≡ true → HasNoFeed p → Leads (record { number = n; stage = Body; read = read }) [] p (read ∷ []) (record { number = n; stage = Name; read = [] }) p
-  unfolding body named
   name_leads [] header unbroken = cc
   name_leads (c ∷ xs) header unbroken =
       let is : c ≡ 62 = grind arith in

@@ -7,3 +7,4 @@ pub mod Pieces
 pub mod Rows
 pub mod Stages
 pub mod Standing
+pub mod Laws

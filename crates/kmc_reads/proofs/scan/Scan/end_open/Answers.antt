@@ -4,7 +4,7 @@ use Rattle.kmc_reads.specs.Pieces.{last_line}
 use Rattle.kmc_reads.specs.Stages.{reads_from, past, given_by, answer_past, answer_at_end}
 use Rattle.kmc_reads.specs.Standing.{At}
 use Rattle.kmc_reads.proofs.Feeding.{last_is_line}
-use Rattle.kmc_reads.proofs.Walking.{with_none}
+use Rattle.kmc_reads.proofs.Answers.{with_none}
 use Rattle.kmc_reads.proofs.scan.Scan.end_open.Goals as goal
 
 pub returns-then-is_between-clause-whole : goal.returns-then-is_between-clause-whole
