@@ -70,3 +70,11 @@ row_at n (e ∷ ends) bytes m (suc i) rise less =
 pub before_is : (ends : List ℕ) (i : ℕ) → 0 < i → get_or (0 ∷ ends) i 0 ≡ get_or ends (i - 1) 0
 before_is ends zero some = absurd (omega arith)
 before_is ends (suc i) some = let e : i ≡ suc i - 1 = omega arith in ap (λ (n : ℕ). get_or ends n 0) e
+
+pub ends_many : (n : ℕ) (rows : List (List ℕ)) → length (ends_from n rows) ≡ length rows
+ends_many n [] = refl
+ends_many n (row ∷ rows) = ap suc (ends_many (n + length row) rows)
+
+pub concat_append : (xs ys : List (List ℕ)) → concat (xs ++ ys) ≡ concat xs ++ concat ys
+concat_append [] ys = refl
+concat_append (x ∷ xs) ys = ap (λ t. x ++ t) (concat_append xs ys) ∙ sym (append_assoc x (concat xs) (concat ys))

@@ -1,5 +1,6 @@
 //! A text in pieces.
-ghost use Rattle.std.specs.Prelude.{◌≡◌, ◌≢◌, ℕ, List, [], ◌++◌, IfOk, IfErr, OnOk, OnErr, IsErrOf, Ok, Err, None};
+ghost use Rattle.std.specs.Prelude.{◌≡◌, ◌≢◌, ℕ, ◌+◌, List, [], ◌++◌, length, IfOk, IfErr, OnOk, OnErr, IsErrOf, Ok, Err, None};
+ghost use Rattle.std.specs.List.{concat};
 ghost use Rattle.kmc_reads.specs.Reads.{reads_of};
 ghost use Rattle.kmc_reads.specs.Stages.{fault, ended};
 ghost use Rattle.kmc_reads.specs.Standing.{StandsAt, Refuses};
@@ -65,6 +66,20 @@ impl Feeder {
                 Err(e)
             }
         }
+    }
+
+    /// How many reads have ended and were not taken yet.
+    pub fn waiting(&self) -> usize
+        ensures { (format : Format) (text : List ℕ) (taken : List (List ℕ)) → StandsAt format text taken self.now → length (ended format text) ≡ length taken + result }
+    {
+        self.scan.count()
+    }
+
+    /// How many symbols these reads have in all.
+    pub fn waiting_symbols(&self) -> usize
+        ensures { (format : Format) (text : List ℕ) (taken : List (List ℕ)) → StandsAt format text taken self.now → length (concat (ended format text)) ≡ length (concat taken) + result }
+    {
+        self.scan.symbols()
     }
 
     /// Hands out the reads that have ended and were not taken yet. It copies the open read, so take

@@ -1,6 +1,7 @@
 //! One pass over a text that comes in pieces.
 ghost use Rattle.std.specs.Prelude.{true, false, ◌≡◌, ◌≢◌, ℕ, ◌+◌, ◌<◌, ◌≤◌, List, [], ◌∷◌, ◌++◌, length, take, IfOk, IfErr, OnOk, OnErr, Ok, Err, Some, None};
 ghost use Rattle.std.specs.Io.BufRead.{strip_last};
+ghost use Rattle.std.specs.List.{concat};
 ghost use Rattle.kmc_reads.specs.declared.stage.Stage.TheVariants.{Body, Name};
 ghost use Rattle.kmc_reads.specs.Answer.{with_reads};
 ghost use Rattle.kmc_reads.specs.Pieces.{last_line};
@@ -353,6 +354,20 @@ impl Scan {
         let ends = mem::replace(&mut self.ends, Vec::new(alloc));
         self.place.start = 0;
         Ok(Reads::of_rows(bytes, ends))
+    }
+
+    /// How many reads have ended.
+    pub fn count(&self) -> usize
+        ensures { (rows : List (List ℕ)) (spot : Spot) (front : List ℕ) → At rows spot front self.now → result ≡ length rows }
+    {
+        self.ends.len()
+    }
+
+    /// How many symbols they have in all.
+    pub fn symbols(&self) -> usize
+        ensures { (rows : List (List ℕ)) (spot : Spot) (front : List ℕ) → At rows spot front self.now → result ≡ length (concat rows) }
+    {
+        self.place.start
     }
 
     /// Hands out the reads of a text that has ended.

@@ -22,6 +22,12 @@ fn are(rt: &impl Abort, reads: &Reads, want: &[&str], told: &str) {
 /// Asserts that this piece ends just these reads.
 fn gives(rt: &impl Abort, alloc: Global, feeder: &mut Feeder, piece: &str, want: &[&str]) {
     feed(feeder, piece.as_bytes()).expect(rt, piece);
+    assert_eq!(rt; feeder.waiting(), want.len(), "{piece:?}");
+    let mut symbols = 0usize;
+    for read in want {
+        symbols = symbols.saturating_add(read.len());
+    }
+    assert_eq!(rt; feeder.waiting_symbols(), symbols, "{piece:?}");
     let reads = take(alloc, feeder).expect(rt, piece);
     are(rt, &reads, want, piece);
 }
