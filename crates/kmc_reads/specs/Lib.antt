@@ -3,3 +3,8 @@ pub mod Answer
 pub mod Fastq
 pub mod Fasta
 pub mod Reads
+pub mod Pieces
+pub mod Rows
+pub mod Stages
+pub mod Standing
+pub mod Laws

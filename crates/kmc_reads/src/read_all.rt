@@ -3,21 +3,25 @@ ghost use Rattle.std.specs.Prelude.{◌≡◌, ◌≢◌, map, IfOk, IfErr, Ok, 
 ghost use Rattle.kmc_reads.specs.Reads.{reads_of};
 
 use crate::error::ReadsError;
-use crate::fasta::read_fasta;
-use crate::fastq::read_fastq;
+use crate::feeder::Feeder;
 use crate::format::Format;
 use std::alloc::Global;
 
 /// The reads of a text in this format, each with its bytes as they stand, or the refusal of the
 /// first faulty line. Other than that it answers only `Memory`, where a growth was refused.
 ///
-/// One pass over the text; each read is copied once.
+/// One pass over the text; each read is copied twice. A feeder hands them out in one buffer.
 pub fn read_all(alloc: Global, bytes: &[u8], format: Format) -> Result<Vec<Vec<u8>>, ReadsError>
     ensures ok { IfOk result (λ reads. reads_of format bytes.now ≡ Ok (map (λ r. r.items) reads.items)) }
     ensures refused { IfErr result (λ e. e ≢ ReadsError.Memory → reads_of format bytes.now ≡ Err e) }
 {
-    match format {
-        Format::Fasta => read_fasta(alloc, bytes),
-        Format::Fastq => read_fastq(alloc, bytes),
+    let mut feeder = Feeder::new(alloc, format);
+    match feeder.feed(bytes) {
+        Ok(()) => {}
+        Err(e) => return Err(e),
+    }
+    match feeder.finish() {
+        Ok(reads) => Ok(reads.to_vecs(alloc)?),
+        Err((e, _)) => Err(e),
     }
 }

@@ -1,0 +1,37 @@
+use Rattle.std.proofs.Common.{[], sym, ap, subst, ◌∙◌, append-nil}
+use Rattle.std.specs.Io.BufRead.{strip_last}
+use Rattle.kmc_reads.specs.Pieces.{last_line}
+use Rattle.kmc_reads.specs.Stages.{reads_from, past, given_by, answer_past, answer_at_end}
+use Rattle.kmc_reads.specs.Standing.{At}
+use Rattle.kmc_reads.proofs.Feeding.{last_is_line}
+use Rattle.kmc_reads.proofs.Answers.{with_none}
+use Rattle.kmc_reads.proofs.scan.Scan.end_open.Goals as goal
+
+pub returns-then-is_between-clause-whole : goal.returns-then-is_between-clause-whole
+returns-then-is_between-clause-whole c = λ rows spot front at.
+    let empty = c.is_between.ensures.none rows spot front at c.if-is_between.true in
+    record {
+      more = [];
+      next = spot;
+      reads = ap (λ t. reads_from spot (last_line t)) empty ∙ sym (with_none (answer_at_end spot.number spot.stage spot.read));
+      stands = subst (λ t. At t spot [] c.args.self.now) (sym (append-nil rows)) (subst (λ t. At rows spot t c.args.self.now) empty at);
+    }
+
+pub returns-in-Ok-clause-whole : goal.returns-in-Ok-clause-whole
+returns-in-Ok-clause-whole c = λ rows spot front at.
+    let line = strip_last 13 front in
+    let given = given_by spot.stage spot.read line in let next = past spot line in
+    let some = c.is_between.ensures.some rows spot front at c.if-is_between.false in
+    record {
+      more = given;
+      next = next;
+      reads = ap (reads_from spot) (last_is_line front some) ∙ ap (λ o. answer_past o given (answer_at_end next.number next.stage next.read)) (c.in-Ok.ensures.fine rows spot front at);
+      stands = c.in-Ok.ensures.at rows spot front at;
+    }
+
+pub returns-in-Err-clause-refused : goal.returns-in-Err-clause-refused
+returns-in-Err-clause-refused c = λ rows spot front at other.
+    let line = strip_last 13 front in
+    let given = given_by spot.stage spot.read line in let next = past spot line in
+    let some = c.is_between.ensures.some rows spot front at c.if-is_between.false in
+    ap (reads_from spot) (last_is_line front some) ∙ ap (λ o. answer_past o given (answer_at_end next.number next.stage next.read)) (c.in-Err.ensures.fault rows spot front at other)

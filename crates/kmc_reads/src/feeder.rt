@@ -1,0 +1,121 @@
+//! A text in pieces.
+ghost use Rattle.std.specs.Prelude.{◌≡◌, ◌≢◌, ℕ, ◌+◌, List, [], ◌++◌, length, IfOk, IfErr, OnOk, OnErr, IsErrOf, Ok, Err, None};
+ghost use Rattle.std.specs.List.{concat};
+ghost use Rattle.kmc_reads.specs.Reads.{reads_of};
+ghost use Rattle.kmc_reads.specs.Stages.{fault, ended};
+ghost use Rattle.kmc_reads.specs.Standing.{StandsAt, Refuses};
+
+use crate::error::ReadsError;
+use crate::format::Format;
+use crate::reads::Reads;
+use crate::scan::Scan;
+use std::alloc::{AllocError, Global};
+use std::marker::Model;
+
+/// Takes a text in pieces, however it is cut, and gives its reads as they end. Each byte is looked at
+/// once; of the lines that are no symbols of a read nothing is kept but what they are judged by.
+///
+/// A feeder that has refused the text answers the same refusal from then on. One that was refused
+/// memory stands where it stood, and the call can be made again.
+#[derive(Drop)]
+pub struct Feeder {
+    scan: Scan,
+    refusal: Option<ReadsError>,
+}
+
+impl Model for Feeder {
+    ghost use Rattle.kmc_reads.specs.Standing.{FeederState, IsSomewhere};
+
+    ghost Value = { FeederState };
+
+    ghost view = { λ a. record { scan = a.scan; refusal = a.refusal } };
+
+    ghost invariant = { λ a. IsSomewhere a.scan };
+}
+
+impl Feeder {
+    /// A feeder at the empty text.
+    pub fn new(alloc: Global, format: Format) -> Feeder
+        ensures { StandsAt format [] [] result }
+    {
+        Feeder {
+            scan: Scan::new(alloc, format),
+            refusal: None,
+        }
+    }
+
+    /// Takes the next piece of the text. A line is judged once its line feed has come, so the answer
+    /// is never `Truncated`. The reads that the piece ends wait until they are taken.
+    pub fn feed(&mut self, piece: &[u8]) -> Result<(), ReadsError>
+        ensures stands { (format : Format) (text : List ℕ) (taken : List (List ℕ)) → StandsAt format text taken self.old → OnOk result (StandsAt format (text ++ piece.now) taken self.new) }
+        ensures sound { (format : Format) (text : List ℕ) (taken : List (List ℕ)) → StandsAt format text taken self.old → OnOk result (fault format (text ++ piece.now) ≡ None) }
+        ensures refused { (format : Format) (text : List ℕ) (taken : List (List ℕ)) → StandsAt format text taken self.old → IfErr result (λ e. e ≢ ReadsError.Memory → (fault format (text ++ piece.now) ≡ Some e) × Refuses e self.new) }
+        ensures memory { (format : Format) (text : List ℕ) (taken : List (List ℕ)) → StandsAt format text taken self.old → IsErrOf result ReadsError.Memory → StandsAt format text taken self.new }
+        ensures again { (e : ReadsError) → Refuses e self.old → (result ≡ Err e) × (self.new ≡ self.old) }
+    {
+        if let Some(e) = self.refusal {
+            return Err(e);
+        }
+        match self.scan.feed(piece) {
+            Ok(()) => Ok(()),
+            Err(e) => {
+                if e != ReadsError::Memory {
+                    self.refusal = Some(e);
+                    return Err(e);
+                }
+                Err(e)
+            }
+        }
+    }
+
+    /// How many reads have ended and were not taken yet.
+    pub fn waiting(&self) -> usize
+        ensures { (format : Format) (text : List ℕ) (taken : List (List ℕ)) → StandsAt format text taken self.now → length (ended format text) ≡ length taken + result }
+    {
+        self.scan.count()
+    }
+
+    /// How many symbols these reads have in all.
+    pub fn waiting_symbols(&self) -> usize
+        ensures { (format : Format) (text : List ℕ) (taken : List (List ℕ)) → StandsAt format text taken self.now → length (concat (ended format text)) ≡ length (concat taken) + result }
+    {
+        self.scan.symbols()
+    }
+
+    /// Hands out the reads that have ended and were not taken yet. It copies the open read, so take
+    /// them a round at a time, and not after each piece.
+    pub fn take(&mut self, alloc: Global) -> Result<Reads, AllocError>
+        ensures all { (format : Format) (text : List ℕ) (taken : List (List ℕ)) → StandsAt format text taken self.old → IfOk result (λ reads. ended format text ≡ taken ++ reads) }
+        ensures stands { (format : Format) (text : List ℕ) (taken : List (List ℕ)) → StandsAt format text taken self.old → IfOk result (λ reads. StandsAt format text (taken ++ reads) self.new) }
+        ensures memory { OnErr result (self.new ≡ self.old) }
+    {
+        self.scan.take(alloc)
+    }
+
+    /// Ends the text: the reads that were not taken yet, or the refusal of the first faulty line, with
+    /// the feeder.
+    pub fn finish(self) -> Result<Reads, (ReadsError, Feeder)>
+        ensures all { (format : Format) (text : List ℕ) (taken : List (List ℕ)) → StandsAt format text taken self → IfOk result (λ reads. reads_of format text ≡ Ok (taken ++ reads)) }
+        ensures refused { (format : Format) (text : List ℕ) (taken : List (List ℕ)) → StandsAt format text taken self → IfErr result (λ p. p.0 ≢ ReadsError.Memory → (reads_of format text ≡ Err p.0) × Refuses p.0 p.1) }
+        ensures memory { (format : Format) (text : List ℕ) (taken : List (List ℕ)) → StandsAt format text taken self → IfErr result (λ p. p.0 ≡ ReadsError.Memory → StandsAt format text taken p.1) }
+        ensures again { (e : ReadsError) → Refuses e self → result ≡ Err (e, self) }
+    {
+        let mut feeder = self;
+        if let Some(e) = feeder.refusal {
+            return Err((e, feeder));
+        }
+        match feeder.scan.end() {
+            Ok(()) => {
+                let Feeder { scan, .. } = feeder;
+                Ok(scan.into_reads())
+            }
+            Err(e) => {
+                if e != ReadsError::Memory {
+                    feeder.refusal = Some(e);
+                    return Err((e, feeder));
+                }
+                Err((e, feeder))
+            }
+        }
+    }
+}

@@ -1,0 +1,12 @@
+//! Laws over the definitions alone. Each call does nothing: its contract is the law, for the proofs of its callers.
+ghost use Rattle.kmc_reads.specs.Laws.{FaultStays, EndedStay};
+
+/// A text with a faulty line that has its line feed is refused with that fault, whatever follows.
+pub fn fault_stays()
+    ensures { FaultStays }
+{}
+
+/// The reads that a text has ended are the first of its reads, whatever follows, unless it is refused.
+pub fn ended_stay()
+    ensures { EndedStay }
+{}

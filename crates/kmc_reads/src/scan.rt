@@ -1,0 +1,380 @@
+//! One pass over a text that comes in pieces.
+ghost use Rattle.std.specs.Prelude.{true, false, ◌≡◌, ◌≢◌, ℕ, ◌+◌, ◌<◌, ◌≤◌, List, [], ◌∷◌, ◌++◌, length, take, IfOk, IfErr, OnOk, OnErr, Ok, Err, Some, None};
+ghost use Rattle.std.specs.Io.BufRead.{strip_last};
+ghost use Rattle.std.specs.List.{concat};
+ghost use Rattle.kmc_reads.specs.declared.stage.Stage.TheVariants.{Body, Name};
+ghost use Rattle.kmc_reads.specs.Answer.{with_reads};
+ghost use Rattle.kmc_reads.specs.Pieces.{last_line};
+ghost use Rattle.kmc_reads.specs.Stages.{Spot, first_stage, first_spot, fault_of, past, begun_by, given_by, answer_at_end, reads_from};
+ghost use Rattle.kmc_reads.specs.Standing.{Lies, Keeps, At, IsSomewhere, Goes, HasFault, HasNoFeed, IsName, EndsLine, EndsRead, EndsText, IsAgain, kept};
+
+use crate::error::ReadsError;
+use crate::format::Format;
+use crate::line::{begins_header, cut_line, cut_return};
+use crate::reads::Reads;
+use crate::stage::Stage;
+use std::alloc::{AllocError, Global};
+use std::mem;
+
+/// What is known of the open line, and where the open read begins.
+#[derive(Clone, Copy)]
+struct Place {
+    stage: Stage,
+    /// The number of the open line.
+    number: u64,
+    /// The first byte of its content, where there is one.
+    first: u8,
+    /// How many bytes of content have come.
+    length: usize,
+    /// Whether a carriage return came last: it is content only where more of the line comes.
+    held: bool,
+    /// Where the open read begins in the buffer.
+    start: usize,
+}
+
+/// The reads that have ended and the open one, one behind the other in one buffer. Of headers, plus
+/// lines and quality lines only the length and the first byte are kept.
+///
+/// Within a call the buffers only grow, so that a refusal is undone by cutting them back.
+#[derive(Drop)]
+pub struct Scan {
+    bytes: Vec<u8>,
+    ends: Vec<usize>,
+    place: Place,
+}
+
+impl Scan {
+    /// A scan at the empty text.
+    pub fn new(alloc: Global, format: Format) -> Scan
+        ensures { At [] (first_spot format) [] result }
+    {
+        Scan {
+            bytes: Vec::new(alloc),
+            ends: Vec::new(alloc),
+            place: Place {
+                stage: Stage::first(format),
+                number: 1,
+                first: 0,
+                length: 0,
+                held: false,
+                start: 0,
+            },
+        }
+    }
+
+    /// More content of the open line.
+    fn add(&mut self, content: &[u8]) -> Result<(), AllocError>
+        ensures keeps { (rows : List (List ℕ)) (spot : Spot) (line : List ℕ) → Keeps rows spot line self.old → OnOk result (Keeps rows spot (line ++ content.now) self.new) }
+        ensures held { self.new.place.held ≡ self.old.place.held }
+        ensures bytes { take (length self.old.bytes.items) self.new.bytes.items ≡ self.old.bytes.items }
+        ensures ends { self.new.ends.items ≡ self.old.ends.items }
+    {
+        match self.place.stage {
+            Stage::Sequence | Stage::Body => self.bytes.extend_from_slice(content)?,
+            _ => {}
+        }
+        if self.place.length == 0 && !content.is_empty() {
+            self.place.first = content[0];
+        }
+        self.place.length = self.place.length.saturating_add(content.len());
+        Ok(())
+    }
+
+    /// A carriage return that was held back is content after all.
+    fn release(&mut self) -> Result<(), AllocError>
+        ensures keeps { (rows : List (List ℕ)) (spot : Spot) (front : List ℕ) → At rows spot front self.old → OnOk result (Keeps rows spot front self.new) }
+        ensures bytes { take (length self.old.bytes.items) self.new.bytes.items ≡ self.old.bytes.items }
+        ensures ends { self.new.ends.items ≡ self.old.ends.items }
+    {
+        if self.place.held {
+            self.add(b"\r")?;
+        }
+        Ok(())
+    }
+
+    /// More bytes of the open line, which do not tell that it is a header. A carriage return at their
+    /// end is held back.
+    fn grow(&mut self, piece: &[u8]) -> Result<(), AllocError>
+        ensures at { (rows : List (List ℕ)) (spot : Spot) (front : List ℕ) → At rows spot front self.old → 0 < length piece.now → begun_by spot.stage spot.read (front ++ piece.now) ≡ [] → OnOk result (At rows spot (front ++ piece.now) self.new) }
+        ensures bytes { take (length self.old.bytes.items) self.new.bytes.items ≡ self.old.bytes.items }
+        ensures ends { self.new.ends.items ≡ self.old.ends.items }
+    {
+        self.release()?;
+        let (content, held) = cut_return(piece);
+        self.add(content)?;
+        self.place.held = held;
+        Ok(())
+    }
+
+    /// The open read is whole.
+    fn close(&mut self) -> Result<(), AllocError>
+        ensures keeps { (rows : List (List ℕ)) (spot : Spot) (line : List ℕ) → Keeps rows spot line self.old → kept spot.stage line ≡ [] → OnOk result (Keeps (rows ++ spot.read ∷ []) (record { number = spot.number; stage = spot.stage; read = [] }) line self.new) }
+        ensures held { self.new.place.held ≡ self.old.place.held }
+        ensures bytes { self.new.bytes.items ≡ self.old.bytes.items }
+        ensures ends { take (length self.old.ends.items) self.new.ends.items ≡ self.old.ends.items }
+    {
+        match self.ends.push(self.bytes.len()) {
+            Ok(_) => {}
+            Err(e) => return Err(AllocError::from(e)),
+        }
+        self.place.start = self.bytes.len();
+        Ok(())
+    }
+
+    /// Whether no line is open.
+    fn is_between(&self) -> bool
+        ensures none { (rows : List (List ℕ)) (spot : Spot) (front : List ℕ) → At rows spot front self.now → result ≡ true → front ≡ [] }
+        ensures some { (rows : List (List ℕ)) (spot : Spot) (front : List ℕ) → At rows spot front self.now → result ≡ false → front ≡ [] → ⊥ }
+    {
+        !self.place.held && self.place.length == 0
+    }
+
+    /// Whether these bytes of a line begin the header that ends the open read.
+    fn begins_name(&self, piece: &[u8]) -> bool
+        ensures name { (rows : List (List ℕ)) (spot : Spot) (front : List ℕ) → At rows spot front self.now → result ≡ true → IsName spot front piece.now }
+        ensures none { (rows : List (List ℕ)) (spot : Spot) (front : List ℕ) → At rows spot front self.now → result ≡ false → begun_by spot.stage spot.read (front ++ piece.now) ≡ [] }
+    {
+        self.place.stage == Stage::Body && self.is_between() && begins_header(piece)
+    }
+
+    /// A header begins, and the open read is whole.
+    fn name(&mut self) -> Result<(), AllocError>
+        ensures at { (rows : List (List ℕ)) (spot : Spot) → At rows spot [] self.old → spot.stage ≡ Body → OnOk result (At (rows ++ spot.read ∷ []) (record { number = spot.number; stage = Name; read = [] }) [] self.new) }
+        ensures bytes { self.new.bytes.items ≡ self.old.bytes.items }
+        ensures ends { take (length self.old.ends.items) self.new.ends.items ≡ self.old.ends.items }
+    {
+        self.close()?;
+        self.place.stage = Stage::Name;
+        Ok(())
+    }
+
+    /// More bytes of the open line.
+    fn extend(&mut self, piece: &[u8]) -> Result<(), AllocError>
+        ensures goes { (rows : List (List ℕ)) (spot : Spot) (front : List ℕ) → At rows spot front self.old → HasNoFeed piece.now → OnOk result (Goes rows spot front piece.now self.new) }
+        ensures bytes { take (length self.old.bytes.items) self.new.bytes.items ≡ self.old.bytes.items }
+        ensures ends { take (length self.old.ends.items) self.new.ends.items ≡ self.old.ends.items }
+    {
+        if piece.len() == 0 {
+            return Ok(());
+        }
+        if self.begins_name(piece) {
+            self.name()?;
+            self.grow(piece)?;
+            return Ok(());
+        }
+        self.grow(piece)?;
+        Ok(())
+    }
+
+    /// The fault of the open line, which is whole.
+    fn judge(&self) -> Result<(), ReadsError>
+        ensures fine { (rows : List (List ℕ)) (spot : Spot) (line : List ℕ) → Keeps rows spot line self.now → OnOk result (fault_of spot.number spot.stage spot.read line ≡ None) }
+        ensures fault { (rows : List (List ℕ)) (spot : Spot) (line : List ℕ) → Keeps rows spot line self.now → IfErr result (λ e. fault_of spot.number spot.stage spot.read line ≡ Some e) }
+    {
+        let place = self.place;
+        match place.stage {
+            Stage::Header if place.length > 0 && place.first != b'@' => {
+                Err(ReadsError::BadHeader(place.number))
+            }
+            Stage::FirstHeader if place.length > 0 && place.first != b'>' => {
+                Err(ReadsError::BadHeader(place.number))
+            }
+            Stage::Plus if place.length == 0 || place.first != b'+' => {
+                Err(ReadsError::BadPlus(place.number))
+            }
+            Stage::Quality if place.length != self.bytes.len().saturating_sub(place.start) => {
+                Err(ReadsError::QualityLength(place.number))
+            }
+            _ => Ok(()),
+        }
+    }
+
+    /// The line after the open one begins.
+    fn next_line(&mut self)
+        ensures at { (rows : List (List ℕ)) (spot : Spot) (line : List ℕ) → Keeps rows spot line self.old → (spot.stage ≡ Stage.Quality → spot.read ≡ []) → begun_by spot.stage spot.read line ≡ [] → At rows (past spot line) [] self.new }
+        ensures bytes { self.new.bytes.items ≡ self.old.bytes.items }
+        ensures ends { self.new.ends.items ≡ self.old.ends.items }
+    {
+        let stage = match self.place.stage {
+            Stage::Header if self.place.length == 0 => Stage::Header,
+            Stage::Header => Stage::Sequence,
+            Stage::Sequence => Stage::Plus,
+            Stage::Plus => Stage::Quality,
+            Stage::Quality => Stage::Header,
+            Stage::FirstHeader if self.place.length == 0 => Stage::FirstHeader,
+            Stage::FirstHeader | Stage::Body | Stage::Name => Stage::Body,
+        };
+        self.place.stage = stage;
+        self.place.number = self.place.number.saturating_add(1);
+        self.place.length = 0;
+        self.place.held = false;
+    }
+
+    /// The open line is whole.
+    fn end_line(&mut self) -> Result<(), ReadsError>
+        ensures fine { (rows : List (List ℕ)) (spot : Spot) (front : List ℕ) → At rows spot front self.old → OnOk result (fault_of spot.number spot.stage spot.read (strip_last 13 front) ≡ None) }
+        ensures at { (rows : List (List ℕ)) (spot : Spot) (front : List ℕ) → At rows spot front self.old → OnOk result (At (rows ++ given_by spot.stage spot.read (strip_last 13 front)) (past spot (strip_last 13 front)) [] self.new) }
+        ensures fault { (rows : List (List ℕ)) (spot : Spot) (front : List ℕ) → At rows spot front self.old → IfErr result (λ e. e ≢ ReadsError.Memory → fault_of spot.number spot.stage spot.read (strip_last 13 front) ≡ Some e) }
+        ensures bytes { self.new.bytes.items ≡ self.old.bytes.items }
+        ensures ends { take (length self.old.ends.items) self.new.ends.items ≡ self.old.ends.items }
+    {
+        self.judge()?;
+        match self.place.stage {
+            Stage::Quality => self.close()?,
+            _ => {}
+        }
+        self.next_line();
+        Ok(())
+    }
+
+    /// Goes over a piece.
+    fn go(&mut self, piece: &[u8]) -> Result<(), ReadsError>
+        ensures goes { (rows : List (List ℕ)) (spot : Spot) (front : List ℕ) → At rows spot front self.old → OnOk result (Goes rows spot front piece.now self.new) }
+        ensures fault { (rows : List (List ℕ)) (spot : Spot) (front : List ℕ) → At rows spot front self.old → IfErr result (λ e. e ≢ ReadsError.Memory → HasFault spot front piece.now e) }
+        ensures bytes { take (length self.old.bytes.items) self.new.bytes.items ≡ self.old.bytes.items }
+        ensures ends { take (length self.old.ends.items) self.new.ends.items ≡ self.old.ends.items }
+    {
+        let mut rest = piece;
+        while let Some((line, after)) = cut_line(rest) {
+            self.extend(line)?;
+            match self.end_line() {
+                Ok(()) => {}
+                Err(e) => return Err(e),
+            }
+            rest = after;
+        }
+        self.extend(rest)?;
+        Ok(())
+    }
+
+    /// Cuts the buffers back to these lengths, and returns to that place.
+    fn undo(&mut self, bytes: usize, ends: usize, place: Place)
+        ensures bytes { self.new.bytes.items ≡ take bytes self.old.bytes.items }
+        ensures ends { self.new.ends.items ≡ take ends self.old.ends.items }
+        ensures place { self.new.place ≡ place }
+    {
+        self.bytes.truncate(bytes);
+        self.ends.truncate(ends);
+        self.place = place;
+    }
+
+    /// Goes over the next piece of the text, or leaves all as it was.
+    pub fn feed(&mut self, piece: &[u8]) -> Result<(), ReadsError>
+        ensures goes { (rows : List (List ℕ)) (spot : Spot) (front : List ℕ) → At rows spot front self.old → OnOk result (Goes rows spot front piece.now self.new) }
+        ensures fault { (rows : List (List ℕ)) (spot : Spot) (front : List ℕ) → At rows spot front self.old → IfErr result (λ e. e ≢ ReadsError.Memory → HasFault spot front piece.now e) }
+        ensures again { OnErr result (IsAgain self.old self.new) }
+    {
+        let (bytes, ends, place) = (self.bytes.len(), self.ends.len(), self.place);
+        match self.go(piece) {
+            Ok(()) => Ok(()),
+            Err(e) => {
+                self.undo(bytes, ends, place);
+                Err(e)
+            }
+        }
+    }
+
+    /// The open line is the last of the text, if it has a byte.
+    fn end_open(&mut self) -> Result<(), ReadsError>
+        ensures whole { (rows : List (List ℕ)) (spot : Spot) (front : List ℕ) → At rows spot front self.old → OnOk result (EndsLine rows spot front self.new) }
+        ensures refused { (rows : List (List ℕ)) (spot : Spot) (front : List ℕ) → At rows spot front self.old → IfErr result (λ e. e ≢ ReadsError.Memory → reads_from spot (last_line front) ≡ Err e) }
+        ensures bytes { self.new.bytes.items ≡ self.old.bytes.items }
+        ensures ends { take (length self.old.ends.items) self.new.ends.items ≡ self.old.ends.items }
+    {
+        if self.is_between() {
+            return Ok(());
+        }
+        match self.end_line() {
+            Ok(()) => Ok(()),
+            Err(e) => Err(e),
+        }
+    }
+
+    /// No line is left: the open read is whole, or it was cut short.
+    fn end_read(&mut self) -> Result<(), ReadsError>
+        ensures whole { (rows : List (List ℕ)) (spot : Spot) → At rows spot [] self.old → OnOk result (EndsRead rows spot self.new) }
+        ensures refused { (rows : List (List ℕ)) (spot : Spot) → At rows spot [] self.old → IfErr result (λ e. e ≢ ReadsError.Memory → answer_at_end spot.number spot.stage spot.read ≡ Err e) }
+        ensures bytes { self.new.bytes.items ≡ self.old.bytes.items }
+        ensures ends { take (length self.old.ends.items) self.new.ends.items ≡ self.old.ends.items }
+    {
+        match self.place.stage {
+            Stage::Header => Ok(()),
+            Stage::FirstHeader => Ok(()),
+            Stage::Body | Stage::Name => {
+                self.close()?;
+                Ok(())
+            }
+            Stage::Sequence | Stage::Plus | Stage::Quality => {
+                Err(ReadsError::Truncated(self.place.number))
+            }
+        }
+    }
+
+    /// The text ends here.
+    fn end_text(&mut self) -> Result<(), ReadsError>
+        ensures whole { (rows : List (List ℕ)) (spot : Spot) (front : List ℕ) → At rows spot front self.old → OnOk result (EndsText rows spot front self.new) }
+        ensures refused { (rows : List (List ℕ)) (spot : Spot) (front : List ℕ) → At rows spot front self.old → IfErr result (λ e. e ≢ ReadsError.Memory → reads_from spot (last_line front) ≡ Err e) }
+        ensures bytes { self.new.bytes.items ≡ self.old.bytes.items }
+        ensures ends { take (length self.old.ends.items) self.new.ends.items ≡ self.old.ends.items }
+    {
+        match self.end_open() {
+            Ok(()) => {}
+            Err(e) => return Err(e),
+        }
+        match self.end_read() {
+            Ok(()) => Ok(()),
+            Err(e) => Err(e),
+        }
+    }
+
+    /// Ends the text here, or leaves all as it was.
+    pub fn end(&mut self) -> Result<(), ReadsError>
+        ensures whole { (rows : List (List ℕ)) (spot : Spot) (front : List ℕ) → At rows spot front self.old → OnOk result (EndsText rows spot front self.new) }
+        ensures refused { (rows : List (List ℕ)) (spot : Spot) (front : List ℕ) → At rows spot front self.old → IfErr result (λ e. e ≢ ReadsError.Memory → reads_from spot (last_line front) ≡ Err e) }
+        ensures again { OnErr result (IsAgain self.old self.new) }
+    {
+        let (bytes, ends, place) = (self.bytes.len(), self.ends.len(), self.place);
+        match self.end_text() {
+            Ok(()) => Ok(()),
+            Err(e) => {
+                self.undo(bytes, ends, place);
+                Err(e)
+            }
+        }
+    }
+
+    /// Hands out the reads that have ended, and keeps the open one.
+    pub fn take(&mut self, alloc: Global) -> Result<Reads, AllocError>
+        requires { IsSomewhere self.old }
+        ensures taken { (rows : List (List ℕ)) (spot : Spot) (front : List ℕ) → At rows spot front self.old → IfOk result (λ reads. (reads ≡ rows) × At [] spot front self.new) }
+        ensures same { OnErr result (self.new ≡ self.old) }
+    {
+        let open = self.bytes.split_off(self.place.start)?;
+        let bytes = mem::replace(&mut self.bytes, open);
+        let ends = mem::replace(&mut self.ends, Vec::new(alloc));
+        self.place.start = 0;
+        Ok(Reads::of_rows(bytes, ends))
+    }
+
+    /// How many reads have ended.
+    pub fn count(&self) -> usize
+        ensures { (rows : List (List ℕ)) (spot : Spot) (front : List ℕ) → At rows spot front self.now → result ≡ length rows }
+    {
+        self.ends.len()
+    }
+
+    /// How many symbols they have in all.
+    pub fn symbols(&self) -> usize
+        ensures { (rows : List (List ℕ)) (spot : Spot) (front : List ℕ) → At rows spot front self.now → result ≡ length (concat rows) }
+    {
+        self.place.start
+    }
+
+    /// Hands out the reads of a text that has ended.
+    pub fn into_reads(self) -> Reads
+        requires { (rows : List (List ℕ)) × (behind : List ℕ) × Lies rows behind self }
+        ensures { (rows : List (List ℕ)) (behind : List ℕ) → Lies rows behind self → result ≡ rows }
+    {
+        Reads::of_rows(self.bytes, self.ends)
+    }
+}

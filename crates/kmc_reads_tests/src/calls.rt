@@ -1,0 +1,26 @@
+//! Calls of a feeder, each made once more where memory was refused.
+use kmc_reads::error::ReadsError;
+use kmc_reads::feeder::Feeder;
+use kmc_reads::reads::Reads;
+use std::alloc::{AllocError, Global};
+
+pub(crate) fn feed(feeder: &mut Feeder, piece: &[u8]) -> Result<(), ReadsError> {
+    match feeder.feed(piece) {
+        Err(ReadsError::Memory) => feeder.feed(piece),
+        answer => answer,
+    }
+}
+
+pub(crate) fn take(alloc: Global, feeder: &mut Feeder) -> Result<Reads, AllocError> {
+    match feeder.take(alloc) {
+        Err(_) => feeder.take(alloc),
+        answer => answer,
+    }
+}
+
+pub(crate) fn finish(feeder: Feeder) -> Result<Reads, (ReadsError, Feeder)> {
+    match feeder.finish() {
+        Err((ReadsError::Memory, feeder)) => feeder.finish(),
+        answer => answer,
+    }
+}

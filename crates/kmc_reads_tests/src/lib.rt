@@ -1,0 +1,15 @@
+//! Tests of texts that come in pieces, by the public calls of kmc_reads alone: worked rows, and random texts in random
+//! pieces against a plain reader of whole lines. Nothing stands on this crate. Each call is made once more where memory was
+//! refused, so the tests also pass where one growth is refused, whichever it is (`rt try --test --fail-alloc N`).
+#![tactic(auto)]
+
+#[cfg(test)]
+mod calls;
+#[cfg(test)]
+mod dice;
+#[cfg(test)]
+mod plain;
+#[cfg(test)]
+mod random_texts;
+#[cfg(test)]
+mod rows;
