@@ -6,15 +6,9 @@ ghost use Rattle.kmc_tool.specs.Ranges.{AreQueueSettings, AreSettings};
 use crate::setting::Setting;
 use kmc_base::strands::Strands;
 use kmc_count::limits::Limits;
-use kmc_partcore::QueueShape;
+use kmc_partcore::{MAX_PER_WRITER, MAX_READERS, QueueShape};
 use kmc_reads::format::Format;
 use kmc_record::shape::Shape;
-
-/// Most storers.
-pub const MAX_READERS: usize = 8;
-
-/// Most parts that a splitter may have in the queue.
-pub const MAX_PER_WRITER: usize = 64;
 
 /// Most reads in a chunk.
 pub const MAX_BATCH: usize = 65536;
@@ -27,7 +21,7 @@ const BATCH: usize = 1024;
 
 /// What a run is told: what its text is, what it counts and lists, and how it shares the work.
 /// The dump depends on the format, `k`, the strands and the limits alone.
-#[derive(Clone, Copy)]
+#[derive(Clone, Copy, Debug, PartialEq, Eq)]
 pub struct Params {
     /// The format of the input.
     pub format: Format,

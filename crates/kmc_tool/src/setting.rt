@@ -2,6 +2,10 @@
 ghost use Rattle.std.specs.Prelude.{◌≡◌, ◌↔◌, IsTrue};
 
 use kmc_base::kmer::MAX_K;
+use kmc_count::limits::GREATEST_COUNT;
+use kmc_partcore::MAX_WRITERS;
+use kmc_record::shape::{LEAST_P, MOST_BINS};
+use kmc_split::signature::MAX_M;
 use std::fmt;
 
 /// A range of numbers, both ends included, with the number that stands where none is given.
@@ -33,9 +37,6 @@ pub enum Setting {
     Sr,
 }
 
-// 2^63: the limits of counts leave the upper half of a `u64` free for "more than can be told".
-const GREATEST_COUNT: u64 = 1 << 63;
-
 const WORD_LENGTH: Bounds = Bounds {
     least: 1,
     most: MAX_K as u64,
@@ -43,14 +44,14 @@ const WORD_LENGTH: Bounds = Bounds {
 };
 
 const SIGNATURE_LENGTH: Bounds = Bounds {
-    least: 5,
-    most: 11,
+    least: LEAST_P as u64,
+    most: MAX_M as u64,
     default: 9,
 };
 
 const BINS: Bounds = Bounds {
     least: 1,
-    most: 2000,
+    most: MOST_BINS as u64,
     default: 512,
 };
 
@@ -72,9 +73,10 @@ const SHOWN_COUNT: Bounds = Bounds {
     default: 255,
 };
 
+// each splitter is a writer of the queue, and as many threads may count
 const THREADS: Bounds = Bounds {
     least: 1,
-    most: 16,
+    most: MAX_WRITERS as u64,
     default: 2,
 };
 
