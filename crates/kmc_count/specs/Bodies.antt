@@ -1,14 +1,11 @@
 -- What is counted in bodies of records.
-use Rattle.std.specs.Prelude.{ℕ, ◌<◌, List, [], length, map, take, slice_index_or, IfOk, IsErrOf, Result, Vec}
-use Rattle.std.specs.Global.{Global}
+use Rattle.std.specs.Prelude.{ℕ, ◌<◌, List, [], length, take, slice_index_or}
 use Rattle.std.specs.List.{All, AllZip}
 use Rattle.kmc_base.specs.declared.strands.Strands.{Strands}
 use Rattle.kmc_record.specs.declared.fault.RecordFault.{RecordFault}
 use Rattle.kmc_record.specs.Record.{IsBodyOf}
 use Rattle.kmc_record.specs.RecordWords.{record_keys}
 use Rattle.kmc_record.specs.Faults.{IsFirstFault}
-use Rattle.kmc_count.specs.declared.bin.CountError.{CountError}
-use Rattle.kmc_count.specs.declared.bin.CountError.TheVariants.{Damaged}
 use Rattle.kmc_count.specs.declared.limits.Limits.{Limits}
 use Rattle.kmc_count.specs.Occurrences.{occurrences}
 use Rattle.kmc_count.specs.Dump.{IsDump}
@@ -33,8 +30,3 @@ pub record IsFirstDamaged (k : ℕ) (fault : RecordFault) (offset : ℕ) (bodies
   pub inside : number < length bodies
   pub before : All (IsWhole k) (take number bodies)
   pub first : IsFirstFault k fault offset (slice_index_or bodies number [])
-
--- what a count of bodies answers: their dumps, or the first fault of the first that is damaged; a refused growth says nothing of them
-pub record IsCountOfBodies (strands : Strands) (k : ℕ) (l : Limits) (bodies : List (Vec ℕ Global)) (answer : Result (Vec (Vec (List ℕ × ℕ) Global) Global) CountError) : Type 0 where
-  pub ok : IfOk answer (λ lists. AreDumpsOfBodies strands k l (map (λ b. b.items) bodies) (map (λ ps. ps.items) lists.items))
-  pub damaged : (fault : RecordFault) (offset : ℕ) → IsErrOf answer (Damaged fault offset) → IsFirstDamaged k fault offset (map (λ b. b.items) bodies)

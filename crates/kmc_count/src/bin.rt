@@ -57,7 +57,7 @@ pub(crate) fn count_into<W: Word + Drop>(
 
 /// The dump of the records of a body: each key of their words, rising, with the number of words that have it
 /// as far as the limits list it. It takes 8 bytes a word, 16 above k = 32. A body that is damaged is not
-/// counted in part.
+/// counted in part. The pairs are in plain form, 48 bytes each.
 pub fn count_bin(
     alloc: Global,
     body: &[u8],

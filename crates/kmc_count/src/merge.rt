@@ -7,9 +7,7 @@ ghost use Rattle.kmc_count.specs.Dump.{words_of};
 ghost use Rattle.kmc_count.specs.Merge.{joined, AreApart, EachRises, IsMerged};
 
 use kmc_base::kmer::Kmer;
-use rayon::prelude::*;
 use std::alloc::{AllocError, Global};
-use std::thread::Threads;
 
 /// The pairs of the lists, one list after the other, in a vector that is reserved once. Each list is freed
 /// when its pairs have moved.
@@ -28,32 +26,26 @@ fn join(alloc: Global, lists: Vec<Vec<(Kmer, u64)>>) -> Result<Vec<(Kmer, u64)>,
     Ok(pairs)
 }
 
-/// Sorts the pairs by their words in place. Where several threads are asked for, rayon's sort takes as many as the
-/// machine has for this process.
-fn sort_pairs<R: Threads + Sync>(rt: &R, pairs: &mut [(Kmer, u64)], threads: usize)
+/// Sorts the pairs by their words in place.
+fn sort_pairs(pairs: &mut [(Kmer, u64)])
     ensures moved { IsPermutation pairs.old pairs.new }
     ensures sorted { IsSortedBy (λ p q. is_lt (kmer_cmp p.0 q.0)) pairs.new }
 {
-    if threads <= 1 {
-        pairs.sort_unstable_by(|a, b| a.0.cmp(&b.0));
-    } else {
-        par_sort_unstable_by(rt, pairs, |a, b| a.0.cmp(&b.0));
-    }
+    pairs.sort_unstable_by(|a, b| a.0.cmp(&b.0));
 }
 
 /// All pairs of the lists, rising by their words. The lists are those of bins: each rises, and no word stands
-/// in two of them. They are sorted in place, in the one vector that they have moved to.
-pub fn merge_bins<R: Threads + Sync>(
-    rt: &R,
+/// in two of them. They are sorted in place, in the one vector that they have moved to. A dump is written without
+/// such a list by kmc_dump.
+pub fn merge_bins(
     alloc: Global,
     lists: Vec<Vec<(Kmer, u64)>>,
-    threads: usize,
 ) -> Result<Vec<(Kmer, u64)>, AllocError>
     requires rise { EachRises (map (λ l. l.items) lists.items) }
     requires apart { AreApart (map words_of (map (λ l. l.items) lists.items)) }
     ensures { IfOk result (λ pairs. IsMerged (map (λ l. l.items) lists.items) pairs.items) }
 {
     let mut pairs = join(alloc, lists)?;
-    sort_pairs(rt, &mut pairs, threads);
+    sort_pairs(&mut pairs);
     Ok(pairs)
 }

@@ -1,5 +1,5 @@
 -- The packed lists of rows of bodies.
-use Rattle.std.proofs.Common.{◌≡◌, ℕ, ◌<◌, All, List, [], ◌∷◌, ◌++◌, length, map, sym, subst, arith, Vec, Global}
+use Rattle.std.proofs.Common.{◌≡◌, ℕ, List, [], ◌∷◌, ◌++◌, map, sym, subst, arith, Vec, Global}
 use Rattle.std.proofs.lemmas.List.{map-append}
 use Rattle.std.proofs.lemmas.List.Elements.{All-nil, All-cons, All-append}
 use Rattle.kmc_base.specs.declared.strands.Strands.{Strands}
@@ -7,7 +7,7 @@ use Rattle.kmc_record.specs.declared.fault.RecordFault.{RecordFault}
 use Rattle.kmc_record.specs.Faults.{IsFirstFault}
 use Rattle.kmc_count.specs.declared.limits.Limits.{Limits}
 use Rattle.kmc_count.specs.Bodies.{IsDumpOfBody, AreDumpsOfBodies, IsWhole, IsFirstDamaged}
-use Rattle.kmc_count.proofs.ManyBodies.{texts, second_damaged}
+use Rattle.kmc_dump.proofs.ManyBodies.{texts, second_damaged}
 use Rattle.kmc_count.proofs.Zips.{zip_append}
 use Rattle.kmc_dump.specs.Listed.{Listed, pairs_of, IsListOf}
 use Rattle.kmc_dump.specs.Bodies.{AreListsOfBodies}
@@ -25,7 +25,7 @@ module _ (strands : Strands) (k : ℕ) (l : Limits) where
   one_listed bodies b body lists c h same list dump =
       subst (λ (t : List (List ℕ)). AreListsOfBodies strands k l t (lists ++ c ∷ [])) (sym (map-append (λ (v : Vec ℕ Global). v.items) bodies (b ∷ [])))
       (both_listed (texts bodies) (b.items ∷ []) lists (c ∷ []) h
-      record { each = All-cons (IsListOf k) c [] list (All-nil (IsListOf k)); dumps = (subst (λ (t : List ℕ). IsDumpOfBody strands k l t (pairs_of c)) same dump, tt); })
+      record { each = All-cons (IsListOf k) c [] list (All-nil (IsListOf k)); dumps = (subst (λ (t : List ℕ). IsDumpOfBody strands k l t (pairs_of c)) same dump, tt) })
 
   -- the bodies so far are whole, and the next one is damaged
   pub next_damaged : (all done rest : List (Vec ℕ Global)) (b : Vec ℕ Global) (body : List ℕ) (lists : List Listed) (fault : RecordFault) (offset : ℕ) → all ≡ done ++ b ∷ rest → body ≡ b.items
@@ -34,4 +34,4 @@ module _ (strands : Strands) (k : ℕ) (l : Limits) where
       subst (λ (v : List (Vec ℕ Global)). IsFirstDamaged k fault offset (texts v)) (sym is)
       (subst (IsFirstDamaged k fault offset) (sym (map-append (λ (v : Vec ℕ Global). v.items) done (b ∷ rest)))
       (second_damaged strands k l (texts done) (texts (b ∷ rest)) (map pairs_of lists) fault offset h.dumps
-      record { number = 0; inside = omega arith; before = All-nil (IsWhole k); first = subst (IsFirstFault k fault offset) same first; }))
+      record { number = 0; inside = omega arith; before = All-nil (IsWhole k); first = subst (IsFirstFault k fault offset) same first }))

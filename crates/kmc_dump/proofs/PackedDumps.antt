@@ -1,5 +1,5 @@
 -- The dumps of bins as packed lists: they rise, share no word, and their whole is the dump of all words.
-use Rattle.std.proofs.Common.{◌≡◌, ℕ, zero, suc, ◌+◌, ◌<◌, ◌≤◌, ◌^◌, ◌⊎◌, inl, inr, All, List, [], ◌∷◌, ◌++◌, length, get_or, map, refl, sym, ap, subst, ◌∙◌, arith}
+use Rattle.std.proofs.Common.{◌≡◌, ℕ, suc, ◌<◌, ◌^◌, inl, inr, All, List, [], ◌∷◌, ◌++◌, length, get_or, map, refl, sym, ap, subst, ◌∙◌, arith}
 use Rattle.std.specs.List.{AllByRecursion, Contains}
 use Rattle.std.specs.List.Sorted.{IsStrictlySortedBy}
 use Rattle.std.specs.Ordering.{nat_cmp}
@@ -16,7 +16,7 @@ use Rattle.kmc_count.specs.Laws.{DumpsCanBeMerged, MergedDumpsAreOne}
 use Rattle.kmc_count.specs.Merge.{AreApart, AreDumps, EachRises, joined as words_joined}
 use Rattle.kmc_count.proofs.PackedRuns.{cmp_packed}
 use Rattle.kmc_dump.specs.Listed.{Listed, spelled, pairs_of, IsListOf}
-use Rattle.kmc_dump.specs.Ranges.{Rises, Differ, joined, Apart, packs, CanBeMerged, whole}
+use Rattle.kmc_dump.specs.Ranges.{Rises, joined, Apart, packs, CanBeMerged, whole}
 use Rattle.kmc_dump.proofs.Order.{Has}
 use Rattle.kmc_dump.proofs.Whole.{whole_merged}
 
@@ -67,10 +67,11 @@ module _ (k : ℕ) where
 
   apart_numbers : (cs : List Listed) → AreApart (map words cs) → Apart (packs cs)
   apart_numbers [] h = tt
-  apart_numbers (c ∷ cs) h =
-      (all_has (λ p. AllByRecursion (λ q. p.0 ≡ q.0 → ⊥) (joined (packs cs))) c.packed
-      (λ p m. differs p (words c) cs (words_has p c.packed m) (λ i d inside. h 0 (suc i) d (omega arith) (omega (arith, inside, length-map cs words)))),
-      apart_numbers cs (λ i j d up inside. h (suc i) (suc j) d (omega (arith, up)) (omega (arith, inside))))
+  apart_numbers (c ∷ cs) h = (
+    all_has (λ p. AllByRecursion (λ q. p.0 ≡ q.0 → ⊥) (joined (packs cs))) c.packed
+        (λ p m. differs p (words c) cs (words_has p c.packed m) (λ i d inside. h 0 (suc i) d (omega arith) (omega (arith, inside, length-map cs words)))),
+    apart_numbers cs (λ i j d up inside. h (suc i) (suc j) d (omega (arith, up)) (omega (arith, inside))),
+  )
 
   -- ---- all lists
 
@@ -79,9 +80,10 @@ module _ (k : ℕ) where
 
   each_rises : (cs : List Listed) → All (IsListOf k) cs → EachRises (map (λ c. spelled k c.packed) cs) → AllByRecursion Rises (packs cs)
   each_rises [] are h = tt
-  each_rises (c ∷ cs) are h =
-      (rising_numbers c.packed (recursion_from_All (λ p. p.0 < 4 ^ k) c.packed (All-head (IsListOf k) c cs are).fit) (All-head RisesAsWords (spelled k c.packed) _ h),
-      each_rises cs (All-tail (IsListOf k) c cs are) (All-tail RisesAsWords (spelled k c.packed) _ h))
+  each_rises (c ∷ cs) are h = (
+    rising_numbers c.packed (recursion_from_All (λ p. p.0 < 4 ^ k) c.packed (All-head (IsListOf k) c cs are).fit) (All-head RisesAsWords (spelled k c.packed) _ h),
+    each_rises cs (All-tail (IsListOf k) c cs are) (All-tail RisesAsWords (spelled k c.packed) _ h),
+  )
 
   all_fit : (cs : List Listed) → All (IsListOf k) cs → All (λ p. p.0 < 4 ^ k) (joined (packs cs))
   all_fit [] are = λ i d inside. absurd (omega (arith, inside))

@@ -1,11 +1,10 @@
 -- Ranges of slots, closed one after the other.
-use Rattle.std.proofs.Common.{◌≡◌, ℕ, ◌+◌, ◌-◌, ◌/◌, ◌<◌, ◌≤◌, ◌⊎◌, inl, inr, Bool, true, false, cond, nat_lt, List, [], ◌∷◌, ◌++◌, length, get_or, refl, sym, ap, subst, ◌∙◌, arith, ◌^◌, All, Vec, Global}
+use Rattle.std.proofs.Common.{◌≡◌, ℕ, ◌+◌, ◌-◌, ◌/◌, ◌<◌, ◌≤◌, Bool, true, false, cond, nat_lt, List, [], ◌∷◌, ◌++◌, length, get_or, refl, sym, ap, ◌∙◌, arith}
 use Rattle.std.specs.Ordering.{nat_cmp, ord_max, is_lt}
 use Rattle.std.proofs.lemmas.Bool.Decides.{nat_tests}
 use Rattle.std.proofs.lemmas.List.{length-append, get_or_append_left, get_or-append-add}
 use Rattle.kmc_dump.specs.Listed.{Listed}
-use Rattle.kmc_dump.specs.Ranges.{is_within, within, joined, packs, count_within, AreBounds, AreRanges, CanBeMerged}
-use Rattle.kmc_base.specs.declared.kmer.TheConstants.{MAX_K}
+use Rattle.kmc_dump.specs.Ranges.{is_within, within, joined, packs, count_within, AreBounds}
 
 -- one range behind the other has as many pairs as both
 module _ (w a b c : ℕ) (low : a ≤ b) (high : b ≤ c) where

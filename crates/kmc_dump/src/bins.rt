@@ -13,7 +13,6 @@ use kmc_base::kmer::MAX_K;
 use kmc_base::strands::Strands;
 use kmc_base::word::Word;
 use kmc_count::bin::CountError;
-use kmc_count::bins::share;
 use kmc_count::limits::Limits;
 use std::alloc::Global;
 use std::thread;
@@ -50,6 +49,29 @@ fn list_row<W: Word + Drop, C: Shown + Drop>(
         }
     }
     Ok(lists)
+}
+
+/// How many of the bodies, from the first on, have about so many of `threads` parts of all bytes.
+fn share(bodies: &[Vec<u8>], parts: usize, threads: usize) -> usize
+    requires some { 1 ≤ threads }
+    requires part { parts ≤ threads }
+    ensures { result ≤ length bodies.now }
+{
+    let mut bytes: usize = 0;
+    for body in bodies {
+        bytes = bytes.saturating_add(body.len());
+    }
+    let wanted = bytes / threads * parts;
+    let mut taken: usize = 0;
+    let mut count = 0;
+    for body in bodies {
+        if taken >= wanted {
+            return count;
+        }
+        taken = taken.saturating_add(body.len());
+        count += 1;
+    }
+    count
 }
 
 /// The list of each body, in the order of the bodies, by at most so many threads. The bodies are parted by their bytes,

@@ -28,9 +28,7 @@ pub enum DumpError {
 }
 
 /// How many pairs the lists have. It fails where there are more than a number tells, which no memory could hold.
-fn count_pairs<W: Word + Drop, C: Shown + Drop>(
-    lists: &[Counts<W, C>],
-) -> Result<usize, AllocError>
+fn count_pairs<W: Word + Drop, C: Shown + Drop>(lists: &[Counts<W, C>]) -> Result<usize, AllocError>
     ensures { IfOk result (λ total. total ≡ length (joined (packs lists.now))) }
 {
     let mut total: usize = 0;

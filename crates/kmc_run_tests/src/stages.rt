@@ -1,9 +1,12 @@
 //! Bins filled part by part in any order, and what stage two makes of them, against the direct count of the same reads.
 use crate::dice::Dice;
-use kmc_base::kmer::Kmer;
 use kmc_base::strands::Strands;
+use kmc_count::device::Counted;
 use kmc_count::direct::count_direct;
+use kmc_count::dump::write_dump;
 use kmc_count::limits::Limits;
+use kmc_dump::lists::write_bins;
+use kmc_dump::write::DumpError;
 use kmc_partqueue::NoGate;
 use kmc_reads::format::Format;
 use kmc_record::part::Part;
@@ -122,27 +125,39 @@ fn absorb_in_any_order(
     Ok(bins)
 }
 
-/// What stage two makes of the bins, which must be of the settings' shape.
+/// The dump of what stage two makes of the bins, which must be of the settings' shape.
 fn counted<R: Abort + Threads + Sync>(
     rt: &R,
     alloc: Global,
-    bins: &Bins,
+    bins: Bins,
     params: &Params,
-) -> Result<Vec<(Kmer, u64)>, Fail> {
+) -> Result<Vec<u8>, Fail> {
     let wanted = params.shape();
     assert!(rt; bins.shape() == wanted);
-    match stage_two(rt, alloc, bins, params) {
-        Ok(pairs) => Ok(pairs),
-        Err(_) => Err(Fail::from("out of memory")),
+    let lists = match stage_two(rt, alloc, bins, params) {
+        Ok(lists) => lists,
+        Err(_) => return Err(Fail::from("out of memory")),
+    };
+    let mut writer = Counted::new(Vec::new(alloc));
+    let written = write_bins(rt, alloc, &mut writer, &lists, params.k, params.sr);
+    match written {
+        Ok(_) => Ok(writer.into_inner()),
+        Err(_) => Err(Fail::from("not written")),
     }
 }
 
-/// Whether the lists are equal, pair by pair.
-fn same_pairs(a: &[(Kmer, u64)], b: &[(Kmer, u64)]) -> bool {
-    a.len() == b.len()
-        && a.iter()
-            .zip(b.iter())
-            .all(|(x, y)| x.0 == y.0 && x.1 == y.1)
+/// The dump of the direct count of the reads, and how many lines it has.
+fn plain(
+    rt: &impl Abort,
+    alloc: Global,
+    reads: &[Vec<u8>],
+    params: &Params,
+) -> Result<(Vec<u8>, usize), Fail> {
+    let pairs = count_direct(alloc, reads, params.k, params.strands, &params.limits)?;
+    let mut writer = Counted::new(Vec::new(alloc));
+    let written = write_dump(&mut writer, &pairs);
+    assert!(rt; written.is_ok());
+    Ok((writer.into_inner(), pairs.len()))
 }
 
 #[test]
@@ -155,10 +170,10 @@ fn stage_two_counts_what_the_reads_hold(rt: HostRuntime) -> Result<(), Fail> {
         let reads = some_reads(alloc, &mut dice, 12, 90)?;
         let parts = parts_by(alloc, &reads, 1 + dice.roll(5), params.shape())?;
         let bins = absorb_in_any_order(&rt, alloc, &mut dice, parts, params.shape())?;
-        let by_bins = counted(&rt, alloc, &bins, &params)?;
-        let direct = count_direct(alloc, &reads, params.k, params.strands, &params.limits)?;
-        assert!(rt; same_pairs(&by_bins, &direct));
-        listed = direct.len().saturating_add(listed);
+        let by_bins = counted(&rt, alloc, bins, &params)?;
+        let (direct, lines) = plain(&rt, alloc, &reads, &params)?;
+        assert!(rt; by_bins == direct);
+        listed = lines.saturating_add(listed);
     }
     // the texts are no idle ones
     assert!(rt; listed > 300);
@@ -196,10 +211,10 @@ fn both_stages_count_random_texts(rt: HostRuntime) -> Result<(), Fail> {
         let params = with_some_queue(&mut dice, settings).ok_or("queue in range")?;
         let reads = some_reads(alloc, &mut dice, 12, 90)?;
         let bins = filled(&rt, alloc, &reads, &params)?;
-        let pairs = counted(&rt, alloc, &bins, &params)?;
-        let direct = count_direct(alloc, &reads, params.k, params.strands, &params.limits)?;
-        assert!(rt; same_pairs(&pairs, &direct));
-        listed = direct.len().saturating_add(listed);
+        let by_bins = counted(&rt, alloc, bins, &params)?;
+        let (direct, lines) = plain(&rt, alloc, &reads, &params)?;
+        assert!(rt; by_bins == direct);
+        listed = lines.saturating_add(listed);
     }
     // the texts are no idle ones
     assert!(rt; listed > 300);
@@ -227,33 +242,21 @@ fn any_number_of_threads_gives_one_list(rt: HostRuntime) -> Result<(), Fail> {
     let mut longest: usize = 0;
     for k in [4, 25, 33] {
         let one = Params::new(Format::Fastq, k, 9, 97, 2, 1, limits).ok_or("settings in range")?;
-        let direct = count_direct(alloc, &reads, k, one.strands, &limits)?;
-        longest = longest.max(direct.len());
+        let (direct, lines) = plain(&rt, alloc, &reads, &one)?;
+        longest = longest.max(lines);
         for threads in [1, 2, 16] {
             let params = Params::new(Format::Fastq, k, 9, 97, 2, threads, limits).ok_or(
                 "settings in range",
             )?;
             let parts = parts_by(alloc, &reads, 7, params.shape())?;
             let bins = absorb_in_any_order(&rt, alloc, &mut dice, parts, params.shape())?;
-            let pairs = counted(&rt, alloc, &bins, &params)?;
-            assert!(rt; same_pairs(&pairs, &direct));
+            let by_bins = counted(&rt, alloc, bins, &params)?;
+            assert!(rt; by_bins == direct);
         }
     }
-    // long enough for a sort by several threads
+    // long enough for several threads
     assert!(rt; longest > 8192);
     Ok(())
-}
-
-/// The words with their counts, as the dump shows them, with a space for each tab and a semicolon for each line end.
-fn shown(alloc: Global, pairs: &[(Kmer, u64)]) -> Result<String, Fail> {
-    let mut text = String::new(alloc);
-    for (word, count) in pairs {
-        for i in 0..word.k() {
-            text.push_str(["A", "C", "G", "T"][word.code_at(i) as usize % 4])?;
-        }
-        text.push_str(format!(in alloc; " {count};")?.as_str())?;
-    }
-    Ok(text)
 }
 
 /// The dump of these reads through bins, which must be that of the direct count too.
@@ -262,17 +265,17 @@ fn through_bins<R: Abort + Threads + Sync>(
     alloc: Global,
     reads: &[&[u8]],
     params: &Params,
-) -> Result<String, Fail> {
+) -> Result<Vec<u8>, Fail> {
     let mut list = Vec::new(alloc);
     for read in reads {
         list.push(read.to_vec(alloc)?)?;
     }
     let parts = parts_by(alloc, &list, 1, params.shape())?;
     let bins = absorb_in_any_order(rt, alloc, &mut Dice { state: 3 }, parts, params.shape())?;
-    let pairs = counted(rt, alloc, &bins, params)?;
-    let direct = count_direct(alloc, &list, params.k, params.strands, &params.limits)?;
-    assert!(rt; same_pairs(&pairs, &direct));
-    shown(alloc, &pairs)
+    let by_bins = counted(rt, alloc, bins, params)?;
+    let (direct, _) = plain(rt, alloc, &list, params)?;
+    assert!(rt; by_bins == direct);
+    Ok(by_bins)
 }
 
 /// Settings for words of k symbols with these limits.
@@ -288,21 +291,21 @@ fn bins_give_the_dumps_of_small_texts(rt: HostRuntime) -> Result<(), Fail> {
     let twice = b"GATTACAGATTACAGATTACACCGGT".as_slice();
     let two_reads = through_bins(&rt, alloc, &[twice, twice], &settings(25, 2, billion, 255)?)?;
     assert_eq!(rt;
-        two_reads.as_str(),
-        "ACCGGTGTAATCTGTAATCTGTAAT 2;CCGGTGTAATCTGTAATCTGTAATC 2;"
+        two_reads.as_slice(),
+        &b"ACCGGTGTAATCTGTAATCTGTAAT\t2\nCCGGTGTAATCTGTAATCTGTAATC\t2\n"[..]
     );
     let apart = settings(25, 2, billion, 255)?.with_strands(Strands::Apart);
     let as_read = through_bins(&rt, alloc, &[twice, twice], &apart)?;
     assert_eq!(rt;
-        as_read.as_str(),
-        "ATTACAGATTACAGATTACACCGGT 2;GATTACAGATTACAGATTACACCGG 2;"
+        as_read.as_slice(),
+        &b"ATTACAGATTACAGATTACACCGGT\t2\nGATTACAGATTACAGATTACACCGG\t2\n"[..]
     );
     let short = through_bins(&rt, alloc, &[b"ACGTACGT"], &settings(4, 1, billion, 255)?)?;
-    assert_eq!(rt; short.as_str(), "ACGT 2;CGTA 2;GTAC 1;");
+    assert_eq!(rt; short.as_slice(), &b"ACGT\t2\nCGTA\t2\nGTAC\t1\n"[..]);
     let broken = through_bins(&rt, alloc, &[b"ACGTNACGT"], &settings(4, 1, billion, 255)?)?;
-    assert_eq!(rt; broken.as_str(), "ACGT 2;");
+    assert_eq!(rt; broken.as_slice(), &b"ACGT\t2\n"[..]);
     let none = through_bins(&rt, alloc, &[b"ACGTACGT"], &settings(4, 3, 2, 255)?)?;
-    assert_eq!(rt; none.as_str(), "");
+    assert!(rt; none.is_empty());
     Ok(())
 }
 
@@ -322,10 +325,10 @@ fn long_runs_are_counted_whole_and_then_capped(rt: HostRuntime) -> Result<(), Fa
     for (ci, cx, cs, count) in rows {
         let dump = through_bins(&rt, alloc, &[&read], &settings(25, ci, cx, cs)?)?;
         let wanted = match count {
-            Some(count) => format!(in alloc; "{word} {count};")?,
+            Some(count) => format!(in alloc; "{word}\t{count}\n")?,
             None => String::new(alloc),
         };
-        assert_eq!(rt; dump.as_str(), wanted.as_str());
+        assert_eq!(rt; dump.as_slice(), wanted.as_bytes());
     }
     Ok(())
 }
@@ -340,19 +343,10 @@ fn parts_of_one(alloc: Global, read: &[u8], shape: Shape) -> Result<Vec<Part>, A
     parts_of(alloc, &chunk, shape)
 }
 
-/// Whether these are the counts, in their order.
-fn has_counts(pairs: &[(Kmer, u64)], counts: &[u64]) -> bool {
-    pairs.len() == counts.len()
-        && pairs
-            .iter()
-            .zip(counts.iter())
-            .all(|(pair, n)| pair.1 == *n)
-}
-
-/// Passes whichever one allocation is refused: before stage two it ends, and stage two answers want of memory, and
-/// then, called again, the list.
+/// Passes whichever one allocation is refused: before stage two it ends, and stage two answers want of memory, or what it
+/// answers without a refusal.
 #[test]
-fn refused_memory_is_answered_and_leaves_the_bins(rt: HostRuntime) -> Result<(), Fail> {
+fn refused_memory_is_answered(rt: HostRuntime) -> Result<(), Fail> {
     let alloc = rt.alloc();
     let limits = Limits::new(1, 1000, 255).ok_or("limits in range")?;
     let params = Params::new(Format::Fastq, 4, 9, 7, 1, 1, limits).ok_or("settings in range")?;
@@ -364,15 +358,22 @@ fn refused_memory_is_answered_and_leaves_the_bins(rt: HostRuntime) -> Result<(),
         return Ok(());
     };
     assert!(rt; bins.shape() == own);
-    match stage_two(&rt, alloc, &bins, &params) {
-        Ok(pairs) => assert!(rt; has_counts(&pairs, &[2, 2, 1])),
-        Err(_) => {
-            assert!(rt; bins.shape() == own);
-            match stage_two(&rt, alloc, &bins, &params) {
-                Ok(pairs) => assert!(rt; has_counts(&pairs, &[2, 2, 1])),
-                Err(_) => return Err(Fail::from("one allocation was refused, and two calls")),
-            }
+    let lists = match stage_two(&rt, alloc, bins, &params) {
+        Ok(lists) => lists,
+        Err(_) => return Ok(()),
+    };
+    let Ok(room) = Vec::with_capacity(alloc, 64) else {
+        return Ok(());
+    };
+    let mut writer = Counted::new(room);
+    let written = write_bins(&rt, alloc, &mut writer, &lists, params.k, params.sr);
+    let wrote = writer.into_inner();
+    match written {
+        Ok(lines) => {
+            assert!(rt; lines == 3);
+            assert_eq!(rt; wrote.as_slice(), &b"ACGT\t2\nCGTA\t2\nGTAC\t1\n"[..]);
         }
+        Err(error) => assert!(rt; error == DumpError::Memory && wrote.is_empty()),
     }
     Ok(())
 }

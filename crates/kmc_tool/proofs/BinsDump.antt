@@ -75,4 +75,4 @@ pub listed : BinsShareNoKey → DumpsOfBodiesAreOfKeys → PackedDumpsAreOne →
 listed share keyed packed strands k p n l shape given bodies words lists some_k some_p shaped are same h =
     let done = counted share keyed strands k p n l shape given bodies words (map pairs_of lists) some_k some_p shaped are same h.dumps in
     let made = packed l k (map (record_keys strands k) done.super_kmers) lists h.each done.dumps done.apart in
-    (made.0, record { super_kmers = done.super_kmers; records = done.records; dump = made.1; })
+    (made.0, record { super_kmers = done.super_kmers; records = done.records; dump = made.1 })

@@ -4,11 +4,11 @@ ghost use Rattle.std.specs.Prelude.{◌≡◌, [], ◌∷◌, map, IfOk};
 use kmc_base::kmer::Kmer;
 use kmc_base::strands::Strands;
 use kmc_count::bin::{CountError, count_bin};
-use kmc_count::bins::count_bins;
 use kmc_count::device::Counted;
 use kmc_count::dump::write_dump;
 use kmc_count::limits::Limits;
 use kmc_count::merge::merge_bins;
+use kmc_dump::lists::{BinLists, SizedLists, list_bins};
 use kmc_record::fault::RecordFault;
 use std::alloc::{AllocError, Global};
 use std::process::Abort;
@@ -114,28 +114,29 @@ fn bodies_of(alloc: Global, bodies: &[&[u8]]) -> Result<Vec<Vec<u8>>, AllocError
 #[test]
 fn counts_bins_over_any_number_of_threads(rt: HostRuntime) -> Result<(), Fail> {
     let alloc = rt.alloc();
-    let bodies = bodies_of(
-        alloc,
-        &[
-            &[0x00, 0x6c, 0x00, 0xc6],
-            &[],
-            &[0x00, 0x1b],
-            &[0x01, 0x00, 0x00],
-            &[0x00, 0x55],
-        ],
-    )?;
-    let want = [
-        &b"CGTA\t2\n"[..],
-        &[],
-        &b"ACGT\t1\n"[..],
-        &b"AAAA\t2\n"[..],
-        &b"CCCC\t1\n"[..],
-    ];
+    // CGTA twice; nothing; ACGT; AAAA twice; CCCC
+    let want: [&[(u64, u8)]; 5] = [&[(0x6c, 2)], &[], &[(0x1b, 1)], &[(0x00, 2)], &[(0x55, 1)]];
     for threads in [1, 2, 16] {
-        let lists = count_bins(&rt, alloc, &bodies, 4, Strands::Joined, &LIMITS, threads)?;
+        let bodies = bodies_of(
+            alloc,
+            &[
+                &[0x00, 0x6c, 0x00, 0xc6],
+                &[],
+                &[0x00, 0x1b],
+                &[0x01, 0x00, 0x00],
+                &[0x00, 0x55],
+            ],
+        )?;
+        let listed = list_bins(&rt, alloc, bodies, 4, Strands::Joined, &LIMITS, threads)?;
+        let BinLists::Narrow(SizedLists::Byte(lists)) = listed else {
+            return Err(Fail::from("wider than it should be"));
+        };
         assert_eq!(rt; lists.len(), want.len());
-        for (pairs, lines) in lists.iter().zip(want) {
-            assert_eq!(rt; text_of(&rt, alloc, pairs).as_slice(), lines);
+        for (list, pairs) in lists.iter().zip(want) {
+            assert_eq!(rt; list.len(), pairs.len());
+            for i in 0..list.len() {
+                assert!(rt; Some(&list.get(i)) == pairs.get(i));
+            }
         }
     }
     Ok(())
@@ -144,12 +145,12 @@ fn counts_bins_over_any_number_of_threads(rt: HostRuntime) -> Result<(), Fail> {
 #[test]
 fn names_the_first_damaged_bin(rt: HostRuntime) -> Result<(), Fail> {
     let alloc = rt.alloc();
-    let bodies = bodies_of(
-        alloc,
-        &[&[0x00, 0x1b], &[0x00, 0x1b, 0x00], &[0x05], &[0x00, 0x1b]],
-    )?;
     for threads in [1, 2, 16] {
-        match count_bins(&rt, alloc, &bodies, 4, Strands::Joined, &LIMITS, threads) {
+        let bodies = bodies_of(
+            alloc,
+            &[&[0x00, 0x1b], &[0x00, 0x1b, 0x00], &[0x05], &[0x00, 0x1b]],
+        )?;
+        match list_bins(&rt, alloc, bodies, 4, Strands::Joined, &LIMITS, threads) {
             Ok(_) => assert!(rt; false),
             Err(error) => assert_eq!(rt; error, CountError::Damaged(RecordFault::Short, 2)),
         }
@@ -177,12 +178,12 @@ fn lists_of_bins(alloc: Global) -> Result<Vec<Vec<(Kmer, u64)>>, AllocError>
 fn merges_the_lists_of_bins(rt: HostRuntime) -> Result<(), Fail> {
     let alloc = rt.alloc();
     let lists = lists_of_bins(alloc)?;
-    let pairs = merge_bins(&rt, alloc, lists, 2)?;
+    let pairs = merge_bins(alloc, lists)?;
     assert_eq!(rt;
         text_of(&rt, alloc, &pairs).as_slice(),
         &b"A\t2\nG\t3\nT\t1\n"[..]
     );
-    let none = merge_bins(&rt, alloc, Vec::new(alloc), 1)?;
+    let none = merge_bins(alloc, Vec::new(alloc))?;
     assert!(rt; none.is_empty());
     Ok(())
 }

@@ -5,7 +5,7 @@ use Rattle.kmc_count.proofs.Merging.{merged, written_back}
 use Rattle.kmc_count.proofs.merge.merge_bins.Goals as goal
 
 pub returns : goal.returns
-returns g c =
+returns c =
     let made = c.in_ok-pairs.pairs in let pairs = c.sort_pairs.new.pairs in
     let moves = subst (λ (ps : List (List ℕ × ℕ)). IsPermutation ps pairs) (c.deref_mut.ensures.value ∙ c.in_ok-pairs.ensures) c.sort_pairs.ensures.moved in
     subst (IsMerged _) (sym (written_back made.len made.items pairs (c.sort_pairs.auto.pairs ∙ ap length c.deref_mut.ensures.value) (omega (arith, made.ok.0))))

@@ -5,10 +5,6 @@ use Rattle.kmc_base.specs.Words.{kmer_cmp}
 use Rattle.kmc_count.proofs.Listing.{kmer_total}
 use Rattle.kmc_count.proofs.merge.sort_pairs.Goals as goal
 
-pub returns-then-threads-le1-clause-sorted : goal.returns-then-threads-le1-clause-sorted
-returns-then-threads-le1-clause-sorted g c =
+pub returns-clause-sorted : goal.returns-clause-sorted
+returns-clause-sorted c =
     c.sort_unstable_by.ensures.sorted (λ p q. is_lt (kmer_cmp p.0 q.0)) (ranks_by kmer_total (λ (p : List ℕ × ℕ). p.0)) (answers_always _ _ _ (λ f a r f' k. search rules))
-
-pub returns-else-threads-le1-clause-sorted : goal.returns-else-threads-le1-clause-sorted
-returns-else-threads-le1-clause-sorted g c =
-    c.par_sort_unstable_by.ensures.sorted (λ p q. is_lt (kmer_cmp p.0 q.0)) (ranks_by kmer_total (λ (p : List ℕ × ℕ). p.0)) (answers_always _ _ _ (λ f a r f' k. search rules))

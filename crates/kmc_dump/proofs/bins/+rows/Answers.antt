@@ -2,8 +2,8 @@ use Rattle.std.proofs.Common.{◌≡◌, ◌++◌, ℕ, List, map, take, drop, s
 use Rattle.std.proofs.lemmas.List.{map-append, take-append-drop}
 use Rattle.kmc_count.specs.declared.bin.CountError.TheVariants.{Damaged}
 use Rattle.kmc_count.specs.Bodies.{IsFirstDamaged}
-use Rattle.kmc_count.proofs.ManyBodies.{texts, first_damaged, second_damaged}
-use Rattle.kmc_dump.specs.Listed.{Listed, pairs_of}
+use Rattle.kmc_dump.proofs.ManyBodies.{texts, first_damaged, second_damaged}
+use Rattle.kmc_dump.specs.Listed.{pairs_of}
 use Rattle.kmc_dump.specs.Bodies.{AreListsOfBodies, IsListingOfBodies}
 use Rattle.kmc_dump.proofs.ListedBodies.{both_listed}
 use Rattle.kmc_dump.proofs.bins.+rows.Goals as goal

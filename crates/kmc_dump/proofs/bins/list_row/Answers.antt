@@ -1,7 +1,7 @@
 use Rattle.std.proofs.Common.{◌≡◌, ℕ, List, ◌∷◌, [], ◌++◌, sym, ap, subst, ◌∙◌, append_assoc, Vec, Global, Err}
 use Rattle.std.specs.Vec.Iter.{into_iter_items}
 use Rattle.kmc_count.specs.declared.bin.CountError.TheVariants.{Damaged}
-use Rattle.kmc_count.proofs.ManyBodies.{texts}
+use Rattle.kmc_dump.proofs.ManyBodies.{texts}
 use Rattle.kmc_dump.specs.Listed.{Listed}
 use Rattle.kmc_dump.specs.Bodies.{AreListsOfBodies}
 use Rattle.kmc_dump.proofs.ListedBodies.{one_listed, next_damaged}

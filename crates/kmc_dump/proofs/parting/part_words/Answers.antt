@@ -1,4 +1,4 @@
-use Rattle.std.proofs.Common.{◌*◌, ◌<◌, ◌^◌, arith}
+use Rattle.std.proofs.Common.{◌*◌, arith}
 use Rattle.std.proofs.lemmas.Nat.{one_shl}
 use Rattle.kmc_dump.proofs.Histogram.{slot_fits}
 use Rattle.kmc_dump.proofs.parting.part_words.Goals as goal

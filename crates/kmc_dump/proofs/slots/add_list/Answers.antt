@@ -1,4 +1,4 @@
-use Rattle.std.proofs.Common.{ℕ, ◌<◌, ◌^◌, ◌/◌, length, ap, arith}
+use Rattle.std.proofs.Common.{ℕ, ◌^◌, ◌/◌, ap, arith}
 use Rattle.kmc_dump.proofs.Histogram.{noted}
 use Rattle.kmc_dump.proofs.slots.add_list.Goals as goal
 

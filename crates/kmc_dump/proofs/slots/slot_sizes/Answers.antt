@@ -1,4 +1,4 @@
-use Rattle.std.proofs.Common.{ap, subst, ◌<◌, ◌/◌, ◌^◌, length, ℕ, arith, sym}
+use Rattle.std.proofs.Common.{ap, ◌<◌, ◌/◌, ◌^◌, length, arith}
 use Rattle.kmc_dump.proofs.Gathered.{all_there}
 use Rattle.kmc_dump.proofs.slots.slot_sizes.Goals as goal
 

@@ -1,4 +1,4 @@
-use Rattle.std.proofs.Common.{◌≡◌, ℕ, ◌+◌, ◌<◌, ◌^◌, length, get_or, take}
+use Rattle.std.proofs.Common.{◌≡◌, ◌^◌, length, take}
 use Rattle.kmc_dump.specs.Ranges.{AreSizes}
 use Rattle.kmc_dump.proofs.slots.slot_sizes.Given as goal
 

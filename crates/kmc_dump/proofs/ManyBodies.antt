@@ -1,15 +1,14 @@
--- The dumps of many bodies.
-use Rattle.std.proofs.Common.{◌≡◌, ℕ, ◌+◌, ◌-◌, ◌<◌, List, [], ◌∷◌, ◌++◌, length, get_or, take, map, sym, ap, subst, ◌∙◌, arith, Vec, Global}
+-- The first damaged body of two rows.
+use Rattle.std.proofs.Common.{◌≡◌, ℕ, ◌+◌, ◌-◌, List, [], ◌∷◌, ◌++◌, length, get_or, take, map, sym, ap, subst, ◌∙◌, arith, Vec, Global}
 use Rattle.std.specs.List.{All}
-use Rattle.std.proofs.lemmas.List.{take_more, take-append-le, length-append, get_or_append_left, get_or-append_right}
+use Rattle.std.proofs.lemmas.List.{take-append-le, length-append, get_or_append_left, get_or-append_right}
 use Rattle.std.proofs.lemmas.List.Elements.{All-nil, All-cons, All-append}
 use Rattle.std.proofs.Math.Seq.{take-append-add}
 use Rattle.kmc_base.specs.declared.strands.Strands.{Strands}
 use Rattle.kmc_record.specs.declared.fault.RecordFault.{RecordFault}
 use Rattle.kmc_record.specs.Faults.{IsFirstFault}
 use Rattle.kmc_count.specs.declared.limits.Limits.{Limits}
-use Rattle.kmc_count.specs.Bodies.{IsDumpOfBody, AreDumpsOfBodies, IsWhole, IsFirstDamaged}
-use Rattle.kmc_count.proofs.Zips.{zip_append}
+use Rattle.kmc_count.specs.Bodies.{AreDumpsOfBodies, IsWhole, IsFirstDamaged}
 
 -- the bytes of each body
 abbrev pub texts : List (Vec ℕ Global) → List (List ℕ)
@@ -22,29 +21,8 @@ module _ (strands : Strands) (k : ℕ) (l : Limits) where
   counted_whole (b ∷ bodies) [] h = absurd h
   counted_whole (b ∷ bodies) (ps ∷ lists) h = All-cons (IsWhole k) b bodies (h.0.super_kmers, h.0.records) (counted_whole bodies lists h.1)
 
-  module _ (bodies : List (List ℕ)) where
-    -- the first fault is in the body behind those that were counted
-    pub damaged_at : (i : ℕ) (body : List ℕ) (lists : List (List (List ℕ × ℕ))) (fault : RecordFault) (offset : ℕ) → i < length bodies → get_or bodies i [] ≡ body
-        → AreDumpsOfBodies strands k l (take i bodies) lists → IsFirstFault k fault offset body → IsFirstDamaged k fault offset bodies
-    damaged_at i body lists fault offset inside here done first = record {
-      number = i;
-      inside = inside;
-      before = counted_whole (take i bodies) lists done;
-      first = subst (IsFirstFault k fault offset) (sym here) first;
-    }
-
-    pub body_added : (i : ℕ) (body : List ℕ) (lists : List (List (List ℕ × ℕ))) (pairs : List (List ℕ × ℕ)) → i < length bodies → get_or bodies i [] ≡ body
-        → AreDumpsOfBodies strands k l (take i bodies) lists → IsDumpOfBody strands k l body pairs → AreDumpsOfBodies strands k l (take (i + 1) bodies) (lists ++ pairs ∷ [])
-    body_added i body lists pairs inside here done now =
-        let split : take (i + 1) bodies ≡ take i bodies ++ body ∷ [] = take_more bodies i [] inside ∙ ap (λ (b : List ℕ). take i bodies ++ b ∷ []) here in
-        subst (λ (t : List (List ℕ)). AreDumpsOfBodies strands k l t (lists ++ pairs ∷ [])) (sym split)
-        (zip_append (IsDumpOfBody strands k l) (take i bodies) (body ∷ []) lists (pairs ∷ []) done (now, tt))
-
   -- two rows of bodies, the second behind the first
   module _ (us vs : List (List ℕ)) where
-    pub both_counted : (lists more : List (List (List ℕ × ℕ))) → AreDumpsOfBodies strands k l us lists → AreDumpsOfBodies strands k l vs more → AreDumpsOfBodies strands k l (us ++ vs) (lists ++ more)
-    both_counted lists more = zip_append (IsDumpOfBody strands k l) us vs lists more
-
     pub first_damaged : (fault : RecordFault) (offset : ℕ) → IsFirstDamaged k fault offset us → IsFirstDamaged k fault offset (us ++ vs)
     first_damaged fault offset d = record {
       number = d.number;

@@ -1,0 +1,109 @@
+//! Reads, the lists that both stages make of them, and their plain dump.
+ghost use Rattle.std.specs.Prelude.{IfSome};
+ghost use Rattle.kmc_dump.specs.Lists.{lists_of};
+ghost use Rattle.kmc_dump.specs.Ranges.{CanBeMerged};
+
+use kmc_count::device::Counted;
+use kmc_count::direct::count_direct;
+use kmc_count::dump::write_dump;
+use kmc_count::limits::Limits;
+use kmc_dump::lists::{BinLists, write_bins};
+use kmc_partqueue::NoGate;
+use kmc_reads::format::Format;
+use kmc_tool::params::Params;
+use kmc_tool::stage_one::stage_one;
+use kmc_tool::stage_two::stage_two;
+use std::alloc::{AllocError, Global};
+use std::process::Abort;
+use std::sync::Wait;
+use std::test::Fail;
+use std::thread::Threads;
+
+/// Numbers that look thrown, the same on each run.
+#[derive(Drop)]
+pub struct Dice {
+    pub state: u64,
+}
+
+impl Dice {
+    /// A number below 4.
+    pub fn letter(&mut self) -> usize {
+        self.state ^= self.state << 13;
+        self.state ^= self.state >> 7;
+        self.state ^= self.state << 17;
+        (self.state >> 33) as usize % 4
+    }
+}
+
+/// A read of so many symbols.
+pub fn thrown(alloc: Global, dice: &mut Dice, len: usize) -> Result<Vec<u8>, AllocError> {
+    let letters = b"ACGT";
+    let mut read = Vec::with_capacity(alloc, len)?;
+    for _ in 0..len {
+        read.push(letters[dice.letter() % 4])?;
+    }
+    Ok(read)
+}
+
+/// One read.
+pub fn alone(alloc: Global, read: Vec<u8>) -> Result<Vec<Vec<u8>>, AllocError> {
+    let mut reads = Vec::with_capacity(alloc, 1)?;
+    reads.push(read)?;
+    Ok(reads)
+}
+
+/// Settings for words of k symbols whose counts are listed from one on and shown up to cs, with so many threads.
+pub fn settings(k: usize, cs: u64, threads: usize) -> Result<Params, Fail> {
+    let limits = Limits::new(1, 1 << 63, cs).ok_or("limits in range")?;
+    Ok(Params::new(Format::Fastq, k, 9, 50, 1, threads, limits).ok_or("settings in range")?)
+}
+
+/// The lists of the bins that hold the reads, where no memory is refused.
+pub fn listed<R: Abort + Threads + Wait + Sync>(
+    rt: &R,
+    alloc: Global,
+    reads: &[Vec<u8>],
+    params: &Params,
+) -> Option<BinLists>
+    ensures { IfSome result (λ lists. CanBeMerged params.now.k (lists_of lists)) }
+{
+    let bins = match stage_one(rt, alloc, reads, params, &NoGate) {
+        Ok(bins) => bins,
+        Err(_) => return None,
+    };
+    match stage_two(rt, alloc, bins, params) {
+        Ok(lists) => Some(lists),
+        Err(_) => None,
+    }
+}
+
+/// The dump of the reads by ranges, and what the call says of its lines.
+pub fn by_ranges<R: Abort + Threads + Wait + Sync>(
+    rt: &R,
+    alloc: Global,
+    reads: &[Vec<u8>],
+    params: &Params,
+) -> Result<(Vec<u8>, u64), Fail> {
+    let Some(lists) = listed(rt, alloc, reads, params) else {
+        return Err(Fail::from("out of memory"));
+    };
+    let mut writer = Counted::new(Vec::new(alloc));
+    match write_bins(rt, alloc, &mut writer, &lists, params.k, params.sr) {
+        Ok(lines) => Ok((writer.into_inner(), lines)),
+        Err(_) => Err(Fail::from("not written")),
+    }
+}
+
+/// The dump of the direct count of the reads, and its number of lines.
+pub fn plain(
+    rt: &impl Abort,
+    alloc: Global,
+    reads: &[Vec<u8>],
+    params: &Params,
+) -> Result<(Vec<u8>, u64), Fail> {
+    let pairs = count_direct(alloc, reads, params.k, params.strands, &params.limits)?;
+    let mut writer = Counted::new(Vec::new(alloc));
+    let written = write_dump(&mut writer, &pairs);
+    assert!(rt; written.is_ok());
+    Ok((writer.into_inner(), pairs.len() as u64))
+}
