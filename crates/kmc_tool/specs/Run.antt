@@ -1,11 +1,20 @@
 -- What a run does.
-use Rattle.std.specs.Prelude.{◌≡◌, ℕ, List, length, Ok}
+use Rattle.std.specs.Prelude.{◌≡◌, ℕ, List, length, Ok, Option}
+use Rattle.kmc_count.specs.Device.{GaveAll}
 use Rattle.kmc_base.specs.declared.strands.Strands.{Strands}
 use Rattle.kmc_reads.specs.declared.format.Format.{Format}
 use Rattle.kmc_reads.specs.Reads.{reads_of}
 use Rattle.kmc_count.specs.declared.limits.Limits.{Limits}
 use Rattle.kmc_count.specs.Occurrences.{count_of}
 use Rattle.kmc_count.specs.Dump.{IsDump, text_of}
+
+-- the pairs are the dump of the direct count of the reads of all that a reader gave
+pub record IsDumpOfInput (format : Format) (strands : Strands) (k : ℕ) (limits : Limits) (old new : Option (List ℕ)) (pairs : List (List ℕ × ℕ)) : Type 0 where
+  pub bytes : List ℕ
+  pub given : GaveAll old new bytes
+  pub reads : List (List ℕ)
+  pub are_reads : reads_of format bytes ≡ Ok reads
+  pub is_dump : IsDump (count_of strands k reads) limits pairs
 
 -- the text is the dump of the direct count of the reads of these bytes, and has so many lines
 pub record IsDumpOf (format : Format) (bytes : List ℕ) (strands : Strands) (k : ℕ) (limits : Limits) (text : List ℕ) (lines : ℕ) : Type 0 where

@@ -3,12 +3,13 @@
 //! devices whose failures are counted. The layer above makes `params::Params` and calls `run::run`.
 #![tactic(auto)]
 
+pub mod count_input;
 pub mod error;
-mod input;
 pub mod laws;
 pub mod params;
+mod round;
+pub mod rounds;
 pub mod run;
 pub mod setting;
 pub mod stage_one;
 pub mod stage_two;
-mod stages;

@@ -196,8 +196,9 @@ pub fn bins_of_input<T: Threads + Wait + Sync, R: Read, G: Gate + Sync>(
             Ok(own) => own,
             Err(e) => return Err(e),
         };
-        if bins.merge(own).is_err() {
-            return Err(RunError::Memory);
+        match bins.merge(own) {
+            Ok(()) => {}
+            Err(_) => return Err(RunError::Memory),
         }
     }
     Err(RunError::TooLong)

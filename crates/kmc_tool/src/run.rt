@@ -1,32 +1,32 @@
 //! A run: from the bytes of a reader to the dump on a writer.
-ghost use Rattle.std.specs.Prelude.{◌≡◌, ◌≢◌, ℕ, ◌+◌, ◌-◌, ◌^◌, ◌<◌, ◌≤◌, List, length, IfOk, IfErr, IsErrOf, Ok, Err};
+ghost use Rattle.std.specs.Prelude.{◌≡◌, ◌≢◌, ℕ, ◌+◌, ◌-◌, ◌^◌, ◌<◌, ◌≤◌, List, [], length, IfOk, IfErr, IsErrOf};
 ghost use Rattle.std.specs.Io.KnownBytes.{Appends, Consumes};
 ghost use Rattle.kmc_count.specs.Device.{GaveAll, AppendsFront};
-ghost use Rattle.kmc_reads.specs.Reads.{reads_of};
-ghost use Rattle.kmc_workers.specs.Causes.{AreTooMany};
-ghost use Rattle.kmc_workers.specs.Workers.{chunks_of};
+ghost use Rattle.kmc_tool.specs.Rounds.{AreSpent, IsRefused};
 ghost use Rattle.kmc_tool.specs.Run.{IsDumpOf};
 ghost use Rattle.kmc_tool.specs.Stages.{shape_of};
 
+use crate::count_input::count_input;
 use crate::error::RunError;
-use crate::input::{ReadFault, read_text};
 use crate::params::Params;
-use crate::stages::count_by_bins;
 use kmc_count::device::Counted;
 use kmc_dump::lists::write_bins;
 use kmc_dump::write::DumpError;
 use kmc_partqueue::Gate;
 use kmc_reads::error::ReadsError;
-use kmc_reads::read_all::read_all;
+use kmc_reads::laws::memory_is_no_fault;
 use std::alloc::Global;
 use std::io::{Read, Write};
 use std::sync::Wait;
 use std::thread::Threads;
 
+/// So many reads of a reader may give bytes.
+const MOST_READS: u64 = 1 << 32;
+
 /// Reads all that the reader gives, and writes the dump of its direct count and nothing else. Nothing is
-/// written before all was read and counted, so after every refusal but `Write` nothing was written. The
-/// answer is the number of lines. The words are counted by way of bins; the gate is told of the points that the parts
-/// pass.
+/// written before all was read and counted, so after every refusal but `Write` nothing was written; a faulty text is
+/// refused once its first faulty line was read. The answer is the number of lines. The words are counted by way of bins;
+/// the gate is told of the points that the parts pass.
 pub fn run<T: Threads + Wait + Sync, R: Read, W: Write, G: Gate + Sync>(
     rt: &T,
     alloc: Global,
@@ -49,12 +49,10 @@ pub fn run<T: Threads + Wait + Sync, R: Read, W: Write, G: Gate + Sync>(
     ensures write { IsErrOf result RunError.Write → (writer.new.failures ≡ writer.old.failures + 1)
         × (bytes text : List ℕ) × (lines : ℕ) × GaveAll (R.remaining reader.old.inner) (R.remaining reader.new.inner) bytes
         × IsDumpOf params.now.format bytes params.now.strands params.now.k params.now.limits text lines × AppendsFront (W.contents writer.old.inner) (W.contents writer.new.inner) text }
-    ensures input { (e : ReadsError) → IsErrOf result (RunError.Input e) → (bytes : List ℕ) × GaveAll (R.remaining reader.old.inner) (R.remaining reader.new.inner) bytes × (reads_of params.now.format bytes ≡ Err e) }
+    ensures input { (e : ReadsError) → IsErrOf result (RunError.Input e) → IsRefused params.now.format (R.remaining reader.old.inner) (R.remaining reader.new.inner) [] e }
     ensures long { IsErrOf result RunError.TooLong → (reader.new.reads ≡ reader.old.reads + 2 ^ 32)
         × (bytes : List ℕ) × Consumes (R.remaining reader.old.inner) (R.remaining reader.new.inner) bytes × (2 ^ 32 ≤ length bytes) }
-    ensures spent { IsErrOf result RunError.NumbersSpent → (bytes : List ℕ) × (reads : List (List ℕ)) × GaveAll (R.remaining reader.old.inner) (R.remaining reader.new.inner) bytes
-        × (reads_of params.now.format bytes ≡ Ok reads)
-        × (w : ℕ) × (w < params.now.sp) × AreTooMany (shape_of params.now) params.now.batch reads params.now.sp (chunks_of params.now.batch (length reads)) w }
+    ensures spent { IsErrOf result RunError.NumbersSpent → AreSpent (shape_of params.now) params.now.batch params.now.sp }
 
     ensures faulty { IfErr result (λ e. e ≢ RunError.Input ReadsError.Memory) }
 
@@ -63,22 +61,10 @@ pub fn run<T: Threads + Wait + Sync, R: Read, W: Write, G: Gate + Sync>(
     ensures reader_kept { IfErr result (λ e. e ≢ RunError.Read → reader.new.failures ≡ reader.old.failures) }
     ensures reads_most { reader.new.reads ≤ reader.old.reads + 2 ^ 32 }
 {
-    let text = match read_text(alloc, reader) {
-        Ok(text) => text,
-        Err(ReadFault::Memory) => return Err(RunError::Memory),
-        Err(ReadFault::Device) => return Err(RunError::Read),
-        Err(ReadFault::TooLong) => return Err(RunError::TooLong),
-    };
-    let reads = match read_all(alloc, &text, params.format) {
-        Ok(reads) => reads,
-        Err(ReadsError::Memory) => return Err(RunError::Memory),
-        Err(e) => return Err(RunError::Input(e)),
-    };
-    drop(text);
-    let lists = match count_by_bins(rt, alloc, reads, params, gate) {
+    memory_is_no_fault();
+    let lists = match count_input(rt, alloc, reader, params, gate, MOST_READS) {
         Ok(lists) => lists,
-        Err(RunError::NumbersSpent) => return Err(RunError::NumbersSpent),
-        Err(_) => return Err(RunError::Memory),
+        Err(e) => return Err(e),
     };
     match write_bins(rt, alloc, writer, &lists, params.k, params.sr) {
         Ok(lines) => Ok(lines),

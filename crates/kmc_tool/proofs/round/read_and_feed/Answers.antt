@@ -1,4 +1,4 @@
-use Rattle.std.proofs.Common.{rules, ◌≡◌, ◌≢◌, ◌<◌, ◌+◌, ℕ, length, take}
+use Rattle.std.proofs.Common.{rules, ◌≡◌, ◌≢◌, ◌<◌, ◌+◌, length, take}
 use Rattle.kmc_reads.specs.declared.error.ReadsError.TheVariants.{Memory}
 use Rattle.kmc_tool.proofs.Fed.{reads_many, refused_for_good}
 use Rattle.kmc_tool.proofs.round.read_and_feed.Goals as goal
@@ -10,7 +10,7 @@ returns-in-Ok-feed-clause-fed g c = λ format text taken s.
       bytes = take c.in-Ok.n c.read.new.buf;
       given = c.in-Ok.ensures.bytes.0;
       many = reads_many c.in-Ok.n (length (take c.in-Ok.n c.read.new.buf)) c.args.reader.now.reads c.read.new.self.reads c.in-Ok.ensures.bound.1 more c.in-Ok.ensures.at_end;
-      stands = c.in-Ok-feed.ensures.stands format text taken s
+      stands = c.in-Ok-feed.ensures.stands format text taken s;
     }
 
 pub returns-else-eq-clause-fed : goal.returns-else-eq-clause-fed

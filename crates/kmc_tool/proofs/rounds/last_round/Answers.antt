@@ -1,4 +1,4 @@
-use Rattle.std.proofs.Common.{◌≡◌, ◌≢◌, ℕ, List, ◌++◌, Vec, Global, map, Ok, sym, ap, ◌∙◌, rules}
+use Rattle.std.proofs.Common.{◌≢◌, ℕ, List, ◌++◌, Vec, Global, map, Ok, sym, ap, ◌∙◌, rules}
 use Rattle.kmc_reads.specs.declared.error.ReadsError.TheVariants.{Memory}
 use Rattle.kmc_tool.specs.Stages.{shape_of}
 use Rattle.kmc_tool.proofs.Fed.{last_cause}

@@ -1,0 +1,25 @@
+use Rattle.std.proofs.Common.{map}
+use Rattle.kmc_record.specs.RecordWords.{record_keys}
+use Rattle.kmc_count.specs.Occurrences.{occurrences, count_of}
+use Rattle.kmc_count.specs.Merge.{joined}
+use Rattle.kmc_dump.specs.Listed.{spelled}
+use Rattle.kmc_dump.specs.Lists.{lists_of}
+use Rattle.kmc_dump.specs.Ranges.{whole}
+use Rattle.kmc_tool.specs.Stages.{shape_of}
+use Rattle.kmc_tool.proofs.SameCounts.{same_dump}
+use Rattle.kmc_tool.proofs.count_input.count_input.Goals as goal
+
+pub returns-in-Ok-stage_two-clause-dump : goal.returns-in-Ok-stage_two-clause-dump
+returns-in-Ok-stage_two-clause-dump g c =
+    let params = c.args.params.now in
+    let of_bins = c.in-Ok-stage_two.ensures.all in
+    let input = c.in-Ok.ensures.ok in
+    record {
+      bytes = input.bytes;
+      given = input.given;
+      reads = input.reads;
+      are_reads = input.are_reads;
+      is_dump = same_dump (occurrences (joined (map (record_keys params.strands params.k) of_bins.super_kmers))) (count_of params.strands params.k input.reads) params.limits
+          (c.held_reads_are_counted.ensures params.strands (shape_of params) input.reads c.in-Ok.bins.bodies of_bins.super_kmers params.in_range.0.0.0 params.in_range.0.2.0 input.holds of_bins.records)
+          (spelled params.k (whole (lists_of c.in-Ok-stage_two.lists))) of_bins.dump;
+    }
