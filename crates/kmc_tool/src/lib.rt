@@ -7,6 +7,8 @@ pub mod error;
 mod input;
 pub mod laws;
 pub mod params;
+mod round;
+pub mod rounds;
 pub mod run;
 pub mod setting;
 pub mod stage_one;

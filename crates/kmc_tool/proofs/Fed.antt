@@ -1,0 +1,180 @@
+-- Bytes that a feeder took, a read after the other.
+use Rattle.std.proofs.Common.{◌≡◌, ◌⊎◌, inl, inr, ℕ, zero, suc, ◌+◌, ◌<◌, ◌≤◌, Bool, true, false, List, [], ◌++◌, length, Option, Some, None, Result, Ok, Err, refl, sym, ap, subst, ◌∙◌, append_assoc, append-nil, length-append, arith, Vec, Global, map}
+use Rattle.std.proofs.lemmas.List.{length-map}
+use Rattle.std.specs.Io.KnownBytes.{Consumes, IsAtEnd}
+use Rattle.kmc_reads.specs.declared.error.ReadsError.{ReadsError}
+use Rattle.kmc_reads.specs.declared.format.Format.{Format}
+use Rattle.kmc_reads.specs.Laws.{FaultStays}
+use Rattle.kmc_reads.specs.Reads.{reads_of}
+use Rattle.kmc_reads.specs.Stages.{fault}
+use Rattle.kmc_reads.specs.Standing.{FeederState, StandsAt}
+use Rattle.kmc_record.specs.Shapes.{Sizes}
+use Rattle.kmc_store.specs.Bins.{BinList}
+use Rattle.kmc_store.specs.Holds.{HoldsReads}
+use Rattle.kmc_tool.specs.declared.error.RunError.{RunError}
+use Rattle.kmc_tool.specs.declared.error.RunError.TheVariants.{Memory, Read, Write, Input, TooLong, NumbersSpent}
+use Rattle.kmc_tool.specs.Rounds.{IsFed, IsFedBy, IsRefused, AreCounts, AreCountsOf, AreSpent, IsLastError, IsInputError}
+use Rattle.kmc_tool.specs.Stages.{IsStageError}
+use Rattle.kmc_workers.specs.Workers.{chunks_of}
+
+pub consumes_none : (old : Option (List ℕ)) → Consumes old old []
+consumes_none None = tt
+consumes_none (Some xs) = refl
+
+pub consumes_on : (old mid new : Option (List ℕ)) (xs ys : List ℕ) → Consumes old mid xs → Consumes mid new ys → Consumes old new (xs ++ ys)
+consumes_on None mid new xs ys a b = tt
+consumes_on (Some all) None new xs ys a b = absurd a
+consumes_on (Some all) (Some rest) None xs ys a b = absurd b
+consumes_on (Some all) (Some rest) (Some left) xs ys a b = a ∙ ap (λ t. xs ++ t) b ∙ sym (append_assoc xs ys left)
+
+-- nothing was read yet
+pub fed_none : (format : Format) (old : Option (List ℕ)) (n : ℕ) (text : List ℕ) (taken : List (List ℕ)) (v : FeederState) → StandsAt format text taken v → IsFed format old old n n text taken v
+fed_none format old n text taken v s = record {
+  bytes = [];
+  given = consumes_none old;
+  many = omega arith;
+  stands = subst (λ t. StandsAt format t taken v) (sym (append-nil text)) s;
+}
+
+-- more was read
+pub fed_on : (format : Format) (old mid new : Option (List ℕ)) (a b c : ℕ) (text : List ℕ) (taken : List (List ℕ)) (v w : FeederState) (f : IsFed format old mid a b text taken v)
+    → IsFed format mid new b c (text ++ f.bytes) taken w → IsFed format old new a c text taken w
+fed_on format old mid new a b c text taken v w f g = record {
+  bytes = f.bytes ++ g.bytes;
+  given = consumes_on old mid new f.bytes g.bytes f.given g.given;
+  many = omega (arith, f.many, g.many, length-append f.bytes g.bytes);
+  stands = subst (λ t. StandsAt format t taken w) (append_assoc text f.bytes g.bytes) g.stands;
+}
+
+-- and refused
+pub refused_on : (format : Format) (old mid new : Option (List ℕ)) (a b : ℕ) (text : List ℕ) (taken : List (List ℕ)) (v : FeederState) (e : ReadsError) (f : IsFed format old mid a b text taken v)
+    → IsRefused format mid new (text ++ f.bytes) e → IsRefused format old new text e
+refused_on format old mid new a b text taken v e f r =
+    let same = append_assoc text f.bytes r.bytes in
+    record {
+      bytes = f.bytes ++ r.bytes;
+      given = consumes_on old mid new f.bytes r.bytes f.given r.given;
+      refused = ap (reads_of format) (sym same) ∙ r.refused;
+      for_good = subst (λ t. ((rest : List ℕ) → reads_of format (t ++ rest) ≡ Err e) ⊎ IsAtEnd new) same r.for_good;
+    }
+
+-- a fault of a line that has its line feed
+pub refused_for_good : (format : Format) (old new : Option (List ℕ)) (text bytes : List ℕ) (e : ReadsError) → FaultStays → Consumes old new bytes → fault format (text ++ bytes) ≡ Some e → IsRefused format old new text e
+refused_for_good format old new text bytes e law given faulty = record {
+  bytes = bytes;
+  given = given;
+  refused = ap (reads_of format) (sym (append-nil (text ++ bytes))) ∙ law format (text ++ bytes) [] e faulty;
+  for_good = inl (λ rest. law format (text ++ bytes) rest e faulty);
+}
+
+-- whatever was answered after that
+pub fed_by : (format : Format) (old mid new : Option (List ℕ)) (a b c : ℕ) (text : List ℕ) (taken : List (List ℕ)) (v w : FeederState) (r : Result Bool RunError) (f : IsFed format old mid a b text taken v)
+    → IsFedBy format mid new b c (text ++ f.bytes) taken w r → IsFedBy format old new a c text taken w r
+fed_by format old mid new a b c text taken v w (Ok more) f g = fed_on format old mid new a b c text taken v w f g
+fed_by format old mid new a b c text taken v w (Err Memory) f g = tt
+fed_by format old mid new a b c text taken v w (Err Read) f g = tt
+fed_by format old mid new a b c text taken v w (Err Write) f g = tt
+fed_by format old mid new a b c text taken v w (Err (Input e)) f g = refused_on format old mid new a b text taken v e f g
+fed_by format old mid new a b c text taken v w (Err TooLong) f g = fed_on format old mid new a b c text taken v w f g
+fed_by format old mid new a b c text taken v w (Err NumbersSpent) f g = tt
+
+-- a read that was counted gave a byte at least
+pub reads_many : (n m before after : ℕ) → n ≡ m → (0 < n → after ≡ before + 1) → (n ≡ 0 → after ≡ before) → after ≤ before + m
+reads_many zero m before after same more none = let e = none refl in omega (arith, e)
+reads_many (suc n) m before after same more none = let e = more (omega arith) in omega (arith, e, same)
+
+-- what the reads before one did
+pub record IsUnderWay (old new : Option (List ℕ)) (before after failed fails reads : ℕ) (v w : FeederState) : Type 0 where
+  pub kept : fails ≡ failed
+  pub many : before + reads ≤ after
+  pub fed : (format : Format) (text : List ℕ) (taken : List (List ℕ)) → StandsAt format text taken v → IsFed format old new before after text taken w
+
+-- what the rounds before one did: the bins hold the reads that were taken
+pub record AreStored (format : Format) (shape : Sizes) (old new : Option (List ℕ)) (before after : ℕ) (bins : BinList) (v : FeederState) : Type 0 where
+  pub taken : List (List ℕ)
+  pub fed : IsFed format old new before after [] taken v
+  pub holds : HoldsReads shape taken bins.bodies
+
+-- the causes of a round's stage one
+pub spent_by : (shape : Sizes) (batch sp : ℕ) (round : List (Vec ℕ Global)) → IsStageError shape batch (map (λ r. r.items) round) sp (chunks_of batch (length round)) NumbersSpent → AreSpent shape batch sp
+spent_by shape batch sp round h =
+    (map (λ r. r.items) round, subst (λ n. IsStageError shape batch (map (λ r. r.items) round) sp (chunks_of batch n) NumbersSpent) (sym (length-map round (λ (r : Vec ℕ Global). r.items))) h)
+
+pub last_cause : (format : Format) (shape : Sizes) (batch sp : ℕ) (text : List ℕ) (round : List (Vec ℕ Global)) (e : RunError) → IsStageError shape batch (map (λ r. r.items) round) sp (chunks_of batch (length round)) e → IsLastError format shape batch sp text e
+last_cause format shape batch sp text round Memory h = tt
+last_cause format shape batch sp text round Read h = h
+last_cause format shape batch sp text round Write h = h
+last_cause format shape batch sp text round (Input e) h = absurd h
+last_cause format shape batch sp text round TooLong h = h
+last_cause format shape batch sp text round NumbersSpent h = spent_by shape batch sp round h
+
+-- the numbers of a round, whether the text goes on or not
+pub record AreRisen (most before after failed fails : ℕ) (more : Bool) : Type 0 where
+  pub kept : fails ≡ failed
+  pub least : before ≤ after
+  pub below : after ≤ most
+  pub some : more ≡ true → before < after
+  pub under : more ≡ false → after < most
+
+pub risen : (most before after failed fails : ℕ) (more : Bool) → AreCounts most before after failed fails (Ok more) → AreRisen most before after failed fails more
+risen most before after failed fails true c = record { kept = c.0; least = omega (arith, c.1); below = c.2; some = λ _. c.1; under = λ e. cc }
+risen most before after failed fails false c = record { kept = c.0; least = c.1; below = omega (arith, c.2); some = λ e. cc; under = λ _. c.2 }
+
+-- the numbers of a refusal after earlier rounds
+pub counts_on : (e : RunError) (most before mid after failed between fails : ℕ) → before ≤ mid → between ≡ failed → AreCountsOf most mid after between fails e → AreCountsOf most before after failed fails e
+counts_on Memory most before mid after failed between fails less same c = (c.0 ∙ same, omega (arith, c.1, less), c.2)
+counts_on Read most before mid after failed between fails less same c = (c.0 ∙ ap (λ n. n + 1) same, omega (arith, c.1, less), c.2)
+counts_on Write most before mid after failed between fails less same c = c
+counts_on (Input e) most before mid after failed between fails less same c = (c.0 ∙ same, omega (arith, c.1, less), c.2)
+counts_on TooLong most before mid after failed between fails less same c = (c.0 ∙ same, omega (arith, c.1, less), c.2)
+counts_on NumbersSpent most before mid after failed between fails less same c = (c.0 ∙ same, omega (arith, c.1, less), c.2)
+
+module _ (format : Format) (shape : Sizes) (batch sp most : ℕ) (old new : Option (List ℕ)) where
+  -- a refusal of the reader or the feeder
+  pub fed_cause : (before after failed fails : ℕ) (taken : List (List ℕ)) (v : FeederState) (e : RunError) → IsFedBy format old new before after [] taken v (Err e)
+      → AreCountsOf (before + most) before after failed fails e → (e ≡ NumbersSpent → ⊥) → IsInputError format shape batch sp most old new e
+  fed_cause before after failed fails taken v Memory f c other = tt
+  fed_cause before after failed fails taken v Read f c other = tt
+  fed_cause before after failed fails taken v Write f c other = absurd c
+  fed_cause before after failed fails taken v (Input e) f c other = f
+  fed_cause before after failed fails taken v TooLong f c other = (f.bytes, f.given, omega (arith, f.many, c.2))
+  fed_cause before after failed fails taken v NumbersSpent f c other = absurd (other refl)
+
+  -- a refusal of the last round
+  pub last_counts : (bound before after failed fails : ℕ) (text : List ℕ) (e : RunError) → fails ≡ failed → before ≤ after → after ≤ bound → IsLastError format shape batch sp text e → AreCountsOf bound before after failed fails e
+  last_counts bound before after failed fails text Memory same least below h = (same, least, below)
+  last_counts bound before after failed fails text Read same least below h = absurd h
+  last_counts bound before after failed fails text Write same least below h = absurd h
+  last_counts bound before after failed fails text (Input e) same least below h = (same, least, below)
+  last_counts bound before after failed fails text TooLong same least below h = absurd h
+  last_counts bound before after failed fails text NumbersSpent same least below h = (same, least, below)
+
+  pub last_input : (before after : ℕ) (taken : List (List ℕ)) (v : FeederState) (e : RunError) (f : IsFed format old new before after [] taken v) → IsAtEnd new
+      → IsLastError format shape batch sp f.bytes e → IsInputError format shape batch sp most old new e
+  last_input before after taken v Memory f end h = tt
+  last_input before after taken v Read f end h = tt
+  last_input before after taken v Write f end h = h
+  last_input before after taken v (Input e) f end h = record { bytes = f.bytes; given = f.given; refused = h; for_good = inr end }
+  last_input before after taken v TooLong f end h = absurd h
+  last_input before after taken v NumbersSpent f end h = h
+
+  -- a refusal of stage one
+  pub stage_counts : (bound before after failed fails : ℕ) (reads : List (List ℕ)) (chunks : ℕ) (e : RunError) → fails ≡ failed → before ≤ after → after ≤ bound → IsStageError shape batch reads sp chunks e → AreCountsOf bound before after failed fails e
+  stage_counts bound before after failed fails reads chunks Memory same least below h = (same, least, below)
+  stage_counts bound before after failed fails reads chunks Read same least below h = absurd h
+  stage_counts bound before after failed fails reads chunks Write same least below h = absurd h
+  stage_counts bound before after failed fails reads chunks (Input e) same least below h = absurd h
+  stage_counts bound before after failed fails reads chunks TooLong same least below h = absurd h
+  stage_counts bound before after failed fails reads chunks NumbersSpent same least below h = (same, least, below)
+
+  pub stage_input : (round : List (Vec ℕ Global)) (e : RunError) → IsStageError shape batch (map (λ r. r.items) round) sp (chunks_of batch (length round)) e → IsInputError format shape batch sp most old new e
+  stage_input round Memory h = tt
+  stage_input round Read h = tt
+  stage_input round Write h = h
+  stage_input round (Input e) h = absurd h
+  stage_input round TooLong h = absurd h
+  stage_input round NumbersSpent h = spent_by shape batch sp round h
+
+-- the reads that were ended were taken
+abbrev pub taken_fed : (format : Format) (old new : Option (List ℕ)) (a b : ℕ) (taken more : List (List ℕ)) (v w : FeederState) (f : IsFed format old new a b [] taken v) → StandsAt format f.bytes (taken ++ more) w → IsFed format old new a b [] (taken ++ more) w
+taken_fed format old new a b taken more v w f s = record { bytes = f.bytes; given = f.given; many = f.many; stands = s }

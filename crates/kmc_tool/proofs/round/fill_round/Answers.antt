@@ -1,0 +1,45 @@
+use Rattle.std.proofs.Common.{◌+◌, Ok, true, false, Err, refl, subst, ◌∙◌, arith}
+use Rattle.kmc_tool.specs.Rounds.{AreCounts}
+use Rattle.kmc_tool.proofs.Fed.{fed_none, fed_on, fed_by}
+use Rattle.kmc_tool.proofs.round.fill_round.Goals as goal
+
+pub loop-init : goal.loop-init
+loop-init g c = record {
+  most = c.requires.reads;
+  way = record { kept = refl; many = omega arith; fed = λ format text taken s. fed_none format _ c.args.reader.now.reads text taken c.args.feeder.now s };
+}
+
+pub loop-preserved : goal.loop-preserved
+loop-preserved g c =
+    let way = c.loop.invariant.way in
+    let most = c.loop.invariant.most in
+    let reads = c.loop.reader.reads in let after = c.read_and_feed.new.reader.reads in
+    let h = subst (λ b. AreCounts (reads + 1) reads after c.loop.reader.failures c.read_and_feed.new.reader.failures (Ok b)) c.if-not-more.false c.in-Ok.ensures.counts in
+    record {
+      most = omega (arith, h.2, c.if-reads-most.false, c.reads.ensures);
+      way = record {
+        kept = h.0 ∙ way.kept;
+        many = omega (arith, h.1, way.many);
+        fed = λ format text taken s. let f = way.fed format text taken s in
+            fed_on format _ _ _ c.args.reader.now.reads c.loop.reader.reads c.read_and_feed.new.reader.reads text taken c.loop.feeder c.read_and_feed.new.feeder f
+            (c.in-Ok.ensures.fed format _ taken f.stands);
+      };
+    }
+
+pub returns-in-Err-clause-fed : goal.returns-in-Err-clause-fed
+returns-in-Err-clause-fed g c = λ format text taken s.
+    let f = c.loop.invariant.way.fed format text taken s in
+    fed_by format _ _ _ c.args.reader.now.reads c.loop.reader.reads c.read_and_feed.new.reader.reads text taken c.loop.feeder c.read_and_feed.new.feeder (Err c.in-Err.e) f
+    (c.in-Err.ensures.fed format _ taken f.stands)
+
+pub returns-then-not-more-clause-fed : goal.returns-then-not-more-clause-fed
+returns-then-not-more-clause-fed g c = λ format text taken s.
+    let f = c.loop.invariant.way.fed format text taken s in
+    fed_by format _ _ _ c.args.reader.now.reads c.loop.reader.reads c.read_and_feed.new.reader.reads text taken c.loop.feeder c.read_and_feed.new.feeder (Ok false) f
+    (c.in-Ok.ensures.fed format _ taken f.stands)
+
+pub returns-then-waiting-reads-clause-fed : goal.returns-then-waiting-reads-clause-fed
+returns-then-waiting-reads-clause-fed g c = λ format text taken s.
+    let f = c.loop.invariant.way.fed format text taken s in
+    fed_by format _ _ _ c.args.reader.now.reads c.loop.reader.reads c.read_and_feed.new.reader.reads text taken c.loop.feeder c.read_and_feed.new.feeder (Ok true) f
+    (c.in-Ok.ensures.fed format _ taken f.stands)

@@ -1,0 +1,81 @@
+//! A round of reads, read and fed piece by piece.
+ghost use Rattle.std.specs.Prelude.{◌≡◌, ℕ, ◌+◌, ◌-◌, ◌^◌, ◌<◌, ◌≤◌, List, false, OnOk, IsErrOf, Ok};
+ghost use Rattle.std.specs.Io.KnownBytes.{IsAtEnd};
+ghost use Rattle.kmc_reads.specs.declared.format.Format.{Format};
+ghost use Rattle.kmc_reads.specs.Standing.{StandsAt};
+ghost use Rattle.kmc_tool.specs.Rounds.{IsFedBy, AreCounts};
+
+use crate::error::RunError;
+use kmc_count::device::Counted;
+use kmc_reads::error::ReadsError;
+use kmc_reads::feeder::Feeder;
+use kmc_reads::laws::fault_stays;
+use std::io::Read;
+
+/// A read asks for at most so many bytes.
+const PIECE: usize = 65536;
+
+/// A round is full with so many symbols, however few its reads are.
+const ROUND: usize = 1 << 24;
+
+/// One read goes to the feeder. The answer is whether it gave bytes.
+fn read_and_feed<R: Read>(reader: &mut Counted<R>, feeder: &mut Feeder) -> Result<bool, RunError>
+    requires failures { reader.old.failures < 2 ^ 64 - 1 }
+    requires reads { reader.old.reads < 2 ^ 64 - 1 }
+    ensures counts { AreCounts (reader.old.reads + 1) reader.old.reads reader.new.reads reader.old.failures reader.new.failures result }
+    ensures fed { (format : Format) (text : List ℕ) (taken : List (List ℕ)) → StandsAt format text taken feeder.old
+        → IsFedBy format (R.remaining reader.old.inner) (R.remaining reader.new.inner) reader.old.reads reader.new.reads text taken feeder.new result }
+    ensures at_end { result ≡ Ok false → IsAtEnd (R.remaining reader.new.inner) }
+    ensures short { IsErrOf result RunError.TooLong → ⊥ }
+    ensures unspent { IsErrOf result RunError.NumbersSpent → ⊥ }
+{
+    fault_stays();
+    let mut piece = [0u8; PIECE];
+    let n = match reader.read(&mut piece) {
+        Ok(n) => n,
+        Err(_) => return Err(RunError::Read),
+    };
+    match feeder.feed(&piece[..n]) {
+        Ok(()) => Ok(n > 0),
+        Err(e) => {
+            if e == ReadsError::Memory {
+                return Err(RunError::Memory);
+            }
+            Err(RunError::Input(e))
+        }
+    }
+}
+
+/// Reads and feeds until so many reads wait, or their symbols fill a round, or the text ends. The answer is whether
+/// it goes on. No read is made once `most` of them gave bytes: then the input is too long.
+pub fn fill_round<R: Read>(
+    reader: &mut Counted<R>,
+    feeder: &mut Feeder,
+    most: u64,
+    reads: usize,
+) -> Result<bool, RunError>
+    requires failures { reader.old.failures < 2 ^ 64 - 1 }
+    requires reads { reader.old.reads ≤ most }
+    ensures counts { AreCounts most reader.old.reads reader.new.reads reader.old.failures reader.new.failures result }
+    ensures fed { (format : Format) (text : List ℕ) (taken : List (List ℕ)) → StandsAt format text taken feeder.old
+        → IsFedBy format (R.remaining reader.old.inner) (R.remaining reader.new.inner) reader.old.reads reader.new.reads text taken feeder.new result }
+    ensures at_end { result ≡ Ok false → IsAtEnd (R.remaining reader.new.inner) }
+    ensures unspent { IsErrOf result RunError.NumbersSpent → ⊥ }
+{
+    for _ in 0..1u64 << 32 {
+        if reader.reads() >= most {
+            return Err(RunError::TooLong);
+        }
+        let more = match read_and_feed(reader, feeder) {
+            Ok(more) => more,
+            Err(e) => return Err(e),
+        };
+        if !more {
+            return Ok(false);
+        }
+        if feeder.waiting() >= reads || feeder.waiting_symbols() >= ROUND {
+            return Ok(true);
+        }
+    }
+    Ok(true)
+}
