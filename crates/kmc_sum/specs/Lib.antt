@@ -1,0 +1,4 @@
+pub mod Sum
+pub mod Listed
+pub mod Faults
+pub mod Laws
