@@ -1,4 +1,5 @@
 pub mod Sum
 pub mod Listed
+pub mod Line
 pub mod Faults
 pub mod Laws
