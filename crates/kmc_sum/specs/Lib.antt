@@ -1,5 +1,6 @@
 pub mod Sum
 pub mod Listed
 pub mod Line
+pub mod Heads
 pub mod Faults
 pub mod Laws

@@ -3,5 +3,6 @@
 //! the sum, within limits, of what the texts list, or that a named file is at fault, or a device failed.
 #![tactic(auto)]
 
+mod heads;
 pub mod laws;
 mod line;
