@@ -1,18 +1,15 @@
 -- The first fault of a text.
-use Rattle.std.specs.Prelude.{◌≡◌, ◌≢◌, ℕ, ◌+◌, ◌-◌, ◌^◌, ◌≤◌, ◌⊎◌, min, List, [], ◌∷◌, ◌++◌, length, Option}
-use Rattle.std.specs.Io.KnownBytes.{Consumes, IsAtEnd}
+use Rattle.std.specs.Prelude.{◌≡◌, ◌≢◌, ℕ, ◌+◌, ◌-◌, ◌^◌, min, List, [], ◌∷◌, ◌++◌, length, Option}
+use Rattle.std.specs.Io.KnownBytes.{Consumes}
 use Rattle.std.specs.declared.cmp.Ordering.TheVariants.{Less}
 use Rattle.kmc_base.specs.Words.{kmer_cmp}
 use Rattle.kmc_count.specs.Dump.{line_of, text_of}
+use Rattle.kmc_sum.specs.Source.{IsEnough}
 use Rattle.kmc_sum.specs.Listed.{IsLength, IsPair, AreListed}
 
 -- the number of the line behind these, which stays at its greatest value
 abbrev pub line_after : List (List ℕ × ℕ) → ℕ
 line_after pairs = min (length pairs + 1) (2 ^ 64 - 1)
-
--- no line of a dump is longer: 64 letters, a tab, twenty digits, a line feed
-abbrev pub longest_line : ℕ
-longest_line = 86
 
 -- no line of a dump is a front of these bytes
 abbrev pub BeginsNoLine : List ℕ → Type 0
@@ -34,7 +31,7 @@ pub record IsMalformed (k : ℕ) (old new : Option (List ℕ)) (line : ℕ) : Ty
   pub gave : GaveFront k old new pairs rest
   pub number : line ≡ line_after pairs
   pub some : rest ≢ []
-  pub enough : (longest_line ≤ length rest) ⊎ IsAtEnd new
+  pub enough : IsEnough rest new
   pub none : BeginsNoLine rest
 
 -- this line has a word of another length

@@ -6,3 +6,4 @@
 mod heads;
 pub mod laws;
 mod line;
+mod source;
