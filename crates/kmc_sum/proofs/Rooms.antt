@@ -1,10 +1,10 @@
 -- The bytes of a room.
 use Rattle.std.proofs.Common.{◌≡◌, ◌≢◌, ℕ, ◌+◌, ◌-◌, ◌<◌, ◌≤◌, Vec, List, [], ◌∷◌, ◌++◌, length, take, drop, Option, refl, sym, ap, subst, ◌∙◌, arith, append_assoc, append-nil, length-drop}
-use Rattle.std.proofs.KnownBytes.{Consumes-nil, Consumes-trans}
+use Rattle.std.proofs.KnownBytes.{Consumes-nil, Consumes-trans, Consumes-kept}
 use Rattle.std.proofs.lemmas.List.{length-take-le, drop-take, drop-drop, with_items_is}
 use Rattle.std.specs.Vec.{with_items}
 use Rattle.std.specs.Global.{Global}
-use Rattle.std.specs.Io.KnownBytes.{Consumes}
+use Rattle.std.specs.Io.KnownBytes.{Consumes, Keeps}
 use borrow.Rule.Slice.PartMut.{put_mid}
 use Rattle.kmc_count.proofs.Lines.{put_then_take}
 use Rattle.kmc_sum.specs.Source.{GoesOn}
@@ -74,3 +74,6 @@ goes_like a b xs ys zs e p = record { bytes = p.bytes; gave = p.gave; are = p.ar
 
 pub goes_to : (a b : Option (List ℕ)) (xs bytes : List ℕ) (m n : ℕ) → m ≡ n → GoesOn a b xs (take m bytes) → GoesOn a b xs (take n bytes)
 goes_to a b xs bytes m n e p = record { bytes = p.bytes; gave = p.gave; are = sym (ap (λ i. take i bytes) e) ∙ p.are }
+
+pub goes_kept : (a b c : Option (List ℕ)) (xs ys : List ℕ) → GoesOn a b xs ys → Keeps b c → GoesOn a c xs ys
+goes_kept a b c xs ys p kept = record { bytes = p.bytes; gave = Consumes-kept a b c p.bytes p.gave kept; are = p.are }

@@ -4,6 +4,8 @@ use Rattle.std.specs.Io.KnownBytes.{Consumes}
 use Rattle.std.specs.declared.cmp.Ordering.TheVariants.{Less}
 use Rattle.kmc_base.specs.Words.{kmer_cmp}
 use Rattle.kmc_count.specs.Dump.{line_of, text_of}
+use Rattle.kmc_sum.specs.declared.error.LineFault.{LineFault}
+use Rattle.kmc_sum.specs.declared.error.LineFault.TheVariants.{Malformed, OtherLength, NotRising}
 use Rattle.kmc_sum.specs.Source.{IsEnough}
 use Rattle.kmc_sum.specs.Listed.{IsLength, IsPair, AreListed}
 
@@ -58,3 +60,9 @@ pub record IsNotRising (k : ℕ) (old new : Option (List ℕ)) (line : ℕ) : Ty
   pub is : IsPair k pair
   pub not_above : kmer_cmp last.0 pair.0 ≢ Less
   pub begins : BeginsLine pair rest
+
+-- this line is the first that is at fault, and so
+abbrev pub IsFaultAt : ℕ → Option (List ℕ) → Option (List ℕ) → ℕ → LineFault → Type 0
+IsFaultAt k old new line Malformed = IsMalformed k old new line
+IsFaultAt k old new line OtherLength = IsOfOtherLength k old new line
+IsFaultAt k old new line NotRising = IsNotRising k old new line

@@ -4,4 +4,8 @@ pub mod Line
 pub mod Heads
 pub mod Source
 pub mod Faults
+pub mod Pairs
+pub mod Tally
+pub mod Sources
+pub mod Refusals
 pub mod Laws

@@ -3,7 +3,9 @@
 //! the sum, within limits, of what the texts list, or that a named file is at fault, or a device failed.
 #![tactic(auto)]
 
+pub mod error;
 mod heads;
 pub mod laws;
 mod line;
 mod source;
+mod sources;

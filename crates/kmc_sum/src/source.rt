@@ -1,11 +1,13 @@
 //! A source of lines: a reader, and a room for the bytes that it gave and that are not yet judged, a piece at a time.
-ghost use Rattle.std.specs.Prelude.{◌≡◌, ◌≢◌, ℕ, ◌+◌, ◌-◌, ◌^◌, ◌<◌, ◌≤◌, ◌++◌, [], List, length, take, drop, min, OnOk, OnErr, IfOk, IsErrOf, MatchOption, Option};
-ghost use Rattle.std.specs.Io.KnownBytes.{Consumes, IsAtEnd};
+ghost use Rattle.std.specs.Prelude.{◌≡◌, ◌≢◌, ℕ, ◌+◌, ◌-◌, ◌^◌, ◌<◌, ◌≤◌, ◌++◌, [], List, length, take, drop, min, OnOk, OnErr, IfOk, IsErrOf, MatchOption, Option, IfSome, None};
+ghost use Rattle.std.specs.Io.KnownBytes.{Consumes, IsAtEnd, Keeps};
 ghost use Rattle.kmc_count.specs.Device.{RisesByOne};
 ghost use Rattle.kmc_sum.specs.Line.{IsLineOf};
-ghost use Rattle.kmc_sum.specs.Faults.{BeginsNoLine};
+ghost use Rattle.kmc_sum.specs.Faults.{BeginsNoLine, GaveFront, IsFaultAt, line_after};
+ghost use Rattle.kmc_sum.specs.Pairs.{EndsIn, pairs_of};
 ghost use Rattle.kmc_sum.specs.Source.{unread, IsRoom, IsEnough, GoesOn};
 
+use crate::error::LineFault;
 use crate::line::{Line, line_at};
 use kmc_base::kmer::MAX_K;
 use kmc_count::device::Counted;
@@ -72,6 +74,7 @@ fn read_behind<R: Read>(
     ensures kept { OnOk result (reader.new.failures ≡ reader.old.failures) }
     ensures failed { OnErr result (RisesByOne reader.old.failures reader.new.failures) }
     ensures device { (e : NextFault) → IsErrOf result e → e ≡ NextFault.Device }
+    ensures bytes { OnErr result (Keeps (R.remaining reader.old.inner) (R.remaining reader.new.inner)) }
 {
     match reader.read(&mut bytes[to..]) {
         Ok(n) => Ok(to + n),
@@ -89,6 +92,7 @@ fn fill<R: Read>(reader: &mut Counted<R>, room: &mut Room) -> Result<(), NextFau
     ensures kept { OnOk result (reader.new.failures ≡ reader.old.failures) }
     ensures failed { OnErr result (RisesByOne reader.old.failures reader.new.failures) }
     ensures device { (e : NextFault) → IsErrOf result e → e ≡ NextFault.Device }
+    ensures lost { OnErr result ((rest : List ℕ) × GoesOn (R.remaining reader.old.inner) (R.remaining reader.new.inner) (unread room.old) rest) }
 {
     if room.to - room.from >= LONGEST_LINE {
         return Ok(());
@@ -123,6 +127,7 @@ pub fn next_line<R: Read>(
     ensures malformed { IsErrOf result NextFault.Malformed → (rest : List ℕ) × GoesOn (R.remaining reader.old.inner) (R.remaining reader.new.inner) (unread room.old) rest
         × (rest ≢ []) × IsEnough rest (R.remaining reader.new.inner) × BeginsNoLine rest × (room.new.lines ≡ room.old.lines) }
     ensures device { IsErrOf result NextFault.Device → RisesByOne reader.old.failures reader.new.failures }
+    ensures lost { OnErr result ((rest : List ℕ) × GoesOn (R.remaining reader.old.inner) (R.remaining reader.new.inner) (unread room.old) rest) }
 {
     match fill(reader, room) {
         Ok(()) => {}
@@ -138,5 +143,50 @@ pub fn next_line<R: Read>(
             Ok(Some(line))
         }
         None => Err(NextFault::Malformed),
+    }
+}
+
+/// Why a source gives no line that goes on with a dump.
+#[derive(Clone, Copy)]
+pub enum PairFault {
+    /// A read failed.
+    Device,
+    /// The line is at fault.
+    Line(LineFault),
+}
+
+/// Takes the next line of a source behind a line with the word `last` of `k` codes.
+pub fn next_pair<R: Read>(
+    reader: &mut Counted<R>,
+    room: &mut Room,
+    k: usize,
+    last: u128,
+) -> Result<Option<Line>, PairFault>
+    requires { IsRoom room.old }
+    ensures room { IsRoom room.new }
+    ensures ok { IfOk result (λ answer. (start : Option (List ℕ)) (pairs : List (List ℕ × ℕ)) → EndsIn k last pairs
+        → GaveFront k start (R.remaining reader.old.inner) pairs (unread room.old)
+        → GaveFront k start (R.remaining reader.new.inner) (pairs ++ pairs_of k answer) (unread room.new)) }
+    ensures ended { IfOk result (λ answer. answer ≡ None → (unread room.new ≡ []) × IsAtEnd (R.remaining reader.new.inner) × (room.new.lines ≡ room.old.lines)) }
+    ensures more { IfOk result (λ answer. IfSome answer (λ l. (last < l.packed) × (l.packed < 4 ^ k) × (l.count < 2 ^ 64)
+        × (room.new.lines ≡ min (room.old.lines + 1) (2 ^ 64 - 1)))) }
+    ensures fault { (f : LineFault) → IsErrOf result (PairFault.Line f) → (start : Option (List ℕ)) (pairs : List (List ℕ × ℕ)) → EndsIn k last pairs
+        → GaveFront k start (R.remaining reader.old.inner) pairs (unread room.old) → IsFaultAt k start (R.remaining reader.new.inner) (line_after pairs) f }
+    ensures device { IsErrOf result PairFault.Device → RisesByOne reader.old.failures reader.new.failures }
+    ensures lost { OnErr result ((rest : List ℕ) × GoesOn (R.remaining reader.old.inner) (R.remaining reader.new.inner) (unread room.old) rest) }
+{
+    match next_line(reader, room) {
+        Ok(Some(line)) => {
+            if line.k != k {
+                Err(PairFault::Line(LineFault::OtherLength))
+            } else if line.packed <= last {
+                Err(PairFault::Line(LineFault::NotRising))
+            } else {
+                Ok(Some(line))
+            }
+        }
+        Ok(None) => Ok(None),
+        Err(NextFault::Device) => Err(PairFault::Device),
+        Err(NextFault::Malformed) => Err(PairFault::Line(LineFault::Malformed)),
     }
 }
