@@ -1,5 +1,5 @@
 -- What a source gave so far.
-use Rattle.std.proofs.Common.{◌≡◌, ◌≢◌, ℕ, zero, suc, ◌+◌, ◌/◌, ◌%◌, ◌<◌, ◌≤◌, ◌^◌, List, [], ◌∷◌, ◌++◌, length, take, drop, map, Option, Some, None, refl, sym, ap, subst, ◌∙◌, arith, append_assoc, append-nil}
+use Rattle.std.proofs.Common.{◌≡◌, ◌≢◌, ℕ, zero, suc, ◌+◌, ◌/◌, ◌%◌, ◌<◌, ◌≤◌, ◌^◌, cond, true, List, [], ◌∷◌, ◌++◌, length, take, drop, map, Option, Some, None, refl, sym, ap, subst, ◌∙◌, arith, append_assoc, append-nil}
 use Rattle.std.proofs.KnownBytes.{Consumes-trans}
 use Rattle.std.proofs.lemmas.Grind.{flat_map-append}
 use Rattle.std.proofs.lemmas.List.{take-append-drop, map-append}
@@ -21,7 +21,11 @@ use Rattle.kmc_sum.specs.Listed.{IsPair, AreListed}
 use Rattle.kmc_sum.specs.Line.{IsLineOf}
 use Rattle.kmc_sum.specs.Pairs.{EndsIn}
 use Rattle.kmc_sum.specs.Faults.{GaveFront, line_after, IsOfOtherLength, IsNotRising}
-use Rattle.kmc_sum.specs.Source.{GoesOn}
+use Rattle.kmc_sum.specs.Source.{unread, GoesOn}
+use Rattle.kmc_sum.specs.Heads.{pending}
+use Rattle.kmc_sum.specs.Sources.{IsSource}
+use Rattle.kmc_sum.specs.declared.heads.Head.{Head}
+use Rattle.kmc_sum.specs.declared.source.Room.{Room}
 use Rattle.kmc_sum.specs.declared.line.Line.{Line}
 
 pub codes_unpack : (n p : ℕ) → AreCodes (unpack n p)
@@ -132,3 +136,45 @@ module _ (k last : ℕ) (a b c : Option (List ℕ)) (pairs : List (List ℕ × �
   goes_up same above =
       front_taken k a c pairs (unpack k l.packed, l.count) rest (drop l.end rest) (front_goes k a b c pairs before rest gave goes).bytes (splits_at same)
       (listed_push k last l.packed l.count pairs gave.listed ends above (fits_at same) (pair_at same))
+
+-- ---- a source and its head
+
+pub source_ends : (k packed : ℕ) (start now : Option (List ℕ)) (room : Room) (head : Head) (taken : List (List ℕ × ℕ)) → head.live ≡ true → head.packed ≡ packed → IsSource k start now room head taken
+    → EndsIn k packed (taken ++ pending k head)
+source_ends k packed start now room head taken live is source = record {
+  front = taken;
+  count = head.count;
+  are = ap (λ b. taken ++ cond b ((unpack k head.packed, head.count) ∷ []) []) live ∙ ap (λ p. taken ++ (unpack k p, head.count) ∷ []) is;
+  fits = subst (λ p. p < 4 ^ k) is (source.fits live);
+}
+
+all_front : (P : List ℕ × ℕ → Type 0) (ps qs : List (List ℕ × ℕ)) → AllByRecursion P (ps ++ qs) → AllByRecursion P ps
+all_front P [] qs h = tt
+all_front P (p ∷ ps) qs h = (h.0, all_front P ps qs h.1)
+
+below_front : (x : List ℕ) (ps qs : List (List ℕ)) → AllByRecursion (λ y. kmer_cmp x y ≡ Less) (ps ++ qs) → AllByRecursion (λ y. kmer_cmp x y ≡ Less) ps
+below_front x [] qs h = tt
+below_front x (p ∷ ps) qs h = (h.0, below_front x ps qs h.1)
+
+rising_front : (ps qs : List (List ℕ)) → IsStrictlySortedBy kmer_cmp (ps ++ qs) → IsStrictlySortedBy kmer_cmp ps
+unfolding IsStrictlySortedBy
+rising_front [] qs h = tt
+rising_front (p ∷ ps) qs h = (below_front p ps qs h.0, rising_front ps qs h.1)
+
+listed_front : (k : ℕ) (ps qs : List (List ℕ × ℕ)) → AreListed k (ps ++ qs) → AreListed k ps
+listed_front k ps qs h = record {
+  each = all_front (IsPair k) ps qs h.each;
+  rising = rising_front (words_of ps) (words_of qs) (subst (IsStrictlySortedBy kmer_cmp) (map-append (λ (p : List ℕ × ℕ). p.0) ps qs) h.rising);
+}
+
+-- fewer of the lines
+pub gave_fewer : (k : ℕ) (a b : Option (List ℕ)) (ps qs : List (List ℕ × ℕ)) (rest : List ℕ) → GaveFront k a b (ps ++ qs) rest → GaveFront k a b ps (text_of qs ++ rest)
+gave_fewer k a b ps qs rest h = record {
+  listed = listed_front k ps qs h.listed;
+  bytes = subst (Consumes a b) (ap (λ (t : List ℕ). t ++ rest) (flat_map-append line_of ps qs) ∙ append_assoc (text_of ps) (text_of qs) rest) h.bytes;
+}
+
+pub lost_front : (k : ℕ) (a b c : Option (List ℕ)) (room : Room) (head : Head) (taken : List (List ℕ × ℕ)) (rest : List ℕ) → GoesOn b c (unread room) rest → IsSource k a b room head taken
+    → (more : List ℕ) × GaveFront k a c taken more
+lost_front k a b c room head taken rest goes source =
+    (text_of (pending k head) ++ rest, gave_fewer k a c taken (pending k head) rest (front_goes k a b c (taken ++ pending k head) (unread room) rest source.gave goes))

@@ -65,6 +65,7 @@ pub fn advance<R: Read>(
 ) -> Result<(), SumError>
     requires ready { AreReady (length readers.old) rooms.old heads.old }
     requires some { 1 ≤ length readers.old }
+    requires inside { (head_at heads.old 1).source < length readers.old }
     requires tree { IsTree heads.old }
     requires live { (head_at heads.old 1).live ≡ true }
     ensures ready { OnOk result (AreReady (length readers.new) rooms.new heads.new) }
@@ -84,6 +85,7 @@ pub fn advance<R: Read>(
         → AreSources k starts (map (λ r. R.remaining r.inner) readers.old) rooms.old heads.old lists
         → GaveFronts k starts (map (λ r. R.remaining r.inner) readers.new) lists) }
 {
+    let count = readers.len();
     let source = heads[1].source;
     let packed = heads[1].packed;
     match next_head(
@@ -94,7 +96,7 @@ pub fn advance<R: Read>(
         packed,
     ) {
         Ok(head) => {
-            let leaf = readers.len() + source;
+            let leaf = count + source;
             heads[leaf] = head;
             mend(heads, leaf / 2);
             Ok(())
