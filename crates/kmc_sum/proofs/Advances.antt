@@ -18,7 +18,7 @@ pub source_like : (k : ℕ) (start a b : Option (List ℕ)) (r s : Room) (h g : 
 source_like k start a b r s h g t u ea er eh et source =
     subst (λ x. IsSource k start x s g u) ea (subst (λ x. IsSource k start a x g u) er (subst (λ x. IsSource k start a r x u) eh (subst (λ x. IsSource k start a r h x) et source)))
 
-module _ (n : ℕ) (rooms : List Room) (heads : List Head) (ready : AreReady n rooms heads) (tree : IsTree heads) (some : 1 ≤ n) where
+module _ (k n : ℕ) (rooms : List Room) (heads : List Head) (ready : AreReady k n rooms heads) (tree : IsTree heads) (some : 1 ≤ n) where
   abbrev first : ℕ
   first = (head_at heads 1).source
 
@@ -37,12 +37,15 @@ module _ (n : ℕ) (rooms : List Room) (heads : List Head) (ready : AreReady n r
   pub first_leaf : head_at heads (n + first) ≡ head_at heads 1
   first_leaf = ap (λ i. head_at heads (n + i)) first_source ∙ sym first_is.2
 
+  pub first_fits : (head_at heads 1).packed < 4 ^ k
+  first_fits = subst (λ (h : Head). h.packed < 4 ^ k) first_leaf (ready.fits first first_inside)
+
   pub first_least : (i : ℕ) → n ≤ i → i < 2 * n → rank (head_at heads 1) ≤ rank (head_at heads i)
   first_least i low high = least heads n ready.heads_long tree i (omega arith) (omega (arith, ready.heads_long))
 
-  pub source_first : (k : ℕ) (starts nows : List (Option (List ℕ))) (lists : List (List (List ℕ × ℕ))) (now : Option (List ℕ)) (room found : Room) → n ≡ length nows → AreSources k starts nows rooms heads lists
+  pub source_first : (starts nows : List (Option (List ℕ))) (lists : List (List (List ℕ × ℕ))) (now : Option (List ℕ)) (room found : Room) → n ≡ length nows → AreSources k starts nows rooms heads lists
       → left_at nows first ≡ now → get_or rooms first room ≡ found → IsSource k (left_at starts first) now found (head_at heads 1) (list_at lists first)
-  source_first k starts nows lists now room found count are left here =
+  source_first starts nows lists now room found count are left here =
       let many : length starts ≡ n = sym (count ∙ are.nows_long) in
       source_like k (left_at starts first) _ _ _ _ _ _ _ _ left here (ap (λ m. head_at heads (m + first)) many ∙ first_leaf) refl (are.each first room (omega (arith, many, first_inside)))
 
@@ -72,18 +75,23 @@ module _ (n : ℕ) (rooms : List Room) (heads : List Head) (ready : AreReady n r
       leaf_other : (i : ℕ) → i ≢ first → head_at mended (n + i) ≡ head_at heads (n + i)
       leaf_other i differ = leaves (n + i) (omega (arith, size)) ∙ after_other (n + i) (λ e. differ (omega (arith, e)))
 
-      pub ready_after : (room : Room) → IsRoom room → head.source ≡ first → AreReady n (set rooms first room) mended
-      ready_after room is own = record {
+      pub ready_after : (room : Room) → IsRoom room → head.source ≡ first → head.packed < 4 ^ k → AreReady k n (set rooms first room) mended
+      ready_after room is own fits = record {
         rooms_long = length-set rooms first room ∙ ready.rooms_long;
         heads_long = long ∙ size;
         rooms_are = λ i r inside. room_at i r inside (cases_eq i first);
         source = λ i inside. source_at i inside (cases_eq i first);
+        fits = λ i inside. fits_at i inside (cases_eq i first);
       }
         where
           room_at : (i : ℕ) (r : Room) → i < n → (i ≡ first) ⊎ (i ≡ first → ⊥) → IsRoom (get_or (set rooms first room) i r)
           room_at i r inside (inl e) =
               subst IsRoom (sym (ap (λ j. get_or (set rooms first room) j r) e ∙ get_or-set_same rooms first room r (omega (arith, ready.rooms_long, first_inside)))) is
           room_at i r inside (inr differ) = subst IsRoom (sym (get_or-set_other rooms first i room r differ)) (ready.rooms_are i r inside)
+
+          fits_at : (i : ℕ) → i < n → (i ≡ first) ⊎ (i ≡ first → ⊥) → (head_at mended (n + i)).packed < 4 ^ k
+          fits_at i inside (inl e) = subst (λ (h : Head). h.packed < 4 ^ k) (sym (ap (λ j. head_at mended (n + j)) e ∙ leaf_new)) fits
+          fits_at i inside (inr differ) = subst (λ (h : Head). h.packed < 4 ^ k) (sym (leaf_other i differ)) (ready.fits i inside)
 
           source_at : (i : ℕ) → i < n → (i ≡ first) ⊎ (i ≡ first → ⊥) → (head_at mended (n + i)).source ≡ i
           source_at i inside (inl e) = ap (λ j. (head_at mended (n + j)).source) e ∙ ap (λ (h : Head). h.source) leaf_new ∙ own ∙ sym e
@@ -96,10 +104,10 @@ module _ (n : ℕ) (rooms : List Room) (heads : List Head) (ready : AreReady n r
           at (inl e) = omega (arith, new, ap rank (ap (head_at mended) e ∙ leaf_new))
           at (inr differ) = omega (arith, old, first_least j low high, ap rank (leaves j (omega (arith, size)) ∙ after_other j differ))
 
-      pub sources_after : (k : ℕ) (starts nows : List (Option (List ℕ))) (lists : List (List (List ℕ × ℕ))) (now : Option (List ℕ)) (room : Room) → n ≡ length nows → AreSources k starts nows rooms heads lists
+      pub sources_after : (starts nows : List (Option (List ℕ))) (lists : List (List (List ℕ × ℕ))) (now : Option (List ℕ)) (room : Room) → n ≡ length nows → AreSources k starts nows rooms heads lists
           → IsSource k (left_at starts first) now room head (list_at lists first ++ pending k (head_at heads 1))
           → AreSources k starts (set nows first now) (set rooms first room) mended (with_first k heads lists)
-      sources_after k starts nows lists now room count are new = record {
+      sources_after starts nows lists now room count are new = record {
         nows_long = length-set nows first now ∙ are.nows_long;
         lists_long = length-set lists first _ ∙ are.lists_long;
         each = λ i r inside. at i r inside (cases_eq i first);

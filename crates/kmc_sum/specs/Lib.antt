@@ -7,5 +7,6 @@ pub mod Faults
 pub mod Pairs
 pub mod Tally
 pub mod Sources
+pub mod State
 pub mod Refusals
 pub mod Laws

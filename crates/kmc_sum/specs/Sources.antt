@@ -24,12 +24,13 @@ pub record IsSource (k : ℕ) (start now : Option (List ℕ)) (room : Room) (hea
   pub most : head.count < 2 ^ 64
   pub ended : head.live ≡ false → (unread room ≡ []) × IsAtEnd now
 
--- so many rooms and, as the last ones of a tree, the heads of so many sources
-pub record AreReady (n : ℕ) (rooms : List Room) (heads : List Head) : Type 0 where
+-- so many rooms and, as the last ones of a tree, the heads of so many sources, whose words have k codes
+pub record AreReady (k n : ℕ) (rooms : List Room) (heads : List Head) : Type 0 where
   pub rooms_long : length rooms ≡ n
   pub heads_long : length heads ≡ 2 * n
   pub rooms_are : (i : ℕ) (room : Room) → i < n → IsRoom (slice_index_or rooms i room)
   pub source : (i : ℕ) → i < n → (head_at heads (n + i)).source ≡ i
+  pub fits : (i : ℕ) → i < n → (head_at heads (n + i)).packed < 4 ^ k
 
 -- each of the sources gave what was taken from it, and its head
 pub record AreSources (k : ℕ) (starts nows : List (Option (List ℕ))) (rooms : List Room) (heads : List Head) (lists : List (List (List ℕ × ℕ))) : Type 0 where
@@ -46,3 +47,8 @@ with_first k heads lists = let i = (head_at heads 1).source in slice_set lists i
 pub record GaveFronts (k : ℕ) (starts nows : List (Option (List ℕ))) (lists : List (List (List ℕ × ℕ))) : Type 0 where
   pub lists_long : length lists ≡ length starts
   pub each : (i : ℕ) → i < length starts → (rest : List ℕ) × GaveFront k (left_at starts i) (left_at nows i) (list_at lists i) rest
+
+-- each reader gave the lines of these pairs, and nothing is left
+pub record GaveLists (k : ℕ) (starts nows : List (Option (List ℕ))) (lists : List (List (List ℕ × ℕ))) : Type 0 where
+  pub lists_long : length lists ≡ length starts
+  pub each : (i : ℕ) → i < length starts → GaveFront k (left_at starts i) (left_at nows i) (list_at lists i) [] × IsAtEnd (left_at nows i)

@@ -7,5 +7,7 @@ pub mod error;
 mod heads;
 pub mod laws;
 mod line;
+pub mod merge;
 mod source;
 mod sources;
+mod writing;

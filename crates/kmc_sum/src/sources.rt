@@ -27,7 +27,7 @@ fn next_head<R: Read>(
     ensures ok { IfOk result (λ h. (start : Option (List ℕ)) (head : Head) (taken : List (List ℕ × ℕ)) → head.live ≡ true → head.packed ≡ packed
         → IsSource k start (R.remaining reader.old.inner) room.old head taken
         → IsSource k start (R.remaining reader.new.inner) room.new h (taken ++ pending k head)) }
-    ensures behind { IfOk result (λ h. (h.source ≡ source) × (packed ≤ rank h)) }
+    ensures behind { IfOk result (λ h. (h.source ≡ source) × (packed ≤ rank h) × (h.packed < 4 ^ k)) }
     ensures fault { (s line : ℕ) (fault : LineFault) → IsErrOf result (SumError.Line s line fault) → (s ≡ source)
         × ((start : Option (List ℕ)) (head : Head) (taken : List (List ℕ × ℕ)) → head.live ≡ true → head.packed ≡ packed
         → IsSource k start (R.remaining reader.old.inner) room.old head taken → IsFaultAt k start (R.remaining reader.new.inner) line fault) }
@@ -63,12 +63,12 @@ pub fn advance<R: Read>(
     heads: &mut [Head],
     k: usize,
 ) -> Result<(), SumError>
-    requires ready { AreReady (length readers.old) rooms.old heads.old }
+    requires ready { AreReady k (length readers.old) rooms.old heads.old }
     requires some { 1 ≤ length readers.old }
     requires inside { (head_at heads.old 1).source < length readers.old }
     requires tree { IsTree heads.old }
     requires live { (head_at heads.old 1).live ≡ true }
-    ensures ready { OnOk result (AreReady (length readers.new) rooms.new heads.new) }
+    ensures ready { OnOk result (AreReady k (length readers.new) rooms.new heads.new) }
     ensures sources { OnOk result ((starts : List (Option (List ℕ))) (lists : List (List (List ℕ × ℕ)))
         → AreSources k starts (map (λ r. R.remaining r.inner) readers.old) rooms.old heads.old lists
         → AreSources k starts (map (λ r. R.remaining r.inner) readers.new) rooms.new heads.new (with_first k heads.old lists)) }

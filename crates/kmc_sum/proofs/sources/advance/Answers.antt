@@ -11,16 +11,16 @@ pub next_head-requires : goal.next_head-requires
 next_head-requires g c = c.requires.ready.rooms_are _ _ c.requires.inside
 
 pub mend-requires-clause-inside : goal.mend-requires-clause-inside
-mend-requires-clause-inside g c = inside_after (length c.args.readers.now) c.args.rooms.now c.args.heads.now c.requires.ready c.requires.tree c.requires.some c.in-Ok.head
+mend-requires-clause-inside g c = inside_after c.args.k (length c.args.readers.now) c.args.rooms.now c.args.heads.now c.requires.ready c.requires.tree c.requires.some c.in-Ok.head
 
 pub mend-requires-clause-others : goal.mend-requires-clause-others
-mend-requires-clause-others g c = settled_after (length c.args.readers.now) c.args.rooms.now c.args.heads.now c.requires.ready c.requires.tree c.requires.some c.in-Ok.head
+mend-requires-clause-others g c = settled_after c.args.k (length c.args.readers.now) c.args.rooms.now c.args.heads.now c.requires.ready c.requires.tree c.requires.some c.in-Ok.head
 
 pub returns-in-Ok-clause-ready : goal.returns-in-Ok-clause-ready
 returns-in-Ok-clause-ready g c =
-    subst (λ n. AreReady n (set c.args.rooms.now (head_at c.args.heads.now 1).source c.next_head.new.room) c.mend.new.heads) (sym (length-set c.args.readers.now (head_at c.args.heads.now 1).source c.next_head.new.reader))
-    (ready_after (length c.args.readers.now) c.args.rooms.now c.args.heads.now c.requires.ready c.requires.tree c.requires.some c.in-Ok.head c.mend.new.heads c.mend.auto.heads c.mend.ensures.leaves
-        c.next_head.new.room c.in-Ok.ensures.room c.in-Ok.ensures.behind.0)
+    subst (λ n. AreReady c.args.k n (set c.args.rooms.now (head_at c.args.heads.now 1).source c.next_head.new.room) c.mend.new.heads) (sym (length-set c.args.readers.now (head_at c.args.heads.now 1).source c.next_head.new.reader))
+    (ready_after c.args.k (length c.args.readers.now) c.args.rooms.now c.args.heads.now c.requires.ready c.requires.tree c.requires.some c.in-Ok.head c.mend.new.heads c.mend.auto.heads c.mend.ensures.leaves
+        c.next_head.new.room c.in-Ok.ensures.room c.in-Ok.ensures.behind.0 c.in-Ok.ensures.behind.2)
 
 pub returns-in-Ok-clause-sources : goal.returns-in-Ok-clause-sources
 returns-in-Ok-clause-sources g c = λ starts lists are.
@@ -30,17 +30,17 @@ returns-in-Ok-clause-sources g c = λ starts lists are.
     let s = (head_at heads 1).source in
     let left = λ (r : Watched g.row.R.Denot). g.R.Read.remaining r.inner in
     let count : length readers ≡ length (map left readers) = sym (length-map readers left) in
-    let old = source_first (length readers) rooms heads c.requires.ready c.requires.tree c.requires.some c.args.k starts (map left readers) lists _ c.index-rooms-source.result _ count are
+    let old = source_first c.args.k (length readers) rooms heads c.requires.ready c.requires.tree c.requires.some starts (map left readers) lists _ c.index-rooms-source.result _ count are
     (get_or-map left readers s c.index-readers-source.result None c.requires.inside) refl in
     subst (λ nows. AreSources c.args.k starts nows (set rooms s c.next_head.new.room) c.mend.new.heads (with_first c.args.k heads lists)) (sym (map-set left readers s c.next_head.new.reader))
-    (sources_after (length readers) rooms heads c.requires.ready c.requires.tree c.requires.some c.in-Ok.head c.mend.new.heads c.mend.auto.heads c.mend.ensures.leaves c.args.k starts (map left readers) lists
+    (sources_after c.args.k (length readers) rooms heads c.requires.ready c.requires.tree c.requires.some c.in-Ok.head c.mend.new.heads c.mend.auto.heads c.mend.ensures.leaves starts (map left readers) lists
         (left c.next_head.new.reader) c.next_head.new.room count are (c.in-Ok.ensures.ok (left_at starts s) (head_at heads 1) (list_at lists s) c.requires.live refl old))
 
 pub returns-in-Ok-clause-behind : goal.returns-in-Ok-clause-behind
 returns-in-Ok-clause-behind g c =
     let heads = c.args.heads.now in
     let top : rank (head_at heads 1) ≡ (head_at heads 1).packed = ap (λ b. cond b (head_at heads 1).packed (2 ^ 128)) c.requires.live in
-    behind_after (length c.args.readers.now) c.args.rooms.now heads c.requires.ready c.requires.tree c.requires.some c.in-Ok.head c.mend.new.heads c.mend.auto.heads c.mend.ensures.leaves (head_at heads 1).packed
+    behind_after c.args.k (length c.args.readers.now) c.args.rooms.now heads c.requires.ready c.requires.tree c.requires.some c.in-Ok.head c.mend.new.heads c.mend.auto.heads c.mend.ensures.leaves (head_at heads 1).packed
     c.in-Ok.ensures.behind.1 (omega (arith, top))
 
 pub returns-in-Err-clause-fault : goal.returns-in-Err-clause-fault
@@ -51,7 +51,7 @@ returns-in-Err-clause-fault g c = λ source line fault is starts lists are.
     let s = (head_at heads 1).source in
     let left = λ (r : Watched g.row.R.Denot). g.R.Read.remaining r.inner in
     let count : length readers ≡ length (map left readers) = sym (length-map readers left) in
-    let old = source_first (length readers) rooms heads c.requires.ready c.requires.tree c.requires.some c.args.k starts (map left readers) lists _ c.index-rooms-source.result _ count are
+    let old = source_first c.args.k (length readers) rooms heads c.requires.ready c.requires.tree c.requires.some starts (map left readers) lists _ c.index-rooms-source.result _ count are
     (get_or-map left readers s c.index-readers-source.result None c.requires.inside) refl in
     let e : c.in-Err.error ≡ Line source line fault = cc is in
     let here = c.in-Err.ensures.fault source line fault (ap Err e) in
@@ -79,7 +79,7 @@ returns-in-Err-clause-lost g c = λ starts lists are.
     let s = (head_at heads 1).source in
     let left = λ (r : Watched g.row.R.Denot). g.R.Read.remaining r.inner in
     let count : length readers ≡ length (map left readers) = sym (length-map readers left) in
-    let old = source_first (length readers) rooms heads c.requires.ready c.requires.tree c.requires.some c.args.k starts (map left readers) lists _ c.index-rooms-source.result _ count are
+    let old = source_first c.args.k (length readers) rooms heads c.requires.ready c.requires.tree c.requires.some starts (map left readers) lists _ c.index-rooms-source.result _ count are
     (get_or-map left readers s c.index-readers-source.result None c.requires.inside) refl in
     let long : length starts ≡ length readers = sym (count ∙ are.nows_long) in
     subst (λ nows. GaveFronts c.args.k starts nows lists) (sym (map-set left readers s c.next_head.new.reader))

@@ -1,4 +1,5 @@
-use Rattle.std.proofs.Common.{◌≡◌, ◌++◌, Err, ap, subst, arith}
+use Rattle.std.proofs.Common.{◌≡◌, ◌++◌, Err, refl, ap, subst, arith}
+use Rattle.kmc_base.specs.Lemmas.Powers.{pow_some}
 use Rattle.kmc_sum.proofs.Gave.{source_ends, lost_front}
 use Rattle.kmc_sum.specs.declared.error.LineFault.{LineFault}
 use Rattle.kmc_sum.specs.Heads.{pending}
@@ -24,3 +25,6 @@ returns-in-Err-Line-clause-fault g c = λ s line fault is.
           subst (λ (f : LineFault). IsFaultAt c.args.k start (g.R.Read.remaining c.next_pair.new.reader.inner) line f) third
           (subst (λ n. IsFaultAt c.args.k start (g.R.Read.remaining c.next_pair.new.reader.inner) n c.in-Err-Line.fault) number here),
     )
+
+pub returns-in-Ok-None-clause-behind : goal.returns-in-Ok-None-clause-behind
+returns-in-Ok-None-clause-behind g c = (refl, omega arith, pow_some c.args.k)
