@@ -50,7 +50,7 @@ fn drain<R: Read, W: Write>(
     let mut lines: u64 = 0;
     let mut packed: u128 = 0;
     let mut count: u64 = 0;
-    for _step in 0..u64::MAX {
+    for _step in 0..u64::MAX - 1 {
         if !heads[1].live {
             break;
         }
