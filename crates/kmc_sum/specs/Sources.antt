@@ -1,5 +1,5 @@
 -- Many sources side by side, and what each gave so far.
-use Rattle.std.specs.Prelude.{◌≡◌, ℕ, ◌+◌, ◌*◌, ◌-◌, ◌<◌, ◌≤◌, ◌^◌, min, true, false, List, [], ◌∷◌, ◌++◌, length, slice_index_or, slice_set, Option, None}
+use Rattle.std.specs.Prelude.{◌≡◌, ℕ, ◌+◌, ◌*◌, ◌-◌, ◌<◌, ◌≤◌, ◌^◌, ◌⊎◌, min, map, true, false, List, [], ◌∷◌, ◌++◌, length, slice_index_or, slice_set, Option, None}
 use Rattle.std.specs.Io.KnownBytes.{IsAtEnd}
 use Rattle.kmc_base.specs.Packed.{unpack}
 use Rattle.kmc_sum.specs.Heads.{head_at, pending}
@@ -52,3 +52,29 @@ pub record GaveFronts (k : ℕ) (starts nows : List (Option (List ℕ))) (lists 
 pub record GaveLists (k : ℕ) (starts nows : List (Option (List ℕ))) (lists : List (List (List ℕ × ℕ))) : Type 0 where
   pub lists_long : length lists ≡ length starts
   pub each : (i : ℕ) → i < length starts → GaveFront k (left_at starts i) (left_at nows i) (list_at lists i) [] × IsAtEnd (left_at nows i)
+
+-- a length of words that is not yet known, 0, agrees with each
+abbrev pub Agrees : ℕ → ℕ → Type 0
+Agrees k m = (k ≡ 0) ⊎ (k ≡ m)
+
+-- a room from which nothing was taken
+pub record IsFresh (room : Room) : Type 0 where
+  pub is : IsRoom room
+  pub none : unread room ≡ []
+  pub lines : room.lines ≡ 0
+
+-- no pair of each source
+abbrev pub no_lists : List (Option (List ℕ)) → List (List (List ℕ × ℕ))
+no_lists starts = map (λ _. []) starts
+
+-- the sources before this one have given their first lines, and the others nothing
+pub record AreOpened (k n i : ℕ) (starts nows : List (Option (List ℕ))) (rooms : List Room) (heads : List Head) : Type 0 where
+  pub starts_long : length starts ≡ n
+  pub nows_long : length nows ≡ n
+  pub rooms_long : length rooms ≡ n
+  pub heads_long : length heads ≡ 2 * n
+  pub source : (j : ℕ) → j < i → (head_at heads (n + j)).source ≡ j
+  pub fits : (m j : ℕ) → Agrees k m → j < i → (head_at heads (n + j)).packed < 4 ^ m
+  pub opened : (m j : ℕ) (room : Room) → Agrees k m → j < i
+      → IsRoom (slice_index_or rooms j room) × IsSource m (left_at starts j) (left_at nows j) (slice_index_or rooms j room) (head_at heads (n + j)) []
+  pub fresh : (j : ℕ) (room : Room) → i ≤ j → j < n → IsFresh (slice_index_or rooms j room) × (left_at nows j ≡ left_at starts j)

@@ -8,6 +8,7 @@ mod heads;
 pub mod laws;
 mod line;
 pub mod merge;
+mod opening;
 mod source;
 mod sources;
 mod writing;
