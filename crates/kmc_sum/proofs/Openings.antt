@@ -1,5 +1,5 @@
 -- The first lines of sources.
-use Rattle.std.proofs.Common.{◌≡◌, ◌≢◌, ℕ, ◌+◌, ◌*◌, ◌-◌, ◌<◌, ◌≤◌, ◌^◌, ◌⊎◌, inl, inr, true, false, min, map, List, [], ◌∷◌, ◌++◌, length, get_or, set, drop, Option, None, refl, sym, ap, subst, ◌∙◌, arith}
+use Rattle.std.proofs.Common.{◌≡◌, ◌≢◌, ℕ, ◌+◌, ◌*◌, ◌-◌, ◌<◌, ◌≤◌, ◌^◌, ◌⊎◌, inl, inr, true, false, min, map, List, [], ◌∷◌, ◌++◌, length, get_or, set, drop, Option, None, refl, sym, ap, subst, ◌∙◌, arith, zero-add}
 use Rattle.std.proofs.lemmas.Bool.{cases_eq, cases_lt}
 use Rattle.std.proofs.lemmas.List.Sums.{sum_by-cons}
 use Rattle.std.proofs.lemmas.List.{length-set, length-map, get_or-set_same, get_or-set_other, get_or-map, get_or_default}
@@ -154,30 +154,33 @@ list_none starts i inside = get_or-map (λ _. []) starts i None [] inside
 
 pub none_sum : (starts : List (Option (List ℕ))) (x : List ℕ) → sum_of (no_lists starts) x ≡ 0
 none_sum [] x = refl
-none_sum (a ∷ starts) x = sum_by-cons (λ (pairs : List (List ℕ × ℕ)). listed_count pairs x) [] (no_lists starts) ∙ none_sum starts x
+none_sum (a ∷ starts) x = sum_by-cons (λ (pairs : List (List ℕ × ℕ)). listed_count pairs x) [] (no_lists starts) ∙ zero-add (sum_of (no_lists starts) x) ∙ none_sum starts x
 
 -- all are opened
-pub opened_all : (k m n : ℕ) (starts nows : List (Option (List ℕ))) (rooms : List Room) (heads : List Head) → AreOpened k n n starts nows rooms heads → Agrees k m → AreReady m n rooms heads × AreSources m starts nows rooms heads (no_lists starts)
-opened_all k m n starts nows rooms heads are agrees = (
+pub opened_all : (k m n : ℕ) (starts nows : List (Option (List ℕ))) (rooms : List Room) (heads : List Head) → (i : ℕ) → i ≡ n → AreOpened k n i starts nows rooms heads → Agrees k m → AreReady m n rooms heads × AreSources m starts nows rooms heads (no_lists starts)
+opened_all k m n starts nows rooms heads i end are agrees = (
   record {
     rooms_long = are.rooms_long;
     heads_long = are.heads_long;
-    rooms_are = λ i r inside. (are.opened m i r agrees inside).0;
-    source = λ i inside. are.source i inside;
-    fits = λ i inside. are.fits m i agrees inside;
+    rooms_are = λ j r inside. (are.opened m j r agrees (omega arith)).0;
+    source = λ j inside. are.source j (omega arith);
+    fits = λ j inside. are.fits m j agrees (omega arith);
   },
   record {
     nows_long = are.nows_long ∙ sym are.starts_long;
     lists_long = length-map starts (λ _. []);
-    each = λ i r inside.
-        source_like m (left_at starts i) _ _ _ _ _ _ [] _ refl refl (ap (λ x. head_at heads (x + i)) (sym are.starts_long)) (sym (list_none starts i inside)) (are.opened m i r agrees (omega (arith, inside, are.starts_long))).1;
+    each = λ j r inside.
+        source_like m (left_at starts j) _ _ _ _ _ _ [] _ refl refl (ap (λ x. head_at heads (x + j)) (sym are.starts_long)) (sym (list_none starts j inside)) (are.opened m j r agrees (omega (arith, inside, are.starts_long))).1;
   },
 )
 
+at_any : (k m : ℕ) (a b : Option (List ℕ)) (rest : List ℕ) → GaveFront k a b [] rest → GaveFront m a b [] rest
+at_any k m a b rest h = record { listed = record { each = tt; rising = rising_none }; bytes = h.bytes }
+
 -- one of them is at fault, or its reader failed
 pub opened_lost : (k m n i : ℕ) (starts nows : List (Option (List ℕ))) (rooms : List Room) (heads : List Head) (now : Option (List ℕ)) (room : Room) → AreOpened k n i starts nows rooms heads → i < n
-    → ((j : ℕ) → j < i → Agrees k m ⊎ ((rest : List ℕ) × GaveFront m (left_at starts j) (left_at nows j) [] rest)) → ((rest : List ℕ) × GaveFront m (left_at starts i) now [] rest) → GaveFronts m starts (set nows i now) (no_lists starts)
-opened_lost k m n i starts nows rooms heads now room are inside earlier lost = record {
+    → ((rest : List ℕ) × GaveFront m (left_at starts i) now [] rest) → GaveFronts m starts (set nows i now) (no_lists starts)
+opened_lost k m n i starts nows rooms heads now room are inside lost = record {
   lists_long = length-map starts (λ _. []);
   each = λ j within. at j within (cases_eq j i) (cases_lt j i);
 }
@@ -192,13 +195,11 @@ opened_lost k m n i starts nows rooms heads now room are inside earlier lost = r
     at j within (inl e) order =
         (lost.0, like j within now lost.0 (ap (λ x. left_at (set nows i now) x) e ∙ get_or-set_same nows i now None (omega (arith, are.nows_long)))
             (subst (λ x. GaveFront m (left_at starts x) now [] lost.0) (sym e) lost.1))
-    at j within (inr differ) (inl below) = elim (earlier j below) [
-      | inl agrees ↦
-          let source = (are.opened m j room agrees below).1 in
-          let fewer = gave_fewer m (left_at starts j) (left_at nows j) [] (pending m (head_at heads (n + j))) (unread (get_or rooms j room)) source.gave in
-          (text_of (pending m (head_at heads (n + j))) ++ unread (get_or rooms j room), like j within (left_at nows j) _ (get_or-set_other nows i j now None differ) fewer)
-      | inr gave ↦ (gave.0, like j within (left_at nows j) gave.0 (get_or-set_other nows i j now None differ) gave.1)
-    ]
+    at j within (inr differ) (inl below) =
+        let source = (are.opened k j room (inr refl) below).1 in
+        let fewer = gave_fewer k (left_at starts j) (left_at nows j) [] (pending k (head_at heads (n + j))) (unread (get_or rooms j room)) source.gave in
+        let rest = text_of (pending k (head_at heads (n + j))) ++ unread (get_or rooms j room) in
+        (rest, like j within (left_at nows j) rest (get_or-set_other nows i j now None differ) (at_any k m (left_at starts j) (left_at nows j) rest fewer))
     at j within (inr differ) (inr above) =
         let same = (are.fresh j room above (omega (arith, within, are.starts_long))).1 in
         ([], like j within (left_at starts j) [] (get_or-set_other nows i j now None differ ∙ same)
