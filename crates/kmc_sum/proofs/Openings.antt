@@ -149,7 +149,7 @@ module _ (k found n i : ℕ) (starts nows : List (Option (List ℕ))) (rooms : L
         (subst IsFresh (sym (get_or-set_other rooms i j room r differ)) old.0, get_or-set_other nows i j now None differ ∙ old.1);
   }
 
-list_none : (starts : List (Option (List ℕ))) (i : ℕ) → i < length starts → list_at (no_lists starts) i ≡ []
+pub list_none : (starts : List (Option (List ℕ))) (i : ℕ) → i < length starts → list_at (no_lists starts) i ≡ []
 list_none starts i inside = get_or-map (λ _. []) starts i None [] inside
 
 pub none_sum : (starts : List (Option (List ℕ))) (x : List ℕ) → sum_of (no_lists starts) x ≡ 0

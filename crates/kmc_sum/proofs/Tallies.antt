@@ -14,6 +14,7 @@ use Rattle.kmc_count.specs.Occurrences.{same_word}
 use Rattle.kmc_count.specs.Dump.{IsListed, shown, kept, words_of, IsDump}
 use Rattle.kmc_count.proofs.Listing.{Has, kmer_total, same_is, same_itself, contains_has, keep_cases}
 use Rattle.kmc_count.proofs.OneDump.{has_contains, listed_has, not_below_itself}
+use Rattle.kmc_sum.specs.Sum.{sum_of}
 use Rattle.kmc_sum.specs.Tally.{kept_pair, without, Tallied}
 
 abbrev Right : Limits → (List ℕ → ℕ) → List ℕ × ℕ → Type 0
@@ -160,3 +161,7 @@ tally_start l c x none = record {
         go : (b : Bool) → c y ≡ 0 → cond b 0 (c y) ≡ 0
         go true e = refl
         go false e = e
+
+-- the dump of nothing
+pub empty_dump : (l : Limits) (lists : List (List (List ℕ × ℕ))) → ((y : List ℕ) → sum_of lists y ≡ 0) → IsDump (sum_of lists) l []
+empty_dump l lists none = record { rising = rising_none; each = tt; all = λ y h. absurd (omega (arith, h.0, none y)) }
