@@ -1,5 +1,5 @@
 -- The texts of sources, and the dump of their sum.
-use Rattle.std.proofs.Common.{◌≡◌, ℕ, zero, suc, ◌+◌, ◌<◌, ◌≤◌, ◌^◌, List, [], ◌∷◌, ◌++◌, length, get_or, map, Option, None, refl, sym, ap, subst, ◌∙◌, arith, append-nil}
+use Rattle.std.proofs.Common.{◌≡◌, ℕ, zero, suc, ◌+◌, ◌*◌, ◌<◌, ◌≤◌, ◌^◌, List, [], ◌∷◌, ◌++◌, length, get_or, map, Option, None, refl, sym, ap, subst, ◌∙◌, arith, append-nil, Result, Ok, Err, IfOk}
 use Rattle.std.proofs.KnownBytes.{Appends-nil, Consumes-nil}
 use Rattle.std.proofs.lemmas.List.{length-map, get_or-map}
 use Rattle.std.specs.List.{AllZip}
@@ -9,8 +9,11 @@ use Rattle.kmc_count.specs.Device.{AppendsFront}
 use Rattle.kmc_count.specs.Dump.{text_of}
 use Rattle.kmc_sum.specs.Listed.{IsLength, AreListed, Lists}
 use Rattle.kmc_sum.specs.Faults.{GaveFront}
-use Rattle.kmc_sum.specs.Source.{GoesOn}
-use Rattle.kmc_sum.specs.Sources.{GaveFronts, left_at, list_at, no_lists}
+use Rattle.kmc_sum.specs.Heads.{head_at}
+use Rattle.kmc_sum.specs.declared.heads.Head.{Head}
+use Rattle.kmc_sum.specs.declared.source.Room.{Room}
+use Rattle.kmc_sum.proofs.Advances.{source_like}
+use Rattle.kmc_sum.specs.Sources.{AreSources, GaveFronts, left_at, list_at, no_lists}
 use Rattle.kmc_sum.specs.State.{IsWritten, IsBegun, IsSumWritten}
 use Rattle.kmc_sum.proofs.Openings.{none_sum, gave_none, list_none}
 use Rattle.kmc_sum.proofs.Rooms.{goes_nowhere}
@@ -59,3 +62,17 @@ gave_nothing k starts = record {
       let here = gave_none k (left_at starts i) (left_at starts i) [] [] refl (goes_nowhere (left_at starts i) [] [] refl) in
       ([], subst (λ (t : List (List ℕ × ℕ)). GaveFront k (left_at starts i) (left_at starts i) t []) (sym (list_none starts i inside)) here);
 }
+
+-- the tree is built over the heads
+pub sources_built : (k : ℕ) (starts nows : List (Option (List ℕ))) (rooms : List Room) (heads built : List Head) (lists : List (List (List ℕ × ℕ))) → ((j : ℕ) → length heads ≤ 2 * j → head_at built j ≡ head_at heads j)
+    → length heads ≡ 2 * length starts → AreSources k starts nows rooms heads lists → AreSources k starts nows rooms built lists
+sources_built k starts nows rooms heads built lists leaves long are = record {
+  nows_long = are.nows_long;
+  lists_long = are.lists_long;
+  each = λ i room inside.
+      source_like k (left_at starts i) _ _ _ _ _ _ _ _ refl refl (sym (leaves (length starts + i) (omega (arith, long)))) refl (are.each i room inside);
+}
+
+pub if_ok_then : {A E : Type 0} (r : Result A E) (P Q : A → Type 0) → ((x : A) → P x → Q x) → IfOk r P → IfOk r Q
+if_ok_then (Ok x) P Q f h = f x h
+if_ok_then (Err e) P Q f h = tt
