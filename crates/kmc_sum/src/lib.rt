@@ -8,6 +8,8 @@ mod heads;
 pub mod laws;
 mod line;
 pub mod merge;
+pub mod program;
+pub mod request;
 mod opening;
 mod source;
 mod sources;
