@@ -1,9 +1,5 @@
 -- What the program's arguments ask for, and what it answers.
-use Rattle.std.specs.Prelude.{◌≡◌, ◌<◌, ℕ, true, List, length, Ok}
-use Rattle.kmc_reads.specs.Reads.{reads_of}
-use Rattle.kmc_workers.specs.Causes.{AreTooMany}
-use Rattle.kmc_workers.specs.Workers.{chunks_of}
-use Rattle.kmc_tool.specs.Stages.{shape_of}
+use Rattle.std.specs.Prelude.{◌≡◌, ℕ, true, List}
 use Rattle.kmc_tool.specs.Run.{IsDumpOf}
 use Rattle.kmc_tool.specs.declared.params.Params.{Params}
 use Rattle.kmc_command.specs.Glued.{Word}
@@ -20,12 +16,3 @@ pub record IsAsked (words : List Word) : Type 0 where
 pub record IsAnswered (words : List Word) (bytes text : List ℕ) (lines : ℕ) : Type 0 where
   pub asked : IsAsked words
   pub dump : IsDumpOf asked.params.format bytes asked.params.strands asked.params.k asked.params.limits text lines
-
--- the words, in long form, give settings by which one splitter has more parts of the reads of these bytes than have numbers
-pub record HasTooManyParts (words : List Word) (bytes : List ℕ) : Type 0 where
-  pub asked : IsAsked words
-  pub reads : List (List ℕ)
-  pub are_reads : reads_of asked.params.format bytes ≡ Ok reads
-  pub splitter : ℕ
-  pub is_one : splitter < asked.params.sp
-  pub too_many : AreTooMany (shape_of asked.params) asked.params.batch reads asked.params.sp (chunks_of asked.params.batch (length reads)) splitter

@@ -1,12 +1,13 @@
 //! The program: from its arguments to the dump and the exit status.
-ghost use Rattle.std.specs.Prelude.{◌≡◌, ◌≢◌, ℕ, ◌+◌, ◌-◌, ◌^◌, ◌<◌, ◌≤◌, ◌⊎◌, List, IfOk, IfErr, IsErrOf, Ok, Err, length, map, string_bytes};
+ghost use Rattle.std.specs.Prelude.{◌≡◌, ◌≢◌, ℕ, ◌+◌, ◌-◌, ◌^◌, ◌<◌, ◌≤◌, ◌⊎◌, List, [], IfOk, IfErr, IsErrOf, length, map, string_bytes};
 ghost use Rattle.std.specs.Io.KnownBytes.{Appends, Consumes};
 ghost use Rattle.std.specs.Process.{exit_status};
 ghost use Rattle.kmc_count.specs.Device.{AppendsFront, GaveAll};
-ghost use Rattle.kmc_reads.specs.Reads.{reads_of};
+ghost use Rattle.kmc_tool.specs.Rounds.{AreSpent, IsRefused};
+ghost use Rattle.kmc_tool.specs.Stages.{shape_of};
 ghost use Rattle.kmc_command.specs.Glued.{Word, long_forms};
 ghost use Rattle.kmc_command.specs.Options.{Explains};
-ghost use Rattle.kmc_command.specs.Program.{HasTooManyParts, IsAnswered, IsAsked};
+ghost use Rattle.kmc_command.specs.Program.{IsAnswered, IsAsked};
 ghost use Rattle.kmc_command.specs.Status.{status_of_answer};
 
 use crate::fault::Fault;
@@ -48,9 +49,8 @@ pub fn count<T: Threads + Wait + Sync, R: Read, W: Write>(
     ensures run { (e : RunError) → IsErrOf result (Fault.Run e)
         → IsAsked (long_forms (map string_bytes argv.items)) }
     ensures input { (e : ReadsError) → IsErrOf result (Fault.Run (RunError.Input e))
-        → (asked : IsAsked (long_forms (map string_bytes argv.items))) × (bytes : List ℕ)
-        × GaveAll (R.remaining reader.old.inner) (R.remaining reader.new.inner) bytes
-        × (reads_of asked.params.format bytes ≡ Err e) }
+        → (asked : IsAsked (long_forms (map string_bytes argv.items)))
+        × IsRefused asked.params.format (R.remaining reader.old.inner) (R.remaining reader.new.inner) [] e }
     ensures read { IsErrOf result (Fault.Run RunError.Read) → reader.new.failures ≡ reader.old.failures + 1 }
     ensures write { IsErrOf result (Fault.Run RunError.Write) → (writer.new.failures ≡ writer.old.failures + 1)
         × (bytes text : List ℕ) × (lines : ℕ)
@@ -61,9 +61,9 @@ pub fn count<T: Threads + Wait + Sync, R: Read, W: Write>(
         × (bytes : List ℕ)
         × Consumes (R.remaining reader.old.inner) (R.remaining reader.new.inner) bytes
         × (2 ^ 32 ≤ length bytes) }
-    ensures spent { IsErrOf result (Fault.Run RunError.NumbersSpent) → (bytes : List ℕ)
-        × GaveAll (R.remaining reader.old.inner) (R.remaining reader.new.inner) bytes
-        × HasTooManyParts (long_forms (map string_bytes argv.items)) bytes }
+    ensures spent { IsErrOf result (Fault.Run RunError.NumbersSpent)
+        → (asked : IsAsked (long_forms (map string_bytes argv.items)))
+        × AreSpent (shape_of asked.params) asked.params.batch asked.params.sp }
     ensures silent { IfErr result (λ e. e ≢ Fault.Run RunError.Write → writer.new ≡ writer.old) }
     ensures kept { IfErr result (λ e. e ≢ Fault.Run RunError.Read → reader.new.failures ≡ reader.old.failures) }
 {

@@ -78,7 +78,9 @@ pub fn write_lists<
         Ok(ranges) => ranges,
         Err(_) => return Err(DumpError::Memory),
     };
-    let count = threads.min(ranges.bounds.len());
+    // No more than hold all pairs once and the widest range once more.
+    let wanted = (total / ranges.widest.max(1)).saturating_add(1);
+    let count = threads.min(wanted);
     let mut buffers = match make_buffers(alloc, count, ranges.widest) {
         Ok(buffers) => buffers,
         Err(_) => return Err(DumpError::Memory),

@@ -42,7 +42,9 @@ impl Write for Full {
 #[test]
 fn a_front_is_out_where_the_device_fails(rt: HostRuntime) -> Result<(), Fail> {
     let alloc = rt.alloc();
-    let mut dice = Dice { state: 88172645463325252 };
+    let mut dice = Dice {
+        state: 88172645463325252,
+    };
     let small = alone(alloc, thrown(alloc, &mut dice, 60)?)?;
     let large = alone(alloc, thrown(alloc, &mut dice, 70_000)?)?;
     // each byte of one range, and bytes of two ranges far from one another
@@ -60,7 +62,7 @@ fn a_front_is_out_where_the_device_fails(rt: HostRuntime) -> Result<(), Fail> {
                         left,
                         takes_none,
                     });
-                    let written = write_bins(&rt, alloc, &mut writer, &lists, k, threads);
+                    let written = write_bins(&rt, alloc, &mut writer, &lists, params.k, params.sr);
                     assert!(rt; written == Err(DumpError::Write));
                     assert_eq!(rt; writer.failures(), 1);
                     let out = writer.into_inner().out;
@@ -91,7 +93,7 @@ fn refused_memory_is_answered_before_the_first_byte(rt: HostRuntime) -> Result<(
         return Ok(());
     };
     let mut writer = Counted::new(room);
-    let written = write_bins(&rt, alloc, &mut writer, &lists, 5, 2);
+    let written = write_bins(&rt, alloc, &mut writer, &lists, params.k, params.sr);
     match written {
         Ok(lines) => assert!(rt; lines > 0),
         Err(error) => {

@@ -87,7 +87,10 @@ fn random_reads_have_the_dump_of_their_direct_count(rt: HostRuntime) -> Result<(
                 let params = settings(k, cs, threads)?;
                 let (direct, wanted) = plain(&rt, alloc, &reads, &params)?;
                 let (text, lines) = by_ranges(&rt, alloc, &reads, &params)?;
-                assert!(rt; text == direct && lines == wanted, "k {k}, cs {cs}, {threads} threads");
+                assert!(rt;
+                    text == direct && lines == wanted,
+                    "k {k}, cs {cs}, {threads} threads"
+                );
             }
         }
     }

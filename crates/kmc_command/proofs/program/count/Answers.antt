@@ -3,8 +3,7 @@ use Rattle.kmc_command.proofs.program.count.Goals as goal
 pub returns-in-Err-clause-input : goal.returns-in-Err-clause-input
 returns-in-Err-clause-input g c = λ e is.
     let asked = c.in_ok-params.ensures.answer in
-    let told = c.in-Err.ensures.input e (cc) in
-    (record { taken = asked.0; params = c.in_ok-params.params; given = asked.1 }, told.0, told.1, told.2)
+    (record { taken = asked.0; params = c.in_ok-params.params; given = asked.1 }, c.in-Err.ensures.input e (cc))
 
 pub returns-in-Ok-clause-ok : goal.returns-in-Ok-clause-ok
 returns-in-Ok-clause-ok g c =
@@ -32,15 +31,4 @@ returns-in-Err-clause-write g c = λ is.
 pub returns-in-Err-clause-spent : goal.returns-in-Err-clause-spent
 returns-in-Err-clause-spent g c = λ is.
     let asked = c.in_ok-params.ensures.answer in
-    let told = c.in-Err.ensures.spent (cc) in (
-      told.0,
-      told.2,
-      record {
-        asked = record { taken = asked.0; params = c.in_ok-params.params; given = asked.1 };
-        reads = told.1;
-        are_reads = told.3;
-        splitter = told.4;
-        is_one = told.5;
-        too_many = told.6;
-      },
-    )
+    (record { taken = asked.0; params = c.in_ok-params.params; given = asked.1 }, c.in-Err.ensures.spent (cc))

@@ -1,0 +1,168 @@
+-- One line more of the source whose head is first.
+use Rattle.std.proofs.Common.{◌≡◌, ◌≢◌, ℕ, ◌+◌, ◌*◌, ◌-◌, ◌/◌, ◌<◌, ◌≤◌, ◌^◌, ◌⊎◌, inl, inr, cond, true, List, [], ◌∷◌, ◌++◌, length, get_or, set, map, Option, None, refl, sym, ap, subst, ◌∙◌, arith}
+use Rattle.std.proofs.lemmas.Bool.{cases_eq}
+use Rattle.std.proofs.lemmas.List.{get_or-map, get_or-set_other, get_or-set_same, get_or_default, length-set, map-set}
+use Rattle.kmc_sum.specs.declared.heads.Head.{Head}
+use Rattle.kmc_sum.specs.declared.source.Room.{Room}
+use Rattle.kmc_sum.specs.Heads.{rank, no_head, head_at, pending, IsWinner, IsTree}
+use Rattle.kmc_sum.specs.Source.{unread, IsRoom}
+use Rattle.kmc_count.specs.Dump.{text_of}
+use Rattle.kmc_count.specs.Device.{Watched, RisesByOne}
+use Rattle.kmc_sum.specs.Faults.{GaveFront, IsFaultAt}
+use Rattle.kmc_sum.specs.declared.error.LineFault.{LineFault}
+use Rattle.kmc_sum.specs.Sources.{IsSource, AreReady, AreSources, GaveFronts, left_at, list_at, with_first}
+use Rattle.kmc_sum.proofs.Gave.{gave_fewer}
+use Rattle.kmc_sum.proofs.Trees.{same_winner, least, leaf}
+
+pub source_like : (k : ℕ) (start a b : Option (List ℕ)) (r s : Room) (h g : Head) (t u : List (List ℕ × ℕ)) → a ≡ b → r ≡ s → h ≡ g → t ≡ u → IsSource k start a r h t → IsSource k start b s g u
+source_like k start a b r s h g t u ea er eh et source =
+    subst (λ x. IsSource k start x s g u) ea (subst (λ x. IsSource k start a x g u) er (subst (λ x. IsSource k start a r x u) eh (subst (λ x. IsSource k start a r h x) et source)))
+
+module _ (k n : ℕ) (rooms : List Room) (heads : List Head) (ready : AreReady k n rooms heads) (tree : IsTree heads) (some : 1 ≤ n) where
+  abbrev first : ℕ
+  first = (head_at heads 1).source
+
+  first_is : (i : ℕ) × (i < n) × (head_at heads 1 ≡ head_at heads (n + i))
+  first_is =
+      let m = leaf heads n ready.heads_long tree (omega (arith, ready.heads_long)) in
+      let here : n + (m.0 - n) ≡ m.0 = omega (arith, m.1, ready.heads_long) in
+      (m.0 - n, omega (arith, m.1, m.2, ready.heads_long), m.3 ∙ ap (head_at heads) (sym here))
+
+  first_source : first ≡ first_is.0
+  first_source = ap (λ (h : Head). h.source) first_is.2 ∙ ready.source first_is.0 first_is.1
+
+  pub first_inside : first < n
+  first_inside = omega (arith, first_source, first_is.1)
+
+  pub first_leaf : head_at heads (n + first) ≡ head_at heads 1
+  first_leaf = ap (λ i. head_at heads (n + i)) first_source ∙ sym first_is.2
+
+  pub first_fits : (head_at heads 1).packed < 4 ^ k
+  first_fits = subst (λ (h : Head). h.packed < 4 ^ k) first_leaf (ready.fits first first_inside)
+
+  pub first_least : (i : ℕ) → n ≤ i → i < 2 * n → rank (head_at heads 1) ≤ rank (head_at heads i)
+  first_least i low high = least heads n ready.heads_long tree i (omega arith) (omega (arith, ready.heads_long))
+
+  pub source_first : (starts nows : List (Option (List ℕ))) (lists : List (List (List ℕ × ℕ))) (now : Option (List ℕ)) (room found : Room) → n ≡ length nows → AreSources k starts nows rooms heads lists
+      → left_at nows first ≡ now → get_or rooms first room ≡ found → IsSource k (left_at starts first) now found (head_at heads 1) (list_at lists first)
+  source_first starts nows lists now room found count are left here =
+      let many : length starts ≡ n = sym (count ∙ are.nows_long) in
+      source_like k (left_at starts first) _ _ _ _ _ _ _ _ left here (ap (λ m. head_at heads (m + first)) many ∙ first_leaf) refl (are.each first room (omega (arith, many, first_inside)))
+
+  module _ (head : Head) where
+    abbrev after : List Head
+    after = set heads (n + first) head
+
+    after_other : (j : ℕ) → j ≢ n + first → head_at after j ≡ head_at heads j
+    after_other j differ = get_or-set_other heads (n + first) j head no_head differ
+
+    pub inside_after : 2 * ((n + first) / 2) + 1 < length after
+    inside_after = omega (arith, length-set heads (n + first) head, ready.heads_long, first_inside)
+
+    pub settled_after : (j : ℕ) → j ≢ (n + first) / 2 → 1 ≤ j → 2 * j + 1 < length after → IsWinner after j
+    settled_after j differ low high =
+        let long : length after ≡ 2 * n = length-set heads (n + first) head ∙ ready.heads_long in
+        same_winner heads after j (after_other j (λ e. omega (arith, e, long))) (after_other (2 * j) (λ e. differ (omega (arith, e)))) (after_other (2 * j + 1) (λ e. differ (omega (arith, e))))
+        (tree j low (omega (arith, high, long, ready.heads_long)))
+
+    module _ (mended : List Head) (long : length mended ≡ length after) (leaves : (j : ℕ) → length after ≤ 2 * j → head_at mended j ≡ head_at after j) where
+      size : length after ≡ 2 * n
+      size = length-set heads (n + first) head ∙ ready.heads_long
+
+      leaf_new : head_at mended (n + first) ≡ head
+      leaf_new = leaves (n + first) (omega (arith, size)) ∙ get_or-set_same heads (n + first) head no_head (omega (arith, ready.heads_long, first_inside))
+
+      leaf_other : (i : ℕ) → i ≢ first → head_at mended (n + i) ≡ head_at heads (n + i)
+      leaf_other i differ = leaves (n + i) (omega (arith, size)) ∙ after_other (n + i) (λ e. differ (omega (arith, e)))
+
+      pub ready_after : (room : Room) → IsRoom room → head.source ≡ first → head.packed < 4 ^ k → AreReady k n (set rooms first room) mended
+      ready_after room is own fits = record {
+        rooms_long = length-set rooms first room ∙ ready.rooms_long;
+        heads_long = long ∙ size;
+        rooms_are = λ i r inside. room_at i r inside (cases_eq i first);
+        source = λ i inside. source_at i inside (cases_eq i first);
+        fits = λ i inside. fits_at i inside (cases_eq i first);
+      }
+        where
+          room_at : (i : ℕ) (r : Room) → i < n → (i ≡ first) ⊎ (i ≡ first → ⊥) → IsRoom (get_or (set rooms first room) i r)
+          room_at i r inside (inl e) =
+              subst IsRoom (sym (ap (λ j. get_or (set rooms first room) j r) e ∙ get_or-set_same rooms first room r (omega (arith, ready.rooms_long, first_inside)))) is
+          room_at i r inside (inr differ) = subst IsRoom (sym (get_or-set_other rooms first i room r differ)) (ready.rooms_are i r inside)
+
+          fits_at : (i : ℕ) → i < n → (i ≡ first) ⊎ (i ≡ first → ⊥) → (head_at mended (n + i)).packed < 4 ^ k
+          fits_at i inside (inl e) = subst (λ (h : Head). h.packed < 4 ^ k) (sym (ap (λ j. head_at mended (n + j)) e ∙ leaf_new)) fits
+          fits_at i inside (inr differ) = subst (λ (h : Head). h.packed < 4 ^ k) (sym (leaf_other i differ)) (ready.fits i inside)
+
+          source_at : (i : ℕ) → i < n → (i ≡ first) ⊎ (i ≡ first → ⊥) → (head_at mended (n + i)).source ≡ i
+          source_at i inside (inl e) = ap (λ j. (head_at mended (n + j)).source) e ∙ ap (λ (h : Head). h.source) leaf_new ∙ own ∙ sym e
+          source_at i inside (inr differ) = ap (λ (h : Head). h.source) (leaf_other i differ) ∙ ready.source i inside
+
+      pub behind_after : (packed : ℕ) → packed ≤ rank head → packed ≤ rank (head_at heads 1) → (j : ℕ) → n ≤ j → j < 2 * n → packed ≤ rank (head_at mended j)
+      behind_after packed new old j low high = at (cases_eq j (n + first))
+        where
+          at : (j ≡ n + first) ⊎ (j ≡ n + first → ⊥) → packed ≤ rank (head_at mended j)
+          at (inl e) = omega (arith, new, ap rank (ap (head_at mended) e ∙ leaf_new))
+          at (inr differ) = omega (arith, old, first_least j low high, ap rank (leaves j (omega (arith, size)) ∙ after_other j differ))
+
+      pub sources_after : (starts nows : List (Option (List ℕ))) (lists : List (List (List ℕ × ℕ))) (now : Option (List ℕ)) (room : Room) → n ≡ length nows → AreSources k starts nows rooms heads lists
+          → IsSource k (left_at starts first) now room head (list_at lists first ++ pending k (head_at heads 1))
+          → AreSources k starts (set nows first now) (set rooms first room) mended (with_first k heads lists)
+      sources_after starts nows lists now room count are new = record {
+        nows_long = length-set nows first now ∙ are.nows_long;
+        lists_long = length-set lists first _ ∙ are.lists_long;
+        each = λ i r inside. at i r inside (cases_eq i first);
+      }
+        where
+          many : length starts ≡ n
+          many = sym (count ∙ are.nows_long)
+
+          more : List (List ℕ × ℕ)
+          more = list_at lists first ++ pending k (head_at heads 1)
+
+          at : (i : ℕ) (r : Room) → i < length starts → (i ≡ first) ⊎ (i ≡ first → ⊥)
+              → IsSource k (left_at starts i) (left_at (set nows first now) i) (get_or (set rooms first room) i r) (head_at mended (length starts + i)) (list_at (with_first k heads lists) i)
+          at i r inside (inl e) =
+              let place : head_at mended (length starts + i) ≡ head = (λ j. head_at mended (many j + e j)) ∙ leaf_new in
+              subst (λ j. IsSource k (left_at starts j) (left_at (set nows first now) i) (get_or (set rooms first room) i r) (head_at mended (length starts + i)) (list_at (with_first k heads lists) i)) (sym e)
+              (source_like k (left_at starts first) _ _ _ _ _ _ _ _ (sym (ap (λ j. left_at (set nows first now) j) e ∙ get_or-set_same nows first now None (omega (arith, count, first_inside))))
+                  (sym (ap (λ j. get_or (set rooms first room) j r) e ∙ get_or-set_same rooms first room r (omega (arith, ready.rooms_long, first_inside)))) (sym place)
+                  (sym (ap (λ j. list_at (set lists first more) j) e ∙ get_or-set_same lists first more [] (omega (arith, are.lists_long, many, first_inside)))) new)
+          at i r inside (inr differ) =
+              let place : head_at mended (length starts + i) ≡ head_at heads (length starts + i) = ap (λ m. head_at mended (m + i)) many ∙ leaf_other i differ ∙ sym (ap (λ m. head_at heads (m + i)) many) in
+              source_like k (left_at starts i) _ _ _ _ _ _ _ _ (sym (get_or-set_other nows first i now None differ)) (sym (get_or-set_other rooms first i room r differ)) (sym place)
+              (sym (get_or-set_other lists first i more [] differ)) (are.each i r inside)
+
+-- what is left of readers, of which one went on
+pub left_after : {T : Type 0} (left : T → Option (List ℕ)) (readers : List T) (s : ℕ) (reader : T) → map left (set readers s reader) ≡ set (map left readers) s (left reader)
+left_after left readers s reader = map-set left readers s reader
+
+pub lost_after : (k n s : ℕ) (starts nows : List (Option (List ℕ))) (rooms : List Room) (heads : List Head) (lists : List (List (List ℕ × ℕ))) (now : Option (List ℕ)) → AreSources k starts nows rooms heads lists
+    → s < length starts → ((rest : List ℕ) × GaveFront k (left_at starts s) now (list_at lists s) rest) → ((i : ℕ) → i < length starts → Room) → GaveFronts k starts (set nows s now) lists
+lost_after k n s starts nows rooms heads lists now are inside lost room = record {
+  lists_long = are.lists_long;
+  each = λ i within. at i within (cases_eq i s);
+}
+  where
+    at : (i : ℕ) → i < length starts → (i ≡ s) ⊎ (i ≡ s → ⊥) → (rest : List ℕ) × GaveFront k (left_at starts i) (left_at (set nows s now) i) (list_at lists i) rest
+    at i within (inl e) =
+        (lost.0, subst (λ j. GaveFront k (left_at starts j) (left_at (set nows s now) i) (list_at lists j) lost.0) (sym e)
+            (subst (λ x. GaveFront k (left_at starts s) x (list_at lists s) lost.0) (sym (ap (λ j. left_at (set nows s now) j) e ∙ get_or-set_same nows s now None (omega (arith, inside, are.nows_long)))) lost.1))
+    at i within (inr differ) =
+        let source = are.each i (room i within) within in
+        let head = head_at heads (length starts + i) in
+        let fewer = gave_fewer k (left_at starts i) (left_at nows i) (list_at lists i) (pending k head) (unread (get_or rooms i (room i within))) source.gave in
+        (text_of (pending k head) ++ unread (get_or rooms i (room i within)),
+            subst (λ x. GaveFront k (left_at starts i) x (list_at lists i) (text_of (pending k head) ++ unread (get_or rooms i (room i within)))) (sym (get_or-set_other nows s i now None differ)) fewer)
+
+pub first_like : (k : ℕ) (starts nows : List (Option (List ℕ))) (source s line : ℕ) (fault : LineFault) (now : Option (List ℕ)) → source ≡ s → left_at nows s ≡ now
+    → IsFaultAt k (left_at starts s) now line fault → IsFaultAt k (left_at starts source) (left_at nows source) line fault
+first_like k starts nows source s line fault now e is h =
+    subst (λ i. IsFaultAt k (left_at starts i) (left_at nows i) line fault) (sym e) (subst (λ x. IsFaultAt k (left_at starts s) x line fault) (sym is) h)
+
+pub rises_at : {T : Type 0} (readers : List (Watched T)) (source s : ℕ) (d e result reader : Watched T) → source ≡ s → s < length readers → RisesByOne (get_or readers s result).failures reader.failures
+    → RisesByOne (get_or readers source d).failures (get_or (set readers s reader) source e).failures
+rises_at {T} readers source s d e result reader is inside h =
+    let old : (get_or readers s result).failures ≡ (get_or readers source d).failures = ap (λ (w : Watched T). w.failures) (get_or_default readers s result d inside ∙ ap (λ i. get_or readers i d) (sym is)) in
+    let new : reader.failures ≡ (get_or (set readers s reader) source e).failures =
+    ap (λ (w : Watched T). w.failures) (sym (get_or-set_same readers s reader e inside) ∙ ap (λ i. get_or (set readers s reader) i e) (sym is)) in
+    subst (λ m. RisesByOne m (get_or (set readers s reader) source e).failures) old (subst (λ m. RisesByOne (get_or readers s result).failures m) new h)

@@ -1,0 +1,78 @@
+-- The texts of sources, and the dump of their sum.
+use Rattle.std.proofs.Common.{◌≡◌, ℕ, zero, suc, ◌+◌, ◌*◌, ◌<◌, ◌≤◌, ◌^◌, List, [], ◌∷◌, ◌++◌, length, get_or, map, Option, None, refl, sym, ap, subst, ◌∙◌, arith, append-nil, Result, Ok, Err, IfOk}
+use Rattle.std.proofs.KnownBytes.{Appends-nil, Consumes-nil}
+use Rattle.std.proofs.lemmas.List.{length-map, get_or-map}
+use Rattle.std.specs.List.{AllZip}
+use Rattle.std.specs.Io.KnownBytes.{Appends, Consumes}
+use Rattle.kmc_count.specs.declared.limits.Limits.{Limits}
+use Rattle.kmc_count.specs.Device.{AppendsFront}
+use Rattle.kmc_count.specs.Dump.{text_of}
+use Rattle.kmc_sum.specs.Listed.{IsLength, AreListed, Lists}
+use Rattle.kmc_sum.specs.Faults.{GaveFront}
+use Rattle.kmc_sum.specs.Heads.{head_at}
+use Rattle.kmc_sum.specs.declared.heads.Head.{Head}
+use Rattle.kmc_sum.specs.declared.source.Room.{Room}
+use Rattle.kmc_sum.proofs.Advances.{source_like}
+use Rattle.kmc_sum.specs.Sources.{AreSources, GaveFronts, left_at, list_at, no_lists}
+use Rattle.kmc_sum.specs.State.{IsWritten, IsBegun, IsSumWritten}
+use Rattle.kmc_sum.proofs.Openings.{none_sum, gave_none, list_none}
+use Rattle.kmc_sum.proofs.Rooms.{goes_nowhere}
+use Rattle.kmc_sum.proofs.Tallies.{empty_dump}
+
+texts_list : (k : ℕ) (lists : List (List (List ℕ × ℕ))) → ((i : ℕ) → i < length lists → AreListed k (list_at lists i)) → AllZip (Lists k) (map text_of lists) lists
+texts_list k [] each = tt
+texts_list k (list ∷ lists) each = (record { listed = each 0 (omega arith); lines = refl }, texts_list k lists (λ i inside. each (suc i) (omega (arith, inside))))
+
+module _ (k : ℕ) (long : IsLength k) (l : Limits) (starts nows : List (Option (List ℕ))) (lines : ℕ) (old new : Option (List ℕ)) where
+  pub sum_written : IsWritten k l starts nows lines old new → IsSumWritten l starts nows lines old new
+  sum_written w = record {
+    texts = map text_of w.lists;
+    texts_long = length-map w.lists text_of ∙ w.gave.lists_long;
+    gave = λ i inside.
+        let here = w.gave.each i inside in
+        let text : get_or (map text_of w.lists) i [] ≡ text_of (list_at w.lists i) = get_or-map text_of w.lists i [] [] (omega (arith, inside, w.gave.lists_long)) in
+        (subst (Consumes (left_at starts i) (left_at nows i)) (append-nil (text_of (list_at w.lists i)) ∙ sym text) here.0.bytes, here.1);
+    pairs = w.pairs;
+    merge = record {
+      k = k;
+      long = long;
+      lists = w.lists;
+      listed = texts_list k w.lists (λ i inside. (w.gave.each i (omega (arith, inside, w.gave.lists_long))).0.listed);
+      dump = w.dump;
+    };
+    text = w.text;
+    count = w.count;
+  }
+
+-- nothing was written
+pub begun_none : (k : ℕ) (l : Limits) (starts nows : List (Option (List ℕ))) (old : Option (List ℕ)) → GaveFronts k starts nows (no_lists starts) → IsBegun k l starts nows old old
+begun_none k l starts nows old gave = record {
+  lists = no_lists starts;
+  gave = gave;
+  pairs = [];
+  dump = empty_dump l (no_lists starts) (none_sum starts);
+  text = ([], ([], refl), Appends-nil old);
+}
+
+-- nothing was read
+pub gave_nothing : (k : ℕ) (starts : List (Option (List ℕ))) → GaveFronts k starts starts (no_lists starts)
+gave_nothing k starts = record {
+  lists_long = length-map starts (λ _. []);
+  each = λ i inside.
+      let here = gave_none k (left_at starts i) (left_at starts i) [] [] refl (goes_nowhere (left_at starts i) [] [] refl) in
+      ([], subst (λ (t : List (List ℕ × ℕ)). GaveFront k (left_at starts i) (left_at starts i) t []) (sym (list_none starts i inside)) here);
+}
+
+-- the tree is built over the heads
+pub sources_built : (k : ℕ) (starts nows : List (Option (List ℕ))) (rooms : List Room) (heads built : List Head) (lists : List (List (List ℕ × ℕ))) → ((j : ℕ) → length heads ≤ 2 * j → head_at built j ≡ head_at heads j)
+    → length heads ≡ 2 * length starts → AreSources k starts nows rooms heads lists → AreSources k starts nows rooms built lists
+sources_built k starts nows rooms heads built lists leaves long are = record {
+  nows_long = are.nows_long;
+  lists_long = are.lists_long;
+  each = λ i room inside.
+      source_like k (left_at starts i) _ _ _ _ _ _ _ _ refl refl (sym (leaves (length starts + i) (omega (arith, long)))) refl (are.each i room inside);
+}
+
+pub if_ok_then : {A E : Type 0} (r : Result A E) (P Q : A → Type 0) → ((x : A) → P x → Q x) → IfOk r P → IfOk r Q
+if_ok_then (Ok x) P Q f h = f x h
+if_ok_then (Err e) P Q f h = tt

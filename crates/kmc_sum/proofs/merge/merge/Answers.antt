@@ -1,0 +1,8 @@
+use Rattle.kmc_sum.proofs.Merges.{begun_none, gave_nothing}
+use Rattle.kmc_sum.proofs.merge.merge.Goals as goal
+
+pub returns-in-Err-clause-begun : goal.returns-in-Err-clause-begun
+returns-in-Err-clause-begun g c = (1, begun_none 1 c.args.limits.now _ _ _ (gave_nothing 1 _))
+
+pub returns-in-Err-heads_for-clause-begun : goal.returns-in-Err-heads_for-clause-begun
+returns-in-Err-heads_for-clause-begun g c = (1, begun_none 1 c.args.limits.now _ _ _ (gave_nothing 1 _))

@@ -1,0 +1,38 @@
+use Rattle.std.proofs.Common.{◌≡◌, length, ap, arith, ◌∙◌}
+use Rattle.kmc_sum.proofs.Rooms.{goes_trans, goes_like, goes_to, goes_kept, shifted, read_on, rewritten_length}
+use Rattle.kmc_sum.specs.Source.{unread}
+use Rattle.kmc_sum.proofs.source.fill.Goals as goal
+
+pub returns-then-end-room-clause-ok : goal.returns-then-end-room-clause-ok
+returns-then-end-room-clause-ok g c =
+    let r = c.args.room.now in
+    let here = c.loop-room.room in
+    let moved = shifted r.bytes c.as_mut_slice.result.now c.shift.new.bytes c.as_mut_slice.ensures.value c.shift.auto.bytes r.from r.to c.shift.ensures in
+    goes_trans _ _ _ _ _ _ (goes_like _ _ _ _ _ moved c.loop-room.invariant.goes)
+    (read_on here.bytes c.as_mut_slice-in-loop-room.result.now c.read_behind.new.bytes c.as_mut_slice-in-loop-room.ensures.value c.read_behind.auto.bytes _ _ here.from here.to here.to
+        c.loop-room.invariant.front (goes_to _ _ _ _ _ _ c.if-end-room.true c.in-Ok.ensures.ok.3))
+
+pub loop-room-preserved : goal.loop-room-preserved
+loop-room-preserved g c =
+    let here = c.loop-room.room in
+    let same = rewritten_length here.bytes c.as_mut_slice-in-loop-room.result.now c.read_behind.new.bytes c.as_mut_slice-in-loop-room.ensures.value c.read_behind.auto.bytes in
+    record {
+      room = record {
+        order = omega (arith, c.loop-room.invariant.front);
+        inside = omega (arith, same, c.read_behind.auto.bytes, ap length c.as_mut_slice-in-loop-room.ensures.value, c.in-Ok.ensures.ok.1);
+        place = omega (arith, same, c.loop-room.invariant.room.place);
+      };
+      front = c.loop-room.invariant.front;
+      lines = c.loop-room.invariant.lines;
+      kept = c.in-Ok.ensures.kept ∙ c.loop-room.invariant.kept;
+      goes = goes_trans _ _ _ _ _ _ c.loop-room.invariant.goes
+          (read_on here.bytes c.as_mut_slice-in-loop-room.result.now c.read_behind.new.bytes c.as_mut_slice-in-loop-room.ensures.value c.read_behind.auto.bytes _ _ here.from here.to c.in-Ok.end
+              c.loop-room.invariant.front c.in-Ok.ensures.ok.3);
+    }
+
+pub returns-in-Err-clause-lost : goal.returns-in-Err-clause-lost
+returns-in-Err-clause-lost g c =
+    let r = c.args.room.now in
+    let here = c.loop-room.room in
+    let moved = shifted r.bytes c.as_mut_slice.result.now c.shift.new.bytes c.as_mut_slice.ensures.value c.shift.auto.bytes r.from r.to c.shift.ensures in
+    (unread here, goes_kept _ _ _ _ _ (goes_like _ _ _ _ _ moved c.loop-room.invariant.goes) c.in-Err.ensures.bytes)

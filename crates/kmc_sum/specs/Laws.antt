@@ -1,0 +1,30 @@
+-- Laws of sums of dumps.
+use Rattle.std.specs.Prelude.{◌≡◌, ℕ, ◌+◌, ◌≤◌, ◌^◌, List, ◌++◌}
+use Rattle.std.specs.List.{AllZip}
+use Rattle.kmc_base.specs.declared.strands.Strands.{Strands}
+use Rattle.kmc_count.specs.declared.limits.Limits.{Limits}
+use Rattle.kmc_count.specs.Occurrences.{count_of}
+use Rattle.kmc_count.specs.Dump.{IsDump}
+use Rattle.kmc_count.specs.Merge.{joined}
+use Rattle.kmc_sum.specs.Sum.{sum_of}
+
+-- the direct count of reads and then others is, word by word, the sum of their direct counts
+abbrev pub CountsAdd : Type 0
+CountsAdd = (strands : Strands) (k : ℕ) (reads others : List (List ℕ)) (x : List ℕ)
+    → count_of strands k (reads ++ others) x ≡ count_of strands k reads x + count_of strands k others x
+
+-- limits within which each count up to 2^63 is listed as it is
+pub record ListsEach (l : Limits) : Type 0 where
+  pub ci : l.ci ≤ 1
+  pub cx : l.cx ≡ 2 ^ 63
+  pub cs : l.cs ≡ 2 ^ 63
+
+-- a dump of each part of the reads, as many as there are parts
+abbrev pub AreDumpsOfParts : Strands → ℕ → Limits → List (List (List ℕ)) → List (List (List ℕ × ℕ)) → Type 0
+AreDumpsOfParts strands k l parts lists = AllZip (λ reads pairs. IsDump (count_of strands k reads) l pairs) parts lists
+
+-- dumps of the parts of reads, each count listed, are summed to the dump of all of the reads, where no word occurs more than 2^63 times
+abbrev pub SumOfPartsIsWhole : Type 0
+SumOfPartsIsWhole = (strands : Strands) (k : ℕ) (every l : Limits) (parts : List (List (List ℕ))) (lists : List (List (List ℕ × ℕ))) (pairs : List (List ℕ × ℕ))
+    → ListsEach every → AreDumpsOfParts strands k every parts lists → ((x : List ℕ) → count_of strands k (joined parts) x ≤ 2 ^ 63)
+    → IsDump (sum_of lists) l pairs → IsDump (count_of strands k (joined parts)) l pairs

@@ -1,0 +1,12 @@
+pub mod Sum
+pub mod Listed
+pub mod Line
+pub mod Heads
+pub mod Source
+pub mod Faults
+pub mod Pairs
+pub mod Tally
+pub mod Sources
+pub mod State
+pub mod Refusals
+pub mod Laws

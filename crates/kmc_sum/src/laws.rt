@@ -1,0 +1,12 @@
+//! Laws of the definitions, each the contract of a function that does nothing.
+ghost use Rattle.kmc_sum.specs.Laws.{CountsAdd, SumOfPartsIsWhole};
+
+/// The direct count of reads and then others is, word by word, the sum of their direct counts.
+pub fn counts_add()
+    ensures { CountsAdd }
+{}
+
+/// Dumps of the parts of reads, made with each count listed, are summed to the dump of all of the reads.
+pub fn sum_of_parts_is_whole()
+    ensures { SumOfPartsIsWhole }
+{}

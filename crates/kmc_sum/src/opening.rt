@@ -1,0 +1,123 @@
+//! The first lines of all sources.
+ghost use Rattle.std.specs.Prelude.{◌≡◌, ℕ, ◌+◌, ◌*◌, ◌^◌, ◌<◌, ◌≤◌, ◌⊎◌, [], List, length, map, OnErr, IfOk, IfErr, IsErrOf, Option, slice_index_or};
+ghost use Rattle.kmc_count.specs.Device.{RisesByOne};
+ghost use Rattle.kmc_sum.specs.Listed.{IsLength};
+ghost use Rattle.kmc_sum.specs.Faults.{GaveFront, IsFaultAt};
+ghost use Rattle.kmc_sum.specs.Heads.{head_at};
+ghost use Rattle.kmc_sum.specs.Source.{IsRoom};
+ghost use Rattle.kmc_sum.specs.Sources.{IsSource, IsFresh, Agrees, AreReady, AreSources, AreOpened, GaveFronts, no_lists};
+ghost use Rattle.kmc_sum.specs.Refusals.{IsFirstFault, IsOfSource};
+ghost use Rattle.kmc_sum.specs.declared.error.LineFault.{LineFault};
+
+use crate::error::{LineFault, SumError};
+use crate::heads::Head;
+use crate::source::{NextFault, Room, next_line};
+use kmc_base::kmer::MAX_K;
+use kmc_count::device::Counted;
+use std::alloc::{AllocError, Global};
+use std::io::Read;
+
+/// So many rooms.
+pub fn rooms_for(alloc: Global, count: usize) -> Result<Vec<Room>, AllocError>
+    ensures { IfOk result (λ rooms. (length rooms.items ≡ count) × ((i : ℕ) (room : _) → i < count → IsFresh (slice_index_or rooms.items i room))) }
+{
+    let mut rooms = Vec::new(alloc);
+    for _i in 0..count {
+        rooms.push(Room::new(alloc)?)?;
+    }
+    Ok(rooms)
+}
+
+/// So many heads that are not live.
+pub fn heads_for(alloc: Global, count: usize) -> Result<Vec<Head>, AllocError>
+    ensures { IfOk result (λ heads. length heads.items ≡ count) }
+{
+    let mut heads = Vec::new(alloc);
+    for _i in 0..count {
+        heads.push(Head {
+            live: false,
+            packed: 0,
+            count: 0,
+            source: 0,
+        })?;
+    }
+    Ok(heads)
+}
+
+/// The first head of a source, and the length of its word, which is `k` unless that is 0.
+fn first_head<R: Read>(
+    reader: &mut Counted<R>,
+    room: &mut Room,
+    source: usize,
+    k: usize,
+) -> Result<(Head, usize), SumError>
+    requires fresh { IsFresh room.old }
+    requires most { k ≤ MAX_K }
+    ensures room { IsRoom room.new }
+    ensures length { IfOk result (λ r. (r.0.source ≡ source) × (r.1 ≤ MAX_K) × ((k ≡ 0) ⊎ (r.1 ≡ k))) }
+    ensures fits { IfOk result (λ r. (m : ℕ) → Agrees r.1 m → r.0.packed < 4 ^ m) }
+    ensures ok { IfOk result (λ r. (m : ℕ) → Agrees r.1 m → IsSource m (R.remaining reader.old.inner) (R.remaining reader.new.inner) room.new r.0 []) }
+    ensures fault { (s line : ℕ) (fault : LineFault) → IsErrOf result (SumError.Line s line fault) → (s ≡ source)
+        × ((m : ℕ) × IsLength m × IsFaultAt m (R.remaining reader.old.inner) (R.remaining reader.new.inner) line fault) }
+    ensures read { (s : ℕ) → IsErrOf result (SumError.Read s) → (s ≡ source) × RisesByOne reader.old.failures reader.new.failures }
+    ensures other { IfErr result IsOfSource }
+    ensures lost { OnErr result ((m : ℕ) → (rest : List ℕ) × GaveFront m (R.remaining reader.old.inner) (R.remaining reader.new.inner) [] rest) }
+{
+    match next_line(reader, room) {
+        Ok(Some(line)) => {
+            if k != 0 && line.k != k {
+                return Err(SumError::Line(source, 1, LineFault::OtherLength));
+            }
+            let head = Head {
+                live: true,
+                packed: line.packed,
+                count: line.count,
+                source,
+            };
+            Ok((head, line.k))
+        }
+        Ok(None) => {
+            let head = Head {
+                live: false,
+                packed: 0,
+                count: 0,
+                source,
+            };
+            Ok((head, k))
+        }
+        Err(NextFault::Device) => Err(SumError::Read(source)),
+        Err(NextFault::Malformed) => Err(SumError::Line(source, 1, LineFault::Malformed)),
+    }
+}
+
+/// Puts the first heads of all sources to their places, and says how long their words are: 1 where there is none.
+pub fn open<R: Read>(
+    readers: &mut [Counted<R>],
+    rooms: &mut [Room],
+    heads: &mut [Head],
+) -> Result<usize, SumError>
+    requires rooms { (length rooms.old ≡ length readers.old) × ((i : ℕ) (room : _) → i < length readers.old → IsFresh (slice_index_or rooms.old i room)) }
+    requires heads { length heads.old ≡ 2 * length readers.old }
+    ensures length { IfOk result IsLength }
+    ensures ready { IfOk result (λ k. AreReady k (length readers.new) rooms.new heads.new) }
+    ensures sources { IfOk result (λ k. let starts = map (λ r. R.remaining r.inner) readers.old in
+        AreSources k starts (map (λ r. R.remaining r.inner) readers.new) rooms.new heads.new (no_lists starts)) }
+    ensures fault { (source line : ℕ) (fault : LineFault) → IsErrOf result (SumError.Line source line fault)
+        → (m : ℕ) × IsLength m × IsFirstFault m (map (λ r. R.remaining r.inner) readers.old) (map (λ r. R.remaining r.inner) readers.new) source line fault }
+    ensures other { IfErr result IsOfSource }
+    ensures lost { OnErr result ((m : ℕ) → let starts = map (λ r. R.remaining r.inner) readers.old in
+        GaveFronts m starts (map (λ r. R.remaining r.inner) readers.new) (no_lists starts)) }
+{
+    let count = readers.len();
+    let mut k = 0;
+    for i in 0..count {
+        match first_head(&mut readers[i], &mut rooms[i], i, k) {
+            Ok((head, found)) => {
+                heads[count + i] = head;
+                k = found;
+            }
+            Err(error) => return Err(error),
+        }
+    }
+    if k == 0 { Ok(1) } else { Ok(k) }
+}

@@ -1,0 +1,123 @@
+//! The program: from its arguments to the dump of the sum and the exit status.
+ghost use Rattle.std.specs.Prelude.{◌≡◌, ℕ, ◌-◌, ◌^◌, ◌<◌, ◌≤◌, List, length, Option, IfOk};
+ghost use Rattle.std.specs.Process.{exit_status};
+ghost use Rattle.kmc_count.specs.declared.limits.Limits.{Limits};
+ghost use Rattle.kmc_sum.specs.State.{IsSumWritten};
+
+use crate::error::{LineFault, SumError};
+use crate::merge::{MOST_SOURCES, merge};
+use crate::request::{RequestError, asked_for};
+use kmc_count::device::Counted;
+use std::alloc::Global;
+use std::fs;
+use std::env;
+use std::io::Write;
+use std::process::ExitCode;
+use std::rt::{Env, Files};
+
+const MISUSED: u8 = 2;
+
+const FAILED: u8 = 1;
+
+/// The process's arguments behind the program's name.
+fn arguments<T: Env + Alloc<A = Global>>(rt: &T) -> Result<Vec<String>, RequestError> {
+    let Ok(mut arguments) = env::args(rt) else {
+        return Err(RequestError::Usage);
+    };
+    let _program = arguments.next();
+    Ok(arguments.collect(rt.alloc())?)
+}
+
+/// Tells why the words ask for nothing, and gives the status.
+fn misused(rt: &impl Eprint, error: RequestError) -> ExitCode
+    ensures { exit_status result ≡ 0 → ⊥ }
+{
+    match error {
+        RequestError::Usage => {
+            let _ = rt.eprintln("usage: kmc_merge [-ci<n>] [-cx<n>] [-cs<n>] a.dump b.dump ..");
+            ExitCode::from(MISUSED)
+        }
+        RequestError::OutOfRange => {
+            let _ = rt.eprintln("kmc_merge: value of an option is out of range");
+            ExitCode::from(MISUSED)
+        }
+        RequestError::Memory => {
+            let _ = rt.eprintln("kmc_merge: out of memory");
+            ExitCode::from(FAILED)
+        }
+    }
+}
+
+/// The name of a source.
+fn name_of(files: &[String], source: usize) -> &str {
+    match files.get(source) {
+        Some(name) => name.as_str(),
+        None => "",
+    }
+}
+
+/// Tells why the merge was given up, and gives the status.
+fn failed(rt: &impl Eprint, files: &[String], error: SumError) -> ExitCode
+    ensures { exit_status result ≡ 1 }
+{
+    match error {
+        SumError::Line(source, line, fault) => {
+            let name = name_of(files, source);
+            let what = match fault {
+                LineFault::Malformed => "is no line of a dump",
+                LineFault::OtherLength => "has a word of another length",
+                LineFault::NotRising => "has a word that is not above the one before",
+            };
+            let _ = eprintln!(rt; "kmc_merge: {name}: line {line} {what}");
+        }
+        SumError::Read(source) => {
+            let name = name_of(files, source);
+            let _ = eprintln!(rt; "kmc_merge: {name}: cannot be read");
+        }
+        SumError::Write => {
+            let _ = rt.eprintln("kmc_merge: cannot write");
+        }
+        SumError::Memory => {
+            let _ = rt.eprintln("kmc_merge: out of memory");
+        }
+        SumError::TooLong => {
+            let _ = rt.eprintln("kmc_merge: too many lines");
+        }
+    }
+    ExitCode::from(FAILED)
+}
+
+/// The whole program: reads the files that the process's arguments name, and writes the dump of the sum of what they list,
+/// within the limits of the arguments. A fault is shown in one line on standard error. The exit status is 0 where the
+/// dump was written, 2 where the command line is at fault, and else 1.
+pub fn program<T: Files + Env + Eprint + Alloc<A = Global>, W: Write>(
+    rt: &T,
+    writer: &mut Counted<W>,
+) -> ExitCode
+    requires { writer.old.failures < 2 ^ 64 - 1 }
+    ensures { exit_status result ≡ 0 → (limits : Limits) × (starts nows : List (Option (List ℕ))) × (lines : ℕ)
+        × IsSumWritten limits starts nows lines (W.contents writer.old.inner) (W.contents writer.new.inner) }
+{
+    let asked = match arguments(rt) {
+        Ok(words) => asked_for(rt.alloc(), words, MOST_SOURCES),
+        Err(error) => Err(error),
+    };
+    let asked = match asked {
+        Ok(asked) => asked,
+        Err(error) => return misused(rt, error),
+    };
+    let mut readers = Vec::new(rt.alloc());
+    for name in &asked.files {
+        let Ok(file) = fs::open(rt, name.as_str()) else {
+            let _ = eprintln!(rt; "kmc_merge: {name}: cannot be opened");
+            return ExitCode::from(FAILED);
+        };
+        if readers.push(Counted::new(file)).is_err() {
+            return failed(rt, &asked.files, SumError::Memory);
+        }
+    }
+    match merge(rt.alloc(), readers.as_mut_slice(), &asked.limits, writer) {
+        Ok(_) => ExitCode::from(0),
+        Err(error) => failed(rt, &asked.files, error),
+    }
+}

@@ -1,0 +1,192 @@
+//! A source of lines: a reader, and a room for the bytes that it gave and that are not yet judged, a piece at a time.
+ghost use Rattle.std.specs.Prelude.{◌≡◌, ◌≢◌, ℕ, ◌+◌, ◌-◌, ◌^◌, ◌<◌, ◌≤◌, ◌++◌, [], List, length, take, drop, min, OnOk, OnErr, IfOk, IsErrOf, MatchOption, Option, IfSome, None};
+ghost use Rattle.std.specs.Io.KnownBytes.{Consumes, IsAtEnd, Keeps};
+ghost use Rattle.kmc_count.specs.Device.{RisesByOne};
+ghost use Rattle.kmc_sum.specs.Line.{IsLineOf};
+ghost use Rattle.kmc_sum.specs.Faults.{BeginsNoLine, GaveFront, IsFaultAt, line_after};
+ghost use Rattle.kmc_sum.specs.Pairs.{EndsIn, pairs_of};
+ghost use Rattle.kmc_sum.specs.Source.{unread, IsRoom, IsEnough, GoesOn};
+
+use crate::error::LineFault;
+use crate::line::{Line, line_at};
+use kmc_base::kmer::MAX_K;
+use kmc_count::device::Counted;
+use std::alloc::{AllocError, Global};
+use std::io::Read;
+
+/// The most bytes of a line: the letters, a tab, twenty digits, a line feed.
+pub const LONGEST_LINE: usize = MAX_K + 22;
+
+/// The bytes that a reader is asked for at a time.
+const PIECE: usize = 65536;
+
+/// The bytes of a source from `from` to `to` are read and not yet judged, and `lines` of its lines were taken.
+#[derive(Drop)]
+pub struct Room {
+    pub bytes: Vec<u8>,
+    pub from: usize,
+    pub to: usize,
+    pub lines: u64,
+}
+
+/// Why a source gives no line.
+#[derive(Clone, Copy)]
+pub enum NextFault {
+    /// A read failed.
+    Device,
+    /// What is next is no line.
+    Malformed,
+}
+
+impl Room {
+    /// A room with no bytes in it.
+    pub fn new(alloc: Global) -> Result<Room, AllocError>
+        ensures { IfOk result (λ r. IsRoom r × (unread r ≡ []) × (r.lines ≡ 0)) }
+    {
+        let bytes = vec![in alloc; 0; PIECE]?;
+        Ok(Room {
+            bytes,
+            from: 0,
+            to: 0,
+            lines: 0,
+        })
+    }
+}
+
+/// Moves the bytes from `from` to `to` to the front.
+fn shift(bytes: &mut [u8], from: usize, to: usize)
+    requires order { from ≤ to }
+    requires inside { to ≤ length bytes.old }
+    ensures { take (to - from) bytes.new ≡ take (to - from) (drop from bytes.old) }
+{
+    bytes.copy_within(from..to, 0);
+}
+
+/// Reads behind the first `to` bytes, and says where what is read ends. It ends at `to` only where nothing is left.
+fn read_behind<R: Read>(
+    reader: &mut Counted<R>,
+    bytes: &mut [u8],
+    to: usize,
+) -> Result<usize, NextFault>
+    requires { to < length bytes.old }
+    ensures ok { IfOk result (λ end. (to ≤ end) × (end ≤ length bytes.new) × (end ≡ to → IsAtEnd (R.remaining reader.new.inner))
+        × GoesOn (R.remaining reader.old.inner) (R.remaining reader.new.inner) (take to bytes.old) (take end bytes.new)) }
+    ensures kept { OnOk result (reader.new.failures ≡ reader.old.failures) }
+    ensures failed { OnErr result (RisesByOne reader.old.failures reader.new.failures) }
+    ensures device { (e : NextFault) → IsErrOf result e → e ≡ NextFault.Device }
+    ensures bytes { OnErr result (Keeps (R.remaining reader.old.inner) (R.remaining reader.new.inner)) }
+{
+    match reader.read(&mut bytes[to..]) {
+        Ok(n) => Ok(to + n),
+        Err(_) => Err(NextFault::Device),
+    }
+}
+
+/// Reads until enough bytes for a line are there, or nothing is left.
+fn fill<R: Read>(reader: &mut Counted<R>, room: &mut Room) -> Result<(), NextFault>
+    requires { IsRoom room.old }
+    ensures room { IsRoom room.new }
+    ensures lines { room.new.lines ≡ room.old.lines }
+    ensures ok { OnOk result (GoesOn (R.remaining reader.old.inner) (R.remaining reader.new.inner) (unread room.old) (unread room.new)) }
+    ensures enough { OnOk result (IsEnough (unread room.new) (R.remaining reader.new.inner)) }
+    ensures kept { OnOk result (reader.new.failures ≡ reader.old.failures) }
+    ensures failed { OnErr result (RisesByOne reader.old.failures reader.new.failures) }
+    ensures device { (e : NextFault) → IsErrOf result e → e ≡ NextFault.Device }
+    ensures lost { OnErr result ((rest : List ℕ) × GoesOn (R.remaining reader.old.inner) (R.remaining reader.new.inner) (unread room.old) rest) }
+{
+    if room.to - room.from >= LONGEST_LINE {
+        return Ok(());
+    }
+    shift(room.bytes.as_mut_slice(), room.from, room.to);
+    room.to -= room.from;
+    room.from = 0;
+    while room.to < LONGEST_LINE {
+        match read_behind(reader, room.bytes.as_mut_slice(), room.to) {
+            Ok(end) => {
+                if end == room.to {
+                    return Ok(());
+                }
+                room.to = end;
+            }
+            Err(fault) => return Err(fault),
+        }
+    }
+    Ok(())
+}
+
+/// Takes the next line of a source, where it has one.
+pub fn next_line<R: Read>(
+    reader: &mut Counted<R>,
+    room: &mut Room,
+) -> Result<Option<Line>, NextFault>
+    requires { IsRoom room.old }
+    ensures room { IsRoom room.new }
+    ensures ok { IfOk result (λ answer. (rest : List ℕ) × GoesOn (R.remaining reader.old.inner) (R.remaining reader.new.inner) (unread room.old) rest
+        × MatchOption answer ((rest ≡ []) × (unread room.new ≡ []) × (room.new.lines ≡ room.old.lines) × IsAtEnd (R.remaining reader.new.inner))
+        (λ l. IsLineOf l rest × (unread room.new ≡ drop l.end rest) × (room.new.lines ≡ min (room.old.lines + 1) (2 ^ 64 - 1)))) }
+    ensures malformed { IsErrOf result NextFault.Malformed → (rest : List ℕ) × GoesOn (R.remaining reader.old.inner) (R.remaining reader.new.inner) (unread room.old) rest
+        × (rest ≢ []) × IsEnough rest (R.remaining reader.new.inner) × BeginsNoLine rest × (room.new.lines ≡ room.old.lines) }
+    ensures device { IsErrOf result NextFault.Device → RisesByOne reader.old.failures reader.new.failures }
+    ensures lost { OnErr result ((rest : List ℕ) × GoesOn (R.remaining reader.old.inner) (R.remaining reader.new.inner) (unread room.old) rest) }
+{
+    match fill(reader, room) {
+        Ok(()) => {}
+        Err(_) => return Err(NextFault::Device),
+    }
+    if room.from == room.to {
+        return Ok(None);
+    }
+    match line_at(&room.bytes[room.from..room.to]) {
+        Some(line) => {
+            room.from += line.end;
+            room.lines = room.lines.saturating_add(1);
+            Ok(Some(line))
+        }
+        None => Err(NextFault::Malformed),
+    }
+}
+
+/// Why a source gives no line that goes on with a dump.
+#[derive(Clone, Copy)]
+pub enum PairFault {
+    /// A read failed.
+    Device,
+    /// The line is at fault.
+    Line(LineFault),
+}
+
+/// Takes the next line of a source behind a line with the word `last` of `k` codes.
+pub fn next_pair<R: Read>(
+    reader: &mut Counted<R>,
+    room: &mut Room,
+    k: usize,
+    last: u128,
+) -> Result<Option<Line>, PairFault>
+    requires { IsRoom room.old }
+    ensures room { IsRoom room.new }
+    ensures ok { IfOk result (λ answer. (start : Option (List ℕ)) (pairs : List (List ℕ × ℕ)) → EndsIn k last pairs
+        → GaveFront k start (R.remaining reader.old.inner) pairs (unread room.old)
+        → GaveFront k start (R.remaining reader.new.inner) (pairs ++ pairs_of k answer) (unread room.new)) }
+    ensures ended { IfOk result (λ answer. answer ≡ None → (unread room.new ≡ []) × IsAtEnd (R.remaining reader.new.inner) × (room.new.lines ≡ room.old.lines)) }
+    ensures more { IfOk result (λ answer. IfSome answer (λ l. (last < l.packed) × (l.packed < 4 ^ k) × (l.count < 2 ^ 64)
+        × (room.new.lines ≡ min (room.old.lines + 1) (2 ^ 64 - 1)))) }
+    ensures fault { (f : LineFault) → IsErrOf result (PairFault.Line f) → (start : Option (List ℕ)) (pairs : List (List ℕ × ℕ)) → EndsIn k last pairs
+        → GaveFront k start (R.remaining reader.old.inner) pairs (unread room.old) → IsFaultAt k start (R.remaining reader.new.inner) (line_after pairs) f }
+    ensures device { IsErrOf result PairFault.Device → RisesByOne reader.old.failures reader.new.failures }
+    ensures lost { OnErr result ((rest : List ℕ) × GoesOn (R.remaining reader.old.inner) (R.remaining reader.new.inner) (unread room.old) rest) }
+{
+    match next_line(reader, room) {
+        Ok(Some(line)) => {
+            if line.k != k {
+                Err(PairFault::Line(LineFault::OtherLength))
+            } else if line.packed <= last {
+                Err(PairFault::Line(LineFault::NotRising))
+            } else {
+                Ok(Some(line))
+            }
+        }
+        Ok(None) => Ok(None),
+        Err(NextFault::Device) => Err(PairFault::Device),
+        Err(NextFault::Malformed) => Err(PairFault::Line(LineFault::Malformed)),
+    }
+}

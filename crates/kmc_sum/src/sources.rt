@@ -1,0 +1,106 @@
+//! Many sources side by side: their first lines, and one line more of the source whose head is first.
+ghost use Rattle.std.specs.Prelude.{◌≡◌, ℕ, ◌+◌, ◌*◌, ◌<◌, ◌≤◌, ◌^◌, ◌++◌, List, length, map, true, OnOk, OnErr, IfOk, IfErr, IsErrOf, Option, slice_index_or};
+ghost use Rattle.kmc_count.specs.Device.{RisesByOne};
+ghost use Rattle.kmc_sum.specs.Heads.{rank, head_at, pending, IsTree};
+ghost use Rattle.kmc_sum.specs.Sources.{IsSource, AreReady, AreSources, with_first, GaveFronts};
+ghost use Rattle.kmc_sum.specs.Refusals.{IsFirstFault, IsOfSource};
+ghost use Rattle.kmc_sum.specs.Faults.{GaveFront, IsFaultAt};
+ghost use Rattle.kmc_sum.specs.Source.{IsRoom};
+ghost use Rattle.kmc_sum.specs.declared.error.LineFault.{LineFault};
+
+use crate::error::SumError;
+use crate::heads::{Head, mend};
+use crate::source::{PairFault, Room, next_pair};
+use kmc_count::device::Counted;
+use std::io::Read;
+
+/// The head of a source behind one with the word `packed` of `k` codes.
+fn next_head<R: Read>(
+    reader: &mut Counted<R>,
+    room: &mut Room,
+    source: usize,
+    k: usize,
+    packed: u128,
+) -> Result<Head, SumError>
+    requires { IsRoom room.old }
+    ensures room { IsRoom room.new }
+    ensures ok { IfOk result (λ h. (start : Option (List ℕ)) (head : Head) (taken : List (List ℕ × ℕ)) → head.live ≡ true → head.packed ≡ packed
+        → IsSource k start (R.remaining reader.old.inner) room.old head taken
+        → IsSource k start (R.remaining reader.new.inner) room.new h (taken ++ pending k head)) }
+    ensures behind { IfOk result (λ h. (h.source ≡ source) × (packed ≤ rank h) × (h.packed < 4 ^ k)) }
+    ensures fault { (s line : ℕ) (fault : LineFault) → IsErrOf result (SumError.Line s line fault) → (s ≡ source)
+        × ((start : Option (List ℕ)) (head : Head) (taken : List (List ℕ × ℕ)) → head.live ≡ true → head.packed ≡ packed
+        → IsSource k start (R.remaining reader.old.inner) room.old head taken → IsFaultAt k start (R.remaining reader.new.inner) line fault) }
+    ensures read { (s : ℕ) → IsErrOf result (SumError.Read s) → (s ≡ source) × RisesByOne reader.old.failures reader.new.failures }
+    ensures other { IfErr result IsOfSource }
+    ensures lost { OnErr result ((start : Option (List ℕ)) (head : Head) (taken : List (List ℕ × ℕ))
+        → IsSource k start (R.remaining reader.old.inner) room.old head taken
+        → (rest : List ℕ) × GaveFront k start (R.remaining reader.new.inner) taken rest) }
+{
+    let line = room.lines.saturating_add(1);
+    match next_pair(reader, room, k, packed) {
+        Ok(Some(line)) => Ok(Head {
+            live: true,
+            packed: line.packed,
+            count: line.count,
+            source,
+        }),
+        Ok(None) => Ok(Head {
+            live: false,
+            packed: 0,
+            count: 0,
+            source,
+        }),
+        Err(PairFault::Device) => Err(SumError::Read(source)),
+        Err(PairFault::Line(fault)) => Err(SumError::Line(source, line, fault)),
+    }
+}
+
+/// Takes the first head, and puts the next line of its source there.
+pub fn advance<R: Read>(
+    readers: &mut [Counted<R>],
+    rooms: &mut [Room],
+    heads: &mut [Head],
+    k: usize,
+) -> Result<(), SumError>
+    requires ready { AreReady k (length readers.old) rooms.old heads.old }
+    requires some { 1 ≤ length readers.old }
+    requires inside { (head_at heads.old 1).source < length readers.old }
+    requires tree { IsTree heads.old }
+    requires live { (head_at heads.old 1).live ≡ true }
+    ensures ready { OnOk result (AreReady k (length readers.new) rooms.new heads.new) }
+    ensures sources { OnOk result ((starts : List (Option (List ℕ))) (lists : List (List (List ℕ × ℕ)))
+        → AreSources k starts (map (λ r. R.remaining r.inner) readers.old) rooms.old heads.old lists
+        → AreSources k starts (map (λ r. R.remaining r.inner) readers.new) rooms.new heads.new (with_first k heads.old lists)) }
+    ensures tree { OnOk result (IsTree heads.new) }
+    ensures behind { OnOk result ((j : ℕ) → length readers.old ≤ j → j < 2 * length readers.old → (head_at heads.old 1).packed ≤ rank (head_at heads.new j)) }
+    ensures fault { (source line : ℕ) (fault : LineFault) → IsErrOf result (SumError.Line source line fault)
+        → (starts : List (Option (List ℕ))) (lists : List (List (List ℕ × ℕ)))
+        → AreSources k starts (map (λ r. R.remaining r.inner) readers.old) rooms.old heads.old lists
+        → IsFirstFault k starts (map (λ r. R.remaining r.inner) readers.new) source line fault }
+    ensures read { (source : ℕ) → IsErrOf result (SumError.Read source) → (source < length readers.old)
+        × ((d e : _) → RisesByOne (slice_index_or readers.old source d).failures (slice_index_or readers.new source e).failures) }
+    ensures other { IfErr result IsOfSource }
+    ensures lost { OnErr result ((starts : List (Option (List ℕ))) (lists : List (List (List ℕ × ℕ)))
+        → AreSources k starts (map (λ r. R.remaining r.inner) readers.old) rooms.old heads.old lists
+        → GaveFronts k starts (map (λ r. R.remaining r.inner) readers.new) lists) }
+{
+    let count = readers.len();
+    let source = heads[1].source;
+    let packed = heads[1].packed;
+    match next_head(
+        &mut readers[source],
+        &mut rooms[source],
+        source,
+        k,
+        packed,
+    ) {
+        Ok(head) => {
+            let leaf = count + source;
+            heads[leaf] = head;
+            mend(heads, leaf / 2);
+            Ok(())
+        }
+        Err(error) => Err(error),
+    }
+}
