@@ -53,10 +53,10 @@ pub fn params(alloc: Global, words: Vec<String>) -> Result<Params, ParamsError>
 const STORERS: usize = 1;
 
 /// The parts that one splitter may have in the queue.
-const WAITING_PARTS: usize = 8;
+const WAITING_PARTS: usize = 64;
 
-/// The reads of a chunk: fewer make many small parts, more take memory where reads are long.
-const CHUNK_READS: usize = 4096;
+/// The reads of a chunk: fewer make many small parts. As many chunks as there are splitters make a round.
+const CHUNK_READS: usize = 32768;
 
 /// The settings of a run that the words of a command line give, glued or in long form, with the program's own queue.
 pub fn settings(alloc: Global, argv: Vec<String>) -> Result<Params, ParamsError>
