@@ -110,7 +110,11 @@ fn limits_judge_the_sums(rt: HostRuntime) -> Result<(), Fail> {
 
 #[test]
 fn sums_above_64_bits_do_not_wrap(rt: HostRuntime) -> Result<(), Fail> {
-    let texts = ["AC\t18446744073709551615\n", "AC\t3\nCA\t9223372036854775807\n", "CA\t1\n"];
+    let texts = [
+        "AC\t18446744073709551615\n",
+        "AC\t3\nCA\t9223372036854775807\n",
+        "CA\t1\n",
+    ];
     gives(
         &rt,
         &texts,
@@ -175,7 +179,13 @@ fn a_read_that_fails_is_told(rt: HostRuntime) -> Result<(), Fail> {
         room: 1 << 20,
         flushes: true,
     };
-    refuses(&rt, &["AC\t1\n", "AC\t1\n"], &devices, SumError::Read(0), "")
+    refuses(
+        &rt,
+        &["AC\t1\n", "AC\t1\n"],
+        &devices,
+        SumError::Read(0),
+        "",
+    )
 }
 
 #[test]
@@ -185,7 +195,13 @@ fn a_writer_that_fails_has_a_front(rt: HostRuntime) -> Result<(), Fail> {
         room: 7,
         flushes: true,
     };
-    refuses(&rt, &["AC\t1\nCA\t5\n"], &devices, SumError::Write, "AC\t1\nCA")?;
+    refuses(
+        &rt,
+        &["AC\t1\nCA\t5\n"],
+        &devices,
+        SumError::Write,
+        "AC\t1\nCA",
+    )?;
     let devices = Devices {
         failing: 0,
         room: 1 << 20,
