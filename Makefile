@@ -1,5 +1,6 @@
 # The k-mer counter: `make count` builds it and counts the example, `make check` is the gate.
 KMC := ./kmc
+KMC_MERGE := ./kmc_merge
 
 # where `make install` puts the program and its page, and under which name: Debian's `kmc` is KMC 3
 PREFIX := /usr/local
@@ -7,15 +8,21 @@ NAME := futoncrane-kmc
 BIN = $(DESTDIR)$(PREFIX)/bin
 MAN = $(DESTDIR)$(PREFIX)/share/man/man1
 
-.PHONY: all count check recipes install uninstall fuzz hostile limits threads bench clean
+.PHONY: all count check recipes install uninstall fuzz hostile limits threads bench merges clean
 
-all: count
+all: count $(KMC_MERGE)
 
 $(KMC): crates.txt $(shell find crates -path '*/out' -prune -o -type f -name '*.rt' -print -o -type f -name '*.antt' -print)
 	@echo "make: proving and building the program (some minutes the first time)"
 	@cd crates/kmc && rt run < stdin > /dev/null 2> out.log || { cat out.log; rm -f out.log; exit 1; }
 	@rm -f crates/kmc/out.log
 	@cp crates/kmc/out/kmc $(KMC)
+
+$(KMC_MERGE): crates.txt $(shell find crates/kmc_base crates/kmc_count crates/kmc_sum crates/kmc_merge -path '*/out' -prune -o -type f -name '*.rt' -print -o -type f -name '*.antt' -print)
+	@echo "make: proving and building the program that sums dumps"
+	@cd crates/kmc_merge && rt run -- data/a.dump > /dev/null 2> out.log || { cat out.log; rm -f out.log; exit 1; }
+	@rm -f crates/kmc_merge/out.log
+	@cp crates/kmc_merge/out/kmc_merge $(KMC_MERGE)
 
 count: $(KMC)
 	@$(KMC) < examples/reads.fastq > examples/.counted
@@ -56,5 +63,10 @@ threads: $(KMC)
 bench: $(KMC)
 	bench/compare.sh
 
+# random splits of random reads, against a plain count of all reads; and the time of a merge beside that of sort -m
+merges: $(KMC_MERGE)
+	bench/merge.py --seed $(SEED)
+	bench/merge_time.sh
+
 clean:
-	rm -rf crates/*/out $(KMC)
+	rm -rf crates/*/out $(KMC) $(KMC_MERGE)

@@ -83,11 +83,12 @@ impl Feeder {
     }
 
     /// Hands out the reads that have ended and were not taken yet. It copies the open read, so take
-    /// them a round at a time, and not after each piece.
+    /// them a round at a time, and not after each piece. A feeder that has refused the text goes on refusing.
     pub fn take(&mut self, alloc: Global) -> Result<Reads, AllocError>
         ensures all { (format : Format) (text : List ℕ) (taken : List (List ℕ)) → StandsAt format text taken self.old → IfOk result (λ reads. ended format text ≡ taken ++ reads) }
         ensures stands { (format : Format) (text : List ℕ) (taken : List (List ℕ)) → StandsAt format text taken self.old → IfOk result (λ reads. StandsAt format text (taken ++ reads) self.new) }
         ensures memory { OnErr result (self.new ≡ self.old) }
+        ensures refused { (e : ReadsError) → Refuses e self.old → Refuses e self.new }
     {
         self.scan.take(alloc)
     }

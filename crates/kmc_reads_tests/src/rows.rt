@@ -117,6 +117,8 @@ fn a_line_is_judged_once_its_line_feed_has_come(rt: HostRuntime) {
     gives(&rt, alloc, &mut feeder, "@r\nACGT\nx", &[]);
     refuses(&rt, &mut feeder, "\n", ReadsError::BadPlus(3));
     refuses(&rt, &mut feeder, "y", ReadsError::BadPlus(3));
+    let ended = take(alloc, &mut feeder).expect(&rt, "memory");
+    are(&rt, &ended, &[], "after a refusal");
     refuses(&rt, &mut feeder, "", ReadsError::BadPlus(3));
     end_refused(&rt, feeder, ReadsError::BadPlus(3));
 }

@@ -94,7 +94,7 @@ fn a_failed_read_ends_the_rounds(rt: HostRuntime) {
         );
         assert_eq!(rt; answer.err(), Some(RunError::Read));
         assert_eq!(rt; failures, 1);
-        assert_eq!(rt; reads + 1, failing);
+        assert_eq!(rt; reads.saturating_add(1), failing);
     }
 }
 

@@ -125,8 +125,8 @@ module _ (k n : ℕ) (rooms : List Room) (heads : List Head) (ready : AreReady k
               let place : head_at mended (length starts + i) ≡ head = (λ j. head_at mended (many j + e j)) ∙ leaf_new in
               subst (λ j. IsSource k (left_at starts j) (left_at (set nows first now) i) (get_or (set rooms first room) i r) (head_at mended (length starts + i)) (list_at (with_first k heads lists) i)) (sym e)
               (source_like k (left_at starts first) _ _ _ _ _ _ _ _ (sym (ap (λ j. left_at (set nows first now) j) e ∙ get_or-set_same nows first now None (omega (arith, count, first_inside))))
-                  (sym (ap (λ j. get_or (set rooms first room) j r) e ∙ get_or-set_same rooms first room r (omega (arith, ready.rooms_long, first_inside)))) (sym place)
-                  (sym (ap (λ j. list_at (set lists first more) j) e ∙ get_or-set_same lists first more [] (omega (arith, are.lists_long, many, first_inside)))) new)
+              (sym (ap (λ j. get_or (set rooms first room) j r) e ∙ get_or-set_same rooms first room r (omega (arith, ready.rooms_long, first_inside)))) (sym place)
+              (sym (ap (λ j. list_at (set lists first more) j) e ∙ get_or-set_same lists first more [] (omega (arith, are.lists_long, many, first_inside)))) new)
           at i r inside (inr differ) =
               let place : head_at mended (length starts + i) ≡ head_at heads (length starts + i) = ap (λ m. head_at mended (m + i)) many ∙ leaf_other i differ ∙ sym (ap (λ m. head_at heads (m + i)) many) in
               source_like k (left_at starts i) _ _ _ _ _ _ _ _ (sym (get_or-set_other nows first i now None differ)) (sym (get_or-set_other rooms first i room r differ)) (sym place)
@@ -144,15 +144,18 @@ lost_after k n s starts nows rooms heads lists now are inside lost room = record
 }
   where
     at : (i : ℕ) → i < length starts → (i ≡ s) ⊎ (i ≡ s → ⊥) → (rest : List ℕ) × GaveFront k (left_at starts i) (left_at (set nows s now) i) (list_at lists i) rest
-    at i within (inl e) =
-        (lost.0, subst (λ j. GaveFront k (left_at starts j) (left_at (set nows s now) i) (list_at lists j) lost.0) (sym e)
-            (subst (λ x. GaveFront k (left_at starts s) x (list_at lists s) lost.0) (sym (ap (λ j. left_at (set nows s now) j) e ∙ get_or-set_same nows s now None (omega (arith, inside, are.nows_long)))) lost.1))
+    at i within (inl e) = (
+      lost.0,
+      subst (λ j. GaveFront k (left_at starts j) (left_at (set nows s now) i) (list_at lists j) lost.0) (sym e)
+          (subst (λ x. GaveFront k (left_at starts s) x (list_at lists s) lost.0) (sym (ap (λ j. left_at (set nows s now) j) e ∙ get_or-set_same nows s now None (omega (arith, inside, are.nows_long)))) lost.1),
+    )
     at i within (inr differ) =
         let source = are.each i (room i within) within in
         let head = head_at heads (length starts + i) in
-        let fewer = gave_fewer k (left_at starts i) (left_at nows i) (list_at lists i) (pending k head) (unread (get_or rooms i (room i within))) source.gave in
-        (text_of (pending k head) ++ unread (get_or rooms i (room i within)),
-            subst (λ x. GaveFront k (left_at starts i) x (list_at lists i) (text_of (pending k head) ++ unread (get_or rooms i (room i within)))) (sym (get_or-set_other nows s i now None differ)) fewer)
+        let fewer = gave_fewer k (left_at starts i) (left_at nows i) (list_at lists i) (pending k head) (unread (get_or rooms i (room i within))) source.gave in (
+          text_of (pending k head) ++ unread (get_or rooms i (room i within)),
+          subst (λ x. GaveFront k (left_at starts i) x (list_at lists i) (text_of (pending k head) ++ unread (get_or rooms i (room i within)))) (sym (get_or-set_other nows s i now None differ)) fewer,
+        )
 
 pub first_like : (k : ℕ) (starts nows : List (Option (List ℕ))) (source s line : ℕ) (fault : LineFault) (now : Option (List ℕ)) → source ≡ s → left_at nows s ≡ now
     → IsFaultAt k (left_at starts s) now line fault → IsFaultAt k (left_at starts source) (left_at nows source) line fault

@@ -54,7 +54,7 @@ module _ (a b : Option (List ℕ)) (before rest : List ℕ) (none : before ≡ [
     gave_first m same =
         subst (λ n. GaveFront n a b ((unpack n l.packed, l.count) ∷ []) (drop l.end rest)) same
         (front_taken l.k a b [] (unpack l.k l.packed, l.count) rest (drop l.end rest) (gave_none l.k a b before rest none goes).bytes (line_splits l rest is)
-            (listed_first l.k l.packed l.count (line_pair l rest is)))
+        (listed_first l.k l.packed l.count (line_pair l rest is)))
 
     pub first_live : (m : ℕ) (room : Room) (source : ℕ) → Agrees l.k m → unread room ≡ drop l.end rest → room.lines ≡ 1
         → IsSource m a b room (record { live = true; packed = l.packed; count = l.count; source = source }) []
@@ -125,7 +125,7 @@ module _ (k found n i : ℕ) (starts nows : List (Option (List ℕ))) (rooms : L
       let here : get_or (set rooms i room) j r ≡ room = ap (λ x. get_or (set rooms i room) x r) e ∙ room_new r in (
         subst IsRoom (sym here) is,
         subst (λ x. IsSource m (left_at starts x) (left_at (set nows i now) j) (get_or (set rooms i room) j r) (head_at (set heads (n + i) head) (n + j)) []) (sym e)
-        (source_like m (left_at starts i) now _ room _ head _ [] [] (sym (ap (λ x. left_at (set nows i now) x) e ∙ now_new)) (sym here)
+            (source_like m (left_at starts i) now _ room _ head _ [] [] (sym (ap (λ x. left_at (set nows i now) x) e ∙ now_new)) (sym here)
             (sym (ap (λ x. head_at (set heads (n + i) head) (n + x)) e ∙ head_new)) refl (first m agrees)),
       )
   opened_at m j r agrees less (inr differ) =
@@ -192,15 +192,19 @@ opened_lost k m n i starts nows rooms heads now room are inside lost = record {
         (subst (λ y. GaveFront m (left_at starts j) y [] rest) (sym e) h)
 
     at : (j : ℕ) → j < length starts → (j ≡ i) ⊎ (j ≡ i → ⊥) → (j < i) ⊎ (i ≤ j) → (rest : List ℕ) × GaveFront m (left_at starts j) (left_at (set nows i now) j) (list_at (no_lists starts) j) rest
-    at j within (inl e) order =
-        (lost.0, like j within now lost.0 (ap (λ x. left_at (set nows i now) x) e ∙ get_or-set_same nows i now None (omega (arith, are.nows_long)))
-            (subst (λ x. GaveFront m (left_at starts x) now [] lost.0) (sym e) lost.1))
+    at j within (inl e) order = (
+      lost.0,
+      like j within now lost.0 (ap (λ x. left_at (set nows i now) x) e ∙ get_or-set_same nows i now None (omega (arith, are.nows_long)))
+          (subst (λ x. GaveFront m (left_at starts x) now [] lost.0) (sym e) lost.1),
+    )
     at j within (inr differ) (inl below) =
         let source = (are.opened k j room (inr refl) below).1 in
         let fewer = gave_fewer k (left_at starts j) (left_at nows j) [] (pending k (head_at heads (n + j))) (unread (get_or rooms j room)) source.gave in
         let rest = text_of (pending k (head_at heads (n + j))) ++ unread (get_or rooms j room) in
         (rest, like j within (left_at nows j) rest (get_or-set_other nows i j now None differ) (at_any k m (left_at starts j) (left_at nows j) rest fewer))
     at j within (inr differ) (inr above) =
-        let same = (are.fresh j room above (omega (arith, within, are.starts_long))).1 in
-        ([], like j within (left_at starts j) [] (get_or-set_other nows i j now None differ ∙ same)
-            (gave_none m (left_at starts j) (left_at starts j) [] [] refl (goes_nowhere (left_at starts j) [] [] refl)))
+        let same = (are.fresh j room above (omega (arith, within, are.starts_long))).1 in (
+          [],
+          like j within (left_at starts j) [] (get_or-set_other nows i j now None differ ∙ same)
+              (gave_none m (left_at starts j) (left_at starts j) [] [] refl (goes_nowhere (left_at starts j) [] [] refl)),
+        )

@@ -81,7 +81,7 @@ module _ (k : ℕ) (l : Limits) (small : l.cx ≤ 2 ^ 63) (starts nows : List (O
     pairs = so.pairs;
     tallied = subst (λ c. Tallied l (sum_of (with_first k heads so.lists)) x c so.pairs) (sym total)
         (tally_more l small (sum_of so.lists) x n so.pairs so.tallied (sum_of (with_first k heads so.lists)) (head_at heads 1).count
-            (λ y. sum_next k heads so.lists y (omega (arith, inside, so.sources.lists_long)) live ∙ ap (λ w. cond (same_word w y) (head_at heads 1).count 0 + sum_of so.lists y) same));
+        (λ y. sum_next k heads so.lists y (omega (arith, inside, so.sources.lists_long)) live ∙ ap (λ w. cond (same_word w y) (head_at heads 1).count 0 + sum_of so.lists y) same));
     out = so.out;
     count = so.count;
   }

@@ -9,11 +9,10 @@ use crate::merge::{MOST_SOURCES, merge};
 use crate::request::{RequestError, asked_for};
 use kmc_count::device::Counted;
 use std::alloc::Global;
-use std::fs;
-use std::env;
 use std::io::Write;
 use std::process::ExitCode;
 use std::rt::{Env, Files};
+use std::{env, fs};
 
 const MISUSED: u8 = 2;
 

@@ -6,7 +6,9 @@ use std::alloc::{AllocError, Global};
 
 /// The limits where the options leave them out, as `kmc` has them.
 const LEAST: u64 = 2;
+
 const GREATEST: u64 = 1_000_000_000;
+
 const CAP: u64 = 255;
 
 /// What is asked for: the dump of the sum of these files within these limits.

@@ -88,13 +88,7 @@ pub fn advance<R: Read>(
     let count = readers.len();
     let source = heads[1].source;
     let packed = heads[1].packed;
-    match next_head(
-        &mut readers[source],
-        &mut rooms[source],
-        source,
-        k,
-        packed,
-    ) {
+    match next_head(&mut readers[source], &mut rooms[source], source, k, packed) {
         Ok(head) => {
             let leaf = count + source;
             heads[leaf] = head;

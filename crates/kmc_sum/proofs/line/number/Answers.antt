@@ -23,8 +23,7 @@ returns-then-bytes-eq48 c = λ n more some most e.
 
 pub returns : goal.returns
 returns c =
-    let xs = c.args.bytes.now in let d = c.digits-n.ensures in let m = c.digits-n.result.0 in
-    (
+    let xs = c.args.bytes.now in let d = c.digits-n.ensures in let m = c.digits-n.result.0 in (
       number_some xs m c.digits-n.result.1 d.within d.value d.each c.if-n-eq0.false c.if-bytes-eq48.false (omega (arith, c.if-value-from.false, c.from.ensures)),
       omega (arith, c.if-value-from.false, c.from.ensures),
       omega (arith, d.within, c.if-n-bytes.false),

@@ -96,7 +96,7 @@ loop-step-preserved g c =
             let long : length starts ≡ n = omega (arith, length-map c.loop-step.readers left, so.sources.nows_long) in
             so_like k l starts _ _ _ _ _ _ _ _ _ _ _ _ _ _ (ap (unpack k) w.packed-is) w.count-is w.lines-is (ap (λ (v : Watched g.row.W.Denot). g.W.Write.contents v.inner) w.writer-is) (λ j. take (w.filled-is j) (w.room-is j))
             (so_same k l l.in_range.1 starts _ c.loop-step.rooms heads _ c.loop-step.count c.loop-step.lines _ _ _ so _ c.advance.new.rooms c.advance.new.heads _ (omega (arith, long, inside)) live
-                (ap (unpack k) w.if-next-packed.true) w.saturating_add-count.ensures (c.in-Ok-advance.ensures.sources starts so.lists so.sources));
+            (ap (unpack k) w.if-next-packed.true) w.saturating_add-count.ensures (c.in-Ok-advance.ensures.sources starts so.lists so.sources));
       }
       | else-next-packed+in-Ok w ↦ record {
         many = c.advance.auto.readers ∙ i.many;
@@ -112,8 +112,8 @@ loop-step-preserved g c =
             let long : length starts ≡ n = omega (arith, length-map c.loop-step.readers left, so.sources.nows_long) in
             so_like k l starts _ _ _ _ _ _ _ _ _ _ _ _ _ _ (ap (unpack k) w.packed-is) w.count-is w.lines-is (ap (λ (v : Watched g.row.W.Denot). g.W.Write.contents v.inner) w.writer-is) (λ j. take (w.filled-is j) (w.room-is j))
             (so_next k l l.in_range.1 starts _ c.loop-step.rooms heads _ c.loop-step.count c.loop-step.lines _ _ _ so _ c.advance.new.rooms c.advance.new.heads _ _ _ (omega (arith, long, inside)) live
-                (less_packed k c.loop-step.packed top.packed i.fits (first_fits k n c.loop-step.rooms heads i.ready i.tree some) (omega (arith, above, w.if-next-packed.false))) (omega arith)
-                (w.in-Ok.ensures.text _ _ so.out) (omega (arith, w.in-Ok.ensures.ok.2)) (c.in-Ok-advance.ensures.sources starts so.lists so.sources));
+            (less_packed k c.loop-step.packed top.packed i.fits (first_fits k n c.loop-step.rooms heads i.ready i.tree some) (omega (arith, above, w.if-next-packed.false))) (omega arith)
+            (w.in-Ok.ensures.text _ _ so.out) (omega (arith, w.in-Ok.ensures.ok.2)) (c.in-Ok-advance.ensures.sources starts so.lists so.sources));
       }
     ]
 

@@ -20,5 +20,5 @@ invariant-loop-step g l = record {
   so : (starts : List (Option (List ℕ))) (lists : List (List (List ℕ × ℕ))) → AreSources l.k starts (map (λ r. g.R.Read.remaining r.inner) l.initial.readers) l.initial.rooms l.initial.heads lists
       → ((x : List ℕ) → sum_of lists x ≡ 0)
       → IsSoFar l.k l.limits starts (map (λ r. g.R.Read.remaining r.inner) l.readers) l.rooms l.heads (unpack l.k l.packed) l.count l.lines
-          (g.W.Write.contents l.initial.writer.inner) (g.W.Write.contents l.writer.inner) (take l.filled l.room);
+      (g.W.Write.contents l.initial.writer.inner) (g.W.Write.contents l.writer.inner) (take l.filled l.room);
 }

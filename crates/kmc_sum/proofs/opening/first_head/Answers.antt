@@ -11,11 +11,16 @@ returns-then-line-k-clause-fault g c = λ s line fault is.
     let o = rw c.in-Ok-Some.field-0-is at c.in-Ok-Some.ensures.ok in
     let a : s ≡ c.args.source = cc is in
     let b : 1 ≡ line = cc is in
-    let d : OtherLength ≡ fault = cc is in
-    (a, (c.args.k, (omega (arith, c.if-k-ne0.true), c.requires.most),
+    let d : OtherLength ≡ fault = cc is in (
+      a,
+      (
+        c.args.k,
+        (omega (arith, c.if-k-ne0.true), c.requires.most),
         subst (λ (f : LineFault). IsFaultAt c.args.k (g.R.Read.remaining c.args.reader.now.inner) (g.R.Read.remaining c.next_line.new.reader.inner) line f) d
-        (subst (λ n. IsFaultAt c.args.k (g.R.Read.remaining c.args.reader.now.inner) (g.R.Read.remaining c.next_line.new.reader.inner) n OtherLength) b
-            (other_first _ _ _ o.0 c.requires.fresh.none o.1 c.in-Ok-Some.line o.2.0 c.args.k c.if-line-k.true))))
+            (subst (λ n. IsFaultAt c.args.k (g.R.Read.remaining c.args.reader.now.inner) (g.R.Read.remaining c.next_line.new.reader.inner) n OtherLength) b
+            (other_first _ _ _ o.0 c.requires.fresh.none o.1 c.in-Ok-Some.line o.2.0 c.args.k c.if-line-k.true)),
+      ),
+    )
 
 pub returns-then-line-k-clause-lost : goal.returns-then-line-k-clause-lost
 returns-then-line-k-clause-lost g c = λ m. let o = rw c.in-Ok-Some.field-0-is at c.in-Ok-Some.ensures.ok in (o.0, gave_none m _ _ _ o.0 c.requires.fresh.none o.1)
@@ -44,8 +49,13 @@ returns-in-Err-Malformed-clause-fault g c = λ s line fault is.
     let h = c.in-Err-Malformed.ensures.malformed (ap Err c.in-Err-Malformed.field-0-is) in
     let a : s ≡ c.args.source = cc is in
     let b : 1 ≡ line = cc is in
-    let d : Malformed ≡ fault = cc is in
-    (a, (1, (omega arith, omega arith),
+    let d : Malformed ≡ fault = cc is in (
+      a,
+      (
+        1,
+        (omega arith, omega arith),
         subst (λ (f : LineFault). IsFaultAt 1 (g.R.Read.remaining c.args.reader.now.inner) (g.R.Read.remaining c.next_line.new.reader.inner) line f) d
-        (subst (λ n. IsFaultAt 1 (g.R.Read.remaining c.args.reader.now.inner) (g.R.Read.remaining c.next_line.new.reader.inner) n Malformed) b
-            (malformed_first _ _ _ h.0 c.requires.fresh.none h.1 1 h.2 h.3 h.4))))
+            (subst (λ n. IsFaultAt 1 (g.R.Read.remaining c.args.reader.now.inner) (g.R.Read.remaining c.next_line.new.reader.inner) n Malformed) b
+            (malformed_first _ _ _ h.0 c.requires.fresh.none h.1 1 h.2 h.3 h.4)),
+      ),
+    )

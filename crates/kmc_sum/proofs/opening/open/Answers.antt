@@ -25,8 +25,8 @@ loop-i-preserved g c =
       most = c.in-Ok.ensures.length.1;
       opened = subst (λ ns. AreOpened c.in-Ok.found n (i + 1) starts ns (set c.loop-i.rooms i c.first_head.new.room) (set c.loop-i.heads (n + i) c.in-Ok.head)) (sym (map-set left readers i c.first_head.new.reader))
           (opened_next c.loop-i.k c.in-Ok.found n i starts nows c.loop-i.rooms c.loop-i.heads inv.opened inside c.in-Ok.ensures.length.2 (left c.first_head.new.reader) c.first_head.new.room c.in-Ok.head
-              c.in-Ok.ensures.room c.in-Ok.ensures.length.0 c.in-Ok.ensures.fits
-              (λ m agrees. subst (λ s. IsSource m s (left c.first_head.new.reader) c.first_head.new.room c.in-Ok.head []) start (c.in-Ok.ensures.ok m agrees)));
+          c.in-Ok.ensures.room c.in-Ok.ensures.length.0 c.in-Ok.ensures.fits
+          (λ m agrees. subst (λ s. IsSource m s (left c.first_head.new.reader) c.first_head.new.room c.in-Ok.head []) start (c.in-Ok.ensures.ok m agrees)));
     }
 
 pub returns-in-Err-clause-fault : goal.returns-in-Err-clause-fault
@@ -44,11 +44,14 @@ returns-in-Err-clause-fault g c = λ source line fault is.
     let e : c.in-Err.error ≡ Line source line fault = cc is in
     let h = c.in-Err.ensures.fault source line fault (ap Err e) in
     let now : left_at (map left (set readers i c.first_head.new.reader)) i ≡ left c.first_head.new.reader =
-    ap (λ l. left_at l i) (map-set left readers i c.first_head.new.reader) ∙ get_or-set_same nows i (left c.first_head.new.reader) None (omega (arith, inv.opened.nows_long, inside)) in
-    (h.1.0, h.1.1, record {
-      inside = omega (arith, h.0, inside, inv.opened.starts_long);
-      first = first_like h.1.0 starts _ source i line fault _ h.0 now (subst (λ s. IsFaultAt h.1.0 s (left c.first_head.new.reader) line fault) start h.1.2);
-    })
+    ap (λ l. left_at l i) (map-set left readers i c.first_head.new.reader) ∙ get_or-set_same nows i (left c.first_head.new.reader) None (omega (arith, inv.opened.nows_long, inside)) in (
+      h.1.0,
+      h.1.1,
+      record {
+        inside = omega (arith, h.0, inside, inv.opened.starts_long);
+        first = first_like h.1.0 starts _ source i line fault _ h.0 now (subst (λ s. IsFaultAt h.1.0 s (left c.first_head.new.reader) line fault) start h.1.2);
+      },
+    )
 
 pub returns-in-Err-clause-lost : goal.returns-in-Err-clause-lost
 returns-in-Err-clause-lost g c = λ m.
@@ -65,7 +68,7 @@ returns-in-Err-clause-lost g c = λ m.
     let lost = c.in-Err.ensures.lost m in
     subst (λ ns. GaveFronts m starts ns (no_lists starts)) (sym (map-set left readers i c.first_head.new.reader))
     (opened_lost c.loop-i.k m n i starts nows c.loop-i.rooms c.loop-i.heads (left c.first_head.new.reader) c.index-rooms-i.result inv.opened inside
-        (lost.0, subst (λ s. GaveFront m s (left c.first_head.new.reader) [] lost.0) start lost.1))
+    (lost.0, subst (λ s. GaveFront m s (left c.first_head.new.reader) [] lost.0) start lost.1))
 
 pub returns-then-k-eq0-clause-ready : goal.returns-then-k-eq0-clause-ready
 returns-then-k-eq0-clause-ready g c =

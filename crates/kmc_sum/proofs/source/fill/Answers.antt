@@ -10,7 +10,7 @@ returns-then-end-room-clause-ok g c =
     let moved = shifted r.bytes c.as_mut_slice.result.now c.shift.new.bytes c.as_mut_slice.ensures.value c.shift.auto.bytes r.from r.to c.shift.ensures in
     goes_trans _ _ _ _ _ _ (goes_like _ _ _ _ _ moved c.loop-room.invariant.goes)
     (read_on here.bytes c.as_mut_slice-in-loop-room.result.now c.read_behind.new.bytes c.as_mut_slice-in-loop-room.ensures.value c.read_behind.auto.bytes _ _ here.from here.to here.to
-        c.loop-room.invariant.front (goes_to _ _ _ _ _ _ c.if-end-room.true c.in-Ok.ensures.ok.3))
+    c.loop-room.invariant.front (goes_to _ _ _ _ _ _ c.if-end-room.true c.in-Ok.ensures.ok.3))
 
 pub loop-room-preserved : goal.loop-room-preserved
 loop-room-preserved g c =
@@ -27,7 +27,7 @@ loop-room-preserved g c =
       kept = c.in-Ok.ensures.kept ∙ c.loop-room.invariant.kept;
       goes = goes_trans _ _ _ _ _ _ c.loop-room.invariant.goes
           (read_on here.bytes c.as_mut_slice-in-loop-room.result.now c.read_behind.new.bytes c.as_mut_slice-in-loop-room.ensures.value c.read_behind.auto.bytes _ _ here.from here.to c.in-Ok.end
-              c.loop-room.invariant.front c.in-Ok.ensures.ok.3);
+          c.loop-room.invariant.front c.in-Ok.ensures.ok.3);
     }
 
 pub returns-in-Err-clause-lost : goal.returns-in-Err-clause-lost

@@ -20,7 +20,7 @@ pub returns-in-Ok-clause-ready : goal.returns-in-Ok-clause-ready
 returns-in-Ok-clause-ready g c =
     subst (λ n. AreReady c.args.k n (set c.args.rooms.now (head_at c.args.heads.now 1).source c.next_head.new.room) c.mend.new.heads) (sym (length-set c.args.readers.now (head_at c.args.heads.now 1).source c.next_head.new.reader))
     (ready_after c.args.k (length c.args.readers.now) c.args.rooms.now c.args.heads.now c.requires.ready c.requires.tree c.requires.some c.in-Ok.head c.mend.new.heads c.mend.auto.heads c.mend.ensures.leaves
-        c.next_head.new.room c.in-Ok.ensures.room c.in-Ok.ensures.behind.0 c.in-Ok.ensures.behind.2)
+    c.next_head.new.room c.in-Ok.ensures.room c.in-Ok.ensures.behind.0 c.in-Ok.ensures.behind.2)
 
 pub returns-in-Ok-clause-sources : goal.returns-in-Ok-clause-sources
 returns-in-Ok-clause-sources g c = λ starts lists are.
@@ -34,7 +34,7 @@ returns-in-Ok-clause-sources g c = λ starts lists are.
     (get_or-map left readers s c.index-readers-source.result None c.requires.inside) refl in
     subst (λ nows. AreSources c.args.k starts nows (set rooms s c.next_head.new.room) c.mend.new.heads (with_first c.args.k heads lists)) (sym (map-set left readers s c.next_head.new.reader))
     (sources_after c.args.k (length readers) rooms heads c.requires.ready c.requires.tree c.requires.some c.in-Ok.head c.mend.new.heads c.mend.auto.heads c.mend.ensures.leaves starts (map left readers) lists
-        (left c.next_head.new.reader) c.next_head.new.room count are (c.in-Ok.ensures.ok (left_at starts s) (head_at heads 1) (list_at lists s) c.requires.live refl old))
+    (left c.next_head.new.reader) c.next_head.new.room count are (c.in-Ok.ensures.ok (left_at starts s) (head_at heads 1) (list_at lists s) c.requires.live refl old))
 
 pub returns-in-Ok-clause-behind : goal.returns-in-Ok-clause-behind
 returns-in-Ok-clause-behind g c =
@@ -84,4 +84,4 @@ returns-in-Err-clause-lost g c = λ starts lists are.
     let long : length starts ≡ length readers = sym (count ∙ are.nows_long) in
     subst (λ nows. GaveFronts c.args.k starts nows lists) (sym (map-set left readers s c.next_head.new.reader))
     (lost_after c.args.k (length readers) s starts (map left readers) rooms heads lists (left c.next_head.new.reader) are (omega (arith, long, c.requires.inside))
-        (c.in-Err.ensures.lost (left_at starts s) (head_at heads 1) (list_at lists s) old) (λ i _. c.index-rooms-source.result))
+    (c.in-Err.ensures.lost (left_at starts s) (head_at heads 1) (list_at lists s) old) (λ i _. c.index-rooms-source.result))

@@ -1,0 +1,8 @@
+//! Tests of sums of dumps (kmc_sum), by public calls alone: worked texts, lines at fault in each field, and readers and
+//! writers that fail. Nothing stands on this crate. Random splits of random reads are tried by bench/merge.py.
+#![tactic(auto)]
+
+#[cfg(test)]
+mod devices;
+#[cfg(test)]
+mod sums;
