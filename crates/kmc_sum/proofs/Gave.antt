@@ -1,5 +1,5 @@
 -- What a source gave so far.
-use Rattle.std.proofs.Common.{◌≡◌, ◌≢◌, ℕ, zero, suc, ◌+◌, ◌/◌, ◌%◌, ◌<◌, ◌≤◌, ◌^◌, cond, true, List, [], ◌∷◌, ◌++◌, length, take, drop, map, Option, Some, None, refl, sym, ap, subst, ◌∙◌, arith, append_assoc, append-nil}
+use Rattle.std.proofs.Common.{◌≡◌, ◌≢◌, ℕ, zero, suc, ◌/◌, ◌%◌, ◌<◌, ◌≤◌, ◌^◌, cond, true, List, [], ◌∷◌, ◌++◌, drop, Option, refl, sym, ap, subst, ◌∙◌, arith, append_assoc, append-nil}
 use Rattle.std.proofs.KnownBytes.{Consumes-trans}
 use Rattle.std.proofs.lemmas.Grind.{flat_map-append}
 use Rattle.std.proofs.lemmas.List.{take-append-drop, map-append}
@@ -11,7 +11,6 @@ use Rattle.std.specs.declared.cmp.Ordering.TheVariants.{Less}
 use Rattle.std.proofs.lemmas.Bool.Decides.{nat_tests}
 use Rattle.kmc_base.specs.Words.{kmer_cmp}
 use Rattle.kmc_base.specs.Packed.{unpack}
-use Rattle.kmc_base.specs.Lemmas.Keys.{IsWord}
 use Rattle.kmc_base.specs.Lemmas.Packs.{AreCodes, codes_append}
 use Rattle.kmc_base.specs.Lemmas.Packing.{length_unpack}
 use Rattle.kmc_count.specs.Dump.{words_of, line_of, text_of}

@@ -1,11 +1,10 @@
 -- The texts of sources, and the dump of their sum.
-use Rattle.std.proofs.Common.{◌≡◌, ℕ, zero, suc, ◌+◌, ◌*◌, ◌<◌, ◌≤◌, ◌^◌, List, [], ◌∷◌, ◌++◌, length, get_or, map, Option, None, refl, sym, ap, subst, ◌∙◌, arith, append-nil, Result, Ok, Err, IfOk}
-use Rattle.std.proofs.KnownBytes.{Appends-nil, Consumes-nil}
+use Rattle.std.proofs.Common.{◌≡◌, ℕ, suc, ◌+◌, ◌*◌, ◌<◌, ◌≤◌, List, [], ◌∷◌, length, get_or, map, Option, refl, sym, subst, ◌∙◌, arith, append-nil, Result, Ok, Err, IfOk}
+use Rattle.std.proofs.KnownBytes.{Appends-nil}
 use Rattle.std.proofs.lemmas.List.{length-map, get_or-map}
 use Rattle.std.specs.List.{AllZip}
-use Rattle.std.specs.Io.KnownBytes.{Appends, Consumes}
+use Rattle.std.specs.Io.KnownBytes.{Consumes}
 use Rattle.kmc_count.specs.declared.limits.Limits.{Limits}
-use Rattle.kmc_count.specs.Device.{AppendsFront}
 use Rattle.kmc_count.specs.Dump.{text_of}
 use Rattle.kmc_sum.specs.Listed.{IsLength, AreListed, Lists}
 use Rattle.kmc_sum.specs.Faults.{GaveFront}

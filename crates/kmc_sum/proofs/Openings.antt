@@ -1,15 +1,13 @@
 -- The first lines of sources.
-use Rattle.std.proofs.Common.{◌≡◌, ◌≢◌, ℕ, ◌+◌, ◌*◌, ◌-◌, ◌<◌, ◌≤◌, ◌^◌, ◌⊎◌, inl, inr, true, false, min, map, List, [], ◌∷◌, ◌++◌, length, get_or, set, drop, Option, None, refl, sym, ap, subst, ◌∙◌, arith, zero-add}
+use Rattle.std.proofs.Common.{◌≡◌, ◌≢◌, ℕ, ◌+◌, ◌<◌, ◌≤◌, ◌^◌, ◌⊎◌, inl, inr, true, false, List, [], ◌∷◌, ◌++◌, length, get_or, set, drop, Option, None, refl, sym, ap, subst, ◌∙◌, arith, zero-add}
 use Rattle.std.proofs.lemmas.Bool.{cases_eq, cases_lt}
 use Rattle.std.proofs.lemmas.List.Sums.{sum_by-cons}
-use Rattle.std.proofs.lemmas.List.{length-set, length-map, get_or-set_same, get_or-set_other, get_or-map, get_or_default}
+use Rattle.std.proofs.lemmas.List.{length-set, length-map, get_or-set_same, get_or-set_other, get_or-map}
 use Rattle.std.specs.Io.KnownBytes.{Consumes, IsAtEnd}
 use Rattle.std.specs.List.Sorted.{IsStrictlySortedBy}
-use Rattle.std.proofs.KnownBytes.{Consumes-nil}
 use Rattle.kmc_base.specs.Words.{kmer_cmp}
 use Rattle.kmc_base.specs.Packed.{unpack}
 use Rattle.kmc_count.specs.Dump.{text_of}
-use Rattle.kmc_sum.specs.Listed.{IsLength, IsPair, AreListed}
 use Rattle.kmc_sum.specs.Line.{IsLineOf}
 use Rattle.kmc_sum.specs.Faults.{GaveFront, IsOfOtherLength, IsMalformed, BeginsNoLine}
 use Rattle.kmc_sum.specs.Heads.{no_head, head_at, pending}

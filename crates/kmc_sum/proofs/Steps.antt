@@ -1,9 +1,9 @@
 -- The merge goes on by one line, ends, or is given up.
-use Rattle.std.proofs.Common.{◌≡◌, ◌≢◌, ℕ, zero, suc, ◌+◌, ◌*◌, ◌-◌, ◌<◌, ◌≤◌, ◌^◌, Bool, true, false, cond, min, List, [], ◌∷◌, ◌++◌, length, get_or, set, Option, None, refl, sym, ap, subst, ◌∙◌, arith, append-nil, length-append}
+use Rattle.std.proofs.Common.{◌≡◌, ℕ, ◌+◌, ◌-◌, ◌<◌, ◌≤◌, ◌^◌, Bool, true, false, cond, min, List, [], ◌∷◌, ◌++◌, length, get_or, Option, refl, sym, ap, subst, ◌∙◌, arith, append-nil, length-append}
 use Rattle.std.proofs.lemmas.Grind.{flat_map-append}
 use Rattle.std.proofs.lemmas.List.Sums.{sum_by-cons, sum_by-append, sum_by-set}
 use Rattle.std.proofs.KnownBytes.{Appends-nil}
-use Rattle.std.specs.Io.KnownBytes.{Appends, IsAtEnd}
+use Rattle.std.specs.Io.KnownBytes.{Appends}
 use Rattle.kmc_base.specs.Words.{kmer_cmp}
 use Rattle.kmc_base.specs.Packed.{unpack}
 use Rattle.kmc_base.specs.Lemmas.Powers.{pow_up}
@@ -18,12 +18,12 @@ use Rattle.kmc_sum.specs.Tally.{kept_pair, Tallied}
 use Rattle.kmc_sum.specs.Faults.{GaveFront}
 use Rattle.kmc_sum.specs.Heads.{rank, head_at, pending, IsTree}
 use Rattle.kmc_sum.specs.Source.{unread}
-use Rattle.kmc_sum.specs.Sources.{IsSource, AreReady, AreSources, GaveFronts, GaveLists, left_at, list_at, with_first}
+use Rattle.kmc_sum.specs.Sources.{AreReady, AreSources, GaveFronts, GaveLists, left_at, list_at, with_first}
 use Rattle.kmc_sum.specs.State.{IsSoFar, IsWritten, IsBegun}
 use Rattle.kmc_sum.specs.declared.heads.Head.{Head}
 use Rattle.kmc_sum.specs.declared.source.Room.{Room}
-use Rattle.kmc_sum.proofs.Advances.{first_inside, first_leaf, first_least}
-use Rattle.kmc_sum.proofs.Gave.{gave_fewer, less_packed}
+use Rattle.kmc_sum.proofs.Advances.{first_least}
+use Rattle.kmc_sum.proofs.Gave.{gave_fewer}
 use Rattle.kmc_sum.proofs.Tallies.{tally_end, tally_more, tally_next, tally_start}
 
 -- the first pair is added to the sum

@@ -1,5 +1,5 @@
 -- What went out of a text that is gathered in a room.
-use Rattle.std.proofs.Common.{◌≡◌, ℕ, zero, suc, List, [], ◌∷◌, ◌++◌, take, Option, Some, refl, sym, ap, subst, ◌∙◌, append_assoc, append-nil}
+use Rattle.std.proofs.Common.{◌≡◌, ℕ, zero, suc, List, [], ◌++◌, Option, Some, refl, sym, ap, subst, ◌∙◌, append_assoc, append-nil}
 use Rattle.std.proofs.KnownBytes.{Appends-trans, Appends-kept}
 use Rattle.std.specs.Io.KnownBytes.{Appends, Keeps}
 use Rattle.std.specs.List.{cons_option}
@@ -7,7 +7,7 @@ use Rattle.std.specs.Option.{option_map}
 use Rattle.kmc_count.specs.declared.limits.Limits.{Limits}
 use Rattle.kmc_count.specs.Dump.{kept, line_of, text_of}
 use Rattle.kmc_sum.specs.Tally.{kept_pair}
-use Rattle.kmc_count.specs.Device.{IsFront, AppendsFront, WritesOut}
+use Rattle.kmc_count.specs.Device.{AppendsFront, WritesOut}
 use Rattle.kmc_count.proofs.Devices.{front_after, front_all}
 use Rattle.kmc_count.proofs.DumpText.{gathered_out}
 

@@ -1,7 +1,6 @@
 -- Many sources side by side, and what each gave so far.
-use Rattle.std.specs.Prelude.{◌≡◌, ℕ, ◌+◌, ◌*◌, ◌-◌, ◌<◌, ◌≤◌, ◌^◌, ◌⊎◌, min, map, true, false, List, [], ◌∷◌, ◌++◌, length, slice_index_or, slice_set, Option, None}
+use Rattle.std.specs.Prelude.{◌≡◌, ℕ, ◌+◌, ◌*◌, ◌-◌, ◌<◌, ◌≤◌, ◌^◌, ◌⊎◌, min, map, true, false, List, [], ◌++◌, length, slice_index_or, slice_set, Option, None}
 use Rattle.std.specs.Io.KnownBytes.{IsAtEnd}
-use Rattle.kmc_base.specs.Packed.{unpack}
 use Rattle.kmc_sum.specs.Heads.{head_at, pending}
 use Rattle.kmc_sum.specs.Source.{unread, IsRoom}
 use Rattle.kmc_sum.specs.Faults.{GaveFront}

@@ -1,13 +1,10 @@
-use Rattle.std.proofs.Common.{◌≡◌, ℕ, ◌+◌, ◌*◌, ◌-◌, ◌<◌, ◌≤◌, ◌^◌, List, [], length, map, take, get_or, Option, Err, refl, sym, ap, subst, ◌∙◌, arith, cond, true, false, append-nil}
+use Rattle.std.proofs.Common.{◌≡◌, ◌+◌, ◌<◌, ◌≤◌, ◌^◌, length, map, take, Err, refl, sym, ap, subst, ◌∙◌, arith, cond, true}
 use Rattle.std.proofs.lemmas.List.{length-map}
-use Rattle.std.proofs.KnownBytes.{Appends-nil}
 use Rattle.kmc_base.specs.Lemmas.Powers.{pow_some}
 use Rattle.kmc_base.specs.Packed.{unpack}
 use Rattle.kmc_count.specs.Device.{Watched}
-use Rattle.kmc_count.specs.declared.limits.Limits.{Limits}
-use Rattle.kmc_sum.specs.Sum.{sum_of}
 use Rattle.kmc_sum.specs.Heads.{rank, head_at}
-use Rattle.kmc_sum.specs.Sources.{AreReady, AreSources}
+use Rattle.kmc_sum.specs.Sources.{AreReady}
 use Rattle.kmc_sum.specs.State.{IsBegun}
 use Rattle.kmc_sum.specs.declared.error.SumError.TheVariants.{Line}
 use Rattle.kmc_sum.proofs.Advances.{first_inside, first_leaf, first_fits}

@@ -1,4 +1,4 @@
-use Rattle.std.proofs.Common.{◌≡◌, ℕ, ◌+◌, ◌*◌, ◌<◌, ◌≤◌, ◌^◌, List, length, map, take, Option}
+use Rattle.std.proofs.Common.{◌≡◌, ℕ, ◌*◌, ◌<◌, ◌≤◌, ◌^◌, List, length, map, take, Option}
 use Rattle.kmc_base.specs.Packed.{unpack}
 use Rattle.kmc_sum.specs.Sum.{sum_of}
 use Rattle.kmc_sum.specs.Heads.{rank, head_at, IsTree}

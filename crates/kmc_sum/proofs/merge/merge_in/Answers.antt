@@ -1,8 +1,8 @@
-use Rattle.std.proofs.Common.{◌≡◌, ℕ, ◌*◌, List, length, map, Option, Err, ap, ◌∙◌, arith}
+use Rattle.std.proofs.Common.{◌≡◌, ◌*◌, length, map, arith}
 use Rattle.std.proofs.lemmas.List.{length-map}
 use Rattle.kmc_count.specs.Device.{Watched}
 use Rattle.kmc_count.proofs.Devices.{on_err_then}
-use Rattle.kmc_sum.specs.Sources.{AreSources, no_lists}
+use Rattle.kmc_sum.specs.Sources.{no_lists}
 use Rattle.kmc_sum.proofs.Openings.{none_sum}
 use Rattle.kmc_sum.proofs.Merges.{begun_none, sum_written, sources_built, if_ok_then}
 use Rattle.kmc_sum.proofs.merge.merge_in.Goals as goal

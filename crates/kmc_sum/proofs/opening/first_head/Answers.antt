@@ -1,4 +1,4 @@
-use Rattle.std.proofs.Common.{◌≡◌, ℕ, Err, refl, ap, subst, arith, inl, inr}
+use Rattle.std.proofs.Common.{◌≡◌, Err, ap, subst, arith}
 use Rattle.kmc_base.specs.Lemmas.Powers.{pow_some}
 use Rattle.kmc_sum.specs.Faults.{IsFaultAt}
 use Rattle.kmc_sum.specs.declared.error.LineFault.{LineFault}

@@ -1,4 +1,4 @@
-use Rattle.std.proofs.Common.{◌≡◌, length, vec_len}
+use Rattle.std.proofs.Common.{◌≡◌, vec_len}
 use Rattle.kmc_sum.proofs.program.program.Given as goal
 
 abbrev pub invariant-loop-name : goal.invariant-loop-name

@@ -1,4 +1,4 @@
-use Rattle.std.proofs.Common.{◌≡◌, ◌≢◌, ◌-◌, ◌+◌, ◌≤◌, List, ℕ, length, take, drop, sym, ap, subst, arith, ◌∙◌, length-drop}
+use Rattle.std.proofs.Common.{◌-◌, ◌+◌, ◌≤◌, List, ℕ, take, drop, subst, arith, length-drop}
 use Rattle.std.proofs.lemmas.List.{length-take-le}
 use Rattle.kmc_sum.proofs.Rooms.{taken, some_unread}
 use Rattle.kmc_sum.specs.Faults.{BeginsNoLine}

@@ -1,4 +1,4 @@
-use Rattle.std.proofs.Common.{◌≡◌, ℕ, List, [], ◌∷◌, ◌++◌, sym, subst, arith}
+use Rattle.std.proofs.Common.{◌≡◌, ℕ, List, [], ◌∷◌, ◌++◌, sym, subst}
 use Rattle.kmc_base.specs.Packed.{unpack}
 use Rattle.kmc_sum.proofs.Gave.{other_length, not_rising, goes_up}
 use Rattle.kmc_sum.specs.declared.error.LineFault.{LineFault}

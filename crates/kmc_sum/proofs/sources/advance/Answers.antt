@@ -1,7 +1,7 @@
-use Rattle.std.proofs.Common.{◌≡◌, ℕ, ◌+◌, ◌<◌, ◌≤◌, ◌^◌, List, length, map, get_or, set, Err, None, cond, refl, sym, ap, subst, ◌∙◌, arith}
+use Rattle.std.proofs.Common.{◌≡◌, ◌^◌, length, map, set, Err, None, cond, refl, sym, ap, subst, ◌∙◌, arith}
 use Rattle.std.proofs.lemmas.List.{length-set, length-map, get_or-map, get_or-set_same, map-set}
 use Rattle.kmc_count.specs.Device.{Watched}
-use Rattle.kmc_sum.specs.Heads.{rank, head_at, pending}
+use Rattle.kmc_sum.specs.Heads.{rank, head_at}
 use Rattle.kmc_sum.specs.Sources.{AreReady, AreSources, left_at, list_at, with_first, GaveFronts}
 use Rattle.kmc_sum.specs.declared.error.SumError.TheVariants.{Line, Read}
 use Rattle.kmc_sum.proofs.Advances.{inside_after, settled_after, ready_after, behind_after, sources_after, source_first, lost_after, first_like, rises_at}
