@@ -14,4 +14,4 @@ unfolding IsStrictlySortedBy
 rise = All-from_recursion (λ (pairs : List (List ℕ × ℕ)). IsStrictlySortedBy kmer_cmp (words_of pairs)) the_lists ((tt, tt), (tt, (((refl, tt), (tt, tt)), tt)))
 
 pub merge_bins-requires-clause-rise : goal.merge_bins-requires-clause-rise
-merge_bins-requires-clause-rise g c = λ κs. subst EachRises (sym c.in_ok-lists.ensures) rise
+merge_bins-requires-clause-rise g c = subst EachRises (sym c.in_ok-lists.ensures) rise
