@@ -65,7 +65,8 @@ best() {
 }
 
 echo "workload  k  threads  ours: wall s, user s, MB     KMC 3: wall s, user s, MB     ours / KMC 3: wall, memory"
-for workload in ${*:-short long genome}; do
+[ $# -gt 0 ] || set -- short long genome
+for workload in "$@"; do
     text=$(text_of "$workload")
     options=$(options_of "$workload")
     for k in $ks; do

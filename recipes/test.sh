@@ -357,7 +357,8 @@ open("merged-by-it", "w")
 SCRIPT
     sed -i "s|merged-by-it|$work/merged-by-it|" merger/kmc_merge
     chmod +x merger/kmc_merge
-    PATH=$work/merger:$PATH cluster --workers 1 --megabytes 0.02 -cs9 "$reads" > given
+    cp "$KMC" merger/kmc
+    (KMC=$work/merger/kmc && export KMC && cluster --workers 1 --megabytes 0.02 -cs9 "$reads") > given
     plainly 25 2 1000000000 9 < "$reads" > wanted
     cmp wanted given
     [ -e merged-by-it ]
