@@ -13,8 +13,7 @@ use std::test::Fail;
 use std::thread::Threads;
 
 /// Bins filled through lanes of so many slots, or want of memory.
-fn fill_or_refuse<R: Abort + Threads + Wait + Sync>(rt: &R, alloc: Global, per_writer: usize)
-{
+fn fill_or_refuse<R: Abort + Threads + Wait + Sync>(rt: &R, alloc: Global, per_writer: usize) {
     let Ok(reads) = reads_of(alloc, TWICE) else {
         return;
     };

@@ -17,40 +17,40 @@ use Rattle.kmc_tool.proofs.run.run.Goals as goal
 pub returns-in-Err-clause-read : goal.returns-in-Err-clause-read
 returns-in-Err-clause-read g c = λ is.
     let Q : RunError → Type 0 = AreCountsOf (c.args.reader.now.reads + 4294967296) c.args.reader.now.reads c.count_input.new.reader.reads
-        c.args.reader.now.failures c.count_input.new.reader.failures in
+    c.args.reader.now.failures c.count_input.new.reader.failures in
     let h = of_err Q (Err c.in-Err.e) run.Read is c.in-Err.ensures.counts in (h.0, h.2)
 
 pub returns-in-Err-clause-write : goal.returns-in-Err-clause-write
 returns-in-Err-clause-write g c = λ is.
     let Q : RunError → Type 0 = AreCountsOf (c.args.reader.now.reads + 4294967296) c.args.reader.now.reads c.count_input.new.reader.reads
-        c.args.reader.now.failures c.count_input.new.reader.failures in
+    c.args.reader.now.failures c.count_input.new.reader.failures in
     absurd (of_err Q (Err c.in-Err.e) run.Write is c.in-Err.ensures.counts)
 
 pub returns-in-Err-clause-input : goal.returns-in-Err-clause-input
 returns-in-Err-clause-input g c = λ e is.
     let P : RunError → Type 0 = IsInputError c.args.params.now.format (shape_of c.args.params.now) c.args.params.now.batch c.args.params.now.sp 4294967296
-        (g.R.Read.remaining c.args.reader.now.inner) (g.R.Read.remaining c.count_input.new.reader.inner) in
+    (g.R.Read.remaining c.args.reader.now.inner) (g.R.Read.remaining c.count_input.new.reader.inner) in
     of_err P (Err c.in-Err.e) (run.Input e) is c.in-Err.ensures.cause
 
 pub returns-in-Err-clause-long : goal.returns-in-Err-clause-long
 returns-in-Err-clause-long g c = λ is.
     let P : RunError → Type 0 = IsInputError c.args.params.now.format (shape_of c.args.params.now) c.args.params.now.batch c.args.params.now.sp 4294967296
-        (g.R.Read.remaining c.args.reader.now.inner) (g.R.Read.remaining c.count_input.new.reader.inner) in
+    (g.R.Read.remaining c.args.reader.now.inner) (g.R.Read.remaining c.count_input.new.reader.inner) in
     let Q : RunError → Type 0 = AreCountsOf (c.args.reader.now.reads + 4294967296) c.args.reader.now.reads c.count_input.new.reader.reads
-        c.args.reader.now.failures c.count_input.new.reader.failures in
+    c.args.reader.now.failures c.count_input.new.reader.failures in
     let told = of_err P (Err c.in-Err.e) run.TooLong is c.in-Err.ensures.cause in
     ((of_err Q (Err c.in-Err.e) run.TooLong is c.in-Err.ensures.counts).2, told.0, told.1, told.2)
 
 pub returns-in-Err-clause-spent : goal.returns-in-Err-clause-spent
 returns-in-Err-clause-spent g c = λ is.
     let P : RunError → Type 0 = IsInputError c.args.params.now.format (shape_of c.args.params.now) c.args.params.now.batch c.args.params.now.sp 4294967296
-        (g.R.Read.remaining c.args.reader.now.inner) (g.R.Read.remaining c.count_input.new.reader.inner) in
+    (g.R.Read.remaining c.args.reader.now.inner) (g.R.Read.remaining c.count_input.new.reader.inner) in
     of_err P (Err c.in-Err.e) run.NumbersSpent is c.in-Err.ensures.cause
 
 pub returns-in-Err-clause-faulty : goal.returns-in-Err-clause-faulty
 returns-in-Err-clause-faulty g c = λ is.
     let P : RunError → Type 0 = IsInputError c.args.params.now.format (shape_of c.args.params.now) c.args.params.now.batch c.args.params.now.sp 4294967296
-        (g.R.Read.remaining c.args.reader.now.inner) (g.R.Read.remaining c.count_input.new.reader.inner) in
+    (g.R.Read.remaining c.args.reader.now.inner) (g.R.Read.remaining c.count_input.new.reader.inner) in
     let refused = subst P is c.in-Err.ensures.cause in
     let format = c.args.params.now.format in
     of_err (λ e. e ≢ reads.Memory) (reads_of format refused.bytes) reads.Memory refused.refused (c.memory_is_no_fault.ensures format refused.bytes) refl
