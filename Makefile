@@ -5,6 +5,7 @@ KMC_MERGE := ./kmc_merge
 # where `make install` puts the program and its page, and under which name: Debian's `kmc` is KMC 3
 PREFIX := /usr/local
 NAME := futoncrane-kmc
+MERGE_NAME := futoncrane-kmc-merge
 BIN = $(DESTDIR)$(PREFIX)/bin
 MAN = $(DESTDIR)$(PREFIX)/share/man/man1
 
@@ -33,17 +34,19 @@ count: $(KMC)
 check:
 	rt ci
 
-recipes: $(KMC)
+recipes: $(KMC) $(KMC_MERGE)
 	KMC="$(abspath $(KMC))" recipes/test.sh
 
-install: $(KMC)
+install: $(KMC) $(KMC_MERGE)
 	install -d "$(BIN)" "$(MAN)"
 	install -m 755 $(KMC) "$(BIN)/$(NAME)"
 	sed 's/^\.Nm kmc$$/.Nm $(NAME)/; s/^\.Dt KMC /.Dt $(NAME) /; /^\.Dl/ s/kmc -/$(NAME) -/' docs/kmc.1 > "$(MAN)/$(NAME).1"
-	chmod 644 "$(MAN)/$(NAME).1"
+	install -m 755 $(KMC_MERGE) "$(BIN)/$(MERGE_NAME)"
+	sed 's/^\.Nm kmc_merge$$/.Nm $(MERGE_NAME)/; s/^\.Dt KMC_MERGE /.Dt $(MERGE_NAME) /; s/^\.Xr kmc 1/.Xr $(NAME) 1/' docs/kmc_merge.1 > "$(MAN)/$(MERGE_NAME).1"
+	chmod 644 "$(MAN)/$(NAME).1" "$(MAN)/$(MERGE_NAME).1"
 
 uninstall:
-	rm -f "$(BIN)/$(NAME)" "$(MAN)/$(NAME).1"
+	rm -f "$(BIN)/$(NAME)" "$(MAN)/$(NAME).1" "$(BIN)/$(MERGE_NAME)" "$(MAN)/$(MERGE_NAME).1"
 
 # docs/HOSTILE.md tells what these four try; each takes some minutes. `make fuzz SEED=2` tries other texts
 SEED := 1

@@ -10,6 +10,7 @@ here=$(cd "$(dirname "$0")" && pwd)
 top=$(dirname "$here")
 KMC=$(realpath "${KMC:-$top/kmc}")
 export KMC
+merger=$(dirname "$KMC")/kmc_merge
 reads=$top/examples/reads.fastq
 whole=$top/examples/reads.dump
 greatest=9223372036854775808
@@ -29,6 +30,7 @@ package_of() {
         gnuplot) echo gnuplot-nox ;;
         dask | dask-scheduler) echo python3-distributed ;;
         script) echo bsdutils ;;
+        kmc_merge) echo 'none: make builds it' ;;
         *) echo "$1" ;;
     esac
 }
@@ -45,6 +47,8 @@ done
 is_installed() {
     if [ "$1" = dask ]; then
         [ -n "$dask_python" ]
+    elif [ "$1" = kmc_merge ]; then
+        [ -x "$merger" ]
     else
         command -v "$1" > /dev/null
     fi
@@ -373,16 +377,77 @@ cluster_writes_nothing_after_a_fault() {
     ends 2 cluster --workers 1
 }
 
-manual_page_has_no_fault() {
+# dumps_of_parts K N: the dumps, each count listed, of the example's reads dealt to N parts, as dump-0, dump-1 ..
+dumps_of_parts() {
+    local k=$1 parts=$2 part
+    rm -f part-* dump-*
+    awk -v n="$parts" '{ print > ("part-" (int((NR - 1) / 4) % n)) }' "$reads"
+    for part in part-*; do
+        "$KMC" "-k$k" -ci1 "-cx$greatest" "-cs$greatest" < "$part" > "dump-${part#part-}"
+    done
+}
+
+merged_parts_are_the_dump_of_all() {
+    local k parts
+    for k in 25 31 32 33 64; do
+        plainly "$k" 2 1000000000 255 < "$reads" > wanted
+        plainly "$k" 1 "$greatest" "$greatest" < "$reads" > all
+        for parts in 1 2 3 7 100; do
+            dumps_of_parts "$k" "$parts"
+            : > dump-empty
+            "$merger" dump-* > given
+            cmp wanted given
+            "$merger" -ci1 "-cx$greatest" "-cs$greatest" dump-* > given
+            cmp all given
+        done
+    done
+    plainly 25 2 1000000000 255 < "$reads" > wanted
+    cmp "$whole" wanted
+}
+
+# tells FILE LINE COMMAND..: whether the command ends with status 1 and names this line of the file
+tells() {
+    local file=$1 line=$2 status=0
+    shift 2
+    "$@" > given 2> told || status=$?
+    [ "$status" -eq 1 ] && grep -q "$file.*line $line " told && [ "$(wc -l < told)" -eq 1 ]
+}
+
+merge_names_the_first_fault() {
+    printf 'AC\t2\nCA\t5\n' > good
+    printf 'AC\t2\nAC\t5\n' > twice
+    printf 'AC\t2\nCAA\t5\n' > longer
+    printf 'AC\t2\nCA\t05\n' > zero
+    printf 'AC\t2\nCA\t0\n' > none
+    printf 'AC\t2\nCa\t5\n' > lower
+    printf 'AC\t2\nCA\t5' > unended
+    printf 'AC\t2\nCA 5\n' > space
+    printf 'AC\t2\nCA\t18446744073709551616\n' > great
+    for bad in twice longer zero none lower unended space great; do
+        tells "$bad" 2 "$merger" good "$bad"
+    done
+    ends 1 "$merger" good missing
+    ends 2 "$merger" -ci1
+    ends 2 "$merger" -ci1 -ci1 good
+    printf 'AC\t18446744073709551615\n' > most
+    "$merger" -ci1 "-cx$greatest" good most > given
+    printf 'CA\t5\n' | cmp - given
+}
+
+manual_pages_have_no_fault() {
     mandoc -Tlint "$top/docs/kmc.1"
+    mandoc -Tlint "$top/docs/kmc_merge.1"
 }
 
 installs_and_uninstalls() {
-    make -s -C "$top" install DESTDIR="$work/root" PREFIX=/opt/k NAME=counter
+    make -s -C "$top" install DESTDIR="$work/root" PREFIX=/opt/k NAME=counter MERGE_NAME=summer
     root/opt/k/bin/counter < "$reads" > given
     cmp "$whole" given
+    root/opt/k/bin/summer given > again
+    cmp given again
     grep -qx '\.Nm counter' root/opt/k/share/man/man1/counter.1
-    make -s -C "$top" uninstall DESTDIR="$work/root" PREFIX=/opt/k NAME=counter
+    grep -qx '\.Nm summer' root/opt/k/share/man/man1/summer.1
+    make -s -C "$top" uninstall DESTDIR="$work/root" PREFIX=/opt/k NAME=counter MERGE_NAME=summer
     [ -z "$(find root -type f)" ]
 }
 
@@ -422,7 +487,9 @@ try cluster_cuts_fasta_at_headers dask
 try cluster_works_for_a_scheduler dask dask-scheduler
 try cluster_merges_by_kmc_merge dask
 try cluster_writes_nothing_after_a_fault dask
-try manual_page_has_no_fault mandoc
+try merged_parts_are_the_dump_of_all kmc_merge
+try merge_names_the_first_fault kmc_merge
+try manual_pages_have_no_fault mandoc
 try installs_and_uninstalls
 try scripts_have_no_fault shellcheck
 try nothing_is_left_behind

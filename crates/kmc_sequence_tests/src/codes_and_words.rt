@@ -8,6 +8,7 @@ use kmc_base::pieces::{piece_count, push_pieces};
 use kmc_base::strands::Strands;
 use kmc_base::stretch::segments;
 use std::alloc::{AllocError, Global};
+use std::process::Abort;
 use std::test::Fail;
 
 /// The letters of a word.
@@ -126,26 +127,43 @@ fn rolls_the_keys_at_either_width(rt: HostRuntime) -> Result<(), Fail> {
     Ok(())
 }
 
+/// The pieces of a read of letters, a comma behind each.
+fn pieces_text(
+    rt: &impl Abort,
+    alloc: Global,
+    read: &str,
+    k: usize,
+    l: usize,
+) -> Result<String, Fail> {
+    assert!(rt; 1 <= k && k <= l);
+    let mut found = Vec::new(alloc);
+    push_pieces(&mut found, read.as_bytes(), k, l)?;
+    assert_eq!(rt; found.len(), piece_count(read.len(), k, l));
+    let mut text = String::new(alloc);
+    for piece in found {
+        for letter in piece {
+            text.push(char::from(*letter))?;
+        }
+        text.push(',')?;
+    }
+    Ok(text)
+}
+
 #[test]
 fn pieces_overlap_by_one_symbol_less_than_a_word(rt: HostRuntime) -> Result<(), Fail> {
     let alloc = rt.alloc();
     for (read, k, l, want) in [
-        (b"ACGTACGT".as_slice(), 3, 5, ["ACGTA", "TACGT"].as_slice()),
-        (b"ACGTACGT", 3, 8, ["ACGTACGT"].as_slice()),
-        (b"ACGTACGT", 3, 7, ["ACGTACG", "CGT"].as_slice()),
-        (b"ACGTACGT", 8, 8, ["ACGTACGT"].as_slice()),
-        (b"ACGTACGT", 9, 9, [].as_slice()),
-        (b"ACGN", 2, 2, ["AC", "CG", "GN"].as_slice()),
-        (b"ACG", 1, 1, ["A", "C", "G"].as_slice()),
-        (b"", 1, 5, [].as_slice()),
+        ("ACGTACGT", 3, 5, "ACGTA,TACGT,"),
+        ("ACGTACGT", 3, 8, "ACGTACGT,"),
+        ("ACGTACGT", 3, 7, "ACGTACG,CGT,"),
+        ("ACGTACGT", 8, 8, "ACGTACGT,"),
+        ("ACGTACGT", 9, 9, ""),
+        ("ACGN", 2, 2, "AC,CG,GN,"),
+        ("ACG", 1, 1, "A,C,G,"),
+        ("", 1, 5, ""),
     ] {
-        let mut found = Vec::new(alloc);
-        push_pieces(&mut found, read, k, l)?;
-        assert_eq!(rt; found.len(), want.len());
-        assert_eq!(rt; piece_count(read.len(), k, l), want.len());
-        for (own, wanted) in found.iter().zip(want.iter()) {
-            assert_eq!(rt; *own, wanted.as_bytes());
-        }
+        let made = pieces_text(&rt, alloc, read, k, l)?;
+        assert_eq!(rt; made.as_str(), want);
     }
     Ok(())
 }

@@ -318,10 +318,12 @@ fn records_are_unpacked_by_bytes_as_by_symbols(rt: HostRuntime) -> Result<(), Fa
     let alloc = rt.alloc();
     let read = long_read(alloc, 400)?;
     for k in [1, 2, 3, 4, 5, 6, 7, 8, 9, 25, 31, 32, 33, 63, 64] {
-        for more in [0, 1, 2, 3, 4, 5, 6, 7, 8, 254, 255] {
+        for more in [0usize, 1, 2, 3, 4, 5, 6, 7, 8, 254, 255] {
             for strands in [Strands::Joined, Strands::Apart] {
-                let start = 7 * more % 60;
-                let letters = &read.as_bytes()[start..start + k + more];
+                let start = more % 50;
+                let end = start.saturating_add(k).saturating_add(more);
+                assert!(rt; start <= end && end <= read.len());
+                let letters = &read.as_bytes()[start..end];
                 assert!(rt;
                     unpacks_as_rolled(&rt, alloc, letters, k, strands)?,
                     "{more} symbols more than {k}"
