@@ -13,8 +13,13 @@ MAN = $(DESTDIR)$(PREFIX)/share/man/man1
 
 all: count $(KMC_MERGE)
 
+# libraries that do not stand on one another are proved side by side; what fails here is told once more by what follows
+prove = printf '%s\n' $(1) | xargs -P 4 -I {} sh -c 'cd crates/{} && rt lib > /dev/null 2>&1' || true
+
 $(KMC): crates.txt $(shell find crates -path '*/out' -prune -o -type f -name '*.rt' -print -o -type f -name '*.antt' -print)
 	@echo "make: proving and building the program (some minutes the first time)"
+	@$(call prove,kmc_record kmc_reads kmc_partqueue kmc_argument)
+	@$(call prove,kmc_dump kmc_workers)
 	@cd crates/kmc && rt run < stdin > /dev/null 2> out.log || { cat out.log; rm -f out.log; exit 1; }
 	@rm -f crates/kmc/out.log
 	@cp crates/kmc/out/kmc $(KMC)

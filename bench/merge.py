@@ -5,7 +5,9 @@ usage: bench/merge.py [--runs N] [--seed N]    with the program in $KMC_MERGE, e
 
 Each run deals random reads to some parts, of which some stay empty, counts each part by itself, merges the dumps by the program
 under random limits and compares what it writes, byte for byte. Then dumps are damaged in one line, and the program must name
-the file and that line, end with status 1 and write a front of the dump. The status is 0 where all agree.
+the file and that line, end with status 1 and write a front of the dump. Last, each allocation of some merges is refused in turn,
+and then each with all that follow it: the answer is the whole one, or one of want of memory with nothing written. The last line
+tells how many runs were tried and how many were wrong; the status is 0 where none was.
 """
 import argparse
 import collections
@@ -33,14 +35,14 @@ def dump(counts, least, greatest, cap):
     return "".join("%s\t%d\n" % (word, min(number, cap)) for word, number in sorted(counts.items()) if least <= number <= greatest and number)
 
 
-def merged(directory, texts, options):
+def merged(directory, texts, options, **given):
     """What the program does with these texts: its status, output and message."""
     names = []
     for number, text in enumerate(texts):
         names.append("part-%d" % number)
         with open(os.path.join(directory, names[-1]), "w") as file:
             file.write(text)
-    done = subprocess.run([MERGE] + options + names, cwd=directory, capture_output=True, text=True)
+    done = subprocess.run([MERGE] + options + names, cwd=directory, capture_output=True, text=True, **given)
     return done.returncode, done.stdout, done.stderr
 
 
@@ -85,6 +87,39 @@ def run(dice, directory):
     return None
 
 
+def refused(directory, library, texts, options, number, everything):
+    """Whether memory was refused at this call, and the answer."""
+    environment = dict(os.environ, LD_PRELOAD=library, REFUSE_MEMORY=str(number))
+    if everything:
+        environment["REFUSE_ALL"] = "yes"
+    told = os.memfd_create("told")
+    answer = merged(directory, texts, options, env=environment, preexec_fn=lambda: os.dup2(told, 9), close_fds=False)
+    met = os.fstat(told).st_size > 0
+    os.close(told)
+    return met, answer
+
+
+def allocations(dice, directory):
+    """Each allocation refused in turn; answers how many runs there were, and those that went wrong."""
+    library = os.path.join(directory, "refuse_memory.so")
+    subprocess.run(["cc", "-shared", "-fPIC", "-O2", "-o", library, os.path.join(TOP, "bench", "refuse_memory.c")], check=True)
+    reads = ["".join(dice.choice("ACGT") for _ in range(60)) for _ in range(20)]
+    parts = [dump(count(reads[place::3], 25), 1, MOST, MOST) for place in range(3)]
+    rows = ((parts, []), (parts[:1], ["-ci1"]), ([""], []), (parts * 10, ["-ci1", "-cs9"]), ([parts[0], parts[1] + "AC\t1\n"], []), (parts, ["-x"]), ([], []))
+    runs, wrong = 0, []
+    for texts, options in rows:
+        whole = merged(directory, texts, options)
+        for everything in (False, True):
+            number, without = 1, 0
+            while without < 3:
+                met, answer = refused(directory, library, texts, options, number, everything)
+                runs, number, without = runs + 1, number + 1, 0 if met else without + 1
+                given_up = answer[0] == 1 and answer[1] == "" and (answer[2] == "kmc_merge: out of memory\n" or answer[2].endswith(": cannot be opened\n"))
+                if answer != whole and not (met and (given_up or answer[:2] == (2, ""))):
+                    wrong.append("call %d of a merge of %d files refused: %r" % (number - 1, len(texts), answer))
+    return runs, wrong
+
+
 def main():
     parser = argparse.ArgumentParser(usage=__doc__)
     parser.add_argument("--runs", type=int, default=1000)
@@ -97,8 +132,11 @@ def main():
             if fault:
                 print("merge: run %d: %s" % (number, fault))
                 return 1
-    print("merge: %d runs agree" % asked.runs)
-    return 0
+        tries, wrong = allocations(dice, directory)
+    for line in wrong:
+        print("merge: " + line)
+    print("merge: %d tried, %d wrong" % (asked.runs + tries, len(wrong)))
+    return 1 if wrong else 0
 
 
 if __name__ == "__main__":

@@ -15,7 +15,7 @@ use Rattle.kmc_base.specs.declared.strands.Strands.{Strands}
 use Rattle.kmc_base.specs.declared.strands.Strands.TheVariants.{Apart, Joined}
 use Rattle.kmc_reads.specs.declared.format.Format.{Format}
 use Rattle.kmc_reads.specs.declared.format.Format.TheVariants.{Fasta, Fastq}
-use Rattle.kmc_command.specs.Glued.{Word}
+use Rattle.kmc_argument.specs.Words.{Word, number_of}
 use Rattle.kmc_command.specs.Flags.{flag_name, flags}
 use Rattle.kmc_tool.specs.Settings.{bounds_of, name_of, settings}
 use Rattle.kmc_tool.specs.declared.setting.Bounds.{Bounds}
@@ -62,11 +62,6 @@ is_set rows f = option_map_or (bytes_eq (codes "true")) (first_of (flag_name f) 
 
 abbrev pub given_text : List Row → Setting → Option Word
 given_text rows s = first_of (name_of s) rows
-
--- one or more ASCII digits, with leading zeros or without
-abbrev pub number_of : Word → Option ℕ
-number_of text =
-    if nat_lt 0 (length text) && list_all is_ascii_digit text then Some (digits_value 10 text) else None
 
 abbrev pub within : Bounds → ℕ → Option ℕ
 within b n = if nat_le b.least n && nat_le n b.most then Some n else None

@@ -4,13 +4,10 @@ use Rattle.std.specs.Prelude.{if◌then◌else◌, nat_eq, is_some, option_and_t
 use Rattle.std.specs.Option.{option_map_or}
 use Rattle.std.specs.List.{list_any, starts_with}
 use Rattle.std.specs.Str.{bytes_eq}
+use Rattle.kmc_argument.specs.Words.{Word, rest_after}
 use Rattle.kmc_command.specs.Flags.{flags, flag_name}
 use Rattle.kmc_tool.specs.Settings.{name_of, settings}
 use Rattle.kmc_tool.specs.declared.setting.Setting.{Setting}
-
--- a word of the command line, by its bytes
-abbrev pub Word : Type 0
-Word = List ℕ
 
 -- a flag as KMC spells it, with one hyphen, and nothing after it
 abbrev pub is_flag : Word → Bool
@@ -19,11 +16,6 @@ is_flag word = list_any (λ flag. bytes_eq word (45 ∷ flag_name flag)) flags
 -- the option as KMC spells it, with one hyphen
 abbrev pub glued_name : Setting → Word
 glued_name s = 45 ∷ name_of s
-
--- what follows the prefix in a word that begins with it
-abbrev pub rest_after : Word → Word → Option Word
-rest_after prefix word =
-    if starts_with nat_eq word prefix then Some (drop (length prefix) word) else None
 
 abbrev pub unless_empty : Word → Option Word
 unless_empty [] = None

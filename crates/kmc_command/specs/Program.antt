@@ -2,7 +2,7 @@
 use Rattle.std.specs.Prelude.{◌≡◌, ℕ, true, List}
 use Rattle.kmc_tool.specs.Run.{IsDumpOf}
 use Rattle.kmc_tool.specs.declared.params.Params.{Params}
-use Rattle.kmc_command.specs.Glued.{Word}
+use Rattle.kmc_argument.specs.Words.{Word}
 use Rattle.kmc_command.specs.CommandLine.{found}
 use Rattle.kmc_command.specs.Options.{AreGiven, is_taken}
 

@@ -1,11 +1,12 @@
 -- What is counted in bodies of records.
-use Rattle.std.specs.Prelude.{ℕ, ◌<◌, List, [], length, take, slice_index_or}
+use Rattle.std.specs.Prelude.{ℕ, ◌<◌, ◌⊎◌, List, [], length, take, slice_index_or}
 use Rattle.std.specs.List.{All, AllZip}
 use Rattle.kmc_base.specs.declared.strands.Strands.{Strands}
 use Rattle.kmc_record.specs.declared.fault.RecordFault.{RecordFault}
 use Rattle.kmc_record.specs.Record.{IsBodyOf}
 use Rattle.kmc_record.specs.RecordWords.{record_keys}
 use Rattle.kmc_record.specs.Faults.{IsFirstFault}
+use Rattle.kmc_record.specs.Refusals.{StopsAtRecord}
 use Rattle.kmc_count.specs.declared.limits.Limits.{Limits}
 use Rattle.kmc_count.specs.Occurrences.{occurrences}
 use Rattle.kmc_count.specs.Dump.{IsDump}
@@ -30,3 +31,7 @@ pub record IsFirstDamaged (k : ℕ) (fault : RecordFault) (offset : ℕ) (bodies
   pub inside : number < length bodies
   pub before : All (IsWhole k) (take number bodies)
   pub first : IsFirstFault k fault offset (slice_index_or bodies number [])
+
+-- where a count of a body wants memory no fault was met: whole records stand up to one more, or the whole body is sound
+abbrev pub WantsMemory : ℕ → List ℕ → Type 0
+WantsMemory k body = StopsAtRecord k body ⊎ IsWhole k body

@@ -2,7 +2,7 @@
 ghost use Rattle.std.specs.Prelude.{ℕ, ◌<◌, ◌≤◌, IfOk, IsErrOf};
 ghost use Rattle.kmc_record.specs.Faults.{IsFirstFault};
 ghost use Rattle.kmc_record.specs.declared.fault.RecordFault.{RecordFault};
-ghost use Rattle.kmc_count.specs.Bodies.{IsDumpOfBody};
+ghost use Rattle.kmc_count.specs.Bodies.{IsDumpOfBody, WantsMemory};
 
 use crate::direct::NARROW_K;
 use crate::limits::Limits;
@@ -37,12 +37,9 @@ pub(crate) fn count_into<W: Word + Drop>(
     requires limit { k ≤ MAX_K }
     ensures ok { IfOk result (λ pairs. IsDumpOfBody strands k limits.now body.now pairs.items) }
     ensures damaged { (fault : RecordFault) (offset : ℕ) → IsErrOf result (CountError.Damaged fault offset) → IsFirstFault k fault offset body.now }
+    ensures memory { IsErrOf result CountError.Memory → WantsMemory k body.now }
 {
     words.clear();
-    // The records of a usual bin have about one word a byte, whatever k is.
-    if words.reserve(body.len()).is_err() {
-        return Err(CountError::Memory);
-    }
     match push_body(words, body, k, strands) {
         Ok(()) => {}
         Err(BodyError::Damaged(fault, offset)) => return Err(CountError::Damaged(fault, offset)),
@@ -69,6 +66,7 @@ pub fn count_bin(
     requires most { k ≤ MAX_K }
     ensures ok { IfOk result (λ pairs. IsDumpOfBody strands k limits.now body.now pairs.items) }
     ensures damaged { (fault : RecordFault) (offset : ℕ) → IsErrOf result (CountError.Damaged fault offset) → IsFirstFault k fault offset body.now }
+    ensures memory { IsErrOf result CountError.Memory → WantsMemory k body.now }
 {
     if k <= NARROW_K {
         let mut words: Vec<u64> = Vec::new(alloc);

@@ -1,7 +1,9 @@
 -- One line more of the source whose head is first.
 use Rattle.std.proofs.Common.{◌≡◌, ◌≢◌, ℕ, ◌+◌, ◌*◌, ◌-◌, ◌/◌, ◌<◌, ◌≤◌, ◌^◌, ◌⊎◌, inl, inr, List, [], ◌++◌, length, get_or, set, map, Option, None, refl, sym, ap, subst, ◌∙◌, arith}
 use Rattle.std.proofs.lemmas.Bool.{cases_eq}
-use Rattle.std.proofs.lemmas.List.{get_or-set_other, get_or-set_same, get_or_default, length-set, map-set}
+use Rattle.std.proofs.lemmas.List.{get_or-set_other, get_or-set_same, get_or_default, length-set, length-map, get_or-map, map-set}
+use Rattle.std.proofs.Math.Seq.{map-set_same}
+use Rattle.kmc_sum.specs.Refusals.{HasFailed}
 use Rattle.kmc_sum.specs.declared.heads.Head.{Head}
 use Rattle.kmc_sum.specs.declared.source.Room.{Room}
 use Rattle.kmc_sum.specs.Heads.{rank, no_head, head_at, pending, IsWinner, IsTree}
@@ -17,6 +19,9 @@ use Rattle.kmc_sum.proofs.Trees.{same_winner, least, leaf}
 pub source_like : (k : ℕ) (start a b : Option (List ℕ)) (r s : Room) (h g : Head) (t u : List (List ℕ × ℕ)) → a ≡ b → r ≡ s → h ≡ g → t ≡ u → IsSource k start a r h t → IsSource k start b s g u
 source_like k start a b r s h g t u ea er eh et source =
     subst (λ x. IsSource k start x s g u) ea (subst (λ x. IsSource k start a x g u) er (subst (λ x. IsSource k start a r x u) eh (subst (λ x. IsSource k start a r h x) et source)))
+
+abbrev failures_of : {T : Type 0} → List (Watched T) → List ℕ
+failures_of readers = map (λ w. w.failures) readers
 
 module _ (k n : ℕ) (rooms : List Room) (heads : List Head) (ready : AreReady k n rooms heads) (tree : IsTree heads) (some : 1 ≤ n) where
   abbrev first : ℕ
@@ -162,10 +167,23 @@ pub first_like : (k : ℕ) (starts nows : List (Option (List ℕ))) (source s li
 first_like k starts nows source s line fault now e is h =
     subst (λ i. IsFaultAt k (left_at starts i) (left_at nows i) line fault) (sym e) (subst (λ x. IsFaultAt k (left_at starts s) x line fault) (sym is) h)
 
-pub rises_at : {T : Type 0} (readers : List (Watched T)) (source s : ℕ) (d e result reader : Watched T) → source ≡ s → s < length readers → RisesByOne (get_or readers s result).failures reader.failures
-    → RisesByOne (get_or readers source d).failures (get_or (set readers s reader) source e).failures
-rises_at {T} readers source s d e result reader is inside h =
-    let old : (get_or readers s result).failures ≡ (get_or readers source d).failures = ap (λ (w : Watched T). w.failures) (get_or_default readers s result d inside ∙ ap (λ i. get_or readers i d) (sym is)) in
-    let new : reader.failures ≡ (get_or (set readers s reader) source e).failures =
-    ap (λ (w : Watched T). w.failures) (sym (get_or-set_same readers s reader e inside) ∙ ap (λ i. get_or (set readers s reader) i e) (sym is)) in
-    subst (λ m. RisesByOne m (get_or (set readers s reader) source e).failures) old (subst (λ m. RisesByOne (get_or readers s result).failures m) new h)
+-- a read of one reader failed, or none did
+module _ {T : Type 0} (readers : List (Watched T)) (s : ℕ) (result reader : Watched T) (inside : s < length readers) where
+  pub failed_at : (source : ℕ) → source ≡ s → RisesByOne (get_or readers s result).failures reader.failures → HasFailed source (failures_of readers) (failures_of (set readers s reader))
+  failed_at source is h =
+      let old : get_or (failures_of readers) source 0 ≡ (get_or readers s result).failures = ap (λ i. get_or (failures_of readers) i 0) is ∙ get_or-map (λ (w : Watched T). w.failures) readers s result 0 inside in
+      let new : get_or (failures_of (set readers s reader)) source 0 ≡ reader.failures =
+      ap (λ i. get_or (failures_of (set readers s reader)) i 0) is
+      ∙ ap (λ l. get_or l s 0) (map-set (λ (w : Watched T). w.failures) readers s reader)
+      ∙ get_or-set_same (failures_of readers) s reader.failures 0 (omega (arith, inside, length-map readers (λ (w : Watched T). w.failures))) in
+      record {
+        inside = omega (arith, is, inside, length-map readers (λ (w : Watched T). w.failures));
+        rises = subst (λ m. RisesByOne m (get_or (failures_of (set readers s reader)) source 0)) (sym old) (subst (λ m. RisesByOne (get_or readers s result).failures m) (sym new) h);
+      }
+
+  pub kept_at : reader.failures ≡ (get_or readers s result).failures → failures_of (set readers s reader) ≡ failures_of readers
+  kept_at h = map-set_same (λ (w : Watched T). w.failures) readers s reader result h
+
+-- a read fails after none did
+pub failed_after : (source : ℕ) (olds news starts : List ℕ) → olds ≡ starts → HasFailed source olds news → HasFailed source starts news
+failed_after source olds news starts is h = subst (λ (l : List ℕ). HasFailed source l news) is h

@@ -9,4 +9,6 @@ pub mod Tally
 pub mod Sources
 pub mod State
 pub mod Refusals
+pub mod Request
+pub mod Program
 pub mod Laws

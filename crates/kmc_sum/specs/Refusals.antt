@@ -1,6 +1,8 @@
 -- The causes of refusals.
-use Rattle.std.specs.Prelude.{ℕ, ◌<◌, ⊤, List, length, Option}
-use Rattle.kmc_sum.specs.Sources.{left_at}
+use Rattle.std.specs.Prelude.{◌≤◌, ◌-◌, ◌^◌, ℕ, ◌<◌, ⊤, List, length, slice_index_or, Option}
+use Rattle.std.specs.List.{sum_by}
+use Rattle.kmc_count.specs.Device.{RisesByOne}
+use Rattle.kmc_sum.specs.Sources.{left_at, GaveFronts}
 use Rattle.kmc_sum.specs.Faults.{IsFaultAt}
 use Rattle.kmc_sum.specs.declared.error.LineFault.{LineFault}
 use Rattle.kmc_sum.specs.declared.error.SumError.{SumError}
@@ -10,6 +12,17 @@ use Rattle.kmc_sum.specs.declared.error.SumError.TheVariants.{Line, Read, Write,
 pub record IsFirstFault (k : ℕ) (starts nows : List (Option (List ℕ))) (source line : ℕ) (fault : LineFault) : Type 0 where
   pub inside : source < length starts
   pub first : IsFaultAt k (left_at starts source) (left_at nows source) line fault
+
+-- of the readers' numbers of failures that of this source rises by one
+pub record HasFailed (source : ℕ) (olds news : List ℕ) : Type 0 where
+  pub inside : source < length olds
+  pub rises : RisesByOne (slice_index_or olds source 0) (slice_index_or news source 0)
+
+-- the readers gave the lines of these pairs first, more of them than are counted
+pub record HaveTooMany (k : ℕ) (starts nows : List (Option (List ℕ))) : Type 0 where
+  pub lists : List (List (List ℕ × ℕ))
+  pub gave : GaveFronts k starts nows lists
+  pub many : 2 ^ 64 - 2 ≤ sum_by length lists
 
 -- a source is at fault, or its reader failed
 abbrev pub IsOfSource : SumError → Type 0

@@ -23,6 +23,6 @@ pub enum SumError {
     Write,
     /// Memory was refused.
     Memory,
-    /// The sources have 2^64 - 1 lines or more.
+    /// The sources have 2^64 - 1 lines or more: so many are not counted.
     TooLong,
 }

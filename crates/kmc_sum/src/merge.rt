@@ -6,7 +6,7 @@ ghost use Rattle.kmc_sum.specs.Listed.{IsLength};
 ghost use Rattle.kmc_sum.specs.Heads.{IsTree};
 ghost use Rattle.kmc_sum.specs.Sources.{IsFresh, AreReady, AreSources};
 ghost use Rattle.kmc_sum.specs.State.{IsWritten, IsBegun, IsSumWritten};
-ghost use Rattle.kmc_sum.specs.Refusals.{IsFirstFault};
+ghost use Rattle.kmc_sum.specs.Refusals.{IsFirstFault, HasFailed, HaveTooMany};
 ghost use Rattle.kmc_sum.specs.declared.error.LineFault.{LineFault};
 
 use crate::error::SumError;
@@ -42,7 +42,11 @@ fn drain<R: Read, W: Write>(
         → (starts : List (Option (List ℕ))) (lists : List (List (List ℕ × ℕ)))
         → AreSources k starts (map (λ r. R.remaining r.inner) readers.old) rooms.old heads.old lists → ((x : List ℕ) → sum_of lists x ≡ 0)
         → IsFirstFault k starts (map (λ r. R.remaining r.inner) readers.new) source line fault }
+    ensures read { (source : ℕ) → IsErrOf result (SumError.Read source) → HasFailed source (map (λ r. r.failures) readers.old) (map (λ r. r.failures) readers.new) }
     ensures write { IsErrOf result SumError.Write → RisesByOne writer.old.failures writer.new.failures }
+    ensures long { IsErrOf result SumError.TooLong → (starts : List (Option (List ℕ))) (lists : List (List (List ℕ × ℕ)))
+        → AreSources k starts (map (λ r. R.remaining r.inner) readers.old) rooms.old heads.old lists
+        → HaveTooMany k starts (map (λ r. R.remaining r.inner) readers.new) }
     ensures begun { OnErr result ((starts : List (Option (List ℕ))) (lists : List (List (List ℕ × ℕ)))
         → AreSources k starts (map (λ r. R.remaining r.inner) readers.old) rooms.old heads.old lists → ((x : List ℕ) → sum_of lists x ≡ 0)
         → IsBegun k limits.now starts (map (λ r. R.remaining r.inner) readers.new) (W.contents writer.old.inner) (W.contents writer.new.inner)) }
@@ -104,7 +108,9 @@ fn merge_in<R: Read, W: Write>(
         (W.contents writer.old.inner) (W.contents writer.new.inner)) }
     ensures fault { (source line : ℕ) (fault : LineFault) → IsErrOf result (SumError.Line source line fault)
         → (k : ℕ) × IsLength k × IsFirstFault k (map (λ r. R.remaining r.inner) readers.old) (map (λ r. R.remaining r.inner) readers.new) source line fault }
+    ensures read { (source : ℕ) → IsErrOf result (SumError.Read source) → HasFailed source (map (λ r. r.failures) readers.old) (map (λ r. r.failures) readers.new) }
     ensures write { IsErrOf result SumError.Write → RisesByOne writer.old.failures writer.new.failures }
+    ensures long { IsErrOf result SumError.TooLong → (k : ℕ) × IsLength k × HaveTooMany k (map (λ r. R.remaining r.inner) readers.old) (map (λ r. R.remaining r.inner) readers.new) }
     ensures begun { OnErr result ((k : ℕ) × IsBegun k limits.now (map (λ r. R.remaining r.inner) readers.old) (map (λ r. R.remaining r.inner) readers.new)
         (W.contents writer.old.inner) (W.contents writer.new.inner)) }
 {
@@ -136,7 +142,9 @@ pub fn merge<R: Read, W: Write>(
         (W.contents writer.old.inner) (W.contents writer.new.inner)) }
     ensures fault { (source line : ℕ) (fault : LineFault) → IsErrOf result (SumError.Line source line fault)
         → (k : ℕ) × IsLength k × IsFirstFault k (map (λ r. R.remaining r.inner) readers.old) (map (λ r. R.remaining r.inner) readers.new) source line fault }
+    ensures read { (source : ℕ) → IsErrOf result (SumError.Read source) → HasFailed source (map (λ r. r.failures) readers.old) (map (λ r. r.failures) readers.new) }
     ensures write { IsErrOf result SumError.Write → RisesByOne writer.old.failures writer.new.failures }
+    ensures long { IsErrOf result SumError.TooLong → (k : ℕ) × IsLength k × HaveTooMany k (map (λ r. R.remaining r.inner) readers.old) (map (λ r. R.remaining r.inner) readers.new) }
     ensures begun { OnErr result ((k : ℕ) × IsBegun k limits.now (map (λ r. R.remaining r.inner) readers.old) (map (λ r. R.remaining r.inner) readers.new)
         (W.contents writer.old.inner) (W.contents writer.new.inner)) }
 {

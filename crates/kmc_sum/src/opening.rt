@@ -1,12 +1,12 @@
 //! The first lines of all sources.
-ghost use Rattle.std.specs.Prelude.{◌≡◌, ℕ, ◌+◌, ◌*◌, ◌^◌, ◌<◌, ◌≤◌, ◌⊎◌, [], List, length, map, OnErr, IfOk, IfErr, IsErrOf, Option, slice_index_or};
+ghost use Rattle.std.specs.Prelude.{◌≡◌, ℕ, ◌+◌, ◌*◌, ◌^◌, ◌<◌, ◌≤◌, ◌⊎◌, [], List, length, map, OnOk, OnErr, IfOk, IfErr, IsErrOf, Option, slice_index_or};
 ghost use Rattle.kmc_count.specs.Device.{RisesByOne};
 ghost use Rattle.kmc_sum.specs.Listed.{IsLength};
 ghost use Rattle.kmc_sum.specs.Faults.{GaveFront, IsFaultAt};
 ghost use Rattle.kmc_sum.specs.Heads.{head_at};
 ghost use Rattle.kmc_sum.specs.Source.{IsRoom};
 ghost use Rattle.kmc_sum.specs.Sources.{IsSource, IsFresh, Agrees, AreReady, AreSources, AreOpened, GaveFronts, no_lists};
-ghost use Rattle.kmc_sum.specs.Refusals.{IsFirstFault, IsOfSource};
+ghost use Rattle.kmc_sum.specs.Refusals.{IsFirstFault, HasFailed, IsOfSource};
 ghost use Rattle.kmc_sum.specs.declared.error.LineFault.{LineFault};
 
 use crate::error::{LineFault, SumError};
@@ -59,6 +59,7 @@ fn first_head<R: Read>(
     ensures ok { IfOk result (λ r. (m : ℕ) → Agrees r.1 m → IsSource m (R.remaining reader.old.inner) (R.remaining reader.new.inner) room.new r.0 []) }
     ensures fault { (s line : ℕ) (fault : LineFault) → IsErrOf result (SumError.Line s line fault) → (s ≡ source)
         × ((m : ℕ) × IsLength m × IsFaultAt m (R.remaining reader.old.inner) (R.remaining reader.new.inner) line fault) }
+    ensures kept { OnOk result (reader.new.failures ≡ reader.old.failures) }
     ensures read { (s : ℕ) → IsErrOf result (SumError.Read s) → (s ≡ source) × RisesByOne reader.old.failures reader.new.failures }
     ensures other { IfErr result IsOfSource }
     ensures lost { OnErr result ((m : ℕ) → (rest : List ℕ) × GaveFront m (R.remaining reader.old.inner) (R.remaining reader.new.inner) [] rest) }
@@ -104,6 +105,8 @@ pub fn open<R: Read>(
         AreSources k starts (map (λ r. R.remaining r.inner) readers.new) rooms.new heads.new (no_lists starts)) }
     ensures fault { (source line : ℕ) (fault : LineFault) → IsErrOf result (SumError.Line source line fault)
         → (m : ℕ) × IsLength m × IsFirstFault m (map (λ r. R.remaining r.inner) readers.old) (map (λ r. R.remaining r.inner) readers.new) source line fault }
+    ensures kept { OnOk result (map (λ r. r.failures) readers.new ≡ map (λ r. r.failures) readers.old) }
+    ensures read { (source : ℕ) → IsErrOf result (SumError.Read source) → HasFailed source (map (λ r. r.failures) readers.old) (map (λ r. r.failures) readers.new) }
     ensures other { IfErr result IsOfSource }
     ensures lost { OnErr result ((m : ℕ) → let starts = map (λ r. R.remaining r.inner) readers.old in
         GaveFronts m starts (map (λ r. R.remaining r.inner) readers.new) (no_lists starts)) }

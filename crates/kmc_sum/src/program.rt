@@ -1,8 +1,9 @@
 //! The program: from its arguments to the dump of the sum and the exit status.
-ghost use Rattle.std.specs.Prelude.{◌≡◌, ℕ, ◌-◌, ◌^◌, ◌<◌, ◌≤◌, List, length, Option, IfOk};
+ghost use Rattle.std.specs.Prelude.{◌≡◌, ℕ, ◌-◌, ◌^◌, ◌<◌, ◌≤◌, ◌⊎◌, List, length, map, MatchResult, string_bytes};
 ghost use Rattle.std.specs.Process.{exit_status};
-ghost use Rattle.kmc_count.specs.declared.limits.Limits.{Limits};
-ghost use Rattle.kmc_sum.specs.State.{IsSumWritten};
+ghost use Rattle.kmc_argument.specs.Words.{Word};
+ghost use Rattle.kmc_sum.specs.Request.{AsksForNothing};
+ghost use Rattle.kmc_sum.specs.Program.{IsAnswered, IsGivenUp, status_of};
 
 use crate::error::{LineFault, SumError};
 use crate::merge::{MOST_SOURCES, merge};
@@ -29,7 +30,7 @@ fn arguments<T: Env + Alloc<A = Global>>(rt: &T) -> Result<Vec<String>, RequestE
 
 /// Tells why the words ask for nothing, and gives the status.
 fn misused(rt: &impl Eprint, error: RequestError) -> ExitCode
-    ensures { exit_status result ≡ 0 → ⊥ }
+    ensures { exit_status result ≡ status_of error }
 {
     match error {
         RequestError::Usage => {
@@ -86,37 +87,69 @@ fn failed(rt: &impl Eprint, files: &[String], error: SumError) -> ExitCode
     ExitCode::from(FAILED)
 }
 
-/// The whole program: reads the files that the process's arguments name, and writes the dump of the sum of what they list,
-/// within the limits of the arguments. A fault is shown in one line on standard error. The exit status is 0 where the
-/// dump was written, 2 where the command line is at fault, and else 1.
+/// A reader for each file; where one cannot be opened, tells so and gives the status.
+fn opened<T: Files + Eprint + Alloc<A = Global>>(
+    rt: &T,
+    files: &[String],
+) -> Result<Vec<Counted<T::File>>, ExitCode>
+    ensures { MatchResult result (λ readers. length readers.items ≡ length files.now) (λ status. exit_status status ≡ 1) }
+{
+    let mut readers = Vec::new(rt.alloc());
+    for name in files {
+        let Ok(file) = fs::open(rt, name.as_str()) else {
+            let _ = eprintln!(rt; "kmc_merge: {name}: cannot be opened");
+            return Err(ExitCode::from(FAILED));
+        };
+        if readers.push(Counted::new(file)).is_err() {
+            return Err(failed(rt, files, SumError::Memory));
+        }
+    }
+    Ok(readers)
+}
+
+/// Reads the files that the words name, and writes the dump of the sum of what they list, within the limits of the words.
+/// A fault is shown in one line on standard error. The exit status is 0 where the dump was written, 2 where the words ask
+/// for nothing, and else 1.
+pub fn sum_files<T: Files + Eprint + Alloc<A = Global>, W: Write>(
+    rt: &T,
+    words: Vec<String>,
+    writer: &mut Counted<W>,
+) -> ExitCode
+    requires { writer.old.failures < 2 ^ 64 - 1 }
+    ensures done { exit_status result ≡ 0 → IsAnswered (map string_bytes words.items) (W.contents writer.old.inner) (W.contents writer.new.inner) }
+    ensures misused { exit_status result ≡ 2 → AsksForNothing MOST_SOURCES (map string_bytes words.items) × (writer.new ≡ writer.old) }
+    ensures failed { exit_status result ≡ 1 → (writer.new ≡ writer.old)
+        ⊎ IsGivenUp (map string_bytes words.items) (W.contents writer.old.inner) (W.contents writer.new.inner) }
+    ensures statuses { exit_status result ≤ 2 }
+{
+    let asked = match asked_for(words, MOST_SOURCES) {
+        Ok(asked) => asked,
+        Err(error) => return misused(rt, error),
+    };
+    let mut readers = match opened(rt, &asked.files) {
+        Ok(readers) => readers,
+        Err(status) => return status,
+    };
+    match merge(rt.alloc(), readers.as_mut_slice(), &asked.limits, writer) {
+        Ok(_) => ExitCode::from(0),
+        Err(error) => failed(rt, &asked.files, error),
+    }
+}
+
+/// The whole program: [`sum_files`] of the words that the process was given.
 pub fn program<T: Files + Env + Eprint + Alloc<A = Global>, W: Write>(
     rt: &T,
     writer: &mut Counted<W>,
 ) -> ExitCode
     requires { writer.old.failures < 2 ^ 64 - 1 }
-    ensures { exit_status result ≡ 0 → (limits : Limits) × (starts nows : List (Option (List ℕ))) × (lines : ℕ)
-        × IsSumWritten limits starts nows lines (W.contents writer.old.inner) (W.contents writer.new.inner) }
+    ensures done { exit_status result ≡ 0 → (words : List Word) × IsAnswered words (W.contents writer.old.inner) (W.contents writer.new.inner) }
+    ensures misused { exit_status result ≡ 2 → writer.new ≡ writer.old }
+    ensures failed { exit_status result ≡ 1 → (writer.new ≡ writer.old)
+        ⊎ ((words : List Word) × IsGivenUp words (W.contents writer.old.inner) (W.contents writer.new.inner)) }
+    ensures statuses { exit_status result ≤ 2 }
 {
-    let asked = match arguments(rt) {
-        Ok(words) => asked_for(rt.alloc(), words, MOST_SOURCES),
-        Err(error) => Err(error),
-    };
-    let asked = match asked {
-        Ok(asked) => asked,
-        Err(error) => return misused(rt, error),
-    };
-    let mut readers = Vec::new(rt.alloc());
-    for name in &asked.files {
-        let Ok(file) = fs::open(rt, name.as_str()) else {
-            let _ = eprintln!(rt; "kmc_merge: {name}: cannot be opened");
-            return ExitCode::from(FAILED);
-        };
-        if readers.push(Counted::new(file)).is_err() {
-            return failed(rt, &asked.files, SumError::Memory);
-        }
-    }
-    match merge(rt.alloc(), readers.as_mut_slice(), &asked.limits, writer) {
-        Ok(_) => ExitCode::from(0),
-        Err(error) => failed(rt, &asked.files, error),
+    match arguments(rt) {
+        Ok(words) => sum_files(rt, words, writer),
+        Err(error) => misused(rt, error),
     }
 }

@@ -1,8 +1,13 @@
 //! What the words of a command line ask for: limits and the names of files.
-ghost use Rattle.std.specs.Prelude.{◌≡◌, ◌≤◌, ◌^◌, ◌<◌, length, IfOk};
+ghost use Rattle.std.specs.Prelude.{◌≡◌, ◌≢◌, ◌≤◌, ◌<◌, ◌^◌, ◌||◌, ℕ, [], ◌∷◌, Some, None, option_map, MatchResult, IfOk, IfErr, length, map, not, is_some, string_bytes, codes};
+ghost use Rattle.std.specs.List.{list_all};
+ghost use Rattle.kmc_argument.specs.Words.{number_of};
+ghost use Rattle.kmc_sum.specs.Request.{is_file, is_option, given, texts_of, IsLimit, IsRequest, AsksForNothing};
 
+use kmc_argument::number::number;
+use kmc_argument::prefix::rest_after;
 use kmc_count::limits::Limits;
-use std::alloc::{AllocError, Global};
+use std::alloc::AllocError;
 
 /// The limits where the options leave them out, as `kmc` has them.
 const LEAST: u64 = 2;
@@ -35,58 +40,83 @@ impl From<AllocError> for RequestError {
     }
 }
 
-/// The number that is glued to an option, where the word is this option: one or more digits.
-fn glued(option: &str, word: &str) -> Option<Result<u64, RequestError>> {
-    let digits = word.strip_prefix(option)?;
-    if digits.is_empty() || !digits.as_bytes().iter().all(|byte| byte.is_ascii_digit()) {
-        return Some(Err(RequestError::Usage));
-    }
-    match digits.parse() {
-        Ok(number) => Some(Ok(number)),
-        Err(_) => Some(Err(RequestError::OutOfRange)),
-    }
+/// Whether the word names a file: it does not begin with a hyphen.
+fn is_file(word: &str) -> bool
+    ensures { result ≡ is_file word.now }
+{
+    rest_after("-", word).is_none()
 }
 
-/// Keeps the number of an option that is given once.
-fn once(kept: Option<u64>, number: Result<u64, RequestError>) -> Result<Option<u64>, RequestError> {
-    if kept.is_some() {
-        return Err(RequestError::Usage);
+/// Whether the word is one of the options, glued to its value.
+fn is_option(word: &str) -> bool
+    ensures { result ≡ is_option word.now }
+{
+    rest_after("-ci", word).is_some()
+        || rest_after("-cx", word).is_some()
+        || rest_after("-cs", word).is_some()
+}
+
+/// Whether each word names a file or is an option.
+fn are_known(words: &[String]) -> bool
+    ensures { result ≡ list_all (λ word. is_file word || is_option word) (map string_bytes words.now) }
+{
+    for word in words {
+        if !is_file(word) && !is_option(word) {
+            return false;
+        }
     }
-    Ok(Some(number?))
+    true
+}
+
+/// What the words glue to an option, where it is given once.
+fn given<'a>(name: &str, words: &'a [String]) -> Result<Option<&'a str>, RequestError>
+    ensures once { IfOk result (λ text. given name.now (map string_bytes words.entry.now) ≡ texts_of (option_map (λ t. t.now) text)) }
+    ensures twice { IfErr result (λ e. (e ≡ RequestError.Usage) × (2 ≤ length (given name.now (map string_bytes words.entry.now)))) }
+{
+    let mut text = None;
+    for word in words {
+        if let Some(rest) = rest_after(name, word) {
+            if text.is_some() {
+                return Err(RequestError::Usage);
+            }
+            text = Some(rest);
+        }
+    }
+    Ok(text)
+}
+
+/// The number of an option.
+fn limit(name: &str, words: &[String], default: u64) -> Result<u64, RequestError>
+    ensures { MatchResult result (λ n. IsLimit (given name.now (map string_bytes words.now)) default n)
+        (λ e. (e ≢ RequestError.Memory) × ((n : ℕ) → IsLimit (given name.now (map string_bytes words.now)) default n → 2 ^ 64 ≤ n)) }
+{
+    match given(name, words)? {
+        None => Ok(default),
+        Some(text) => match number(text) {
+            Some(number) => Ok(number),
+            None => Err(RequestError::OutOfRange),
+        },
+    }
 }
 
 /// What the words ask for: `-ci<n>`, `-cx<n>` and `-cs<n>`, each at most once, and the names of 1 to `most` files.
-pub fn asked_for(alloc: Global, words: Vec<String>, most: usize) -> Result<Request, RequestError>
-    ensures { IfOk result (λ r. (1 ≤ length r.files.items) × (length r.files.items ≤ most)) }
+pub fn asked_for(words: Vec<String>, most: usize) -> Result<Request, RequestError>
+    ensures asked { IfOk result (λ r. IsRequest most (map string_bytes words.items) r.limits (map string_bytes r.files.items)) }
+    ensures refused { IfErr result (λ e. (e ≢ RequestError.Memory) × AsksForNothing most (map string_bytes words.items)) }
 {
-    let mut files = Vec::new(alloc);
-    let mut ci = None;
-    let mut cx = None;
-    let mut cs = None;
-    for word in words {
-        if let Some(number) = glued("-ci", &word) {
-            ci = once(ci, number)?;
-        } else if let Some(number) = glued("-cx", &word) {
-            cx = once(cx, number)?;
-        } else if let Some(number) = glued("-cs", &word) {
-            cs = once(cs, number)?;
-        } else if word.as_str().starts_with("-") {
-            return Err(RequestError::Usage);
-        } else {
-            match files.push(word) {
-                Ok(()) => {}
-                Err(_) => return Err(RequestError::Memory),
-            }
-        }
-    }
-    if files.is_empty() || files.len() > most {
+    if !are_known(&words) {
         return Err(RequestError::Usage);
     }
-    match Limits::new(
-        ci.unwrap_or(LEAST),
-        cx.unwrap_or(GREATEST),
-        cs.unwrap_or(CAP),
-    ) {
+    let ci = limit("-ci", &words, LEAST)?;
+    let cx = limit("-cx", &words, GREATEST)?;
+    let cs = limit("-cs", &words, CAP)?;
+    let mut files = words;
+    files.retain(|word| is_file(word));
+    let count = files.len();
+    if count == 0 || count > most {
+        return Err(RequestError::Usage);
+    }
+    match Limits::new(ci, cx, cs) {
         Some(limits) => Ok(Request { limits, files }),
         None => Err(RequestError::OutOfRange),
     }

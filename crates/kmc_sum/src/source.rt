@@ -126,6 +126,7 @@ pub fn next_line<R: Read>(
         (λ l. IsLineOf l rest × (unread room.new ≡ drop l.end rest) × (room.new.lines ≡ min (room.old.lines + 1) (2 ^ 64 - 1)))) }
     ensures malformed { IsErrOf result NextFault.Malformed → (rest : List ℕ) × GoesOn (R.remaining reader.old.inner) (R.remaining reader.new.inner) (unread room.old) rest
         × (rest ≢ []) × IsEnough rest (R.remaining reader.new.inner) × BeginsNoLine rest × (room.new.lines ≡ room.old.lines) }
+    ensures kept { OnOk result (reader.new.failures ≡ reader.old.failures) }
     ensures device { IsErrOf result NextFault.Device → RisesByOne reader.old.failures reader.new.failures }
     ensures lost { OnErr result ((rest : List ℕ) × GoesOn (R.remaining reader.old.inner) (R.remaining reader.new.inner) (unread room.old) rest) }
 {
@@ -172,6 +173,7 @@ pub fn next_pair<R: Read>(
         × (room.new.lines ≡ min (room.old.lines + 1) (2 ^ 64 - 1)))) }
     ensures fault { (f : LineFault) → IsErrOf result (PairFault.Line f) → (start : Option (List ℕ)) (pairs : List (List ℕ × ℕ)) → EndsIn k last pairs
         → GaveFront k start (R.remaining reader.old.inner) pairs (unread room.old) → IsFaultAt k start (R.remaining reader.new.inner) (line_after pairs) f }
+    ensures kept { OnOk result (reader.new.failures ≡ reader.old.failures) }
     ensures device { IsErrOf result PairFault.Device → RisesByOne reader.old.failures reader.new.failures }
     ensures lost { OnErr result ((rest : List ℕ) × GoesOn (R.remaining reader.old.inner) (R.remaining reader.new.inner) (unread room.old) rest) }
 {

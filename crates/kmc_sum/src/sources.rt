@@ -3,7 +3,7 @@ ghost use Rattle.std.specs.Prelude.{◌≡◌, ℕ, ◌+◌, ◌*◌, ◌<◌, �
 ghost use Rattle.kmc_count.specs.Device.{RisesByOne};
 ghost use Rattle.kmc_sum.specs.Heads.{rank, head_at, pending, IsTree};
 ghost use Rattle.kmc_sum.specs.Sources.{IsSource, AreReady, AreSources, with_first, GaveFronts};
-ghost use Rattle.kmc_sum.specs.Refusals.{IsFirstFault, IsOfSource};
+ghost use Rattle.kmc_sum.specs.Refusals.{IsFirstFault, HasFailed, IsOfSource};
 ghost use Rattle.kmc_sum.specs.Faults.{GaveFront, IsFaultAt};
 ghost use Rattle.kmc_sum.specs.Source.{IsRoom};
 ghost use Rattle.kmc_sum.specs.declared.error.LineFault.{LineFault};
@@ -31,6 +31,7 @@ fn next_head<R: Read>(
     ensures fault { (s line : ℕ) (fault : LineFault) → IsErrOf result (SumError.Line s line fault) → (s ≡ source)
         × ((start : Option (List ℕ)) (head : Head) (taken : List (List ℕ × ℕ)) → head.live ≡ true → head.packed ≡ packed
         → IsSource k start (R.remaining reader.old.inner) room.old head taken → IsFaultAt k start (R.remaining reader.new.inner) line fault) }
+    ensures kept { OnOk result (reader.new.failures ≡ reader.old.failures) }
     ensures read { (s : ℕ) → IsErrOf result (SumError.Read s) → (s ≡ source) × RisesByOne reader.old.failures reader.new.failures }
     ensures other { IfErr result IsOfSource }
     ensures lost { OnErr result ((start : Option (List ℕ)) (head : Head) (taken : List (List ℕ × ℕ))
@@ -78,8 +79,8 @@ pub fn advance<R: Read>(
         → (starts : List (Option (List ℕ))) (lists : List (List (List ℕ × ℕ)))
         → AreSources k starts (map (λ r. R.remaining r.inner) readers.old) rooms.old heads.old lists
         → IsFirstFault k starts (map (λ r. R.remaining r.inner) readers.new) source line fault }
-    ensures read { (source : ℕ) → IsErrOf result (SumError.Read source) → (source < length readers.old)
-        × ((d e : _) → RisesByOne (slice_index_or readers.old source d).failures (slice_index_or readers.new source e).failures) }
+    ensures kept { OnOk result (map (λ r. r.failures) readers.new ≡ map (λ r. r.failures) readers.old) }
+    ensures read { (source : ℕ) → IsErrOf result (SumError.Read source) → HasFailed source (map (λ r. r.failures) readers.old) (map (λ r. r.failures) readers.new) }
     ensures other { IfErr result IsOfSource }
     ensures lost { OnErr result ((starts : List (Option (List ℕ))) (lists : List (List (List ℕ × ℕ)))
         → AreSources k starts (map (λ r. R.remaining r.inner) readers.old) rooms.old heads.old lists

@@ -1,8 +1,9 @@
 //! KMC's glued words.
 ghost use Rattle.std.specs.Prelude.{◌≡◌, IfOk, option_map, string_bytes};
-ghost use Rattle.kmc_command.specs.Glued.{is_flag, long_form, option_in, rest_after, value_in, with_value};
+ghost use Rattle.kmc_command.specs.Glued.{is_flag, long_form, option_in, value_in, with_value};
 
 use crate::flag::Flag;
+use kmc_argument::prefix::rest_after;
 use kmc_tool::setting::Setting;
 use std::alloc::{AllocError, Global};
 
@@ -50,13 +51,6 @@ fn value_in(setting: Setting, word: &str) -> Option<&str>
     let option = rest_after("-", word)?;
     let value = rest_after(setting.name(), option)?;
     if value.is_empty() { None } else { Some(value) }
-}
-
-// What follows the prefix.
-fn rest_after<'a>(prefix: &str, word: &'a str) -> Option<&'a str>
-    ensures { option_map (λ rest. rest.now) result ≡ rest_after prefix.now word.entry.now }
-{
-    word.strip_prefix(prefix)
 }
 
 fn with_value(alloc: Global, setting: Setting, value: &str) -> Result<String, AllocError>

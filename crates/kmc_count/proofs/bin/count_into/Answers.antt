@@ -1,4 +1,4 @@
-use Rattle.std.proofs.Common.{◌≡◌, ◌^◌, ◌<◌, ◌++◌, map, All, subst, sym, ap, ◌∙◌, Err}
+use Rattle.std.proofs.Common.{◌≡◌, ◌^◌, ◌<◌, ◌++◌, map, All, subst, sym, ap, ◌∙◌, Err, inl}
 use Rattle.kmc_base.specs.Packed.{pack, unpack}
 use Rattle.kmc_record.specs.declared.fault.BodyError.TheVariants.{Damaged}
 use Rattle.kmc_record.specs.RecordWords.{record_keys}
@@ -18,7 +18,7 @@ tally-requires-clause-fit g c =
     let num = g.W.Word.number in
     let k = c.args.k in
     let made = c.in-Ok.ensures.ok in
-    let is = made.2 ∙ ap (λ ns. map num ns ++ map pack (record_keys c.args.strands k made.0)) (c.reserve.ensures.items ∙ c.clear.ensures.items) in
+    let is = made.2 ∙ ap (λ ns. map num ns ++ map pack (record_keys c.args.strands k made.0)) c.clear.ensures.items in
     subst (λ ns. All (λ n. n < 4 ^ k) (map num ns)) (sym c.deref.ensures.value) (body_fits c.args.strands k c.args.body.now made.0 made.1 _ _ is c.sort.ensures.moved)
 
 pub returns-in-Ok-tally-clause-ok : goal.returns-in-Ok-tally-clause-ok
@@ -27,6 +27,9 @@ returns-in-Ok-tally-clause-ok g c =
     let k = c.args.k in
     let made = c.in-Ok.ensures.ok in
     let pairs = c.in-Ok-tally.pairs.items in
-    let is = made.2 ∙ ap (λ ns. map num ns ++ map pack (record_keys c.args.strands k made.0)) (c.reserve.ensures.items ∙ c.clear.ensures.items) in
+    let is = made.2 ∙ ap (λ ns. map num ns ++ map pack (record_keys c.args.strands k made.0)) c.clear.ensures.items in
     let dump = subst (λ ns. IsDump (occurrences (map (unpack k) (map num ns))) c.args.limits.now pairs) c.deref.ensures.value c.in-Ok-tally.ensures in
     body_dump c.args.strands k c.args.body.now made.0 made.1 _ _ is c.sort.ensures.moved c.args.limits.now pairs dump
+
+pub returns-in-Err-Memory-clause-memory : goal.returns-in-Err-Memory-clause-memory
+returns-in-Err-Memory-clause-memory g c = λ _. inl (c.in-Err-Memory.ensures.memory (ap Err c.in-Err-Memory.field-0-is))

@@ -1,4 +1,4 @@
-use Rattle.std.proofs.Common.{◌≡◌, ◌+◌, ◌<◌, ◌≤◌, ◌^◌, length, map, take, Err, refl, sym, ap, subst, ◌∙◌, arith, cond, true}
+use Rattle.std.proofs.Common.{◌≡◌, ◌+◌, ◌<◌, ◌≤◌, ◌^◌, ◌-◌, length, map, take, Err, refl, sym, ap, subst, ◌∙◌, arith, cond, true}
 use Rattle.std.proofs.lemmas.List.{length-map}
 use Rattle.kmc_base.specs.Lemmas.Powers.{pow_some}
 use Rattle.kmc_base.specs.Packed.{unpack}
@@ -6,12 +6,13 @@ use Rattle.kmc_count.specs.Device.{Watched}
 use Rattle.kmc_sum.specs.Heads.{rank, head_at}
 use Rattle.kmc_sum.specs.Sources.{AreReady}
 use Rattle.kmc_sum.specs.State.{IsBegun}
-use Rattle.kmc_sum.specs.declared.error.SumError.TheVariants.{Line}
-use Rattle.kmc_sum.proofs.Advances.{first_inside, first_leaf, first_fits}
+use Rattle.kmc_sum.specs.declared.error.SumError.TheVariants.{Line, Read}
+use Rattle.kmc_sum.proofs.Advances.{first_inside, first_leaf, first_fits, failed_after}
+use Rattle.kmc_sum.proofs.Counted.{taken_more, too_many}
 use Rattle.kmc_sum.proofs.Gave.{less_packed}
 use Rattle.kmc_sum.proofs.Steps.{so_same, so_next, so_start, so_like, room_of, begun_front, begun_before, begun_after, begun_put, written, fronts_of}
 use Rattle.kmc_sum.proofs.merge.drain.Goals as goal
-use Rattle.kmc_sum.proofs.merge.drain.Goals.{then-next-packed, else-next-packed+in-Ok}
+use Rattle.kmc_sum.proofs.merge.drain.Goals.{then-next-packed, else-next-packed+in-Ok, else-loop-step-test, then-loop-step-test+then-not-heads}
 
 pub advance-requires-clause-inside : goal.advance-requires-clause-inside
 advance-requires-clause-inside g c =
@@ -21,6 +22,7 @@ advance-requires-clause-inside g c =
 pub loop-step-init : goal.loop-step-init
 loop-step-init g c = record {
   many = refl;
+  same = refl;
   ready = c.requires.ready;
   tree = c.requires.tree;
   fits = pow_some c.args.k;
@@ -29,6 +31,7 @@ loop-step-init g c = record {
   lines = omega arith;
   behind = λ j low high. omega arith;
   so = λ starts lists are none. so_start c.args.k c.args.limits.now starts _ c.args.rooms.now c.args.heads.now (unpack c.args.k 0) _ lists are none;
+  taken = λ starts lists are. record { lists = lists; sources = are; many = omega arith };
 }
 
 pub returns-in-Err-clause-begun : goal.returns-in-Err-clause-begun
@@ -81,6 +84,7 @@ loop-step-preserved g c =
     elim c.if-next-packed.branch [
       | then-next-packed w ↦ record {
         many = c.advance.auto.readers ∙ i.many;
+        same = c.in-Ok-advance.ensures.kept ∙ i.same;
         ready = c.in-Ok-advance.ensures.ready;
         tree = c.in-Ok-advance.ensures.tree;
         fits = subst (λ p. p < 4 ^ k) (sym w.packed-is) i.fits;
@@ -94,9 +98,14 @@ loop-step-preserved g c =
             so_like k l starts _ _ _ _ _ _ _ _ _ _ _ _ _ _ (ap (unpack k) w.packed-is) w.count-is w.lines-is (ap (λ (v : Watched g.row.W.Denot). g.W.Write.contents v.inner) w.writer-is) (λ j. take (w.filled-is j) (w.room-is j))
             (so_same k l l.in_range.1 starts _ c.loop-step.rooms heads _ c.loop-step.count c.loop-step.lines _ _ _ so _ c.advance.new.rooms c.advance.new.heads _ (omega (arith, long, inside)) live
             (ap (unpack k) w.if-next-packed.true) w.saturating_add-count.ensures (c.in-Ok-advance.ensures.sources starts so.lists so.sources));
+        taken = λ starts lists are.
+            let taken = i.taken starts lists are in
+            let long : length starts ≡ n = omega (arith, length-map c.loop-step.readers left, taken.sources.nows_long) in
+            taken_more k starts _ _ c.loop-step.rooms c.advance.new.rooms heads c.advance.new.heads c.loop-step._step taken (omega (arith, long, inside)) live (c.in-Ok-advance.ensures.sources starts taken.lists taken.sources);
       }
       | else-next-packed+in-Ok w ↦ record {
         many = c.advance.auto.readers ∙ i.many;
+        same = c.in-Ok-advance.ensures.kept ∙ i.same;
         ready = c.in-Ok-advance.ensures.ready;
         tree = c.in-Ok-advance.ensures.tree;
         fits = subst (λ p. p < 4 ^ k) (sym w.packed-is) (first_fits k n c.loop-step.rooms heads i.ready i.tree some);
@@ -111,6 +120,10 @@ loop-step-preserved g c =
             (so_next k l l.in_range.1 starts _ c.loop-step.rooms heads _ c.loop-step.count c.loop-step.lines _ _ _ so _ c.advance.new.rooms c.advance.new.heads _ _ _ (omega (arith, long, inside)) live
             (less_packed k c.loop-step.packed top.packed i.fits (first_fits k n c.loop-step.rooms heads i.ready i.tree some) (omega (arith, above, w.if-next-packed.false))) (omega arith)
             (w.in-Ok.ensures.text _ _ so.out) (omega (arith, w.in-Ok.ensures.ok.2)) (c.in-Ok-advance.ensures.sources starts so.lists so.sources));
+        taken = λ starts lists are.
+            let taken = i.taken starts lists are in
+            let long : length starts ≡ n = omega (arith, length-map c.loop-step.readers left, taken.sources.nows_long) in
+            taken_more k starts _ _ c.loop-step.rooms c.advance.new.rooms heads c.advance.new.heads c.loop-step._step taken (omega (arith, long, inside)) live (c.in-Ok-advance.ensures.sources starts taken.lists taken.sources);
       }
     ]
 
@@ -155,3 +168,20 @@ returns-in-Ok-close-clause-written g c = λ starts lists are none.
     (subst (λ n. AreReady c.args.k n c.loop-step.rooms c.loop-step.heads) (sym long) i.ready) i.tree (omega (arith, long, i.many, c.requires.some)) c.requires.long.1 c.if-heads-offset48.false
     (room_of c.loop-step.rooms (omega (arith, i.ready.rooms_long, i.many, c.requires.some))) _ _ (c.in-Ok-close.ensures.ok _ _ (c.in-Ok-put_pair.ensures.text _ _ so.out))
     (omega (arith, c.in-Ok-put_pair.ensures.ok.2))
+
+pub returns-in-Err-advance-clause-read : goal.returns-in-Err-advance-clause-read
+returns-in-Err-advance-clause-read g c = λ source is.
+    let e : c.in-Err-advance.error ≡ Read source = cc is in
+    failed_after source _ _ _ c.loop-step.invariant.same (c.in-Err-advance.ensures.read source (ap Err e))
+
+pub returns-then-heads-offset48-clause-long : goal.returns-then-heads-offset48-clause-long
+returns-then-heads-offset48-clause-long g c = λ _ starts lists are.
+    let i = c.loop-step.invariant in
+    let taken = i.taken starts lists are in
+    let left = λ (r : Watched g.row.R.Denot). g.R.Read.remaining r.inner in
+    let long : length c.loop-step.rooms ≡ length starts = omega (arith, i.ready.rooms_long, length-map c.loop-step.readers left, taken.sources.nows_long) in
+    let most : 2 ^ 64 - 2 ≤ c.loop-step._step = elim c.loop-step-test.branch [
+      | else-loop-step-test w ↦ omega (arith, w.loop-step-test.false)
+      | then-loop-step-test+then-not-heads w ↦ absurd (cc (w.if-not-heads.true, c.if-heads-offset48.true))
+    ] in
+    too_many c.args.k starts _ c.loop-step.rooms c.loop-step.heads c.loop-step._step long most taken

@@ -4,6 +4,7 @@ use Rattle.kmc_count.specs.Device.{Watched}
 use Rattle.kmc_count.proofs.Devices.{on_err_then}
 use Rattle.kmc_sum.specs.Sources.{no_lists}
 use Rattle.kmc_sum.proofs.Openings.{none_sum}
+use Rattle.kmc_sum.proofs.Advances.{failed_after}
 use Rattle.kmc_sum.proofs.Merges.{begun_none, sum_written, sources_built, if_ok_then}
 use Rattle.kmc_sum.proofs.merge.merge_in.Goals as goal
 
@@ -33,3 +34,14 @@ returns-clause-begun g c =
     let long : length c.open.new.heads ≡ 2 * length starts = omega (arith, c.open.auto.heads, c.requires.heads, length-map c.args.readers.now left) in
     let are = sources_built c.in-Ok.k starts _ c.open.new.rooms c.open.new.heads c.build.new.heads (no_lists starts) c.build.ensures.leaves long c.in-Ok.ensures.sources in
     on_err_then c.drain.result _ _ (λ h. (c.in-Ok.k, h starts (no_lists starts) are (none_sum starts))) c.drain.ensures.begun
+
+pub returns-clause-read : goal.returns-clause-read
+returns-clause-read g c = λ source is. failed_after source _ _ _ c.in-Ok.ensures.kept (c.drain.ensures.read source is)
+
+pub returns-clause-long : goal.returns-clause-long
+returns-clause-long g c = λ is.
+    let left = λ (r : Watched g.row.R.Denot). g.R.Read.remaining r.inner in
+    let starts = map left c.args.readers.now in
+    let long : length c.open.new.heads ≡ 2 * length starts = omega (arith, c.open.auto.heads, c.requires.heads, length-map c.args.readers.now left) in
+    let are = sources_built c.in-Ok.k starts _ c.open.new.rooms c.open.new.heads c.build.new.heads (no_lists starts) c.build.ensures.leaves long c.in-Ok.ensures.sources in
+    (c.in-Ok.k, c.in-Ok.ensures.length, c.drain.ensures.long is starts (no_lists starts) are)

@@ -7,6 +7,7 @@ use Rattle.kmc_sum.proofs.opening.open.Given as goal
 abbrev pub invariant-loop-i : goal.invariant-loop-i
 invariant-loop-i g l = record {
   many : length l.readers ≡ length l.initial.readers;
+  same : map (λ r. r.failures) l.readers ≡ map (λ r. r.failures) l.initial.readers;
   most : l.k ≤ MAX_K;
   opened : AreOpened l.k (length l.initial.readers) l.i (map (λ r. g.R.Read.remaining r.inner) l.initial.readers) (map (λ r. g.R.Read.remaining r.inner) l.readers) l.rooms l.heads;
 }

@@ -4,7 +4,7 @@ use Rattle.kmc_count.specs.Device.{Watched}
 use Rattle.kmc_sum.specs.Heads.{rank, head_at}
 use Rattle.kmc_sum.specs.Sources.{AreReady, AreSources, left_at, list_at, with_first, GaveFronts}
 use Rattle.kmc_sum.specs.declared.error.SumError.TheVariants.{Line, Read}
-use Rattle.kmc_sum.proofs.Advances.{inside_after, settled_after, ready_after, behind_after, sources_after, source_first, lost_after, first_like, rises_at}
+use Rattle.kmc_sum.proofs.Advances.{inside_after, settled_after, ready_after, behind_after, sources_after, source_first, lost_after, first_like, failed_at, kept_at}
 use Rattle.kmc_sum.proofs.sources.advance.Goals as goal
 
 pub next_head-requires : goal.next_head-requires
@@ -65,11 +65,13 @@ returns-in-Err-clause-fault g c = λ source line fault is starts lists are.
 
 pub returns-in-Err-clause-read : goal.returns-in-Err-clause-read
 returns-in-Err-clause-read g c = λ source is.
-    let readers = c.args.readers.now in
     let s = (head_at c.args.heads.now 1).source in
     let e : c.in-Err.error ≡ Read source = cc is in
     let here = c.in-Err.ensures.read source (ap Err e) in
-    (omega (arith, here.0, c.requires.inside), λ d f. rises_at readers source s d f c.index-readers-source.result c.next_head.new.reader here.0 c.requires.inside here.1)
+    failed_at c.args.readers.now s c.index-readers-source.result c.next_head.new.reader c.requires.inside source here.0 here.1
+
+pub returns-in-Ok-clause-kept : goal.returns-in-Ok-clause-kept
+returns-in-Ok-clause-kept g c = kept_at c.args.readers.now (head_at c.args.heads.now 1).source c.index-readers-source.result c.next_head.new.reader c.requires.inside c.in-Ok.ensures.kept
 
 pub returns-in-Err-clause-lost : goal.returns-in-Err-clause-lost
 returns-in-Err-clause-lost g c = λ starts lists are.

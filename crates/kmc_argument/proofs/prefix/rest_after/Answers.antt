@@ -6,8 +6,8 @@ use Rattle.std.specs.Borrow.{Bor}
 use Rattle.std.specs.Str.Pattern.{FindsTextPrefix, StripsPrefix}
 use Rattle.std.proofs.lemmas.Slice.Eq.{starts_is}
 use Rattle.std.proofs.lemmas.Bool.Decides.{Decides-eqb}
-use Rattle.kmc_command.specs.Glued.{rest_after}
-use Rattle.kmc_command.proofs.options.glued.rest_after.Goals as goal
+use Rattle.kmc_argument.specs.Words.{rest_after}
+use Rattle.kmc_argument.proofs.prefix.rest_after.Goals as goal
 
 begins : (p s : List ℕ) → (starts_with nat_eq s p ≡ true → s ≡ p ++ drop (length p) s)
     × ((rest : List ℕ) → s ≡ p ++ rest → starts_with nat_eq s p ≡ true)

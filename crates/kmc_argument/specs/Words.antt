@@ -1,0 +1,20 @@
+-- Words of a command line, by their bytes.
+use Rattle.std.specs.Prelude.{◌&&◌, ℕ, List, Option, Some, None, length, drop}
+use Rattle.std.specs.Prelude.{if◌then◌else◌, nat_eq, nat_lt}
+use Rattle.std.specs.Char.{is_ascii_digit}
+use Rattle.std.specs.List.{list_all, starts_with}
+use Rattle.std.specs.Str.Parse.{digits_value}
+
+-- a word of the command line, by its bytes
+abbrev pub Word : Type 0
+Word = List ℕ
+
+-- what follows the prefix in a word that begins with it: behind -ci in -ci3 stands 3, and in 3 nothing
+abbrev pub rest_after : Word → Word → Option Word
+rest_after prefix word =
+    if starts_with nat_eq word prefix then Some (drop (length prefix) word) else None
+
+-- one or more ASCII digits, with leading zeros or without
+abbrev pub number_of : Word → Option ℕ
+number_of text =
+    if nat_lt 0 (length text) && list_all is_ascii_digit text then Some (digits_value 10 text) else None
