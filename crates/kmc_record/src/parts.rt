@@ -111,10 +111,10 @@ fn push_read(
 pub fn parts_of_reads(
     alloc: Global,
     number: u64,
-    reads: &[Vec<u8>],
+    reads: &[&[u8]],
     shape: Shape,
 ) -> Result<Vec<Part>, AllocError>
-    ensures { IfOk result (λ parts. ArePartsOf number (map (λ r. r.items) reads.now) shape parts.items) }
+    ensures { IfOk result (λ parts. ArePartsOf number (map (λ r. r.now) reads.now) shape parts.items) }
 {
     let mut parts = empty_parts(alloc, number, shape)?;
     let mut scratch = Scratch::new(alloc);
@@ -130,5 +130,9 @@ pub fn parts_of_reads(
 pub fn parts_of(alloc: Global, chunk: &Chunk, shape: Shape) -> Result<Vec<Part>, AllocError>
     ensures { IfOk result (λ parts. ArePartsOf chunk.now.number (map (λ r. r.items) chunk.now.reads.items) shape parts.items) }
 {
-    parts_of_reads(alloc, chunk.number, &chunk.reads, shape)
+    let mut reads = Vec::with_capacity(alloc, chunk.reads.len())?;
+    for read in &chunk.reads {
+        reads.push(read.as_slice())?;
+    }
+    parts_of_reads(alloc, chunk.number, &reads, shape)
 }
