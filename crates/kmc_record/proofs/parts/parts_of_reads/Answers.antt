@@ -2,9 +2,10 @@ use Rattle.std.proofs.Common.{rules, ◌≡◌, nat_lt, [], length, map, take, a
 use Rattle.std.proofs.lemmas.List.{take_all}
 use Rattle.std.proofs.lemmas.List.Elements.{filter_from_retain}
 use Rattle.std.specs.List.{filter}
+use Rattle.kmc_record.specs.Growing.{HaveTaken}
 use Rattle.kmc_record.specs.Parts.{Parcel, bin_super_kmers, all_segments}
 use Rattle.kmc_record.proofs.Parcels.{grown_start, grown_for_bins}
-use Rattle.kmc_record.proofs.Chunks.{HaveTaken, read_more, empties_are, all_grown}
+use Rattle.kmc_record.proofs.Chunks.{read_more, empties_are, all_grown}
 use Rattle.kmc_record.proofs.parts.parts_of_reads.Goals as goal
 
 pub loop-read-init : goal.loop-read-init
