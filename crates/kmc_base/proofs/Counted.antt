@@ -6,7 +6,7 @@ use Rattle.std.proofs.lemmas.List.{map-append}
 use Rattle.std.specs.Option.{option_map, option_and_then}
 use Rattle.std.specs.List.{filter, filter_map, flat_map, range_with_len, cons_option}
 use Rattle.kmc_base.specs.Words.{code_of, codes_of, window}
-use Rattle.kmc_base.specs.Stretches.{Stretch, with_place, stretches_from, segments_of}
+use Rattle.kmc_base.specs.Stretches.{Stretch, with_place, stretches_from, segments_of, led_by, leading}
 use Rattle.kmc_base.specs.declared.strands.Strands.{Strands}
 use Rattle.kmc_base.specs.Strands.{key, placed_key, keys}
 use Rattle.kmc_base.specs.Places.{word_at, counted_words, placed_words}
@@ -17,19 +17,11 @@ Placed = List (ℕ × List ℕ)
 
 -- ---- the codes of the bases that a text begins with
 
-abbrev pub led_by : Option ℕ → List ℕ → List ℕ
-led_by None r = []
-led_by (Some c) r = c ∷ r
-
-abbrev pub run : List ℕ → List ℕ
-run [] = []
-run (b ∷ bs) = led_by (code_of b) (run bs)
-
-run_within : (bs : List ℕ) → length (run bs) ≤ length bs
+run_within : (bs : List ℕ) → length (leading bs) ≤ length bs
 run_within [] = omega arith
 run_within (b ∷ bs) = go (code_of b) (run_within bs)
   where
-    go : (o : Option ℕ) → length (run bs) ≤ length bs → length (led_by o (run bs)) ≤ suc (length bs)
+    go : (o : Option ℕ) → length (leading bs) ≤ length bs → length (led_by o (leading bs)) ≤ suc (length bs)
     go None h = omega arith
     go (Some c) h = omega arith
 
@@ -40,31 +32,31 @@ first_codes j r = cond (nat_lt (length r) j) None (Some (take j r))
 lt_suc : (a b : ℕ) → nat_lt (suc a) (suc b) ≡ nat_lt a b
 lt_suc a b = grind (arith, nat_tests)
 
-front_codes : (j : ℕ) (bs : List ℕ) → j ≤ length bs → codes_of (take j bs) ≡ first_codes j (run bs)
+front_codes : (j : ℕ) (bs : List ℕ) → j ≤ length bs → codes_of (take j bs) ≡ first_codes j (leading bs)
 front_codes zero bs h =
-    let all : nat_lt (length (run bs)) 0 ≡ false = grind (arith, nat_tests) in
+    let all : nat_lt (length (leading bs)) 0 ≡ false = grind (arith, nat_tests) in
     rw all refl
 front_codes (suc j) [] h = absurd (omega arith)
 front_codes (suc j) (b ∷ bs) h = go (code_of b) (front_codes j bs (omega arith))
   where
-    put : (c : ℕ) (t : Bool) → option_map (λ (cs : List ℕ). c ∷ cs) (cond t None (Some (take j (run bs)))) ≡ cond t None (Some (c ∷ take j (run bs)))
+    put : (c : ℕ) (t : Bool) → option_map (λ (cs : List ℕ). c ∷ cs) (cond t None (Some (take j (leading bs)))) ≡ cond t None (Some (c ∷ take j (leading bs)))
     put c true = refl
     put c false = refl
 
-    go : (o : Option ℕ) → codes_of (take j bs) ≡ first_codes j (run bs)
-        → option_and_then (λ c. option_map (λ cs. c ∷ cs) (codes_of (take j bs))) o ≡ first_codes (suc j) (led_by o (run bs))
+    go : (o : Option ℕ) → codes_of (take j bs) ≡ first_codes j (leading bs)
+        → option_and_then (λ c. option_map (λ cs. c ∷ cs) (codes_of (take j bs))) o ≡ first_codes (suc j) (led_by o (leading bs))
     go None e =
         let none : nat_lt 0 (suc j) ≡ true = grind (arith, nat_tests) in
         rw none refl
-    go (Some c) e = rw (e, lt_suc (length (run bs)) j) (put c (nat_lt (length (run bs)) j))
+    go (Some c) e = rw (e, lt_suc (length (leading bs)) j) (put c (nat_lt (length (leading bs)) j))
 
-word_here : (k : ℕ) (bs : List ℕ) → word_at k bs 0 ≡ first_codes k (run bs)
+word_here : (k : ℕ) (bs : List ℕ) → word_at k bs 0 ≡ first_codes k (leading bs)
 word_here k bs = go (nat_lt (length bs) (0 + k)) refl
   where
-    go : (t : Bool) → nat_lt (length bs) (0 + k) ≡ t → cond t None (codes_of (take k bs)) ≡ first_codes k (run bs)
+    go : (t : Bool) → nat_lt (length bs) (0 + k) ≡ t → cond t None (codes_of (take k bs)) ≡ first_codes k (leading bs)
     go true e =
         let within = run_within bs in
-        let short : nat_lt (length (run bs)) k ≡ true = grind (arith, nat_tests) in
+        let short : nat_lt (length (leading bs)) k ≡ true = grind (arith, nat_tests) in
         rw short refl
     go false e =
         let enough : k ≤ length bs = grind (arith, nat_tests) in
@@ -128,18 +120,18 @@ placed_more k some a c r = go (nat_lt (suc (length r)) k) refl
         ∙ (λ j. (add-zero a j, take k (c ∷ r)) ∷ shift_map f 0 (length r + 1 - k) j)
         ∙ (λ j. (a, take k (c ∷ r)) ∷ map (λ i. (place i j, code i j)) (range_with_len 0 (length r + 1 - k)))
 
--- ---- the first stretch is the run of bases that the text begins with
+-- ---- the first stretch is the leading of bases that the text begins with
 
 -- the words of the stretches with and without one more base in front
 record Split (k a : ℕ) (t : List ℕ) : Type 0 where
   after : Placed
-  without : flat_map (placed_words k) (stretches_from (a + 1) t) ≡ placed k (a + 1) (run t) ++ after
-  with_one : (c : ℕ) → flat_map (placed_words k) (with_place a (Some c) (stretches_from (a + 1) t)) ≡ placed k a (c ∷ run t) ++ after
+  without : flat_map (placed_words k) (stretches_from (a + 1) t) ≡ placed k (a + 1) (leading t) ++ after
+  with_one : (c : ℕ) → flat_map (placed_words k) (with_place a (Some c) (stretches_from (a + 1) t)) ≡ placed k a (c ∷ leading t) ++ after
 
 abbrev pub IsLed : ℕ → List ℕ → List Stretch → Type 0
 IsLed a r ss = ((r ≡ []) × Apart a ss) ⊎ ((rest : List Stretch) × (ss ≡ record { start = a; codes = r } ∷ rest))
 
-pub led : (a : ℕ) (bs : List ℕ) → IsLed a (run bs) (stretches_from a bs)
+pub led : (a : ℕ) (bs : List ℕ) → IsLed a (leading bs) (stretches_from a bs)
 led a [] = inl (refl, tt)
 led a (b ∷ bs) = go (code_of b) (stretches_from (a + 1) bs) (apart_from (a + 1) a bs (omega arith)) (led (a + 1) bs)
   where
@@ -149,9 +141,9 @@ led a (b ∷ bs) = go (code_of b) (stretches_from (a + 1) bs) (apart_from (a + 1
         let other : (s.start == a + 1) ≡ false = ne_eqb s.start (a + 1) (λ h. omega arith) in
         inr (s ∷ ss, rw other (λ j. record { start = a; codes = c ∷ sym e j } ∷ s ∷ ss))
 
-    go : (o : Option ℕ) (ss : List Stretch) → Apart a ss → IsLed (a + 1) (run bs) ss → IsLed a (led_by o (run bs)) (with_place a o ss)
+    go : (o : Option ℕ) (ss : List Stretch) → Apart a ss → IsLed (a + 1) (leading bs) ss → IsLed a (led_by o (leading bs)) (with_place a o ss)
     go None ss apart h = inl (refl, apart)
-    go (Some c) ss apart (inl h) = beside c (run bs) ss h.0 h.1
+    go (Some c) ss apart (inl h) = beside c (leading bs) ss h.0 h.1
     go (Some c) ss apart (inr h) =
         let same : (a + 1 == a + 1) ≡ true = eq-eqb (a + 1) (a + 1) refl in
         inr (h.0, ap (with_place a (Some c)) h.1 ∙ rw same refl)
@@ -168,7 +160,7 @@ split k some a t = go (stretches_from (a + 1) t) refl (led (a + 1) t)
         let other : (s.start == a + 1) ≡ false = ne_eqb s.start (a + 1) (λ h. omega arith) in
         rw other refl
 
-    go : (ss : List Stretch) → stretches_from (a + 1) t ≡ ss → IsLed (a + 1) (run t) ss → Split k a t
+    go : (ss : List Stretch) → stretches_from (a + 1) t ≡ ss → IsLed (a + 1) (leading t) ss → Split k a t
     go ss e (inl h) = record {
       after = flat_map (placed_words k) ss;
       without = ap (flat_map (placed_words k)) e ∙ ap (λ (p : Placed). p ++ flat_map (placed_words k) ss) (sym (ap (placed k (a + 1)) h.0 ∙ nothing k (a + 1) some));
@@ -196,11 +188,11 @@ all_from : (k : ℕ) → 1 ≤ k → (a : ℕ) (bs : List ℕ) → flat_map (pla
 all_from k some a [] = refl
 all_from k some a (b ∷ bs) = go (code_of b) refl (all_from k some (a + 1) bs)
   where
-    first : (o : Option ℕ) → code_of b ≡ o → counted_from k a (b ∷ bs) ≡ first_word k a (led_by o (run bs)) ++ counted_from k (a + 1) bs
+    first : (o : Option ℕ) → code_of b ≡ o → counted_from k a (b ∷ bs) ≡ first_word k a (led_by o (leading bs)) ++ counted_from k (a + 1) bs
     first o e =
         counted_more k a b bs
-        ∙ ap (λ w. cons_option (option_map (λ w. (a, w)) w) (counted_from k (a + 1) bs)) (word_here k (b ∷ bs) ∙ ap (λ p. first_codes k (led_by p (run bs))) e)
-        ∙ chosen k a (led_by o (run bs)) (counted_from k (a + 1) bs)
+        ∙ ap (λ w. cons_option (option_map (λ w. (a, w)) w) (counted_from k (a + 1) bs)) (word_here k (b ∷ bs) ∙ ap (λ p. first_codes k (led_by p (leading bs))) e)
+        ∙ chosen k a (led_by o (leading bs)) (counted_from k (a + 1) bs)
 
     go : (o : Option ℕ) → code_of b ≡ o → flat_map (placed_words k) (stretches_from (a + 1) bs) ≡ counted_from k (a + 1) bs
         → flat_map (placed_words k) (stretches_from a (b ∷ bs)) ≡ counted_from k a (b ∷ bs)
@@ -212,9 +204,9 @@ all_from k some a (b ∷ bs) = go (code_of b) refl (all_from k some (a + 1) bs)
         let s = split k some a bs in
         ap (λ o. flat_map (placed_words k) (with_place a o (stretches_from (a + 1) bs))) e
         ∙ s.with_one c
-        ∙ ap (λ (p : Placed). p ++ s.after) (placed_more k some a c (run bs))
-        ∙ append_assoc (first_word k a (c ∷ run bs)) (placed k (a + 1) (run bs)) s.after
-        ∙ ap (λ (p : Placed). first_word k a (c ∷ run bs) ++ p) (sym s.without ∙ more)
+        ∙ ap (λ (p : Placed). p ++ s.after) (placed_more k some a c (leading bs))
+        ∙ append_assoc (first_word k a (c ∷ leading bs)) (placed k (a + 1) (leading bs)) s.after
+        ∙ ap (λ (p : Placed). first_word k a (c ∷ leading bs) ++ p) (sym s.without ∙ more)
         ∙ sym (first (Some c) e)
 
 -- stretches that are too short have no words

@@ -5,10 +5,10 @@ use Rattle.std.proofs.lemmas.Bool.Decides.{nat_tests}
 use Rattle.std.proofs.lemmas.List.Elements.{All-from_recursion}
 use Rattle.std.specs.List.{filter, AllByRecursion}
 use Rattle.kmc_base.specs.Words.{code_of, codes_of, window}
-use Rattle.kmc_base.specs.Stretches.{Stretch, with_place, stretches_from, segments_of}
+use Rattle.kmc_base.specs.Stretches.{Stretch, with_place, stretches_from, segments_of, led_by, leading}
 use Rattle.kmc_base.specs.Places.{IsSegment}
 use Rattle.kmc_base.proofs.Stretching.{Apart}
-use Rattle.kmc_base.proofs.Counted.{IsLed, led_by, run, led}
+use Rattle.kmc_base.proofs.Counted.{IsLed, led}
 
 -- ---- stretches rise
 
@@ -76,7 +76,7 @@ later_moved a b bs [] later h = tt
 later_moved a b bs (s ∷ ss) later h = (moved a b bs s (λ e. absurd (omega (arith, later.0, e))) h.0, later_moved a b bs ss later.1 h.1)
 
 -- one base by itself
-alone : (a b c : ℕ) (bs : List ℕ) → code_of b ≡ Some c → run bs ≡ [] → Within a (b ∷ bs) (record { start = a; codes = c ∷ [] })
+alone : (a b c : ℕ) (bs : List ℕ) → code_of b ≡ Some c → leading bs ≡ [] → Within a (b ∷ bs) (record { start = a; codes = c ∷ [] })
 alone a b c bs is none = record {
   place = 0;
   start = sym (add-zero a);
@@ -86,9 +86,9 @@ alone a b c bs is none = record {
   behind = λ less. first_is_none bs none (omega (arith, less));
 }
   where
-    first_is_none : (bs : List ℕ) → run bs ≡ [] → 0 < length bs → code_of (get_or bs 0 0) ≡ None
+    first_is_none : (bs : List ℕ) → leading bs ≡ [] → 0 < length bs → code_of (get_or bs 0 0) ≡ None
     first_is_none [] e some = absurd (omega arith)
-    first_is_none (d ∷ bs) e some = pick (code_of d) (run bs) e
+    first_is_none (d ∷ bs) e some = pick (code_of d) (leading bs) e
       where
         pick : (o : Option ℕ) (r : List ℕ) → led_by o r ≡ [] → o ≡ None
         pick None r e = refl
@@ -116,7 +116,7 @@ all_within : (a : ℕ) (bs : List ℕ) → AllWithin a bs (stretches_from a bs)
 all_within a [] = tt
 all_within a (b ∷ bs) = go (code_of b) refl (stretches_from (a + 1) bs) (led (a + 1) bs) (rise_from (a + 1) bs) (all_within (a + 1) bs)
   where
-    beside : (c : ℕ) → code_of b ≡ Some c → (ss : List Stretch) → run bs ≡ [] → Apart (a + 1) ss → AllFrom (a + 1) ss → Rise ss → AllWithin (a + 1) bs ss → AllWithin a (b ∷ bs) (with_place a (Some c) ss)
+    beside : (c : ℕ) → code_of b ≡ Some c → (ss : List Stretch) → leading bs ≡ [] → Apart (a + 1) ss → AllFrom (a + 1) ss → Rise ss → AllWithin (a + 1) bs ss → AllWithin a (b ∷ bs) (with_place a (Some c) ss)
     beside c is [] none apart from rise h = (alone a b c bs is none, tt)
     beside c is (s ∷ ss) none apart from rise h =
         let other : (s.start == a + 1) ≡ false = ne_eqb s.start (a + 1) (λ e. omega arith) in
@@ -128,11 +128,11 @@ all_within a (b ∷ bs) = go (code_of b) refl (stretches_from (a + 1) bs) (led (
         let same : (s.start == a + 1) ≡ true = eq-eqb s.start (a + 1) at in
         rw same (joined a b c bs s is at h.0, later_moved a b bs ss (from_less (s.start + 1) (a + 2) ss (omega (arith, at)) rise.0) h.1)
 
-    go : (o : Option ℕ) → code_of b ≡ o → (ss : List Stretch) → IsLed (a + 1) (run bs) ss → AllFrom (a + 1) ss × Rise ss → AllWithin (a + 1) bs ss → AllWithin a (b ∷ bs) (with_place a o ss)
+    go : (o : Option ℕ) → code_of b ≡ o → (ss : List Stretch) → IsLed (a + 1) (leading bs) ss → AllFrom (a + 1) ss × Rise ss → AllWithin (a + 1) bs ss → AllWithin a (b ∷ bs) (with_place a o ss)
     go None e ss l r h = all_moved a b bs ss e h
     go (Some c) e ss (inl l) r h = beside c e ss l.0 l.1 r.0 r.1 h
     go (Some c) e ss (inr l) r h =
-        let first : Stretch = record { start = a + 1; codes = run bs } in
+        let first : Stretch = record { start = a + 1; codes = leading bs } in
         subst (λ (t : List Stretch). AllWithin a (b ∷ bs) (with_place a (Some c) t)) (sym l.1)
         (behind_it c e first l.0 refl (subst Rise l.1 r.1) (subst (AllWithin (a + 1) bs) l.1 h))
 

@@ -2,11 +2,12 @@
 use Rattle.std.proofs.Common.{◌≡◌, ℕ, suc, ◌+◌, ◌-◌, ◌<◌, ◌≤◌, ◌==◌, Bool, true, false, cond, nat_le, List, [], ◌∷◌, ◌++◌, length, drop, get_or, Option, None, Some, refl, sym, ap, subst, ◌∙◌, arith, append_assoc, append-nil, add-one, add-zero, length-append, drop_of_length-le}
 use Rattle.std.proofs.lemmas.Bool.{eq-eqb, ne_eqb}
 use Rattle.std.proofs.lemmas.Bool.Decides.{nat_tests}
-use Rattle.std.proofs.lemmas.List.Elements.{filter-append}
+use Rattle.std.proofs.lemmas.List.Elements.{filter-append, All-from_recursion}
 use Rattle.std.proofs.Math.Seq.{drop-cons}
-use Rattle.std.specs.List.{filter}
+use Rattle.std.specs.List.{filter, All, AllByRecursion}
 use Rattle.kmc_base.specs.Words.{code_of}
-use Rattle.kmc_base.specs.Stretches.{Stretch, with_place, stretches_from}
+use Rattle.kmc_base.specs.Lemmas.Keys.{IsCode, code_small}
+use Rattle.kmc_base.specs.Stretches.{Stretch, with_place, stretches_from, led_by, leading}
 
 abbrev pub long_enough : ℕ → List Stretch → List Stretch
 long_enough k ss = filter (λ s. nat_le k (length s.codes)) ss
@@ -104,3 +105,40 @@ all_ended k read i done whole new open_codes a some end at more before =
     let none : drop i read ≡ [] = drop_of_length-le read end in
     more ∙ ap (λ (t : List Stretch). done ++ t) (sym (append-nil _) ∙ closing k a open_codes [] some tt)
     ∙ (λ j. done ++ long_enough k (joined (at j) open_codes (stretches_from i (sym none j)))) ∙ before
+
+-- ---- the stretch that a text begins with
+
+-- the bases that a text begins with, before the stretches behind the byte that ends them
+led_apart : (a : ℕ) (bs : List ℕ) → stretches_from a bs ≡ joined a (leading bs) (stretches_from (a + (length (leading bs) + 1)) (drop (length (leading bs) + 1) bs))
+led_apart a [] = refl
+led_apart a (b ∷ bs) = go (code_of b) (led_apart (a + 1) bs)
+  where
+    go : (o : Option ℕ) → stretches_from (a + 1) bs ≡ joined (a + 1) (leading bs) (stretches_from (a + 1 + (length (leading bs) + 1)) (drop (length (leading bs) + 1) bs))
+        → with_place a o (stretches_from (a + 1) bs) ≡ joined a (led_by o (leading bs)) (stretches_from (a + (length (led_by o (leading bs)) + 1)) (drop (length (led_by o (leading bs)) + 1) (b ∷ bs)))
+    go None e = refl
+    go (Some c) e =
+        let n = length (leading bs) in
+        let place : a + 1 + (n + 1) ≡ a + (suc n + 1) = omega arith in
+        let more : suc (n + 1) ≡ suc n + 1 = omega arith in
+        let rest : drop (n + 1) bs ≡ drop (suc n + 1) (b ∷ bs) = ap (λ m. drop m (b ∷ bs)) more in
+        ap (with_place a (Some c)) (e ∙ (λ j. joined (a + 1) (leading bs) (stretches_from (place j) (rest j))))
+
+pub first_apart : (k a : ℕ) (bs : List ℕ) → 1 ≤ k
+    → long_enough k (record { start = a; codes = leading bs } ∷ []) ++ long_enough k (stretches_from (a + (length (leading bs) + 1)) (drop (length (leading bs) + 1) bs)) ≡ long_enough k (stretches_from a bs)
+first_apart k a bs some =
+    let n = length (leading bs) in
+    closing k a (leading bs) (stretches_from (a + (n + 1)) (drop (n + 1) bs)) some (apart_from (a + (n + 1)) (a + n) (drop (n + 1) bs) (omega arith))
+    ∙ ap (long_enough k) (sym (led_apart a bs))
+
+-- ---- the codes of the bases that a text begins with, while they are written
+
+small_leading : (bs : List ℕ) → AllByRecursion (λ c. c < 4) (leading bs)
+small_leading [] = tt
+small_leading (b ∷ bs) = go (code_of b) (code_small b) (small_leading bs)
+  where
+    go : (o : Option ℕ) → IsCode o → AllByRecursion (λ c. c < 4) (leading bs) → AllByRecursion (λ c. c < 4) (led_by o (leading bs))
+    go None e h = tt
+    go (Some c) e h = (e, h)
+
+pub leading_small : (bs : List ℕ) → All (λ c. c < 4) (leading bs)
+leading_small bs = All-from_recursion (λ (c : ℕ). c < 4) (leading bs) (small_leading bs)

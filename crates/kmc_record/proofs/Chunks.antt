@@ -1,24 +1,18 @@
 -- Parts while the segments and the reads of a chunk are taken in.
-use Rattle.std.proofs.Common.{◌≡◌, ℕ, zero, suc, ◌+◌, ◌<◌, ◌≤◌, nat_le, true, List, [], ◌∷◌, ◌++◌, Vec, Global, length, map, get_or, take, sym, ap, subst, ◌∙◌, arith, append-nil}
-use Rattle.std.proofs.lemmas.List.{take_more, map_push}
-use Rattle.std.proofs.lemmas.List.Elements.{filter_passes}
+use Rattle.std.proofs.Common.{◌≡◌, ℕ, ◌+◌, ◌<◌, ◌≤◌, nat_le, true, List, [], ◌∷◌, ◌++◌, length, map, get_or, take, sym, ap, subst, ◌∙◌, arith, append-nil, append_assoc, drop}
+use Rattle.std.proofs.lemmas.List.{take_more, map_push, drop-drop}
 use Rattle.std.proofs.lemmas.List.FromFn.{length-map-range_with_len, get_or-map-range_with_len, fill_by_all}
 use Rattle.std.proofs.lemmas.Bool.Decides.{nat_tests}
-use Rattle.std.specs.List.{All, range_with_len}
-use Rattle.kmc_base.specs.declared.segment.Segment.{Segment}
-use Rattle.kmc_base.specs.Segments.{stretch}
-use Rattle.kmc_base.specs.Stretches.{Stretch, segments_of, stretches_from}
+use Rattle.std.specs.List.{range_with_len}
+use Rattle.kmc_base.specs.Stretches.{Stretch, segments_of, stretches_from, leading}
 use Rattle.kmc_split.specs.declared.runs.Run.{Run}
 use Rattle.kmc_split.specs.Cut.{IsCut}
 use Rattle.kmc_record.specs.Shapes.{Sizes}
-use Rattle.kmc_record.specs.Parts.{Parcel, grown, empty_part, bin_runs, AreCuts, bin_super_kmers, all_segments}
-use Rattle.kmc_record.specs.Growing.{AreForBins, HaveGrown}
+use Rattle.kmc_record.specs.Parts.{Parcel, grown, empty_part, bin_runs, bin_super_kmers, all_segments}
+use Rattle.kmc_record.specs.Growing.{AreForBins, HaveGrown, HaveTaken}
 use Rattle.kmc_record.proofs.Whole.{flat_push}
+use Rattle.kmc_base.proofs.Stretching.{long_enough, first_apart}
 use Rattle.kmc_record.proofs.Parcels.{grown_as, grown_more, cuts_append, super_kmers_append}
-
--- the parts have grown by the super-k-mers of these segments
-abbrev pub HaveTaken : Sizes → List Stretch → List Parcel → List Parcel → Type 0
-HaveTaken shape ss old new = (cuts : List (List Run)) × AreCuts shape.k shape.m ss cuts × HaveGrown shape.k (λ j. bin_super_kmers shape.k shape.n j ss cuts) old new
 
 taken_append : (shape : Sizes) (ss ts : List Stretch) (a b c : List Parcel) → HaveTaken shape ss a b → HaveTaken shape ts b c → HaveTaken shape (ss ++ ts) a c
 taken_append shape ss ts a b c h g = (
@@ -33,50 +27,44 @@ taken_one : (shape : Sizes) (s : Stretch) (runs : List Run) (a b : List Parcel) 
 taken_one shape s runs a b cut h =
     (runs ∷ [], (cut, tt), grown_as shape.k (λ j. bin_runs shape.k shape.n j s.codes runs) (λ j. bin_runs shape.k shape.n j s.codes runs ++ []) a b (λ j. sym (append-nil (bin_runs shape.k shape.n j s.codes runs))) h)
 
-pub segment_more : (shape : Sizes) (k m : ℕ) (ss : List Segment) (i : ℕ) (s : Segment) (codes codes2 : List ℕ) (runs runs2 : List Run) (a b c : List Parcel)
-    → k ≡ shape.k → m ≡ shape.m → i < length ss → s ≡ get_or ss i s → codes ≡ s.codes.items → codes2 ≡ s.codes.items → runs2 ≡ runs
-    → HaveTaken shape (map stretch (take i ss)) a b → IsCut k m codes runs → HaveGrown shape.k (λ j. bin_runs shape.k shape.n j codes2 runs2) b c
-    → HaveTaken shape (map stretch (take (i + 1) ss)) a c
-segment_more shape k m ss i s codes codes2 runs runs2 a b c ek em inside is e e2 same h cut g =
-    let cut2 : IsCut shape.k shape.m s.codes.items runs = subst (λ (x : Sizes). IsCut x.k x.m s.codes.items runs) (λ t. record { k = ek t; m = em t; n = 0 }) (subst (λ (x : List ℕ). IsCut k m x runs) e cut) in
-    let g2 : HaveGrown shape.k (λ j. bin_runs shape.k shape.n j s.codes.items runs) b c =
-    grown_as shape.k (λ j. bin_runs shape.k shape.n j codes2 runs2) (λ j. bin_runs shape.k shape.n j s.codes.items runs) b c (λ j t. bin_runs shape.k shape.n j (e2 t) (same t)) g in
-    let longer : map stretch (take i ss) ++ stretch s ∷ [] ≡ map stretch (take (i + 1) ss) =
-    sym (map_push stretch (take i ss) s) ∙ ap (λ (x : Segment). map stretch (take i ss ++ x ∷ [])) is ∙ ap (map stretch) (sym (take_more ss i s inside)) in
-    subst (λ (x : List Stretch). HaveTaken shape x a c) longer
-    (taken_append shape (map stretch (take i ss)) (stretch s ∷ []) a b c h (taken_one shape (stretch s) runs b c cut2 g2))
+pub codes_taken : (shape : Sizes) (k m start : ℕ) (codes codes2 : List ℕ) (runs runs2 : List Run) (a b : List Parcel) → k ≡ shape.k → m ≡ shape.m → codes2 ≡ codes → runs2 ≡ runs → k ≤ length codes
+    → IsCut k m codes runs → HaveGrown shape.k (λ j. bin_runs shape.k shape.n j codes2 runs2) a b
+    → HaveTaken shape (long_enough shape.k (record { start = start; codes = codes } ∷ [])) a b
+codes_taken shape k m start codes codes2 runs runs2 a b ek em e2 same long cut g =
+    let cut2 : IsCut shape.k shape.m codes runs = subst (λ (x : Sizes). IsCut x.k x.m codes runs) (λ t. record { k = ek t; m = em t; n = 0 }) cut in
+    let g2 : HaveGrown shape.k (λ j. bin_runs shape.k shape.n j codes runs) a b =
+    grown_as shape.k (λ j. bin_runs shape.k shape.n j codes2 runs2) (λ j. bin_runs shape.k shape.n j codes runs) a b (λ j t. bin_runs shape.k shape.n j (e2 t) (same t)) g in
+    let test : nat_le shape.k (length codes) ≡ true = grind (arith, nat_tests) in
+    rw test (taken_one shape (record { start = start; codes = codes }) runs a b cut2 g2)
 
-pub segment_long : (k : ℕ) (ss : List Segment) (i : ℕ) (s : Segment) → All (λ t. k ≤ length t.codes) (map stretch ss) → i < length ss → s ≡ get_or ss i s → k ≤ length s.codes.items
-segment_long k [] i s h l e = absurd (omega arith)
-segment_long k (x ∷ ss) zero s h l e = let here : k ≤ length x.codes.items = h 0 (stretch x) (omega arith) in omega (arith, here, ap (λ (t : Segment). length t.codes.items) e)
-segment_long k (x ∷ ss) (suc i) s h l e = segment_long k ss i s (λ j d m. h (suc j) d (omega arith)) (omega arith) e
-
-le_of : (a b : ℕ) → nat_le a b ≡ true → a ≤ b
-le_of a b h = grind (arith, nat_tests)
-
-pub all_long : (k kr : ℕ) (read : List ℕ) (ss : List Segment) → kr ≡ k → map stretch ss ≡ segments_of kr read → All (λ s. k ≤ length s.codes) (map stretch ss)
-all_long k kr read ss e is =
-    let P : List Stretch → Type 0 = λ xs. All (λ s. k ≤ length s.codes) xs in
-    let same : segments_of k read ≡ map stretch ss = ap (λ n. segments_of n read) (sym e) ∙ sym is in
-    subst P same (λ i d l. le_of k (length (get_or (segments_of k read) i d).codes) (filter_passes (λ s. nat_le k (length s.codes)) (stretches_from 0 read) i d l))
+-- the codes from a place on, before the rest of the read
+pub stretch_more : (shape : Sizes) (read codes : List ℕ) (place n : ℕ) (whole : List Stretch) (a b c : List Parcel) → 1 ≤ shape.k → codes ≡ leading (drop place read) → n ≡ length codes
+    → (ss : List Stretch) × (ss ++ long_enough shape.k (stretches_from place (drop place read)) ≡ whole) × HaveTaken shape ss a b
+    → HaveTaken shape (long_enough shape.k (record { start = place; codes = codes } ∷ [])) b c
+    → (ss : List Stretch) × (ss ++ long_enough shape.k (stretches_from (place + (n + 1)) (drop (place + (n + 1)) read)) ≡ whole) × HaveTaken shape ss a c
+stretch_more shape read codes place n whole a b c some is count h g =
+    let k = shape.k in
+    let at : n ≡ length (leading (drop place read)) = count ∙ ap length is in
+    let one = long_enough k (record { start = place; codes = codes } ∷ []) in
+    let rest = long_enough k (stretches_from (place + (n + 1)) (drop (place + (n + 1)) read)) in
+    let same : one ++ rest ≡ long_enough k (stretches_from place (drop place read)) =
+    (λ j. long_enough k (record { start = place; codes = is j } ∷ []) ++ long_enough k (stretches_from (place + (at j + 1)) (drop (place + (at j + 1)) read)))
+    ∙ ap (λ (t : List ℕ). long_enough k (record { start = place; codes = leading (drop place read) } ∷ []) ++ long_enough k (stretches_from (place + (length (leading (drop place read)) + 1)) t))
+    (sym (drop-drop (length (leading (drop place read)) + 1) place read)) ∙ first_apart k place (drop place read) some in
+    (h.0 ++ one, append_assoc h.0 one rest ∙ ap (λ (t : List Stretch). h.0 ++ t) same ∙ h.1, taken_append shape h.0 one a b c h.2 g)
 
 -- ---- reads
 
-abbrev Read : Type 0
-Read = Vec ℕ Global
-
-abbrev pub bytes_of : Read → List ℕ
-bytes_of r = r.items
-
-pub read_more : (shape : Sizes) (reads : List Read) (i : ℕ) (r : Read) (bytes : List ℕ) (a b c : List Parcel) → i < length reads → r ≡ get_or reads i r → bytes ≡ r.items
-    → HaveTaken shape (all_segments shape.k (map bytes_of (take i reads))) a b → HaveTaken shape (segments_of shape.k bytes) b c
+pub read_more : {A : Type 0} (bytes_of : A → List ℕ) (shape : Sizes) (reads : List A) (i : ℕ) (d : A) (a b c : List Parcel) → i < length reads
+    → HaveTaken shape (all_segments shape.k (map bytes_of (take i reads))) a b → HaveTaken shape (segments_of shape.k (bytes_of (get_or reads i d))) b c
     → HaveTaken shape (all_segments shape.k (map bytes_of (take (i + 1) reads))) a c
-read_more shape reads i r bytes a b c inside is e h g =
+read_more {A} bytes_of shape reads i d a b c inside h g =
     let done = map bytes_of (take i reads) in
-    let longer : done ++ bytes ∷ [] ≡ map bytes_of (take (i + 1) reads) =
-    ap (λ (x : List ℕ). done ++ x ∷ []) e ∙ sym (map_push bytes_of (take i reads) r) ∙ ap (λ (x : Read). map bytes_of (take i reads ++ x ∷ [])) is ∙ ap (map bytes_of) (sym (take_more reads i r inside)) in
-    subst (λ (x : List Stretch). HaveTaken shape x a c) (sym (flat_push (segments_of shape.k) done bytes) ∙ ap (all_segments shape.k) longer)
-    (taken_append shape (all_segments shape.k done) (segments_of shape.k bytes) a b c h g)
+    let read = get_or reads i d in
+    let longer : done ++ bytes_of read ∷ [] ≡ map bytes_of (take (i + 1) reads) =
+    sym (map_push bytes_of (take i reads) read) ∙ ap (map bytes_of) (sym (take_more reads i d inside)) in
+    subst (λ (x : List Stretch). HaveTaken shape x a c) (sym (flat_push (segments_of shape.k) done (bytes_of read)) ∙ ap (all_segments shape.k) longer)
+    (taken_append shape (all_segments shape.k done) (segments_of shape.k (bytes_of read)) a b c h g)
 
 -- ---- from the empty parts
 

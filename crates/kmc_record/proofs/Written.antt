@@ -1,6 +1,6 @@
 -- Records, byte by byte.
-use Rattle.std.proofs.Common.{◌≡◌, ℕ, zero, suc, ◌+◌, ◌*◌, ◌-◌, ◌<◌, ◌≤◌, List, [], ◌∷◌, ◌++◌, length, get_or, take, drop, set, refl, sym, ap, ◌∙◌, arith}
-use Rattle.std.proofs.lemmas.List.{get_or-drop, take_more, take_more_set, take_all}
+use Rattle.std.proofs.Common.{◌≡◌, ℕ, zero, suc, ◌+◌, ◌*◌, ◌-◌, ◌<◌, ◌≤◌, List, [], ◌∷◌, ◌++◌, length, get_or, take, drop, refl, sym, ap, ◌∙◌, arith, append_assoc, ◌/◌, ◌%◌}
+use Rattle.std.proofs.lemmas.List.{get_or-drop, take_more, take_all}
 use Rattle.std.proofs.lemmas.List.Elements.{recursion_from_All, All-from_recursion}
 use Rattle.kmc_base.specs.Lemmas.Packs.{AreCodes}
 use Rattle.kmc_base.specs.declared.kmer.TheConstants.{MAX_K}
@@ -47,21 +47,24 @@ byte_place (a ∷ b ∷ c ∷ d ∷ w) (suc j) h =
     let e : 4 * suc j ≡ suc (suc (suc (suc (4 * j)))) = omega arith in
     rw e (byte_place w j (omega arith))
 
--- the bytes written so far are those of the record
-pub written_more : (k : ℕ) (w bytes : List ℕ) (j v : ℕ) → 4 * j < length w → 1 + size_of (length w) ≤ length bytes → v ≡ get_or (packed_codes (drop (4 * j) w)) 0 0
-    → take (1 + j) bytes ≡ take (1 + j) (spelling k w) → take (1 + (j + 1)) (set bytes (1 + j) v) ≡ take (1 + (j + 1)) (spelling k w)
-written_more k w bytes j v inside long is before =
+-- the bytes appended so far are those of the record
+pub pushed_first : (k v : ℕ) (w old new : List ℕ) → v ≡ length w - k → new ≡ old ++ v ∷ [] → new ≡ old ++ take (1 + 0) (spelling k w)
+pushed_first k v w old new e is = is ∙ ap (λ x. old ++ x ∷ []) e
+
+pub pushed_more : (k : ℕ) (w old before new : List ℕ) (j v : ℕ) → 4 * j < length w → v ≡ get_or (packed_codes (drop (4 * j) w)) 0 0
+    → before ≡ old ++ take (1 + j) (spelling k w) → new ≡ before ++ v ∷ [] → new ≡ old ++ take (1 + (j + 1)) (spelling k w)
+pushed_more k w old before new j v inside is h more =
     let up : 1 + (j + 1) ≡ (1 + j) + 1 = omega arith in
     let place : get_or (spelling k w) (1 + j) 0 ≡ v =
     (let e : 1 + j ≡ suc j = omega arith in ap (λ n. get_or (spelling k w) n 0) e) ∙ byte_place w j inside ∙ sym is in
-    let back = sym place in
-    ap (λ n. take n (set bytes (1 + j) v)) up ∙ take_more_set bytes (1 + j) v (omega arith)
-    ∙ (λ i. before i ++ back i ∷ [])
-    ∙ sym (take_more (spelling k w) (1 + j) 0 (omega (arith, length_packed w))) ∙ ap (λ n. take n (spelling k w)) (sym up)
+    let front = take (1 + j) (spelling k w) in
+    more ∙ (λ i. h i ++ sym place i ∷ []) ∙ append_assoc old front (get_or (spelling k w) (1 + j) 0 ∷ [])
+    ∙ ap (λ (t : List ℕ). old ++ t) (sym (take_more (spelling k w) (1 + j) 0 (omega (arith, length_packed w))) ∙ ap (λ n. take n (spelling k w)) (sym up))
 
-pub written_first : (k v : ℕ) (w bytes : List ℕ) → 0 < length bytes → v ≡ length w - k → take (1 + 0) (set bytes 0 v) ≡ take (1 + 0) (spelling k w)
-written_first k v w [] h e = absurd (omega arith)
-written_first k v w (b ∷ bytes) h e = ap (λ x. x ∷ []) e
+pub pushed_all : (k n : ℕ) (w old new : List ℕ) → n ≡ 1 + size_of (length w) → new ≡ old ++ take n (spelling k w) → new ≡ old ++ spelling k w
+pushed_all k n w old new e h = h ∙ ap (λ (t : List ℕ). old ++ t) (take_all n (spelling k w) (omega (arith, length_packed w)))
 
-pub written_all : (k n : ℕ) (w bytes : List ℕ) → n ≡ 1 + size_of (length w) → take n bytes ≡ take n (spelling k w) → take n bytes ≡ spelling k w
-written_all k n w bytes e h = h ∙ take_all n (spelling k w) (omega (arith, length_packed w))
+-- four codes gathered by one product
+pub gathered : (a b c d : ℕ) → a < 4 → b < 4 → c < 4 → d < 4
+    → (a + b * 256 + c * 65536 + d * 16777216) * 1074791425 / 16777216 % 256 ≡ a * 64 + b * 16 + c * 4 + d
+gathered a b c d ha hb hc hd = omega arith

@@ -1,17 +1,14 @@
 //! The parts of a chunk.
-ghost use Rattle.std.specs.Prelude.{◌≡◌, ◌+◌, ◌-◌, ◌≤◌, ◌<◌, List, [], ◌∷◌, map, length, OnOk, IfOk};
-ghost use Rattle.std.specs.List.{All, range_with_len};
-ghost use Rattle.kmc_base.specs.Segments.{stretch};
+ghost use Rattle.std.specs.Prelude.{◌≡◌, ℕ, ◌+◌, ◌-◌, ◌≤◌, ◌<◌, nat_le, List, [], ◌∷◌, map, length, OnOk, IfOk};
+ghost use Rattle.std.specs.List.{All, filter, range_with_len};
 ghost use Rattle.kmc_base.specs.Stretches.{segments_of};
-ghost use Rattle.kmc_split.specs.declared.runs.Run.{Run};
 ghost use Rattle.kmc_split.specs.Cut.{IsRunOf};
-ghost use Rattle.kmc_record.specs.Parts.{empty_part, bin_runs, AreCuts, bin_super_kmers, ArePartsOf};
-ghost use Rattle.kmc_record.specs.Growing.{AreForBins, HaveGrown};
+ghost use Rattle.kmc_record.specs.Parts.{empty_part, bin_runs, ArePartsOf};
+ghost use Rattle.kmc_record.specs.Growing.{AreForBins, HaveGrown, HaveTaken};
 
 use crate::part::Part;
 use crate::shape::Shape;
-use kmc_base::segment::Segment;
-use kmc_base::stretch::segments;
+use kmc_base::stretch::leading_codes;
 use kmc_split::cut::{Scratch, cut};
 use kmc_split::runs::Run;
 use std::alloc::{AllocError, Global};
@@ -66,43 +63,49 @@ fn push_runs(
     Ok(())
 }
 
-/// Cuts the segments, and appends the records of their runs to the parts of their bins.
-fn push_segments(
-    segments: &[Segment],
+/// Cuts a stretch of bases that has at least k, and appends the records of its runs to the parts of their bins. What it works
+/// in is to be used again.
+fn push_stretch(
+    codes: &[u8],
     shape: Shape,
     scratch: &mut Scratch,
     runs: &mut Vec<Run>,
     parts: &mut Vec<Part>,
 ) -> Result<(), AllocError>
     requires bins { AreForBins shape parts.old.items }
-    requires long { All (λ s. shape.k ≤ length s.codes) (map stretch segments.now) }
-    ensures { OnOk result ((cuts : List (List Run)) × AreCuts shape.k shape.m (map stretch segments.now) cuts
-        × HaveGrown shape.k (λ j. bin_super_kmers shape.k shape.n j (map stretch segments.now) cuts) parts.old.items parts.new.items) }
+    requires codes { All (λ c. c < 4) codes.now }
+    ensures some { 1 ≤ shape.k }
+    ensures taken { OnOk result ((start : ℕ) → HaveTaken shape (filter (λ s. nat_le shape.k (length s.codes)) (record { start = start; codes = codes.now } ∷ [])) parts.old.items parts.new.items) }
 {
     let k = shape.k();
-    let m = shape.m();
-    for segment in segments {
-        cut(&segment.codes, k, m, scratch, runs)?;
-        push_runs(&segment.codes, runs.as_slice(), shape, parts)?;
+    if codes.len() < k {
+        return Ok(());
     }
+    cut(codes, k, shape.m(), scratch, runs)?;
+    push_runs(codes, runs.as_slice(), shape, parts)?;
     Ok(())
 }
 
-/// Appends the records of the runs of a read to the parts of their bins.
+/// Appends the records of the runs of a read to the parts of their bins. The codes of one stretch of bases after the other
+/// take the place of what `codes` had; that and what a cut works in are to be used again.
 fn push_read(
-    alloc: Global,
     read: &[u8],
     shape: Shape,
+    codes: &mut Vec<u8>,
     scratch: &mut Scratch,
     runs: &mut Vec<Run>,
     parts: &mut Vec<Part>,
 ) -> Result<(), AllocError>
     requires { AreForBins shape parts.old.items }
-    ensures { OnOk result ((cuts : List (List Run)) × AreCuts shape.k shape.m (segments_of shape.k read.now) cuts
-        × HaveGrown shape.k (λ j. bin_super_kmers shape.k shape.n j (segments_of shape.k read.now) cuts) parts.old.items parts.new.items) }
+    ensures { OnOk result (HaveTaken shape (segments_of shape.k read.now) parts.old.items parts.new.items) }
 {
-    let segments = segments(alloc, read, shape.k())?;
-    push_segments(&segments, shape, scratch, runs, parts)?;
+    let mut place = 0;
+    while place < read.len() {
+        leading_codes(&read[place..], codes)?;
+        push_stretch(codes.as_slice(), shape, scratch, runs, parts)?;
+        // The byte behind a stretch is no base.
+        place += codes.len() + 1;
+    }
     Ok(())
 }
 
@@ -111,16 +114,17 @@ fn push_read(
 pub fn parts_of_reads(
     alloc: Global,
     number: u64,
-    reads: &[Vec<u8>],
+    reads: &[&[u8]],
     shape: Shape,
 ) -> Result<Vec<Part>, AllocError>
-    ensures { IfOk result (λ parts. ArePartsOf number (map (λ r. r.items) reads.now) shape parts.items) }
+    ensures { IfOk result (λ parts. ArePartsOf number (map (λ r. r.now) reads.now) shape parts.items) }
 {
     let mut parts = empty_parts(alloc, number, shape)?;
+    let mut codes = Vec::new(alloc);
     let mut scratch = Scratch::new(alloc);
     let mut runs = Vec::new(alloc);
     for read in reads {
-        push_read(alloc, read, shape, &mut scratch, &mut runs, &mut parts)?;
+        push_read(read, shape, &mut codes, &mut scratch, &mut runs, &mut parts)?;
     }
     parts.retain(|part| part.has_records());
     Ok(parts)
@@ -130,5 +134,9 @@ pub fn parts_of_reads(
 pub fn parts_of(alloc: Global, chunk: &Chunk, shape: Shape) -> Result<Vec<Part>, AllocError>
     ensures { IfOk result (λ parts. ArePartsOf chunk.now.number (map (λ r. r.items) chunk.now.reads.items) shape parts.items) }
 {
-    parts_of_reads(alloc, chunk.number, &chunk.reads, shape)
+    let mut reads = Vec::with_capacity(alloc, chunk.reads.len())?;
+    for read in &chunk.reads {
+        reads.push(read.as_slice())?;
+    }
+    parts_of_reads(alloc, chunk.number, &reads, shape)
 }

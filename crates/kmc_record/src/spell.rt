@@ -7,9 +7,6 @@ use kmc_base::kmer::MAX_K;
 use kmc_split::super_kmer::SuperKmer;
 use std::alloc::AllocError;
 
-/// The most bytes of a record: one for the number of codes above k, and those of [`MAX_K`] + 255 codes.
-const MOST_BYTES: usize = 81;
-
 /// The code at a place, and 0 behind the last.
 fn code_or_zero(codes: &[u8], i: usize) -> u8
     requires { AllByRecursion (λ c. c < 4) codes.now }
@@ -33,17 +30,22 @@ fn byte_at(codes: &[u8], i: usize) -> u8
     a * 64 + b * 16 + c * 4 + d
 }
 
-/// Writes the record of these codes at the front of the bytes.
-fn write_record(codes: &[u8], k: usize, bytes: &mut [u8])
-    requires most { k ≤ MAX_K }
-    requires spelled { IsSpelled k codes.now }
-    requires room { 1 + size_of (length codes.now) ≤ length bytes.old }
-    ensures { take (1 + size_of (length codes.now)) bytes.new ≡ spelling k codes.now }
+/// What four codes in a row, a byte each, are multiplied with: the first one then lies 64 times in the fourth byte, the second
+/// one 16 times, the third one 4 times, and the fourth one once.
+const GATHER: u64 = 1 + (4 << 8) + (16 << 16) + (64 << 24);
+
+/// The byte of the four codes from a place on.
+fn whole_byte_at(codes: &[u8], i: usize) -> u8
+    requires inside { i + 4 ≤ length codes.now }
+    requires codes { AllByRecursion (λ c. c < 4) codes.now }
+    ensures { result ≡ slice_index (packed_codes (drop i codes.now)) 0 }
 {
-    bytes[0] = (codes.len() - k) as u8;
-    for j in 0..(codes.len() + 3) / 4 {
-        bytes[1 + j] = byte_at(codes, 4 * j);
-    }
+    let a = u64::from(codes[i]);
+    let b = u64::from(codes[i + 1]);
+    let c = u64::from(codes[i + 2]);
+    let d = u64::from(codes[i + 3]);
+    let word = a + b * 256 + c * 65536 + d * 16777216;
+    (((word * GATHER) >> 24) % 256) as u8
 }
 
 /// Appends the record of these codes of a super-k-mer; `out` stays as it was where its growth is refused.
@@ -53,10 +55,16 @@ pub(crate) fn push_record_of(codes: &[u8], k: usize, out: &mut Vec<u8>) -> Resul
     ensures ok { OnOk result (out.new.items ≡ out.old.items ++ spelling k codes.now) }
     ensures err { OnErr result (out.new.items ≡ out.old.items) }
 {
-    let mut bytes = [0; MOST_BYTES];
-    let size = (codes.len() + 3) / 4;
-    write_record(codes, k, &mut bytes);
-    out.extend_from_slice(&bytes[..1 + size])
+    let whole = codes.len() / 4;
+    out.reserve(1 + (codes.len() + 3) / 4)?;
+    out.push_reserved((codes.len() - k) as u8);
+    for j in 0..whole {
+        out.push_reserved(whole_byte_at(codes, 4 * j));
+    }
+    if 4 * whole < codes.len() {
+        out.push_reserved(byte_at(codes, 4 * whole));
+    }
+    Ok(())
 }
 
 /// Appends the record of a super-k-mer: one byte for the number of its symbols above k, then its codes, four in a

@@ -61,11 +61,11 @@ packs_fit k ws h = All-from_recursion (λ (n : ℕ). n < 4 ^ k) (map pack ws) (p
 
 -- ---- the words at counted places
 
-abbrev IsCode : Option ℕ → Type 0
+abbrev pub IsCode : Option ℕ → Type 0
 IsCode None = Unit {0}
 IsCode (Some c) = c < 4
 
-code_small : (b : ℕ) → IsCode (code_of b)
+pub code_small : (b : ℕ) → IsCode (code_of b)
 code_small b = go ((b == 65) || (b == 97)) ((b == 67) || (b == 99)) ((b == 71) || (b == 103)) ((b == 84) || (b == 116))
   where
     go : (a c g t : Bool) → IsCode (cond a (Some 0) (cond c (Some 1) (cond g (Some 2) (cond t (Some 3) None))))

@@ -1,4 +1,4 @@
-use Rattle.std.proofs.Common.{◌≡◌, ◌/◌, ◌%◌, ◌*◌, ◌<◌, ◌∙◌, arith}
+use Rattle.std.proofs.Common.{◌/◌, ◌∙◌}
 use Rattle.kmc_base.specs.Lemmas.Powers.{part_some, parts_of_top}
 use Rattle.kmc_base.specs.Lemmas.Rolling.{ahead_bytes, behind_bytes}
 use Rattle.kmc_record.proofs.record.slide_byte.Goals as goal
