@@ -1,5 +1,5 @@
 -- Parts while the segments and the reads of a chunk are taken in.
-use Rattle.std.proofs.Common.{◌≡◌, ℕ, zero, suc, ◌+◌, ◌<◌, ◌≤◌, nat_le, true, List, [], ◌∷◌, ◌++◌, Vec, Global, length, map, get_or, take, sym, ap, subst, ◌∙◌, arith, append-nil}
+use Rattle.std.proofs.Common.{◌≡◌, ℕ, zero, suc, ◌+◌, ◌<◌, ◌≤◌, nat_le, true, List, [], ◌∷◌, ◌++◌, Bor, length, map, get_or, take, sym, ap, subst, ◌∙◌, arith, append-nil}
 use Rattle.std.proofs.lemmas.List.{take_more, map_push}
 use Rattle.std.proofs.lemmas.List.Elements.{filter_passes}
 use Rattle.std.proofs.lemmas.List.FromFn.{length-map-range_with_len, get_or-map-range_with_len, fill_by_all}
@@ -63,20 +63,20 @@ all_long k kr read ss e is =
 -- ---- reads
 
 abbrev Read : Type 0
-Read = Vec ℕ Global
+Read = Bor (List ℕ)
 
 abbrev pub bytes_of : Read → List ℕ
-bytes_of r = r.items
+bytes_of r = r.now
 
-pub read_more : (shape : Sizes) (reads : List Read) (i : ℕ) (r : Read) (bytes : List ℕ) (a b c : List Parcel) → i < length reads → r ≡ get_or reads i r → bytes ≡ r.items
-    → HaveTaken shape (all_segments shape.k (map bytes_of (take i reads))) a b → HaveTaken shape (segments_of shape.k bytes) b c
+pub read_more : (shape : Sizes) (reads : List Read) (i : ℕ) (d : Read) (a b c : List Parcel) → i < length reads
+    → HaveTaken shape (all_segments shape.k (map bytes_of (take i reads))) a b → HaveTaken shape (segments_of shape.k (get_or reads i d).now) b c
     → HaveTaken shape (all_segments shape.k (map bytes_of (take (i + 1) reads))) a c
-read_more shape reads i r bytes a b c inside is e h g =
-    let done = map bytes_of (take i reads) in
-    let longer : done ++ bytes ∷ [] ≡ map bytes_of (take (i + 1) reads) =
-    ap (λ (x : List ℕ). done ++ x ∷ []) e ∙ sym (map_push bytes_of (take i reads) r) ∙ ap (λ (x : Read). map bytes_of (take i reads ++ x ∷ [])) is ∙ ap (map bytes_of) (sym (take_more reads i r inside)) in
-    subst (λ (x : List Stretch). HaveTaken shape x a c) (sym (flat_push (segments_of shape.k) done bytes) ∙ ap (all_segments shape.k) longer)
-    (taken_append shape (all_segments shape.k done) (segments_of shape.k bytes) a b c h g)
+read_more shape reads i d a b c inside h g =
+    let done = map bytes_of (take i reads) in let read = get_or reads i d in
+    let longer : done ++ read.now ∷ [] ≡ map bytes_of (take (i + 1) reads) =
+    sym (map_push bytes_of (take i reads) read) ∙ ap (map bytes_of) (sym (take_more reads i d inside)) in
+    subst (λ (x : List Stretch). HaveTaken shape x a c) (sym (flat_push (segments_of shape.k) done read.now) ∙ ap (all_segments shape.k) longer)
+    (taken_append shape (all_segments shape.k done) (segments_of shape.k read.now) a b c h g)
 
 -- ---- from the empty parts
 

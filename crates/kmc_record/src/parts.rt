@@ -111,10 +111,10 @@ fn push_read(
 pub fn parts_of_reads(
     alloc: Global,
     number: u64,
-    reads: &[Vec<u8>],
+    reads: &[&[u8]],
     shape: Shape,
 ) -> Result<Vec<Part>, AllocError>
-    ensures { IfOk result (λ parts. ArePartsOf number (map (λ r. r.items) reads.now) shape parts.items) }
+    ensures { IfOk result (λ parts. ArePartsOf number (map (λ r. r.now) reads.now) shape parts.items) }
 {
     let mut parts = empty_parts(alloc, number, shape)?;
     let mut scratch = Scratch::new(alloc);
@@ -126,9 +126,21 @@ pub fn parts_of_reads(
     Ok(parts)
 }
 
+/// The reads, where they lie.
+fn slices_of(alloc: Global, reads: &[Vec<u8>]) -> Result<Vec<&[u8]>, AllocError>
+    ensures { IfOk result (λ v. map (λ s. s.now) v.items ≡ map (λ r. r.items) reads.now) }
+{
+    let mut slices = Vec::with_capacity(alloc, reads.len())?;
+    for read in reads {
+        slices.push(read.as_slice())?;
+    }
+    Ok(slices)
+}
+
 /// The parts of a chunk: those of its reads.
 pub fn parts_of(alloc: Global, chunk: &Chunk, shape: Shape) -> Result<Vec<Part>, AllocError>
     ensures { IfOk result (λ parts. ArePartsOf chunk.now.number (map (λ r. r.items) chunk.now.reads.items) shape parts.items) }
 {
-    parts_of_reads(alloc, chunk.number, &chunk.reads, shape)
+    let reads = slices_of(alloc, &chunk.reads)?;
+    parts_of_reads(alloc, chunk.number, &reads, shape)
 }

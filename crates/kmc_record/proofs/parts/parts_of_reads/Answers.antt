@@ -17,7 +17,7 @@ push_read-requires c =
 
 pub loop-read-preserved : goal.loop-read-preserved
 loop-read-preserved c =
-    read_more c.args.shape c.args.reads.now c.loop-read.read-index c.read-item.result c.deref.result.now _ _ _ c.loop-read-test.true c.read-item.is c.deref.ensures.value
+    read_more c.args.shape c.args.reads.now c.loop-read.read-index _ _ _ _ c.loop-read-test.true
     c.loop-read.invariant c.in_ok-push_read.ensures
 
 pub returns : goal.returns
