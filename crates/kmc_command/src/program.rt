@@ -3,8 +3,7 @@ ghost use Rattle.std.specs.Prelude.{◌≡◌, ◌≢◌, ℕ, ◌+◌, ◌-◌,
 ghost use Rattle.std.specs.Io.KnownBytes.{Appends, Consumes};
 ghost use Rattle.std.specs.Process.{exit_status};
 ghost use Rattle.kmc_count.specs.Device.{AppendsFront, GaveAll};
-ghost use Rattle.kmc_tool.specs.Rounds.{AreSpent, IsRefused};
-ghost use Rattle.kmc_tool.specs.Stages.{shape_of};
+ghost use Rattle.kmc_tool.specs.Rounds.{IsRefused};
 ghost use Rattle.kmc_argument.specs.Words.{Word};
 ghost use Rattle.kmc_command.specs.Glued.{long_forms};
 ghost use Rattle.kmc_command.specs.Options.{Explains};
@@ -62,9 +61,6 @@ pub fn count<T: Threads + Wait + Sync, R: Read, W: Write>(
         × (bytes : List ℕ)
         × Consumes (R.remaining reader.old.inner) (R.remaining reader.new.inner) bytes
         × (2 ^ 32 ≤ length bytes) }
-    ensures spent { IsErrOf result (Fault.Run RunError.NumbersSpent)
-        → (asked : IsAsked (long_forms (map string_bytes argv.items)))
-        × AreSpent (shape_of asked.params) asked.params.batch asked.params.sp }
     ensures silent { IfErr result (λ e. e ≢ Fault.Run RunError.Write → writer.new ≡ writer.old) }
     ensures kept { IfErr result (λ e. e ≢ Fault.Run RunError.Read → reader.new.failures ≡ reader.old.failures) }
 {

@@ -10,6 +10,7 @@ use kmc_count::limits::Limits;
 use kmc_dump::lists::{BinLists, write_bins};
 use kmc_partqueue::NoGate;
 use kmc_reads::format::Format;
+use kmc_reads::reads::slices_of;
 use kmc_tool::params::Params;
 use kmc_tool::stage_one::stage_one;
 use kmc_tool::stage_two::stage_two;
@@ -67,7 +68,10 @@ pub fn listed<R: Abort + Threads + Wait + Sync>(
 ) -> Option<BinLists>
     ensures { IfSome result (λ lists. CanBeMerged params.now.k (lists_of lists)) }
 {
-    let bins = match stage_one(rt, alloc, reads, params, &NoGate) {
+    let Ok(slices) = slices_of(alloc, reads) else {
+        return None;
+    };
+    let bins = match stage_one(rt, alloc, &slices, params, &NoGate) {
         Ok(bins) => bins,
         Err(_) => return None,
     };

@@ -6,7 +6,9 @@ use kmc_partqueue::NoGate;
 use kmc_reads::error::ReadsError;
 use kmc_reads::format::Format;
 use kmc_reads::read_all::read_all;
+use kmc_reads::reads::slices_of;
 use kmc_store::bins::Bins;
+use kmc_tool::count_input::PIECE_SYMBOLS;
 use kmc_tool::error::RunError;
 use kmc_tool::params::Params;
 use kmc_tool::rounds::bins_of_input;
@@ -41,7 +43,15 @@ fn bins_of<R: Abort + Threads + Wait + Sync>(
 ) -> (Result<Bins, RunError>, u64, u64) {
     assert!(rt; 1 <= piece && max_reads <= 1 << 32);
     let mut reader = Counted::new(PieceReader::new(text, piece, failing));
-    let answer = bins_of_input(rt, alloc, &mut reader, params, &NoGate, max_reads);
+    let answer = bins_of_input(
+        rt,
+        alloc,
+        &mut reader,
+        params,
+        &NoGate,
+        max_reads,
+        PIECE_SYMBOLS,
+    );
     (answer, reader.failures(), reader.reads())
 }
 
@@ -53,7 +63,7 @@ fn rounds_fill_the_bins_that_one_stage_fills(rt: HostRuntime) -> Result<(), Fail
         assert_eq!(rt; reads.len(), 4);
         for (sp, batch) in [(1, 1), (3, 2), (2, 1000)] {
             let params = settings(&rt, format, sp, batch);
-            let whole = stage_one(&rt, alloc, &reads, &params, &NoGate)?;
+            let whole = stage_one(&rt, alloc, &slices_of(alloc, &reads)?, &params, &NoGate)?;
             for piece in [1, 7, 1000] {
                 let (answer, failures, _) = bins_of(&rt, alloc, text, piece, 0, &params, 1 << 32);
                 let bins = answer?;

@@ -66,7 +66,6 @@ fn a_run_that_gives_up_shows_its_cause_and_ends_with_1(rt: HostRuntime) -> Resul
         (RunError::Read, "kmc: read failed"),
         (RunError::Write, "kmc: write failed"),
         (RunError::TooLong, "kmc: input too long"),
-        (RunError::NumbersSpent, "kmc: part numbers spent"),
         (
             RunError::Input(ReadsError::BadHeader(1)),
             "kmc: line 1: bad header",

@@ -9,6 +9,7 @@ use kmc_dump::lists::write_bins;
 use kmc_dump::write::DumpError;
 use kmc_partqueue::NoGate;
 use kmc_reads::format::Format;
+use kmc_reads::reads::slices_of;
 use kmc_record::part::Part;
 use kmc_record::parts::{Chunk, parts_of};
 use kmc_record::shape::Shape;
@@ -187,7 +188,8 @@ fn filled<R: Threads + Wait + Sync>(
     reads: &[Vec<u8>],
     params: &Params,
 ) -> Result<Bins, Fail> {
-    match stage_one(rt, alloc, reads, params, &NoGate) {
+    let slices = slices_of(alloc, reads)?;
+    match stage_one(rt, alloc, &slices, params, &NoGate) {
         Ok(bins) => Ok(bins),
         Err(_) => Err(Fail::from("out of memory")),
     }

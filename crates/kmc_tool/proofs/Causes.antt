@@ -15,7 +15,6 @@ kept_by most before after failed fails run.Read h other = absurd (other refl)
 kept_by most before after failed fails run.Write h other = absurd h
 kept_by most before after failed fails (run.Input e) h other = h.0
 kept_by most before after failed fails run.TooLong h other = h.0
-kept_by most before after failed fails run.NumbersSpent h other = h.0
 
 -- and no more reads than these gave bytes
 pub most_by : (most before after failed fails : ℕ) (e : RunError) → AreCountsOf most before after failed fails e → after ≤ most
@@ -24,4 +23,3 @@ most_by most before after failed fails run.Read h = omega (arith, h.2)
 most_by most before after failed fails run.Write h = absurd h
 most_by most before after failed fails (run.Input e) h = h.2
 most_by most before after failed fails run.TooLong h = omega (arith, h.2)
-most_by most before after failed fails run.NumbersSpent h = h.2

@@ -1,6 +1,8 @@
 -- Bytes that a feeder took, a read after the other.
-use Rattle.std.proofs.Common.{◌≡◌, ◌⊎◌, inl, inr, ℕ, zero, suc, ◌+◌, ◌<◌, ◌≤◌, Bool, true, false, List, [], ◌++◌, length, Option, Some, None, Result, Ok, Err, refl, sym, ap, subst, ◌∙◌, append_assoc, append-nil, length-append, arith, Vec, Global, map}
-use Rattle.std.proofs.lemmas.List.{length-map}
+use Rattle.std.proofs.Common.{◌≡◌, ◌⊎◌, inl, inr, ℕ, zero, suc, ◌+◌, ◌<◌, ◌≤◌, Bool, true, false, List, [], ◌++◌, Option, Some, None, Result, Ok, Err, refl, sym, ap, subst, ◌∙◌, append_assoc, append-nil, length-append, arith}
+use Rattle.std.specs.List.{flat_map}
+use Rattle.std.proofs.lemmas.Grind.{flat_map-append}
+use Rattle.kmc_base.specs.Pieces.{pieces}
 use Rattle.std.specs.Io.KnownBytes.{Consumes, IsAtEnd}
 use Rattle.kmc_reads.specs.declared.error.ReadsError.{ReadsError}
 use Rattle.kmc_reads.specs.declared.format.Format.{Format}
@@ -9,13 +11,12 @@ use Rattle.kmc_reads.specs.Reads.{reads_of}
 use Rattle.kmc_reads.specs.Stages.{fault}
 use Rattle.kmc_reads.specs.Standing.{FeederState, StandsAt}
 use Rattle.kmc_record.specs.Shapes.{Sizes}
-use Rattle.kmc_store.specs.Bins.{BinList}
+use Rattle.kmc_store.specs.Bins.{BinList, Merged}
 use Rattle.kmc_store.specs.Holds.{HoldsReads}
+use Rattle.kmc_store.specs.Laws.{MergedBinsHoldBoth}
 use Rattle.kmc_tool.specs.declared.error.RunError.{RunError}
-use Rattle.kmc_tool.specs.declared.error.RunError.TheVariants.{Memory, Read, Write, Input, TooLong, NumbersSpent}
-use Rattle.kmc_tool.specs.Rounds.{IsFed, IsFedBy, IsRefused, AreCounts, AreCountsOf, AreSpent, IsLastError, IsInputError}
-use Rattle.kmc_tool.specs.Stages.{IsStageError}
-use Rattle.kmc_workers.specs.Workers.{chunks_of}
+use Rattle.kmc_tool.specs.declared.error.RunError.TheVariants.{Memory, Read, Write, Input, TooLong}
+use Rattle.kmc_tool.specs.Rounds.{IsFed, IsFedBy, IsRefused, AreCounts, AreCountsOf, HoldsPieces, IsLastError, IsInputError}
 
 pub consumes_none : (old : Option (List ℕ)) → Consumes old old []
 consumes_none None = tt
@@ -76,7 +77,6 @@ fed_by format old mid new a b c text taken v w (Err Read) f g = tt
 fed_by format old mid new a b c text taken v w (Err Write) f g = tt
 fed_by format old mid new a b c text taken v w (Err (Input e)) f g = refused_on format old mid new a b text taken v e f g
 fed_by format old mid new a b c text taken v w (Err TooLong) f g = fed_on format old mid new a b c text taken v w f g
-fed_by format old mid new a b c text taken v w (Err NumbersSpent) f g = tt
 
 -- a read that was counted gave a byte at least
 pub reads_many : (n m before after : ℕ) → n ≡ m → (0 < n → after ≡ before + 1) → (n ≡ 0 → after ≡ before) → after ≤ before + m
@@ -89,24 +89,11 @@ pub record IsUnderWay (old new : Option (List ℕ)) (before after failed fails r
   pub many : before + reads ≤ after
   pub fed : (format : Format) (text : List ℕ) (taken : List (List ℕ)) → StandsAt format text taken v → IsFed format old new before after text taken w
 
--- what the rounds before one did: the bins hold the reads that were taken
-pub record AreStored (format : Format) (shape : Sizes) (old new : Option (List ℕ)) (before after : ℕ) (bins : BinList) (v : FeederState) : Type 0 where
+-- what the rounds before one did: the bins hold the pieces of the reads that were taken
+pub record AreStored (format : Format) (shape : Sizes) (limit : ℕ) (old new : Option (List ℕ)) (before after : ℕ) (bins : BinList) (v : FeederState) : Type 0 where
   pub taken : List (List ℕ)
   pub fed : IsFed format old new before after [] taken v
-  pub holds : HoldsReads shape taken bins.bodies
-
--- the causes of a round's stage one
-pub spent_by : (shape : Sizes) (batch sp : ℕ) (round : List (Vec ℕ Global)) → IsStageError shape batch (map (λ r. r.items) round) sp (chunks_of batch (length round)) NumbersSpent → AreSpent shape batch sp
-spent_by shape batch sp round h =
-    (map (λ r. r.items) round, subst (λ n. IsStageError shape batch (map (λ r. r.items) round) sp (chunks_of batch n) NumbersSpent) (sym (length-map round (λ (r : Vec ℕ Global). r.items))) h)
-
-pub last_cause : (format : Format) (shape : Sizes) (batch sp : ℕ) (text : List ℕ) (round : List (Vec ℕ Global)) (e : RunError) → IsStageError shape batch (map (λ r. r.items) round) sp (chunks_of batch (length round)) e → IsLastError format shape batch sp text e
-last_cause format shape batch sp text round Memory h = tt
-last_cause format shape batch sp text round Read h = h
-last_cause format shape batch sp text round Write h = h
-last_cause format shape batch sp text round (Input e) h = absurd h
-last_cause format shape batch sp text round TooLong h = h
-last_cause format shape batch sp text round NumbersSpent h = spent_by shape batch sp round h
+  pub holds : HoldsPieces shape limit taken bins.bodies
 
 -- the numbers of a round, whether the text goes on or not
 pub record AreRisen (most before after failed fails : ℕ) (more : Bool) : Type 0 where
@@ -127,54 +114,40 @@ counts_on Read most before mid after failed between fails less same c = (c.0 ∙
 counts_on Write most before mid after failed between fails less same c = c
 counts_on (Input e) most before mid after failed between fails less same c = (c.0 ∙ same, omega (arith, c.1, less), c.2)
 counts_on TooLong most before mid after failed between fails less same c = (c.0 ∙ same, omega (arith, c.1, less), c.2)
-counts_on NumbersSpent most before mid after failed between fails less same c = (c.0 ∙ same, omega (arith, c.1, less), c.2)
 
-module _ (format : Format) (shape : Sizes) (batch sp most : ℕ) (old new : Option (List ℕ)) where
+module _ (format : Format) (most : ℕ) (old new : Option (List ℕ)) where
   -- a refusal of the reader or the feeder
   pub fed_cause : (before after failed fails : ℕ) (taken : List (List ℕ)) (v : FeederState) (e : RunError) → IsFedBy format old new before after [] taken v (Err e)
-      → AreCountsOf (before + most) before after failed fails e → (e ≡ NumbersSpent → ⊥) → IsInputError format shape batch sp most old new e
-  fed_cause before after failed fails taken v Memory f c other = tt
-  fed_cause before after failed fails taken v Read f c other = tt
-  fed_cause before after failed fails taken v Write f c other = absurd c
-  fed_cause before after failed fails taken v (Input e) f c other = f
-  fed_cause before after failed fails taken v TooLong f c other = (f.bytes, f.given, omega (arith, f.many, c.2))
-  fed_cause before after failed fails taken v NumbersSpent f c other = absurd (other refl)
+      → AreCountsOf (before + most) before after failed fails e → IsInputError format most old new e
+  fed_cause before after failed fails taken v Memory f c = tt
+  fed_cause before after failed fails taken v Read f c = tt
+  fed_cause before after failed fails taken v Write f c = absurd c
+  fed_cause before after failed fails taken v (Input e) f c = f
+  fed_cause before after failed fails taken v TooLong f c = (f.bytes, f.given, omega (arith, f.many, c.2))
 
   -- a refusal of the last round
-  pub last_counts : (bound before after failed fails : ℕ) (text : List ℕ) (e : RunError) → fails ≡ failed → before ≤ after → after ≤ bound → IsLastError format shape batch sp text e → AreCountsOf bound before after failed fails e
+  pub last_counts : (bound before after failed fails : ℕ) (text : List ℕ) (e : RunError) → fails ≡ failed → before ≤ after → after ≤ bound → IsLastError format text e → AreCountsOf bound before after failed fails e
   last_counts bound before after failed fails text Memory same least below h = (same, least, below)
   last_counts bound before after failed fails text Read same least below h = absurd h
   last_counts bound before after failed fails text Write same least below h = absurd h
   last_counts bound before after failed fails text (Input e) same least below h = (same, least, below)
   last_counts bound before after failed fails text TooLong same least below h = absurd h
-  last_counts bound before after failed fails text NumbersSpent same least below h = (same, least, below)
 
   pub last_input : (before after : ℕ) (taken : List (List ℕ)) (v : FeederState) (e : RunError) (f : IsFed format old new before after [] taken v) → IsAtEnd new
-      → IsLastError format shape batch sp f.bytes e → IsInputError format shape batch sp most old new e
+      → IsLastError format f.bytes e → IsInputError format most old new e
   last_input before after taken v Memory f end h = tt
   last_input before after taken v Read f end h = tt
   last_input before after taken v Write f end h = h
   last_input before after taken v (Input e) f end h = record { bytes = f.bytes; given = f.given; refused = h; for_good = inr end }
   last_input before after taken v TooLong f end h = absurd h
-  last_input before after taken v NumbersSpent f end h = h
-
-  -- a refusal of stage one
-  pub stage_counts : (bound before after failed fails : ℕ) (reads : List (List ℕ)) (chunks : ℕ) (e : RunError) → fails ≡ failed → before ≤ after → after ≤ bound → IsStageError shape batch reads sp chunks e → AreCountsOf bound before after failed fails e
-  stage_counts bound before after failed fails reads chunks Memory same least below h = (same, least, below)
-  stage_counts bound before after failed fails reads chunks Read same least below h = absurd h
-  stage_counts bound before after failed fails reads chunks Write same least below h = absurd h
-  stage_counts bound before after failed fails reads chunks (Input e) same least below h = absurd h
-  stage_counts bound before after failed fails reads chunks TooLong same least below h = absurd h
-  stage_counts bound before after failed fails reads chunks NumbersSpent same least below h = (same, least, below)
-
-  pub stage_input : (round : List (Vec ℕ Global)) (e : RunError) → IsStageError shape batch (map (λ r. r.items) round) sp (chunks_of batch (length round)) e → IsInputError format shape batch sp most old new e
-  stage_input round Memory h = tt
-  stage_input round Read h = tt
-  stage_input round Write h = h
-  stage_input round (Input e) h = absurd h
-  stage_input round TooLong h = absurd h
-  stage_input round NumbersSpent h = spent_by shape batch sp round h
 
 -- the reads that were ended were taken
 abbrev pub taken_fed : (format : Format) (old new : Option (List ℕ)) (a b : ℕ) (taken more : List (List ℕ)) (v w : FeederState) (f : IsFed format old new a b [] taken v) → StandsAt format f.bytes (taken ++ more) w → IsFed format old new a b [] (taken ++ more) w
 taken_fed format old new a b taken more v w f s = record { bytes = f.bytes; given = f.given; many = f.many; stands = s }
+
+-- bins that hold the pieces of reads, merged with bins that hold those of more, hold the pieces of both
+pub both_held : MergedBinsHoldBoth → (shape : Sizes) (limit : ℕ) (reads more : List (List ℕ)) (old other new : BinList)
+    → HoldsPieces shape limit reads old.bodies → HoldsPieces shape limit more other.bodies → Merged old other new → HoldsPieces shape limit (reads ++ more) new.bodies
+both_held law shape limit reads more old other new a b m =
+    subst (λ t. HoldsReads shape t new.bodies) (sym (flat_map-append (pieces shape.k limit) reads more))
+    (law shape (flat_map (pieces shape.k limit) reads) (flat_map (pieces shape.k limit) more) old other new a b m)

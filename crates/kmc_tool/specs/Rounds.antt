@@ -1,18 +1,18 @@
 -- A text that is read in rounds.
 use Rattle.std.specs.Prelude.{◌≡◌, ◌⊎◌, ℕ, ◌+◌, ◌<◌, ◌≤◌, Bool, true, false, List, [], ◌++◌, length, Option, Result, Ok, Err}
+use Rattle.std.specs.List.{flat_map}
 use Rattle.std.specs.Io.KnownBytes.{Consumes, IsAtEnd}
 use Rattle.kmc_count.specs.Device.{GaveAll}
 use Rattle.kmc_reads.specs.declared.error.ReadsError.{ReadsError}
 use Rattle.kmc_reads.specs.declared.format.Format.{Format}
 use Rattle.kmc_reads.specs.Reads.{reads_of}
 use Rattle.kmc_reads.specs.Standing.{FeederState, StandsAt}
+use Rattle.kmc_base.specs.Pieces.{pieces}
 use Rattle.kmc_record.specs.Shapes.{Sizes}
 use Rattle.kmc_store.specs.Bins.{BinList}
 use Rattle.kmc_store.specs.Holds.{HoldsReads}
-use Rattle.kmc_workers.specs.Workers.{chunks_of}
-use Rattle.kmc_tool.specs.Stages.{IsStageError}
 use Rattle.kmc_tool.specs.declared.error.RunError.{RunError}
-use Rattle.kmc_tool.specs.declared.error.RunError.TheVariants.{Memory, Read, Write, Input, TooLong, NumbersSpent}
+use Rattle.kmc_tool.specs.declared.error.RunError.TheVariants.{Memory, Read, Write, Input, TooLong}
 
 -- the reader gave bytes, at least one a read that was counted, and the feeder, which stood at this text, took them
 pub record IsFed (format : Format) (old new : Option (List ℕ)) (before after : ℕ) (text : List ℕ) (taken : List (List ℕ)) (v : FeederState) : Type 0 where
@@ -36,7 +36,6 @@ IsFedBy format old new before after text taken v (Err Read) = Unit {0}
 IsFedBy format old new before after text taken v (Err Write) = Unit {0}
 IsFedBy format old new before after text taken v (Err (Input e)) = IsRefused format old new text e
 IsFedBy format old new before after text taken v (Err TooLong) = IsFed format old new before after text taken v
-IsFedBy format old new before after text taken v (Err NumbersSpent) = Unit {0}
 
 -- how many reads gave bytes, at most so many, and how many calls failed, by the cause of a refusal
 abbrev pub AreCountsOf : ℕ → ℕ → ℕ → ℕ → ℕ → RunError → Type 0
@@ -45,7 +44,6 @@ AreCountsOf most before after failed fails Read = (fails ≡ failed + 1) × (bef
 AreCountsOf most before after failed fails Write = ⊥
 AreCountsOf most before after failed fails (Input e) = (fails ≡ failed) × (before ≤ after) × (after ≤ most)
 AreCountsOf most before after failed fails TooLong = (fails ≡ failed) × (before ≤ after) × (after ≡ most)
-AreCountsOf most before after failed fails NumbersSpent = (fails ≡ failed) × (before ≤ after) × (after ≤ most)
 
 -- the same by an answer, which is whether the text goes on
 abbrev pub AreCounts : ℕ → ℕ → ℕ → ℕ → ℕ → Result Bool RunError → Type 0
@@ -53,33 +51,31 @@ AreCounts most before after failed fails (Ok true) = (fails ≡ failed) × (befo
 AreCounts most before after failed fails (Ok false) = (fails ≡ failed) × (before ≤ after) × (after < most)
 AreCounts most before after failed fails (Err e) = AreCountsOf most before after failed fails e
 
+-- the bins hold the reads, each as its pieces of at most so many symbols
+abbrev pub HoldsPieces : Sizes → ℕ → List (List ℕ) → List (List ℕ) → Type 0
+HoldsPieces shape limit reads bodies = HoldsReads shape (flat_map (pieces shape.k limit) reads) bodies
+
 -- the bins hold the reads of all that the reader gave
-pub record HoldsInput (format : Format) (shape : Sizes) (old new : Option (List ℕ)) (bins : BinList) : Type 0 where
+pub record HoldsInput (format : Format) (shape : Sizes) (limit : ℕ) (old new : Option (List ℕ)) (bins : BinList) : Type 0 where
   pub bytes : List ℕ
   pub given : GaveAll old new bytes
   pub reads : List (List ℕ)
   pub are_reads : reads_of format bytes ≡ Ok reads
   pub shaped : bins.shape ≡ shape
-  pub holds : HoldsReads shape reads bins.bodies
-
--- the reads of some round give more parts than have numbers
-abbrev pub AreSpent : Sizes → ℕ → ℕ → Type 0
-AreSpent shape batch sp = (round : List (List ℕ)) × IsStageError shape batch round sp (chunks_of batch (length round)) NumbersSpent
+  pub holds : HoldsPieces shape limit reads bins.bodies
 
 -- why the last round gave no bins
-abbrev pub IsLastError : Format → Sizes → ℕ → ℕ → List ℕ → RunError → Type 0
-IsLastError format shape batch sp text Memory = Unit {0}
-IsLastError format shape batch sp text Read = ⊥
-IsLastError format shape batch sp text Write = ⊥
-IsLastError format shape batch sp text (Input e) = reads_of format text ≡ Err e
-IsLastError format shape batch sp text TooLong = ⊥
-IsLastError format shape batch sp text NumbersSpent = AreSpent shape batch sp
+abbrev pub IsLastError : Format → List ℕ → RunError → Type 0
+IsLastError format text Memory = Unit {0}
+IsLastError format text Read = ⊥
+IsLastError format text Write = ⊥
+IsLastError format text (Input e) = reads_of format text ≡ Err e
+IsLastError format text TooLong = ⊥
 
--- why an input gave no bins: it is refused, or so many reads gave bytes, or numbers are spent
-abbrev pub IsInputError : Format → Sizes → ℕ → ℕ → ℕ → Option (List ℕ) → Option (List ℕ) → RunError → Type 0
-IsInputError format shape batch sp most old new Memory = Unit {0}
-IsInputError format shape batch sp most old new Read = Unit {0}
-IsInputError format shape batch sp most old new Write = ⊥
-IsInputError format shape batch sp most old new (Input e) = IsRefused format old new [] e
-IsInputError format shape batch sp most old new TooLong = (bytes : List ℕ) × Consumes old new bytes × (most ≤ length bytes)
-IsInputError format shape batch sp most old new NumbersSpent = AreSpent shape batch sp
+-- why an input gave no bins: it is refused, or so many reads gave bytes
+abbrev pub IsInputError : Format → ℕ → Option (List ℕ) → Option (List ℕ) → RunError → Type 0
+IsInputError format most old new Memory = Unit {0}
+IsInputError format most old new Read = Unit {0}
+IsInputError format most old new Write = ⊥
+IsInputError format most old new (Input e) = IsRefused format old new [] e
+IsInputError format most old new TooLong = (bytes : List ℕ) × Consumes old new bytes × (most ≤ length bytes)

@@ -5,7 +5,6 @@ ghost use Rattle.kmc_dump.specs.Lists.{lists_of};
 ghost use Rattle.kmc_dump.specs.Ranges.{CanBeMerged, whole};
 ghost use Rattle.kmc_tool.specs.Rounds.{AreCountsOf, IsInputError};
 ghost use Rattle.kmc_tool.specs.Run.{IsDumpOfInput};
-ghost use Rattle.kmc_tool.specs.Stages.{shape_of};
 
 use crate::error::RunError;
 use crate::laws::held_reads_are_counted;
@@ -13,12 +12,16 @@ use crate::params::Params;
 use crate::rounds::bins_of_input;
 use crate::stage_two::stage_two;
 use kmc_count::device::Counted;
+use kmc_count::laws::pieces_are_counted_as_reads;
 use kmc_dump::lists::BinLists;
 use kmc_partqueue::Gate;
 use std::alloc::Global;
 use std::io::Read;
 use std::sync::Wait;
 use std::thread::Threads;
+
+/// A splitter cuts no more symbols at once: a longer read is dealt as pieces.
+pub const PIECE_SYMBOLS: usize = 1 << 16;
 
 /// Reads all that the reader gives, of which at most `max_reads` reads may give bytes, and counts its reads: lists of bins
 /// whose pairs, in the order of the words, are the dump of the direct count. A faulty text is refused once its first
@@ -39,10 +42,11 @@ pub fn count_input<T: Threads + Wait + Sync, R: Read, G: Gate + Sync>(
         (R.remaining reader.old.inner) (R.remaining reader.new.inner) (spelled params.now.k (whole (lists_of lists)))) }
     ensures sound { OnOk result ((reader.new.failures ≡ reader.old.failures) × (reader.old.reads ≤ reader.new.reads) × (reader.new.reads < reader.old.reads + max_reads)) }
     ensures counts { IfErr result (AreCountsOf (reader.old.reads + max_reads) reader.old.reads reader.new.reads reader.old.failures reader.new.failures) }
-    ensures cause { IfErr result (IsInputError params.now.format (shape_of params.now) params.now.batch params.now.sp max_reads (R.remaining reader.old.inner) (R.remaining reader.new.inner)) }
+    ensures cause { IfErr result (IsInputError params.now.format max_reads (R.remaining reader.old.inner) (R.remaining reader.new.inner)) }
 {
     held_reads_are_counted();
-    let bins = match bins_of_input(rt, alloc, reader, params, gate, max_reads) {
+    pieces_are_counted_as_reads();
+    let bins = match bins_of_input(rt, alloc, reader, params, gate, max_reads, PIECE_SYMBOLS) {
         Ok(bins) => bins,
         Err(e) => return Err(e),
     };

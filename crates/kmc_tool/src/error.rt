@@ -1,10 +1,8 @@
 //! Why a run gave up.
 ghost use Rattle.std.specs.Prelude.{◌≡◌};
-ghost use Rattle.kmc_tool.specs.Errors.{of_refusal};
 ghost use Rattle.kmc_tool.specs.declared.error.RunError.TheVariants.{Memory};
 
 use kmc_reads::error::ReadsError;
-use kmc_workers::refusal::Refusal;
 use std::alloc::AllocError;
 use thiserror::Error;
 
@@ -26,9 +24,6 @@ pub enum RunError {
     /// 2^32 reads gave bytes.
     #[error("input too long")]
     TooLong,
-    /// The reads of one splitter give more parts than have numbers.
-    #[error("part numbers spent")]
-    NumbersSpent,
 }
 
 impl From<AllocError> for RunError {
@@ -36,16 +31,5 @@ impl From<AllocError> for RunError {
 
     fn from(_: AllocError) -> RunError {
         RunError::Memory
-    }
-}
-
-impl From<Refusal> for RunError {
-    ghost from_gives = { λ refusal e. e ≡ of_refusal refusal };
-
-    fn from(refusal: Refusal) -> RunError {
-        match refusal {
-            Refusal::NumbersSpent => RunError::NumbersSpent,
-            Refusal::Memory | Refusal::Stopped => RunError::Memory,
-        }
     }
 }

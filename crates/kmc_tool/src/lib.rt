@@ -4,6 +4,7 @@
 #![tactic(auto)]
 
 pub mod count_input;
+mod dealing;
 pub mod error;
 pub mod laws;
 pub mod params;

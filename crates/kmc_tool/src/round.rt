@@ -27,7 +27,6 @@ fn read_and_feed<R: Read>(reader: &mut Counted<R>, feeder: &mut Feeder) -> Resul
         → IsFedBy format (R.remaining reader.old.inner) (R.remaining reader.new.inner) reader.old.reads reader.new.reads text taken feeder.new result }
     ensures at_end { result ≡ Ok false → IsAtEnd (R.remaining reader.new.inner) }
     ensures short { IsErrOf result RunError.TooLong → ⊥ }
-    ensures unspent { IsErrOf result RunError.NumbersSpent → ⊥ }
 {
     fault_stays();
     let mut piece = [0u8; PIECE];
@@ -60,7 +59,6 @@ pub fn fill_round<R: Read>(
     ensures fed { (format : Format) (text : List ℕ) (taken : List (List ℕ)) → StandsAt format text taken feeder.old
         → IsFedBy format (R.remaining reader.old.inner) (R.remaining reader.new.inner) reader.old.reads reader.new.reads text taken feeder.new result }
     ensures at_end { result ≡ Ok false → IsAtEnd (R.remaining reader.new.inner) }
-    ensures unspent { IsErrOf result RunError.NumbersSpent → ⊥ }
 {
     for _ in 0..1u64 << 32 {
         if reader.reads() >= most {

@@ -2,9 +2,8 @@
 ghost use Rattle.std.specs.Prelude.{◌≡◌, ◌≢◌, ℕ, ◌+◌, ◌-◌, ◌^◌, ◌<◌, ◌≤◌, List, [], length, IfOk, IfErr, IsErrOf};
 ghost use Rattle.std.specs.Io.KnownBytes.{Appends, Consumes};
 ghost use Rattle.kmc_count.specs.Device.{GaveAll, AppendsFront};
-ghost use Rattle.kmc_tool.specs.Rounds.{AreSpent, IsRefused};
+ghost use Rattle.kmc_tool.specs.Rounds.{IsRefused};
 ghost use Rattle.kmc_tool.specs.Run.{IsDumpOf};
-ghost use Rattle.kmc_tool.specs.Stages.{shape_of};
 
 use crate::count_input::count_input;
 use crate::error::RunError;
@@ -52,7 +51,6 @@ pub fn run<T: Threads + Wait + Sync, R: Read, W: Write, G: Gate + Sync>(
     ensures input { (e : ReadsError) → IsErrOf result (RunError.Input e) → IsRefused params.now.format (R.remaining reader.old.inner) (R.remaining reader.new.inner) [] e }
     ensures long { IsErrOf result RunError.TooLong → (reader.new.reads ≡ reader.old.reads + 2 ^ 32)
         × (bytes : List ℕ) × Consumes (R.remaining reader.old.inner) (R.remaining reader.new.inner) bytes × (2 ^ 32 ≤ length bytes) }
-    ensures spent { IsErrOf result RunError.NumbersSpent → AreSpent (shape_of params.now) params.now.batch params.now.sp }
 
     ensures faulty { IfErr result (λ e. e ≢ RunError.Input ReadsError.Memory) }
 

@@ -1,37 +1,50 @@
 //! Stage one: the parts of the reads, through a queue, into bins.
-ghost use Rattle.std.specs.Prelude.{◌≡◌, length, map, IfOk, IfErr};
+ghost use Rattle.std.specs.Prelude.{◌≡◌, ◌*◌, ◌<◌, ◌≤◌, map, IfOk};
 ghost use Rattle.kmc_store.specs.Holds.{HoldsReads};
-ghost use Rattle.kmc_workers.specs.Workers.{chunks_of};
-ghost use Rattle.kmc_tool.specs.Stages.{shape_of, IsStageError};
+ghost use Rattle.kmc_tool.specs.Stages.{shape_of};
 
-use crate::error::RunError;
 use crate::params::Params;
 use kmc_partqueue::Gate;
 use kmc_store::bins::Bins;
 use kmc_workers::fill_bins::fill_bins;
+use kmc_workers::laws::a_chunk_each_spends_no_numbers;
 use kmc_workers::plan::Plan;
-use std::alloc::Global;
+use kmc_workers::refusal::Refusal;
+use std::alloc::{AllocError, Global};
 use std::sync::Wait;
 use std::thread::Threads;
 
-/// Bins that hold the reads: `sp` splitters cut chunks of them into parts, which pass through the queue to the storers,
-/// and the bins of all storers are merged. It gives up where memory is wanted, or where one splitter has more parts
-/// than have numbers.
+/// So many reads a chunk make no more chunks than there are splitters.
+fn a_chunk_each(reads: usize, splitters: usize) -> usize
+    requires { 0 < splitters }
+    ensures some { 0 < result }
+    ensures all { reads ≤ splitters * result }
+{
+    let each = reads.div_ceil(splitters);
+    if each == 0 { 1 } else { each }
+}
+
+/// Bins that hold the reads: each of `sp` splitters cuts one chunk of them into parts, which pass through the queue to the
+/// storers, and the bins of all storers are merged. It fails only for want of memory: a splitter puts at most a part for
+/// each bin, so numbers are never spent.
 pub fn stage_one<R: Threads + Wait + Sync, G: Gate + Sync>(
     rt: &R,
     alloc: Global,
-    reads: &[Vec<u8>],
+    reads: &[&[u8]],
     params: &Params,
     gate: &G,
-) -> Result<Bins, RunError>
+) -> Result<Bins, AllocError>
     ensures shape { IfOk result (λ b. b.shape ≡ shape_of params.now) }
-    ensures holds { IfOk result (λ b. HoldsReads (shape_of params.now) (map (λ r. r.items) reads.now) b.bodies) }
-    ensures cause { IfErr result (IsStageError (shape_of params.now) params.now.batch (map (λ r. r.items) reads.now) params.now.sp (chunks_of params.now.batch (length reads.now))) }
+    ensures holds { IfOk result (λ b. HoldsReads (shape_of params.now) (map (λ r. r.now) reads.now) b.bodies) }
 {
+    a_chunk_each_spends_no_numbers();
     let plan = Plan {
         shape: params.shape(),
-        batch: params.batch,
+        batch: a_chunk_each(reads.len(), params.sp),
     };
-    let (bins, _) = fill_bins(rt, alloc, reads, plan, params.queue(), gate)?;
-    Ok(bins)
+    match fill_bins(rt, alloc, reads, plan, params.queue(), gate) {
+        Ok((bins, _)) => Ok(bins),
+        Err(Refusal::Memory | Refusal::Stopped) => Err(AllocError),
+        Err(Refusal::NumbersSpent) => unreachable!(),
+    }
 }

@@ -1,7 +1,7 @@
 -- What two workers hand back.
 use Rattle.std.proofs.Common.{◌≡◌, ap, sym, subst}
 use Rattle.std.specs.Prelude.{Result, Ok, Err, MatchResult}
-use Rattle.kmc_workers.specs.Refusals.{both, earlier}
+use Rattle.kmc_workers.specs.Refusals.{both}
 use Rattle.kmc_workers.specs.declared.refusal.Refusal.{Refusal}
 
 -- where both hand something back, each does

@@ -1,5 +1,6 @@
 mod Both
 mod Chunks
+mod Few
 mod Fresh
 mod Merging
 mod Returned

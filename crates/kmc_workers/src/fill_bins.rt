@@ -58,15 +58,15 @@ fn merge_shards(
 pub fn fill_bins<R: Threads + Wait + Sync, G: Gate + Sync>(
     rt: &R,
     alloc: Global,
-    reads: &[Vec<u8>],
+    reads: &[&[u8]],
     plan: Plan,
     queue: QueueShape,
     gate: &G,
 ) -> Result<(Bins, Totals), Refusal>
     ensures shape { IfOk result (λ b. b.0.shape ≡ plan.shape) }
-    ensures holds { IfOk result (λ b. HoldsReads plan.shape (map (λ r. r.items) reads.now) b.0.bodies) }
-    ensures passage { IfOk result (λ b. IsPassage plan.shape plan.batch (map (λ r. r.items) reads.now) queue b.0.bodies) }
-    ensures cause { IfErr result (IsCause plan.shape plan.batch (map (λ r. r.items) reads.now) queue.writers) }
+    ensures holds { IfOk result (λ b. HoldsReads plan.shape (map (λ r. r.now) reads.now) b.0.bodies) }
+    ensures passage { IfOk result (λ b. IsPassage plan.shape plan.batch (map (λ r. r.now) reads.now) queue b.0.bodies) }
+    ensures cause { IfErr result (IsCause plan.shape plan.batch (map (λ r. r.now) reads.now) queue.writers) }
 {
     // what was sent was got once, so bins that are the bodies of what was got hold the reads
     gathered::<Part>();

@@ -5,6 +5,7 @@
 #![tactic(auto)]
 
 pub mod fill_bins;
+pub mod laws;
 pub mod pass_parts;
 mod pause;
 pub mod plan;

@@ -41,17 +41,17 @@ fn open_way(alloc: Global, queue: QueueShape) -> Result<(Way, Seats), AllocError
 pub fn pass_parts<R: Threads + Wait + Sync, G: Gate + Sync>(
     rt: &R,
     alloc: Global,
-    reads: &[Vec<u8>],
+    reads: &[&[u8]],
     plan: Plan,
     queue: QueueShape,
     gate: &G,
 ) -> Result<(Lanes<Part>, Vec<DoneSeat<Part>>, Vec<Shard>), Refusal>
     ensures queue { IfOk result (λ q. q.0.shape ≡ queue) }
-    ensures done { IfOk result (λ q. AllZip (IsDone plan.shape plan.batch (map (λ r. r.items) reads.now) queue.writers)
+    ensures done { IfOk result (λ q. AllZip (IsDone plan.shape plan.batch (map (λ r. r.now) reads.now) queue.writers)
         (row_from (new_writer q.0.table.shared.table_id queue) 0 queue.writers) q.1.items) }
     ensures shards { IfOk result (λ q. AllZip (IsShard plan.shape)
         (row_from (new_reader q.0.table.shared.table_id queue) 0 queue.readers) q.2.items) }
-    ensures cause { IfErr result (IsCause plan.shape plan.batch (map (λ r. r.items) reads.now) queue.writers) }
+    ensures cause { IfErr result (IsCause plan.shape plan.batch (map (λ r. r.now) reads.now) queue.writers) }
 {
     let (way, seats) = open_way(alloc, queue)?;
     let shared = &way;
@@ -61,9 +61,9 @@ pub fn pass_parts<R: Threads + Wait + Sync, G: Gate + Sync>(
         move |scope| -> Result<(Vec<DoneSeat<Part>>, Vec<Shard>), Refusal>
             requires readers { Each (IsFreshReader shared.now.lanes.table.shared.table_id shared.now.lanes.shape) seats.readers.items }
             requires writers { Each (IsFreshWriter shared.now.lanes.table.shared.table_id shared.now.lanes.shape) seats.writers.items }
-            ensures done { IfOk result (λ q. AllZip (IsDone plan.shape plan.batch (map (λ v. v.items) reads.entry.now) shared.entry.now.writers) seats.writers.items q.0.items) }
+            ensures done { IfOk result (λ q. AllZip (IsDone plan.shape plan.batch (map (λ v. v.now) reads.entry.now) shared.entry.now.writers) seats.writers.items q.0.items) }
             ensures shards { IfOk result (λ q. AllZip (IsShard plan.shape) seats.readers.items q.1.items) }
-            ensures cause { IfErr result (IsCause plan.shape plan.batch (map (λ v. v.items) reads.entry.now) shared.entry.now.writers) }
+            ensures cause { IfErr result (IsCause plan.shape plan.batch (map (λ v. v.now) reads.entry.now) shared.entry.now.writers) }
         { store_all(rt, alloc, scope, shared, seats, reads, plan, gate) },
     );
     let (done, shards) = back?;

@@ -80,9 +80,9 @@ fn chunks(reads: usize, batch: usize) -> usize
 }
 
 /// The reads of a chunk: `batch` of them from `c` times `batch` on, or the rest.
-fn chunk_of<'a>(reads: &'a [Vec<u8>], batch: usize, c: usize) -> &'a [Vec<u8>]
+fn chunk_of<'a, 'b>(reads: &'a [&'b [u8]], batch: usize, c: usize) -> &'a [&'b [u8]]
     requires { (0 < batch) × (c * batch ≤ length reads.now) }
-    ensures { map (λ r. r.items) result.now ≡ chunk_at batch (map (λ r. r.items) reads.now) c }
+    ensures { map (λ r. r.now) result.now ≡ chunk_at batch (map (λ r. r.now) reads.now) c }
 {
     let rest = &reads[c * batch..];
     if rest.len() <= batch {
@@ -97,13 +97,13 @@ pub(crate) fn split<R: Wait, G: Gate>(
     alloc: Global,
     way: &Way,
     mut s: WriterSeat<Part>,
-    reads: &[Vec<u8>],
+    reads: &[&[u8]],
     plan: Plan,
     gate: &G,
 ) -> Result<DoneSeat<Part>, Refusal>
     requires { IsFreshWriter way.now.lanes.table.shared.table_id way.now.lanes.shape s }
-    ensures done { IfOk result (λ d. IsDone plan.shape plan.batch (map (λ r. r.items) reads.now) way.now.writers s d) }
-    ensures cause { IfErr result (IsCause plan.shape plan.batch (map (λ r. r.items) reads.now) way.now.writers) }
+    ensures done { IfOk result (λ d. IsDone plan.shape plan.batch (map (λ r. r.now) reads.now) way.now.writers s d) }
+    ensures cause { IfErr result (IsCause plan.shape plan.batch (map (λ r. r.now) reads.now) way.now.writers) }
 {
     for c in 0..chunks(reads.len(), plan.batch) {
         if c % way.writers == s.number() {

@@ -24,7 +24,7 @@ use std::thread::{Promise, Scope, Threads};
 #[derive(Drop)]
 struct Puts<'a> {
     seat: Snapshot<WriterSeat<Part>>,
-    reads: &'a [Vec<u8>],
+    reads: &'a [&'a [u8]],
     shape: Shape,
     batch: usize,
     writers: usize,
@@ -32,8 +32,8 @@ struct Puts<'a> {
 
 impl<'a> Promise<Result<DoneSeat<Part>, Refusal>> for Puts<'a> {
     ghost kept_by = { λ p r. MatchResult r
-        (λ d. IsDone p.shape p.batch (map (λ v. v.items) p.reads.now) p.writers p.seat.value d)
-        (IsCause p.shape p.batch (map (λ v. v.items) p.reads.now) p.writers) };
+        (λ d. IsDone p.shape p.batch (map (λ v. v.now) p.reads.now) p.writers p.seat.value d)
+        (IsCause p.shape p.batch (map (λ v. v.now) p.reads.now) p.writers) };
 }
 
 /// A storer hands its seat back, told that the queue is finished, with its bins, or ends with a cause.
@@ -53,14 +53,14 @@ fn split_one<R: Wait, G: Gate>(
     alloc: Global,
     way: &Way,
     seat: WriterSeat<Part>,
-    reads: &[Vec<u8>],
+    reads: &[&[u8]],
     plan: Plan,
     gate: &G,
 ) -> Result<DoneSeat<Part>, Refusal>
     requires { IsFreshWriter way.now.lanes.table.shared.table_id way.now.lanes.shape seat }
     ensures { MatchResult result
-        (λ d. IsDone plan.shape plan.batch (map (λ v. v.items) reads.now) way.now.writers seat d)
-        (IsCause plan.shape plan.batch (map (λ v. v.items) reads.now) way.now.writers) }
+        (λ d. IsDone plan.shape plan.batch (map (λ v. v.now) reads.now) way.now.writers seat d)
+        (IsCause plan.shape plan.batch (map (λ v. v.now) reads.now) way.now.writers) }
 {
     let done = split(rt, alloc, way, seat, reads, plan, gate);
     if done.is_err() {
@@ -85,14 +85,14 @@ fn split_all<'s, E, R: Threads + Wait + Sync, G: Gate + Sync>(
     scope: &Scope<'s, E>,
     way: &'s Way,
     mut seats: Vec<WriterSeat<Part>>,
-    reads: &'s [Vec<u8>],
+    reads: &'s [&'s [u8]],
     plan: Plan,
     gate: &'s G,
 ) -> Result<Vec<DoneSeat<Part>>, Refusal>
     requires { Each (IsFreshWriter way.now.lanes.table.shared.table_id way.now.lanes.shape) seats.items }
     ensures { MatchResult result
-        (λ v. AllZip (IsDone plan.shape plan.batch (map (λ v. v.items) reads.now) way.now.writers) seats.items v.items)
-        (IsCause plan.shape plan.batch (map (λ v. v.items) reads.now) way.now.writers) }
+        (λ v. AllZip (IsDone plan.shape plan.batch (map (λ v. v.now) reads.now) way.now.writers) seats.items v.items)
+        (IsCause plan.shape plan.batch (map (λ v. v.now) reads.now) way.now.writers) }
 {
     let Some(seat) = seats.pop() else {
         return Ok(Vec::new(alloc));
@@ -112,8 +112,8 @@ fn split_all<'s, E, R: Threads + Wait + Sync, G: Gate + Sync>(
         move || -> Result<DoneSeat<Part>, Refusal>
             requires { IsFreshWriter way.now.lanes.table.shared.table_id way.now.lanes.shape seat }
             ensures { MatchResult result
-                (λ d. IsDone plan.shape plan.batch (map (λ v. v.items) reads.entry.now) way.entry.now.writers seat d)
-                (IsCause plan.shape plan.batch (map (λ v. v.items) reads.entry.now) way.entry.now.writers) }
+                (λ d. IsDone plan.shape plan.batch (map (λ v. v.now) reads.entry.now) way.entry.now.writers seat d)
+                (IsCause plan.shape plan.batch (map (λ v. v.now) reads.entry.now) way.entry.now.writers) }
         { split_one(rt, alloc, way, seat, reads, plan, gate) },
     );
     let child = match started {
@@ -161,15 +161,15 @@ pub(crate) fn store_all<'s, E, R: Threads + Wait + Sync, G: Gate + Sync>(
     scope: &Scope<'s, E>,
     way: &'s Way,
     seats: Seats,
-    reads: &'s [Vec<u8>],
+    reads: &'s [&'s [u8]],
     plan: Plan,
     gate: &'s G,
 ) -> Result<(Vec<DoneSeat<Part>>, Vec<Shard>), Refusal>
     requires readers { Each (IsFreshReader way.now.lanes.table.shared.table_id way.now.lanes.shape) seats.readers.items }
     requires writers { Each (IsFreshWriter way.now.lanes.table.shared.table_id way.now.lanes.shape) seats.writers.items }
-    ensures done { IfOk result (λ q. AllZip (IsDone plan.shape plan.batch (map (λ v. v.items) reads.now) way.now.writers) seats.writers.items q.0.items) }
+    ensures done { IfOk result (λ q. AllZip (IsDone plan.shape plan.batch (map (λ v. v.now) reads.now) way.now.writers) seats.writers.items q.0.items) }
     ensures shards { IfOk result (λ q. AllZip (IsShard plan.shape) seats.readers.items q.1.items) }
-    ensures cause { IfErr result (IsCause plan.shape plan.batch (map (λ v. v.items) reads.now) way.now.writers) }
+    ensures cause { IfErr result (IsCause plan.shape plan.batch (map (λ v. v.now) reads.now) way.now.writers) }
 {
     let Seats {
         writers,

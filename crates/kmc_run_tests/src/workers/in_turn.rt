@@ -5,6 +5,7 @@ ghost use Rattle.kmc_partqueue.specs.Seats.{IsReaderOf, IsWriterOf, new_writer, 
 
 use kmc_partcore::QueueShape;
 use kmc_partqueue::{Gate, Lanes, Point, ReaderSeat, TryTaken, WriterSeat};
+use kmc_reads::reads::slices_of;
 use kmc_record::part::Part;
 use kmc_record::parts::parts_of_reads;
 use kmc_record::shape::Shape;
@@ -23,7 +24,8 @@ fn put_parts<G: Gate>(
 ) -> Result<(), AllocError>
     requires { IsWriterOf lanes.now.table.shared.table_id lanes.now.shape seat }
 {
-    for part in parts_of_reads(alloc, 0, read, shape)? {
+    let slices = slices_of(alloc, read)?;
+    for part in parts_of_reads(alloc, 0, &slices, shape)? {
         gate.pass(Point::BeforePut(seat.number(), seat.next_number()));
         assert!(rt; lanes.try_put(&mut seat, part, gate).is_ok());
     }

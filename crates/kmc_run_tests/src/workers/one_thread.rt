@@ -2,6 +2,7 @@
 use super::outcome::Outcome;
 use super::records::records_of;
 use kmc_partcore::{MAX_WRITERS, QueueShape};
+use kmc_reads::reads::slices_of;
 use kmc_record::part::Part;
 use kmc_record::parts::parts_of_reads;
 use kmc_store::bins::Bins;
@@ -37,7 +38,8 @@ pub(super) fn by_one_thread(
     let mut dealt = [0u64; MAX_WRITERS];
     let mut bins = Bins::new(alloc, plan.shape)?;
     for (number, chunk) in reads.chunks(plan.batch).enumerate() {
-        let parts = parts_of_reads(alloc, number as u64, chunk, plan.shape)?;
+        let slices = slices_of(alloc, chunk)?;
+        let parts = parts_of_reads(alloc, number as u64, &slices, plan.shape)?;
         let writer = number % queue.writers;
         dealt[writer] = dealt[writer].saturating_add(parts.len() as u64);
         for part in parts {

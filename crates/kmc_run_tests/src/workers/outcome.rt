@@ -3,6 +3,7 @@ ghost use Rattle.std.specs.Prelude.{◌<◌};
 
 use kmc_partcore::{QueueShape, Totals};
 use kmc_partqueue::Gate;
+use kmc_reads::reads::slices_of;
 use kmc_store::bins::Bins;
 use kmc_workers::fill_bins::fill_bins;
 use kmc_workers::plan::Plan;
@@ -28,7 +29,8 @@ pub(super) fn passed<R: Abort + Threads + Wait + Sync, G: Gate + Sync>(
     queue: QueueShape,
     gate: &G,
 ) -> Result<Outcome, Fail> {
-    match fill_bins(rt, alloc, reads, plan, queue, gate) {
+    let slices = slices_of(alloc, reads)?;
+    match fill_bins(rt, alloc, &slices, plan, queue, gate) {
         Ok((bins, totals)) => Ok(Outcome { totals, bins }),
         Err(_) => Err(Fail::from("a worker was refused")),
     }

@@ -3,6 +3,7 @@ use super::records::assert_twice_in;
 use super::{TWICE, one_read_a_chunk, reads_of, two_writers};
 use kmc_partcore::QueueShape;
 use kmc_partqueue::NoGate;
+use kmc_reads::reads::slices_of;
 use kmc_workers::fill_bins::fill_bins;
 use kmc_workers::pass_parts::pass_parts;
 use kmc_workers::refusal::Refusal;
@@ -17,9 +18,12 @@ fn fill_or_refuse<R: Abort + Threads + Wait + Sync>(rt: &R, alloc: Global, per_w
     let Ok(reads) = reads_of(alloc, TWICE) else {
         return;
     };
+    let Ok(slices) = slices_of(alloc, &reads) else {
+        return;
+    };
     let plan = one_read_a_chunk().expect(rt, "a plan");
     let queue = QueueShape::new(2, per_writer, 2).expect(rt, "a queue");
-    match fill_bins(rt, alloc, &reads, plan, queue, &NoGate) {
+    match fill_bins(rt, alloc, &slices, plan, queue, &NoGate) {
         Ok((bins, _)) => {
             // where the one refusal comes here, nothing is looked at
             let _looked = assert_twice_in(rt, alloc, &bins);
@@ -44,10 +48,11 @@ fn a_refused_storer_stops_a_splitter_at_a_full_lane(rt: HostRuntime) {
 fn all_seats_come_back(rt: HostRuntime) -> Result<(), Fail> {
     let alloc = rt.alloc();
     let reads = reads_of(alloc, TWICE)?;
+    let slices = slices_of(alloc, &reads)?;
     for readers in [1, 8] {
         let plan = one_read_a_chunk().expect(&rt, "a plan");
         let queue = two_writers(readers).expect(&rt, "a queue");
-        match pass_parts(&rt, alloc, &reads, plan, queue, &NoGate) {
+        match pass_parts(&rt, alloc, &slices, plan, queue, &NoGate) {
             Ok((_, done, shards)) => {
                 assert_eq!(rt; done.len(), 2);
                 assert_eq!(rt; shards.len(), readers);

@@ -27,8 +27,3 @@ returns-in-Err-clause-write g c = λ is.
       record { asked = record { taken = asked.0; params = c.in_ok-params.params; given = asked.1 }; dump = told.5 },
       told.6,
     )
-
-pub returns-in-Err-clause-spent : goal.returns-in-Err-clause-spent
-returns-in-Err-clause-spent g c = λ is.
-    let asked = c.in_ok-params.ensures.answer in
-    (record { taken = asked.0; params = c.in_ok-params.params; given = asked.1 }, c.in-Err.ensures.spent (cc))

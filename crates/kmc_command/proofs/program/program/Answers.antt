@@ -1,4 +1,4 @@
-use Rattle.std.proofs.Common.{◌≡◌, sym, ◌∙◌, subst}
+use Rattle.std.proofs.Common.{sym, ◌∙◌, subst}
 use Rattle.std.specs.Prelude.{◌≤◌}
 use Rattle.kmc_command.proofs.Statuses.{at_most_2, of_err, one_or_other, only_misuse}
 use Rattle.kmc_command.proofs.program.program.Goals as goal

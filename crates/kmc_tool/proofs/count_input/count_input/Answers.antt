@@ -1,4 +1,6 @@
-use Rattle.std.proofs.Common.{map}
+use Rattle.std.proofs.Common.{ℕ, ◌≤◌, map, ◌∙◌, arith}
+use Rattle.std.specs.List.{flat_map}
+use Rattle.kmc_base.specs.Pieces.{pieces}
 use Rattle.kmc_record.specs.RecordWords.{record_keys}
 use Rattle.kmc_count.specs.Occurrences.{occurrences, count_of}
 use Rattle.kmc_count.specs.Merge.{joined}
@@ -6,8 +8,12 @@ use Rattle.kmc_dump.specs.Listed.{spelled}
 use Rattle.kmc_dump.specs.Lists.{lists_of}
 use Rattle.kmc_dump.specs.Ranges.{whole}
 use Rattle.kmc_tool.specs.Stages.{shape_of}
+use Rattle.kmc_tool.specs.declared.count_input.TheConstants.{PIECE_SYMBOLS}
 use Rattle.kmc_tool.proofs.SameCounts.{same_dump}
 use Rattle.kmc_tool.proofs.count_input.count_input.Goals as goal
+
+within : {k : ℕ} → k ≤ 64 → k ≤ PIECE_SYMBOLS
+within le = omega (arith, le)
 
 pub returns-in-Ok-stage_two-clause-dump : goal.returns-in-Ok-stage_two-clause-dump
 returns-in-Ok-stage_two-clause-dump g c =
@@ -20,6 +26,7 @@ returns-in-Ok-stage_two-clause-dump g c =
       reads = input.reads;
       are_reads = input.are_reads;
       is_dump = same_dump (occurrences (joined (map (record_keys params.strands params.k) of_bins.super_kmers))) (count_of params.strands params.k input.reads) params.limits
-          (c.held_reads_are_counted.ensures params.strands (shape_of params) input.reads c.in-Ok.bins.bodies of_bins.super_kmers params.in_range.0.0.0 params.in_range.0.2.0 input.holds of_bins.records)
+          (λ x. c.held_reads_are_counted.ensures params.strands (shape_of params) (flat_map (pieces params.k PIECE_SYMBOLS) input.reads) c.in-Ok.bins.bodies of_bins.super_kmers params.in_range.0.0.0 params.in_range.0.2.0 input.holds of_bins.records x
+          ∙ c.pieces_are_counted_as_reads.ensures params.strands params.k PIECE_SYMBOLS input.reads x params.in_range.0.0.0 (within params.in_range.0.0.1))
           (spelled params.k (whole (lists_of c.in-Ok-stage_two.lists))) of_bins.dump;
     }

@@ -1,10 +1,9 @@
-use Rattle.std.proofs.Common.{◌≡◌, ℕ, ◌+◌, List, [], ◌++◌, length, Vec, Global, map, Ok, Err, IfOk, IfErr, sym, ap, subst, ◌∙◌, arith}
+use Rattle.std.proofs.Common.{◌≡◌, ◌+◌, [], ◌++◌, Ok, IfOk, sym, ap, subst, ◌∙◌, arith}
 use Rattle.kmc_store.specs.Bins.{BinList, empty_bins}
 use Rattle.kmc_store.specs.Holds.{HoldsReads}
-use Rattle.kmc_workers.specs.Workers.{chunks_of}
-use Rattle.kmc_tool.specs.Rounds.{AreCounts, AreCountsOf, IsFedBy}
-use Rattle.kmc_tool.specs.Stages.{shape_of, IsStageError}
-use Rattle.kmc_tool.proofs.Fed.{risen, counts_on, fed_on, fed_by, fed_cause, last_counts, last_input, stage_counts, stage_input, taken_fed}
+use Rattle.kmc_tool.specs.Rounds.{AreCounts, AreCountsOf, HoldsPieces, IsFedBy}
+use Rattle.kmc_tool.specs.Stages.{shape_of}
+use Rattle.kmc_tool.proofs.Fed.{risen, counts_on, fed_on, fed_by, fed_cause, last_counts, last_input, taken_fed, both_held}
 use Rattle.kmc_tool.proofs.rounds.bins_of_input.Goals as goal
 
 pub returns-in-Err-fill_round-clause-cause : goal.returns-in-Err-fill_round-clause-cause
@@ -12,8 +11,8 @@ returns-in-Err-fill_round-clause-cause g c =
     let format = c.args.params.now.format in let e = c.in-Err-fill_round.e in
     let old = c.args.reader.now in let new = c.fill_round.new.reader in
     let counts = subst (λ n. AreCountsOf (n + c.args.max_reads) old.reads new.reads old.failures new.failures e) c.reads.ensures c.in-Err-fill_round.ensures.counts in
-    fed_cause format (shape_of c.args.params.now) c.args.params.now.batch c.args.params.now.sp c.args.max_reads _ _ old.reads new.reads old.failures new.failures [] c.fill_round.new.feeder e
-    (c.in-Err-fill_round.ensures.fed format [] [] c.new-feeder.ensures) counts (λ is. c.in-Err-fill_round.ensures.unspent (ap Err is))
+    fed_cause format c.args.max_reads _ _ old.reads new.reads old.failures new.failures [] c.fill_round.new.feeder e
+    (c.in-Err-fill_round.ensures.fed format [] [] c.new-feeder.ensures) counts
 
 pub loop-init : goal.loop-init
 loop-init g c =
@@ -39,21 +38,21 @@ loop-init g c =
 pub returns-in-Ok-last_round-clause-ok : goal.returns-in-Ok-last_round-clause-ok
 returns-in-Ok-last_round-clause-ok g c =
     let st = c.loop.invariant.stored in let f = st.fed in
-    let last = c.in-Ok-last_round.ensures.holds f.bytes st.taken f.stands st.holds in
+    let last = c.in-Ok-last_round.ensures.holds c.args.params.now.format f.bytes st.taken f.stands st.holds in
     record { bytes = f.bytes; given = (f.given, c.loop.invariant.ended c.if-not-more.true); reads = last.0; are_reads = last.1; shaped = c.in-Ok-last_round.ensures.shape; holds = last.2 }
 
 pub returns-in-Err-last_round-clause-counts : goal.returns-in-Err-last_round-clause-counts
 returns-in-Err-last_round-clause-counts g c =
     let inv = c.loop.invariant in let st = inv.stored in
-    last_counts c.args.params.now.format (shape_of c.args.params.now) c.args.params.now.batch c.args.params.now.sp c.args.max_reads (g.R.Read.remaining c.args.reader.now.inner) (g.R.Read.remaining c.loop.reader.inner)
+    last_counts c.args.params.now.format c.args.max_reads (g.R.Read.remaining c.args.reader.now.inner) (g.R.Read.remaining c.loop.reader.inner)
     (c.args.reader.now.reads + c.args.max_reads) c.args.reader.now.reads c.loop.reader.reads c.args.reader.now.failures c.loop.reader.failures st.fed.bytes c.in-Err-last_round.e
-    inv.kept (omega (arith, inv.many)) (omega (arith, inv.below, c.reads.ensures)) (c.in-Err-last_round.ensures.cause st.fed.bytes st.taken st.fed.stands)
+    inv.kept (omega (arith, inv.many)) (omega (arith, inv.below, c.reads.ensures)) (c.in-Err-last_round.ensures.cause c.args.params.now.format st.fed.bytes st.taken st.fed.stands)
 
 pub returns-in-Err-last_round-clause-cause : goal.returns-in-Err-last_round-clause-cause
 returns-in-Err-last_round-clause-cause g c =
     let inv = c.loop.invariant in let st = inv.stored in
-    last_input c.args.params.now.format (shape_of c.args.params.now) c.args.params.now.batch c.args.params.now.sp c.args.max_reads _ _ c.args.reader.now.reads c.loop.reader.reads st.taken c.loop.feeder
-    c.in-Err-last_round.e st.fed (inv.ended c.if-not-more.true) (c.in-Err-last_round.ensures.cause st.fed.bytes st.taken st.fed.stands)
+    last_input c.args.params.now.format c.args.max_reads _ _ c.args.reader.now.reads c.loop.reader.reads st.taken c.loop.feeder
+    c.in-Err-last_round.e st.fed (inv.ended c.if-not-more.true) (c.in-Err-last_round.ensures.cause c.args.params.now.format st.fed.bytes st.taken st.fed.stands)
 
 pub returns-in-Err-fed-clause-counts : goal.returns-in-Err-fed-clause-counts
 returns-in-Err-fed-clause-counts g c =
@@ -65,38 +64,26 @@ returns-in-Err-fed-clause-counts g c =
 
 pub returns-in-Err-fed-clause-cause : goal.returns-in-Err-fed-clause-cause
 returns-in-Err-fed-clause-cause g c =
-    let items : Vec ℕ Global → List ℕ = λ r. r.items in
     let inv = c.loop.invariant in let st = inv.stored in let e = c.in-Err-fed.e in let format = c.args.params.now.format in
     let old = c.args.reader.now in let mid = c.loop.reader in let new = c.feed_round-own.new.reader in
     let here = subst (λ r. AreCounts (c.reads.result + c.args.max_reads) mid.reads new.reads mid.failures new.failures r) c.in-Err-fed.is c.feed_round-own.ensures.counts in
     let counts = subst (λ n. AreCountsOf (n + c.args.max_reads) mid.reads new.reads mid.failures new.failures e) c.reads.ensures here in
-    let round = map items c.in-Ok-next_round.round.items in
-    let stands = c.in-Ok-next_round.ensures.stands format st.fed.bytes st.taken st.fed.stands in
-    let f = taken_fed format _ _ old.reads mid.reads st.taken round c.loop.feeder c.next_round.new.feeder st.fed stands in
+    let round = c.in-Ok-take.round in
+    let stands = c.in-Ok-take.ensures.stands format st.fed.bytes st.taken st.fed.stands in
+    let f = taken_fed format _ _ old.reads mid.reads st.taken round c.loop.feeder c.take.new.self st.fed stands in
     let more = c.feed_round-own.ensures.fed format st.fed.bytes (st.taken ++ round) stands in
-    let fed = fed_by format _ _ _ old.reads mid.reads new.reads [] (st.taken ++ round) c.next_round.new.feeder c.feed_round-own.new.feeder c.feed_round-own.result.1 f more in
-    fed_cause format (shape_of c.args.params.now) c.args.params.now.batch c.args.params.now.sp c.args.max_reads _ _ old.reads new.reads old.failures new.failures (st.taken ++ round) c.feed_round-own.new.feeder e
+    let fed = fed_by format _ _ _ old.reads mid.reads new.reads [] (st.taken ++ round) c.take.new.self c.feed_round-own.new.feeder c.feed_round-own.result.1 f more in
+    fed_cause format c.args.max_reads _ _ old.reads new.reads old.failures new.failures (st.taken ++ round) c.feed_round-own.new.feeder e
     (subst (λ r. IsFedBy format (g.R.Read.remaining old.inner) (g.R.Read.remaining new.inner) old.reads new.reads [] (st.taken ++ round) c.feed_round-own.new.feeder r) c.in-Err-fed.is fed)
     (counts_on e (old.reads + c.args.max_reads) old.reads mid.reads new.reads old.failures mid.failures new.failures (omega (arith, inv.many)) inv.kept counts)
-    (λ is. c.feed_round-own.ensures.unspent (c.in-Err-fed.is ∙ ap Err is))
 
 pub returns-in-Err-own-clause-counts : goal.returns-in-Err-own-clause-counts
 returns-in-Err-own-clause-counts g c =
-    let items : Vec ℕ Global → List ℕ = λ r. r.items in
-    let inv = c.loop.invariant in let p = c.args.params.now in let round = c.deref.result.now in
-    let old = c.args.reader.now in let mid = c.loop.reader in let new = c.feed_round-own.new.reader in
+    let inv = c.loop.invariant in
+    let mid = c.loop.reader in let new = c.feed_round-own.new.reader in
     let here = subst (λ r. AreCounts (c.reads.result + c.args.max_reads) mid.reads new.reads mid.failures new.failures r) c.in-Ok-fed.is c.feed_round-own.ensures.counts in
     let r = risen (c.reads.result + c.args.max_reads) mid.reads new.reads mid.failures new.failures c.in-Ok-fed.more here in
-    let cause = subst (λ o. IfErr o (IsStageError (shape_of p) p.batch (map items round) p.sp (chunks_of p.batch (length round)))) c.in-Err-own.is c.feed_round-own.ensures.cause in
-    stage_counts p.format (shape_of p) p.batch p.sp c.args.max_reads (g.R.Read.remaining c.args.reader.now.inner) (g.R.Read.remaining new.inner) (old.reads + c.args.max_reads) old.reads new.reads old.failures new.failures (map items round) (chunks_of p.batch (length round)) c.in-Err-own.e
-    (r.kept ∙ inv.kept) (omega (arith, inv.many, r.least)) (omega (arith, r.below, c.reads.ensures)) cause
-
-pub returns-in-Err-own-clause-cause : goal.returns-in-Err-own-clause-cause
-returns-in-Err-own-clause-cause g c =
-    let items : Vec ℕ Global → List ℕ = λ r. r.items in
-    let p = c.args.params.now in let round = c.deref.result.now in
-    let cause = subst (λ o. IfErr o (IsStageError (shape_of p) p.batch (map items round) p.sp (chunks_of p.batch (length round)))) c.in-Err-own.is c.feed_round-own.ensures.cause in
-    stage_input p.format (shape_of p) p.batch p.sp c.args.max_reads _ _ round c.in-Err-own.e cause
+    (r.kept ∙ inv.kept, omega (arith, inv.many, r.least), omega (arith, r.below, c.reads.ensures))
 
 pub returns-in-Err-merge-clause-counts : goal.returns-in-Err-merge-clause-counts
 returns-in-Err-merge-clause-counts g c =
@@ -108,19 +95,17 @@ returns-in-Err-merge-clause-counts g c =
 
 pub loop-preserved : goal.loop-preserved
 loop-preserved g c =
-    let items : Vec ℕ Global → List ℕ = λ r. r.items in
     let inv = c.loop.invariant in let st = inv.stored in let p = c.args.params.now in let shape = shape_of p in
     let old = c.args.reader.now in let mid = c.loop.reader in let new = c.feed_round-own.new.reader in
     let here = subst (λ r. AreCounts (c.reads.result + c.args.max_reads) mid.reads new.reads mid.failures new.failures r) c.in-Ok-fed.is c.feed_round-own.ensures.counts in
     let r = risen (c.reads.result + c.args.max_reads) mid.reads new.reads mid.failures new.failures c.in-Ok-fed.more here in
     let begun = inv.some c.if-not-more.false in
-    let round = map items c.in-Ok-next_round.round.items in
-    let same : map items c.deref.result.now ≡ round = ap (map items) c.deref.ensures.value in
-    let stands = c.in-Ok-next_round.ensures.stands p.format st.fed.bytes st.taken st.fed.stands in
-    let f = taken_fed p.format _ _ old.reads mid.reads st.taken round c.loop.feeder c.next_round.new.feeder st.fed stands in
+    let round = c.in-Ok-take.round in
+    let stands = c.in-Ok-take.ensures.stands p.format st.fed.bytes st.taken st.fed.stands in
+    let f = taken_fed p.format _ _ old.reads mid.reads st.taken round c.loop.feeder c.take.new.self st.fed stands in
     let more = subst (λ o. IsFedBy p.format (g.R.Read.remaining mid.inner) (g.R.Read.remaining new.inner) mid.reads new.reads st.fed.bytes (st.taken ++ round) c.feed_round-own.new.feeder o) c.in-Ok-fed.is
     (c.feed_round-own.ensures.fed p.format st.fed.bytes (st.taken ++ round) stands) in
-    let own = subst (λ o. IfOk o (λ b. HoldsReads shape (map items c.deref.result.now) b.bodies)) c.in-Ok-own.is c.feed_round-own.ensures.holds in
+    let own = subst (λ o. IfOk o (λ b. HoldsPieces shape c.args.limit round b.bodies)) c.in-Ok-own.is c.feed_round-own.ensures.holds in
     record {
       shaped = c.in-Ok-merge.ensures.ok.shape ∙ inv.shaped;
       kept = r.kept ∙ inv.kept;
@@ -131,7 +116,7 @@ loop-preserved g c =
       ended = λ e. c.feed_round-own.ensures.at_end (c.in-Ok-fed.is ∙ ap Ok e);
       stored = record {
         taken = st.taken ++ round;
-        fed = fed_on p.format _ _ _ old.reads mid.reads new.reads [] (st.taken ++ round) c.next_round.new.feeder c.feed_round-own.new.feeder f more;
-        holds = c.merged_bins_hold_both.ensures shape st.taken round c.loop.bins c.in-Ok-own.own c.merge.new.self st.holds (subst (λ t. HoldsReads shape t c.in-Ok-own.own.bodies) same own) c.in-Ok-merge.ensures.ok;
+        fed = fed_on p.format _ _ _ old.reads mid.reads new.reads [] (st.taken ++ round) c.take.new.self c.feed_round-own.new.feeder f more;
+        holds = both_held c.merged_bins_hold_both.ensures shape c.args.limit st.taken round c.loop.bins c.in-Ok-own.own c.merge.new.self st.holds own c.in-Ok-merge.ensures.ok;
       };
     }

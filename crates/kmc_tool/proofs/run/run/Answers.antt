@@ -1,4 +1,4 @@
-use Rattle.std.proofs.Common.{◌≢◌, ◌+◌, ◌^◌, length, refl, sym, ap, subst, ◌∙◌}
+use Rattle.std.proofs.Common.{◌≢◌, ◌+◌, length, refl, sym, ap, subst, ◌∙◌}
 use Rattle.std.specs.Prelude.{Err}
 use Rattle.std.proofs.lemmas.List.{length-map}
 use Rattle.kmc_reads.specs.declared.error.ReadsError.TheVariants as reads
@@ -8,7 +8,6 @@ use Rattle.kmc_dump.specs.Listed.{spell, spelled}
 use Rattle.kmc_dump.specs.Lists.{lists_of}
 use Rattle.kmc_dump.specs.Ranges.{whole}
 use Rattle.kmc_tool.specs.Rounds.{AreCountsOf, IsInputError}
-use Rattle.kmc_tool.specs.Stages.{shape_of}
 use Rattle.kmc_tool.specs.declared.error.RunError.{RunError}
 use Rattle.kmc_tool.specs.declared.error.RunError.TheVariants as run
 use Rattle.kmc_tool.proofs.Causes.{kept_by, most_by, of_err}
@@ -28,28 +27,22 @@ returns-in-Err-clause-write g c = λ is.
 
 pub returns-in-Err-clause-input : goal.returns-in-Err-clause-input
 returns-in-Err-clause-input g c = λ e is.
-    let P : RunError → Type 0 = IsInputError c.args.params.now.format (shape_of c.args.params.now) c.args.params.now.batch c.args.params.now.sp 4294967296
+    let P : RunError → Type 0 = IsInputError c.args.params.now.format 4294967296
     (g.R.Read.remaining c.args.reader.now.inner) (g.R.Read.remaining c.count_input.new.reader.inner) in
     of_err P (Err c.in-Err.e) (run.Input e) is c.in-Err.ensures.cause
 
 pub returns-in-Err-clause-long : goal.returns-in-Err-clause-long
 returns-in-Err-clause-long g c = λ is.
-    let P : RunError → Type 0 = IsInputError c.args.params.now.format (shape_of c.args.params.now) c.args.params.now.batch c.args.params.now.sp 4294967296
+    let P : RunError → Type 0 = IsInputError c.args.params.now.format 4294967296
     (g.R.Read.remaining c.args.reader.now.inner) (g.R.Read.remaining c.count_input.new.reader.inner) in
     let Q : RunError → Type 0 = AreCountsOf (c.args.reader.now.reads + 4294967296) c.args.reader.now.reads c.count_input.new.reader.reads
     c.args.reader.now.failures c.count_input.new.reader.failures in
     let told = of_err P (Err c.in-Err.e) run.TooLong is c.in-Err.ensures.cause in
     ((of_err Q (Err c.in-Err.e) run.TooLong is c.in-Err.ensures.counts).2, told.0, told.1, told.2)
 
-pub returns-in-Err-clause-spent : goal.returns-in-Err-clause-spent
-returns-in-Err-clause-spent g c = λ is.
-    let P : RunError → Type 0 = IsInputError c.args.params.now.format (shape_of c.args.params.now) c.args.params.now.batch c.args.params.now.sp 4294967296
-    (g.R.Read.remaining c.args.reader.now.inner) (g.R.Read.remaining c.count_input.new.reader.inner) in
-    of_err P (Err c.in-Err.e) run.NumbersSpent is c.in-Err.ensures.cause
-
 pub returns-in-Err-clause-faulty : goal.returns-in-Err-clause-faulty
 returns-in-Err-clause-faulty g c = λ is.
-    let P : RunError → Type 0 = IsInputError c.args.params.now.format (shape_of c.args.params.now) c.args.params.now.batch c.args.params.now.sp 4294967296
+    let P : RunError → Type 0 = IsInputError c.args.params.now.format 4294967296
     (g.R.Read.remaining c.args.reader.now.inner) (g.R.Read.remaining c.count_input.new.reader.inner) in
     let refused = subst P is c.in-Err.ensures.cause in
     let format = c.args.params.now.format in

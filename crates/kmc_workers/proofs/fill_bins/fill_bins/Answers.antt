@@ -1,4 +1,4 @@
-use Rattle.std.proofs.Common.{◌<◌, ℕ, Vec, Global, map, subst, arith}
+use Rattle.std.proofs.Common.{◌<◌, ℕ, Bor, List, map, subst, arith}
 use Rattle.kmc_partcore.specs.declared.shape.QueueShape.{QueueShape}
 use Rattle.kmc_partqueue.specs.Told.{IsHistoryOf}
 use Rattle.kmc_workers.proofs.Returned.{writers_of, writers_once, readers_of, readers_once, one_ended}
@@ -12,7 +12,7 @@ merge_shards-requires g c =
 pub gather-totals-requires-clause-queue : goal.gather-totals-requires-clause-queue
 gather-totals-requires-clause-queue g c =
     let shape = c.args.plan.shape in let queue = c.args.queue in let id = c.in-Ok.passed.0.table.shared.table_id in
-    let reads = map (λ (r : Vec ℕ Global). r.items) c.args.reads.now in
+    let reads = map (λ (r : Bor (List ℕ)). r.now) c.args.reads.now in
     rw c.in-Ok.ensures.queue (
       writers_of id queue shape c.args.plan.batch reads queue.writers c.in-Ok.passed.1.items c.in-Ok.ensures.done,
       readers_of id queue shape c.in-Ok.passed.2.items c.in_ok-bins.seats.items c.in_ok-bins.ensures.seats c.in-Ok.ensures.shards,
@@ -20,7 +20,7 @@ gather-totals-requires-clause-queue g c =
 
 pub gather-totals-requires-clause-writers : goal.gather-totals-requires-clause-writers
 gather-totals-requires-clause-writers g c =
-    let queue = c.args.queue in let reads = map (λ (r : Vec ℕ Global). r.items) c.args.reads.now in
+    let queue = c.args.queue in let reads = map (λ (r : Bor (List ℕ)). r.now) c.args.reads.now in
     rw c.in-Ok.ensures.queue
     (writers_once c.in-Ok.passed.0.table.shared.table_id queue c.args.plan.shape c.args.plan.batch reads queue.writers c.in-Ok.passed.1.items c.in-Ok.ensures.done)
 
@@ -37,7 +37,7 @@ gather-totals-requires-clause-finished g c =
 pub returns-clause-holds : goal.returns-clause-holds
 returns-clause-holds g c =
     let plan = c.args.plan in let queue = c.args.queue in let id = c.in-Ok.passed.0.table.shared.table_id in
-    let reads = map (λ (r : Vec ℕ Global). r.items) c.args.reads.now in
+    let reads = map (λ (r : Bor (List ℕ)). r.now) c.args.reads.now in
     let within = queue.within in let some_w : 0 < queue.writers = omega arith in
     held plan.shape plan.batch reads id queue c.in-Ok.passed.1.items c.in-Ok.ensures.done c.gathered.ensures c.gathered_bins_hold_reads.ensures
     c.in_ok-bins.seats.items c.in_ok-bins.bins.bodies plan.some.1 some_w plan.some.0 c.gather-totals.ensures.gathered c.in_ok-bins.ensures.bodies
@@ -45,7 +45,7 @@ returns-clause-holds g c =
 pub returns-clause-passage : goal.returns-clause-passage
 returns-clause-passage g c =
     let plan = c.args.plan in let queue = c.args.queue in let id = c.in-Ok.passed.0.table.shared.table_id in
-    let reads = map (λ (r : Vec ℕ Global). r.items) c.args.reads.now in let done = c.in-Ok.passed.1.items in
+    let reads = map (λ (r : Bor (List ℕ)). r.now) c.args.reads.now in let done = c.in-Ok.passed.1.items in
     let history = c.gather-totals.ensures.history in
     record {
       writers = done;

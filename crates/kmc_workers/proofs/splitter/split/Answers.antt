@@ -9,9 +9,9 @@ use Rattle.kmc_workers.proofs.splitter.split.Goals as goal
 
 pub returns-in-Err-clause-cause : goal.returns-in-Err-clause-cause
 returns-in-Err-clause-cause g c =
-    let inv = c.loop-c.invariant in let a = c.args in let p = a.plan in let reads = map (λ r. r.items) a.reads.now in
+    let inv = c.loop-c.invariant in let a = c.args in let p = a.plan in let reads = map (λ r. r.now) a.reads.now in
     let told = c.in-Err.ensures in
-    let sized : c.chunks-c-end.result ≡ chunks_of p.batch (length reads) = c.chunks-c-end.ensures.is ∙ ap (chunks_of p.batch) (sym (length-map a.reads.now (λ r. r.items))) in
+    let sized : c.chunks-c-end.result ≡ chunks_of p.batch (length reads) = c.chunks-c-end.ensures.is ∙ ap (chunks_of p.batch) (sym (length-map a.reads.now (λ r. r.now))) in
     cause_of p.shape p.batch reads a.way.now.writers a.s.number c.in-Err.cause (λ is. (
       a.s.number,
       subst (λ (n : ℕ). a.s.number < n) (sym a.way.now.as_many) c.requires.0.2,
@@ -20,7 +20,7 @@ returns-in-Err-clause-cause g c =
     ))
 
 pub loop-c-preserved : goal.loop-c-preserved
-loop-c-preserved g c = let inv = c.loop-c.invariant in let a = c.args in let p = a.plan in let reads = map (λ r. r.items) a.reads.now in
+loop-c-preserved g c = let inv = c.loop-c.invariant in let a = c.args in let p = a.plan in let reads = map (λ r. r.now) a.reads.now in
     elim c.if-c-way.branch [
       | then-c-way+in_ok-parts+in-Ok w ↦ let e = w.in-Ok.ensures in (
         same_seat a.s c.loop-c.s c.if-c-way.s inv.0 (subst (IsSameWriter c.loop-c.s) (sym w.s-is) e.seat),

@@ -5,4 +5,4 @@ use Rattle.kmc_workers.proofs.splitter.split.Given as goal
 
 abbrev pub invariant-loop-c : goal.invariant-loop-c
 invariant-loop-c g l = IsSameWriter l.initial.s l.s
-    × AreDealt l.fn.plan.shape l.fn.plan.batch (map (λ r. r.items) l.reads) l.way.writers l.initial.s.number l.c l.s.sent
+    × AreDealt l.fn.plan.shape l.fn.plan.batch (map (λ r. r.now) l.reads) l.way.writers l.initial.s.number l.c l.s.sent

@@ -1,5 +1,5 @@
 use Rattle.std.proofs.Common.{[], ◌∷◌, ◌++◌, sym, subst}
-use Rattle.std.specs.Prelude.{Ok, IfOk}
+use Rattle.std.specs.Prelude.{IfOk}
 use Rattle.std.specs.List.{AllZip}
 use Rattle.kmc_workers.specs.Shards.{IsShard}
 use Rattle.kmc_workers.proofs.Both.{both_gave, of_ok}
