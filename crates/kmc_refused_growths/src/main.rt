@@ -1,6 +1,7 @@
 //! Calls that grow what they are given, each made once more with what came back where a growth was refused. What is printed is the
 //! same whichever one growth of the process is refused; a line on standard error names the call that met the refusal.
-//! bench/hostile.py refuses each growth in turn. Where a growth is refused between such calls, their whole row is made again.
+//! bench/hostile.py refuses each growth in turn. Where one is refused between such calls, their whole row, which prints at its end, is
+//! made again.
 #![tactic(auto)]
 
 mod bins;
@@ -9,7 +10,7 @@ mod texts;
 mod words;
 
 use crate::bins::{absorb_parts, merge_bins};
-use crate::records::{judge_body, spell_super_kmers};
+use crate::records::{judge_bodies, spell_super_kmers};
 use crate::texts::read_in_pieces;
 use crate::words::{push_pairs, write_words};
 use std::io;
@@ -27,8 +28,8 @@ fn main(rt: HostRuntime) -> io::Result<()> {
     if spell_super_kmers(&rt, alloc).is_err() {
         spell_super_kmers(&rt, alloc)?;
     }
-    if judge_body(&rt, alloc).is_err() {
-        judge_body(&rt, alloc)?;
+    if judge_bodies(&rt, alloc).is_err() {
+        judge_bodies(&rt, alloc)?;
     }
     if absorb_parts(&rt, alloc).is_err() {
         absorb_parts(&rt, alloc)?;

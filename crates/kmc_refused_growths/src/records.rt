@@ -1,4 +1,6 @@
 //! Records: `encode` and `Part::from_body`.
+ghost use Rattle.std.specs.Prelude.{◌<◌};
+
 use crate::tell;
 use kmc_record::fault::PartError;
 use kmc_record::part::Part;
@@ -58,22 +60,28 @@ fn print_part(rt: &impl Print, made: &Result<Part, (PartError, Vec<u8>)>) {
     }
 }
 
-/// Judges a body whose last record is of another bin, and one that is that of a part.
-pub fn judge_body(rt: &(impl Print + Eprint), alloc: Global) -> Result<(), AllocError> {
+/// Judges a body, and prints what it is found to be.
+fn judge(rt: &(impl Print + Eprint), alloc: Global, shape: Shape, body: Vec<u8>)
+    requires { 6 < shape.n }
+{
+    match Part::from_body(alloc, 0, 6, shape, body) {
+        Err((PartError::Memory, body)) => {
+            tell(rt, "from_body");
+            print_part(rt, &Part::from_body(alloc, 0, 6, shape, body));
+        }
+        made => print_part(rt, &made),
+    }
+}
+
+/// Judges a body that is that of a part, and one whose last record is of another bin.
+pub fn judge_bodies(rt: &(impl Print + Eprint), alloc: Global) -> Result<(), AllocError> {
     let shape = Shape::new(4, 9, 7).ok_or(AllocError)?;
     if shape.n() <= 6 {
         return Ok(());
     }
-    let bodies = [[0, 0x1B, 0, 0x1B].as_slice(), [0, 0x1B, 0, 0x6C].as_slice()];
-    for bytes in bodies {
-        let body = bytes.to_vec(alloc)?;
-        match Part::from_body(alloc, 0, 6, shape, body) {
-            Err((PartError::Memory, body)) => {
-                tell(rt, "from_body");
-                print_part(rt, &Part::from_body(alloc, 0, 6, shape, body));
-            }
-            made => print_part(rt, &made),
-        }
-    }
+    let own = [0, 0x1B, 0, 0x1B].to_vec(alloc)?;
+    let other = [0, 0x1B, 0, 0x6C].to_vec(alloc)?;
+    judge(rt, alloc, shape, own);
+    judge(rt, alloc, shape, other);
     Ok(())
 }
