@@ -12,7 +12,7 @@ MERGE_NAME := futoncrane-kmc-merge
 BIN = $(DESTDIR)$(PREFIX)/bin
 MAN = $(DESTDIR)$(PREFIX)/share/man/man1
 
-.PHONY: all count check recipes install uninstall fuzz hostile damaged limits threads bench merges clean
+.PHONY: all count check recipes install uninstall fuzz hostile damaged devices limits threads bench merges clean
 
 all: count $(KMC_MERGE)
 
@@ -57,7 +57,7 @@ install: $(KMC) $(KMC_MERGE)
 uninstall:
 	rm -f "$(BIN)/$(NAME)" "$(MAN)/$(NAME).1" "$(BIN)/$(MERGE_NAME)" "$(MAN)/$(MERGE_NAME).1"
 
-# docs/HOSTILE.md tells what these five try; each takes some minutes. `make fuzz SEED=2` tries other texts
+# docs/HOSTILE.md tells what these six try; each takes some minutes. `make fuzz SEED=2` tries other texts
 SEED := 1
 
 fuzz: $(KMC)
@@ -68,6 +68,9 @@ hostile: $(KMC) $(REFUSED)
 
 damaged: $(BODIES)
 	BODIES="$(abspath $(BODIES))" bench/damaged.py --seed $(SEED)
+
+devices: $(KMC)
+	KMC="$(abspath $(KMC))" bench/devices.py
 
 limits: $(KMC)
 	KMC="$(abspath $(KMC))" bench/system_limits.sh
