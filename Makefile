@@ -1,6 +1,9 @@
 # The k-mer counter: `make count` builds it and counts the example, `make check` is the gate.
 KMC := ./kmc
 KMC_MERGE := ./kmc_merge
+# programs that bench/hostile.py and bench/damaged.py try
+REFUSED := ./kmc_refused_growths
+BODIES := ./kmc_damaged_bodies
 
 # where `make install` puts the program and its page, and under which name: Debian's `kmc` is KMC 3
 PREFIX := /usr/local
@@ -9,7 +12,7 @@ MERGE_NAME := futoncrane-kmc-merge
 BIN = $(DESTDIR)$(PREFIX)/bin
 MAN = $(DESTDIR)$(PREFIX)/share/man/man1
 
-.PHONY: all count check recipes install uninstall fuzz hostile limits threads bench merges clean
+.PHONY: all count check recipes install uninstall fuzz hostile damaged devices limits threads bench merges clean
 
 all: count $(KMC_MERGE)
 
@@ -29,6 +32,12 @@ $(KMC_MERGE): crates.txt $(shell find crates/kmc_base crates/kmc_count crates/km
 	@cd crates/kmc_merge && rt run -- data/a.dump > /dev/null 2> out.log || { cat out.log; rm -f out.log; exit 1; }
 	@rm -f crates/kmc_merge/out.log
 	@cp crates/kmc_merge/out/kmc_merge $(KMC_MERGE)
+
+$(REFUSED) $(BODIES): ./%: crates.txt $(shell find crates -path '*/out' -prune -o -type f -name '*.rt' -print -o -type f -name '*.antt' -print)
+	@echo "make: proving and building $*"
+	@cd crates/$* && rt run < stdin > /dev/null 2> out.log || { cat out.log; rm -f out.log; exit 1; }
+	@rm -f crates/$*/out.log
+	@cp crates/$*/out/$* $@
 
 count: $(KMC)
 	@$(KMC) < examples/reads.fastq > examples/.counted
@@ -53,14 +62,20 @@ install: $(KMC) $(KMC_MERGE)
 uninstall:
 	rm -f "$(BIN)/$(NAME)" "$(MAN)/$(NAME).1" "$(BIN)/$(MERGE_NAME)" "$(MAN)/$(MERGE_NAME).1"
 
-# docs/HOSTILE.md tells what these four try; each takes some minutes. `make fuzz SEED=2` tries other texts
+# docs/HOSTILE.md tells what these six try; each takes some minutes. `make fuzz SEED=2` tries other texts
 SEED := 1
 
 fuzz: $(KMC)
 	KMC="$(abspath $(KMC))" bench/fuzz.py --seed $(SEED)
 
-hostile: $(KMC)
-	KMC="$(abspath $(KMC))" bench/hostile.py
+hostile: $(KMC) $(REFUSED)
+	KMC="$(abspath $(KMC))" REFUSED="$(abspath $(REFUSED))" bench/hostile.py
+
+damaged: $(BODIES)
+	BODIES="$(abspath $(BODIES))" bench/damaged.py --seed $(SEED)
+
+devices: $(KMC)
+	KMC="$(abspath $(KMC))" bench/devices.py
 
 limits: $(KMC)
 	KMC="$(abspath $(KMC))" bench/system_limits.sh
@@ -77,4 +92,4 @@ merges: $(KMC_MERGE)
 	bench/merge_time.sh
 
 clean:
-	rm -rf crates/*/out $(KMC) $(KMC_MERGE)
+	rm -rf crates/*/out $(KMC) $(KMC_MERGE) $(REFUSED) $(BODIES)

@@ -486,11 +486,11 @@ def feed(pipe, text):
     os.close(pipe)
 
 
-def run(words, text, in_pieces, environment=os.environ, more_files=()):
+def run(words, text, in_pieces, environment=os.environ, more_files=(), program=KMC):
     """Status, standard output and standard error; the status is negative where a signal ended the program."""
     out, err = memory_file(), memory_file()
     given, pipe = os.pipe() if in_pieces else (memory_file(text), None)
-    process = os.posix_spawn(KMC, [b"kmc"] + words, environment, file_actions=[
+    process = os.posix_spawn(program, [b"kmc"] + words, environment, file_actions=[
         (os.POSIX_SPAWN_DUP2, file, place) for file, place in ((given, 0), (out, 1), (err, 2)) + more_files])
     os.close(given)
     signal.signal(signal.SIGALRM, lambda *_: os.kill(process, signal.SIGKILL))

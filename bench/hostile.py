@@ -12,6 +12,10 @@ with four threads, the call number 1, 2, 3 .. of a run is refused, until ten run
 - the usage line with status 2, as long as nothing else was refused: arguments that cannot be read are wrong usage.
 
 The whole answer is that of the model in fuzz.py. The variable KMC names another program.
+
+Then the same calls of the program kmc_refused_growths are refused one by one. It makes the call that met the refusal once more, with
+what came back, and has to print what crates/kmc_refused_growths/stdout holds and to end with status 0. The variable REFUSED names
+another program.
 """
 import argparse
 import collections
@@ -27,6 +31,8 @@ import fuzz
 
 IN_A_ROW = 10  # runs without a refusal that end a row
 BATCH = 20  # numbers that a worker is given at a time
+TOP = os.path.join(os.path.dirname(os.path.abspath(__file__)), "..")
+REFUSED = os.environ.get("REFUSED", os.path.join(TOP, "kmc_refused_growths"))
 OUT_OF_MEMORY = (1, b"", b"kmc: out of memory\n")
 USAGE = (fuzz.USAGE[1], b"", fuzz.USAGE[0] + b"\n")
 
@@ -43,16 +49,31 @@ def simulated(number, length, one_in=1):
     return b"".join(records)
 
 
+def far_apart(number, symbols):
+    """FASTQ of so many reads, all but one of them empty: as many words, nearly all different, as the one has symbols."""
+    read = random.Random(4).randbytes(symbols).translate(fuzz.BASES)
+    return b"@r\n\n+\n\n" * (number - 1) + b"@r\n" + read + b"\n+\n" + b"I" * symbols + b"\n"
+
+
+def one_read(read):
+    return b"@r\n" + read + b"\n+\n" + b"I" * len(read) + b"\n"
+
+
 # name, options, text, whether all numbers are tried
 ROWS = (
     ("empty text", [], b"", True),
+    ("a read twice", [], one_read(b"GATTACAGATTACAGATTACACCGGT") * 2, True),
+    ("300 letters A", [], one_read(b"A" * 300), True),
+    ("FASTA with blank lines", [b"-fa", b"-k4", b"-ci1"], b"\n>a\nACGT\n\nACGT", True),
+    ("two reads, 7 bins", [b"-k4", b"-ci1", b"-n7"], one_read(b"ACGTACGT") * 2, True),
     ("two equal reads", [b"-k5", b"-n8"], b"@r\nACGTACGTTTG\n+\nIIIIIIIIIII\n" * 2, True),
     ("FASTA, several lines", [b"-fm", b"-k5", b"-ci1", b"-n64"], b">g\nACGTA\nCGTTTG\n\n>h\nNNACG\nTACGTTNACCAGT\nTT\n", True),
     ("faulty text", [b"-k5"], b"@r\nACGTACG\n+\nIIIIIII\n@s\nACGT\n+\nIII\n", True),
     ("wrong options", [b"-k5", b"-ci1", b"-sr99"], b"", True),
     ("100 reads, all bins", [b"-k25"], simulated(100, 80), True),
-    ("4200 reads, 2 chunks", [b"-k11", b"-n8"], simulated(4200, 30, 3), True),
-    ("17000 reads, 5 chunks", [b"-k11", b"-n8"], simulated(17000, 30), False),
+    ("4200 reads", [b"-k11", b"-n8"], simulated(4200, 30, 3), True),
+    ("17000 reads", [b"-k11", b"-n8"], simulated(17000, 30), False),
+    ("3 rounds, 3 waves", [b"-k14", b"-ci1", b"-n8"], far_apart(70000, 140000), True),
 )
 
 
@@ -109,6 +130,33 @@ def row(pool, asked, library, name, words, text, step, everything):
     return sum(kinds.values()), kinds["wrong"]
 
 
+def again(library):
+    """Refuses each call of kmc_refused_growths. The number of tries, and of wrong answers."""
+    with open(os.path.join(TOP, "crates", "kmc_refused_growths", "stdout"), "rb") as file:
+        whole = file.read()
+    kinds = collections.Counter()
+    unmet = number = 0
+    while unmet < IN_A_ROW:
+        number += 1
+        told = fuzz.memory_file()
+        environment = dict(os.environ, LD_PRELOAD=library, REFUSE_MEMORY=str(number))
+        status, output, error = fuzz.run([], b"", False, environment, ((told, 9),), REFUSED)
+        met = bool(fuzz.content_of(told))
+        os.close(told)
+        unmet = 0 if met else unmet + 1
+        if status != 0 or output != whole or error.count(b"\n") > met:
+            kinds["wrong"] += 1
+            print("hostile: kmc_refused_growths: call %d refused: status %d, output %s, error %s" % (
+                number, status, fuzz.shortened(output), fuzz.shortened(error)))
+        elif not met:
+            kinds["without a refusal"] += 1
+        else:
+            kinds[error.decode().split(" ")[0] or "between"] += 1
+    print("hostile: %-22s %-10s %-14s calls 1 to %5d: %s" % (
+        "calls made again", "", "one refused", number, ", ".join("%d %s" % (count, kind) for kind, count in kinds.items())), flush=True)
+    return sum(kinds.values()), kinds["wrong"]
+
+
 def main():
     asked = argparse.ArgumentParser(description=__doc__.splitlines()[0])
     asked.add_argument("--workers", type=int, default=min(4, os.cpu_count() or 1))
@@ -127,6 +175,8 @@ def main():
                     one_in = 1 if each and not (everything and len(text) > 10**5) else asked.step
                     done = row(pool, asked, library, name, words, text, one_in, everything)
                     tries, wrong = tries + done[0], wrong + done[1]
+        done = again(library)
+        tries, wrong = tries + done[0], wrong + done[1]
     print("%d tried, %d wrong" % (tries, wrong))
     sys.exit(1 if wrong else 0)
 

@@ -5,8 +5,8 @@
 #
 # Under a limit on memory (ulimit -v) or on threads (ulimit -u) an answer is right where it is the whole dump with status 0, or
 # the line 'kmc: out of memory' with status 1 and nothing on standard output. On a device that fails it is the one line of that
-# fault with status 1. A signal that ends the program is wrong everywhere, but for a writer to a closed pipe what the system
-# does by default is right too. The dump is that of bench/count_plainly.py. The variable KMC names another program.
+# fault with status 1, and no line where a pipe was closed. A signal that ends the program is wrong everywhere, but for a writer to
+# a closed pipe what the system does by default is right too. The dump is that of bench/count_plainly.py. The variable KMC names another program.
 set -u
 top=$(cd "$(dirname "$0")/.." && pwd)
 work=$(mktemp -d) || exit 1
@@ -188,9 +188,9 @@ for round in 1 2 3 4 5; do
     if [ "$status" -eq 141 ] && [ ! -s "$err" ]; then
         judge "a pipe that closes early" yes
         shown="no message, ended by the pipe's signal"
-    elif [ "$status" -eq 1 ] && { [ ! -s "$err" ] || is_line 'kmc: write failed' 1; }; then
+    elif [ "$status" -eq 1 ] && [ ! -s "$err" ]; then
         judge "a pipe that closes early" yes
-        shown="status 1, on standard error: '$(cat "$err")'"
+        shown="no message, status 1"
     else
         judge "a pipe that closes early" no
         shown="wrong"

@@ -117,6 +117,18 @@ histogram_draws_with_characters() {
     [ -s given ]
 }
 
+# the dump is longer than a pipe holds
+a_pipe_that_closes_early_is_passed_over() {
+    local statuses
+    "$KMC" -k31 -ci1 < "$reads" 2> told | head -n 1 > first
+    statuses="${PIPESTATUS[*]}"
+    [ "$statuses" = '1 0' ]
+    [ ! -s told ]
+    plainly 31 1 < "$reads" > wanted
+    [ "$(wc -c < wanted)" -gt 150000 ]
+    head -n 1 wanted | cmp - first
+}
+
 limits_of_a_recipe_are_not_taken() {
     ends 2 "$here/histogram" -ci3 < "$reads"
     ends 2 "$here/solid" --cs=7 < "$reads"
@@ -463,6 +475,7 @@ try each_shows_its_help
 try histogram_is_that_of_the_plain_dump
 try histogram_draws_a_picture gnuplot
 try histogram_draws_with_characters gnuplot
+try a_pipe_that_closes_early_is_passed_over
 try limits_of_a_recipe_are_not_taken
 try refused_reads_are_refused
 try genome_size_is_near_the_genomes

@@ -1,5 +1,5 @@
 //! What a fault shows its user: one line on standard error, and the exit status.
-ghost use Rattle.std.specs.Prelude.{◌≡◌};
+ghost use Rattle.std.specs.Prelude.{◌≡◌, ◌≢◌, not, true};
 ghost use Rattle.kmc_command.specs.declared.fault.Fault.TheVariants.{Options, Run};
 
 use crate::options::error::ParamsError;
@@ -31,6 +31,17 @@ impl Fault {
         match self {
             Fault::Options(ParamsError::Usage | ParamsError::OutOfRange(_)) => MISUSED,
             Fault::Options(ParamsError::Memory) | Fault::Run(_) => FAILED,
+        }
+    }
+
+    /// Whether the user is told of the fault. A write to a pipe whose other end is closed is not told: its reader has enough.
+    pub fn is_told(&self, pipe_closed: bool) -> bool
+        ensures write { self.now ≡ Fault.Run RunError.Write → result ≡ not pipe_closed }
+        ensures other { self.now ≢ Fault.Run RunError.Write → result ≡ true }
+    {
+        match self {
+            Fault::Run(RunError::Write) => !pipe_closed,
+            _ => true,
         }
     }
 }

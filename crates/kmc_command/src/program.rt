@@ -71,15 +71,17 @@ pub fn count<T: Threads + Wait + Sync, R: Read, W: Write>(
     }
 }
 
-/// Shows a fault, and gives the exit status: 0 where there is none. A line that cannot be written changes nothing of
-/// the status.
-fn ended(rt: &impl Eprint, answer: Result<u64, Fault>) -> ExitCode
+/// Shows a fault, unless it is a write to a closed pipe, and gives the exit status: 0 where there is no fault. A line that
+/// cannot be written changes nothing of the status.
+fn ended(rt: &impl Eprint, answer: Result<u64, Fault>, pipe_closed: bool) -> ExitCode
     ensures { exit_status result ≡ status_of_answer answer }
 {
     match answer {
         Ok(_) => ExitCode::from(0),
         Err(fault) => {
-            let _ = rt.eprintln(fault);
+            if fault.is_told(pipe_closed) {
+                let _ = rt.eprintln(fault);
+            }
             ExitCode::from(fault.status())
         }
     }
@@ -95,8 +97,9 @@ fn arguments<T: Env + Alloc<A = Global>>(rt: &T) -> Result<Vec<String>, ParamsEr
 }
 
 /// The whole program: counts the reads of the reader by the settings that the process's arguments give, and writes
-/// their dump; a fault is shown in one line on standard error. The exit status is 0 where the dump was written, 2 where
-/// the command line is at fault, and else 1; then nothing was written, or a write failed.
+/// their dump; a fault is shown in one line on standard error, but for a write to a pipe whose other end is closed, of which
+/// the status alone tells. The exit status is 0 where the dump was written, 2 where the command line is at fault, and else 1;
+/// then nothing was written, or a write failed.
 pub fn program<T: Threads + Wait + Sync + Env + Eprint + Alloc<A = Global>, R: Read, W: Write>(
     rt: &T,
     reader: &mut Counted<R>,
@@ -115,8 +118,8 @@ pub fn program<T: Threads + Wait + Sync + Env + Eprint + Alloc<A = Global>, R: R
 {
     let argv = match arguments(rt) {
         Ok(argv) => argv,
-        Err(error) => return ended(rt, Err(Fault::from(error))),
+        Err(error) => return ended(rt, Err(Fault::from(error)), false),
     };
     let answer = count(rt, rt.alloc(), argv, reader, writer);
-    ended(rt, answer)
+    ended(rt, answer, writer.is_pipe_closed())
 }

@@ -1,38 +1,40 @@
 //! A reader or a writer whose failures are counted, so that a contract can say that the device failed.
-ghost use Rattle.std.specs.Prelude.{◌≡◌, ◌<◌, length, OnOk, OnErr, IfOk};
+ghost use Rattle.std.specs.Prelude.{◌≡◌, ◌<◌, false, length, OnOk, OnErr, IfOk, IfErr};
 ghost use Rattle.std.specs.Io.{ReadsAtMost, WritesAtMost};
 ghost use Rattle.std.specs.Io.KnownBytes.{Keeps, ReadConsumes, WriteAppends};
-ghost use Rattle.kmc_count.specs.Device.{Watched, RisesByOne};
+ghost use Rattle.kmc_count.specs.Device.{Watched, RisesByOne, TellsOfPipe};
 
 use std::io;
-use std::io::{Read, Write};
+use std::io::{ErrorKind, Read, Write};
 use std::marker::Model;
 
-/// A reader or a writer, how many of its calls failed, and how many of its reads gave bytes. A call fails where
-/// it answers an error, of whatever kind, or where a write of bytes takes none of them. Both numbers stay at
-/// their greatest value. Each call is passed on to the device.
+/// A reader or a writer, how many of its calls failed, how many of its reads gave bytes, and whether the last call that
+/// failed was one to a pipe whose other end is closed. A call fails where it answers an error, of whatever kind, or where a
+/// write of bytes takes none of them. Both numbers stay at their greatest value. Each call is passed on to the device.
 #[derive(Drop)]
 pub struct Counted<T> {
     inner: T,
     failures: u64,
     reads: u64,
+    pipe_closed: bool,
 }
 
 impl<T> Model for Counted<T> {
     ghost Value = { Watched T };
 
-    ghost view = { λ c. record { inner = c.inner; failures = c.failures; reads = c.reads } };
+    ghost view = { λ c. record { inner = c.inner; failures = c.failures; reads = c.reads; pipe_closed = c.pipe_closed } };
 }
 
 impl<T> Counted<T> {
     /// The device with no failure yet.
     pub fn new(inner: T) -> Counted<T>
-        ensures { result ≡ record { inner = inner; failures = 0; reads = 0 } }
+        ensures { result ≡ record { inner = inner; failures = 0; reads = 0; pipe_closed = false } }
     {
         Counted {
             inner,
             failures: 0,
             reads: 0,
+            pipe_closed: false,
         }
     }
 
@@ -50,6 +52,13 @@ impl<T> Counted<T> {
         self.reads
     }
 
+    /// Whether the last call that failed was one to a pipe whose other end is closed (`BrokenPipe`): its reader has enough.
+    pub fn is_pipe_closed(&self) -> bool
+        ensures { result ≡ self.now.pipe_closed }
+    {
+        self.pipe_closed
+    }
+
     /// The device.
     pub fn into_inner(self) -> T
         ensures { result ≡ self.inner }
@@ -58,16 +67,19 @@ impl<T> Counted<T> {
             inner,
             failures: _,
             reads: _,
+            pipe_closed: _,
         } = self;
         inner
     }
 
-    fn note(&mut self)
+    fn note(&mut self, pipe_closed: bool)
         ensures inner { self.new.inner ≡ self.old.inner }
         ensures failures { RisesByOne self.old.failures self.new.failures }
         ensures reads { self.new.reads ≡ self.old.reads }
+        ensures pipe { self.new.pipe_closed ≡ pipe_closed }
     {
         self.failures = self.failures.saturating_add(1);
+        self.pipe_closed = pipe_closed;
     }
 }
 
@@ -82,6 +94,8 @@ impl<R: Read> Read for Counted<R> {
         ensures at_end { IfOk result (λ n. n ≡ 0 → self.new.reads ≡ self.old.reads) }
         ensures failed_reads { OnErr result (self.new.reads ≡ self.old.reads) }
         ensures failed { OnErr result (RisesByOne self.old.failures self.new.failures) }
+        ensures pipe { IfErr result (TellsOfPipe self.new.pipe_closed) }
+        ensures pipe_kept { OnOk result (self.new.pipe_closed ≡ self.old.pipe_closed) }
     {
         match self.inner.read(buf) {
             Ok(n) => {
@@ -91,7 +105,7 @@ impl<R: Read> Read for Counted<R> {
                 Ok(n)
             }
             Err(e) => {
-                self.note();
+                self.note(e.kind() == ErrorKind::BrokenPipe);
                 Err(e)
             }
         }
@@ -109,16 +123,19 @@ impl<W: Write> Write for Counted<W> {
         ensures reads { self.new.reads ≡ self.old.reads }
         ensures stuck { IfOk result (λ n. n ≡ 0 → 0 < length buf.now → RisesByOne self.old.failures self.new.failures) }
         ensures failed { OnErr result (RisesByOne self.old.failures self.new.failures) }
+        ensures pipe { IfErr result (TellsOfPipe self.new.pipe_closed) }
+        ensures pipe_kept { IfOk result (λ n. 0 < n → self.new.pipe_closed ≡ self.old.pipe_closed) }
+        ensures pipe_stuck { IfOk result (λ n. n ≡ 0 → 0 < length buf.now → self.new.pipe_closed ≡ false) }
     {
         match self.inner.write(buf) {
             Ok(n) => {
                 if n == 0 && !buf.is_empty() {
-                    self.note();
+                    self.note(false);
                 }
                 Ok(n)
             }
             Err(e) => {
-                self.note();
+                self.note(e.kind() == ErrorKind::BrokenPipe);
                 Err(e)
             }
         }
@@ -129,11 +146,15 @@ impl<W: Write> Write for Counted<W> {
         ensures reads { self.new.reads ≡ self.old.reads }
         ensures ok { OnOk result (self.new.failures ≡ self.old.failures) }
         ensures failed { OnErr result (RisesByOne self.old.failures self.new.failures) }
+        ensures pipe { IfErr result (TellsOfPipe self.new.pipe_closed) }
+        ensures pipe_kept { OnOk result (self.new.pipe_closed ≡ self.old.pipe_closed) }
     {
-        let answer = self.inner.flush();
-        if answer.is_err() {
-            self.note();
+        match self.inner.flush() {
+            Ok(()) => Ok(()),
+            Err(e) => {
+                self.note(e.kind() == ErrorKind::BrokenPipe);
+                Err(e)
+            }
         }
-        answer
     }
 }
