@@ -34,6 +34,19 @@ pub record IsRequest (most : ℕ) (words : List Word) (limits : Limits) (files :
   pub cx : IsLimit (given (codes "-cx") words) 1000000000 limits.cx
   pub cs : IsLimit (given (codes "-cs") words) 255 limits.cs
 
+-- no word is unknown, no option is given twice, and there is a file and no more than are taken
+pub record IsTaken (most : ℕ) (words : List Word) : Type 0 where
+  pub known : list_all (λ word. is_file word || is_option word) words ≡ true
+  pub some : 1 ≤ length (filter is_file words)
+  pub few : length (filter is_file words) ≤ most
+  pub ci : length (given (codes "-ci") words) ≤ 1
+  pub cx : length (given (codes "-cx") words) ≤ 1
+  pub cs : length (given (codes "-cs") words) ≤ 1
+
+-- the options give no limits
+abbrev pub GivesNoLimits : List Word → Type 0
+GivesNoLimits words = (l : Limits) → IsLimit (given (codes "-ci") words) 2 l.ci → IsLimit (given (codes "-cx") words) 1000000000 l.cx → IsLimit (given (codes "-cs") words) 255 l.cs → ⊥
+
 -- the words ask for nothing
 abbrev pub AsksForNothing : ℕ → List Word → Type 0
 AsksForNothing most words = (limits : Limits) (files : List Word) → IsRequest most words limits files → ⊥

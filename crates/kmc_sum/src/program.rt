@@ -56,8 +56,8 @@ fn name_of(files: &[String], source: usize) -> &str {
     }
 }
 
-/// Tells why the merge was given up, and gives the status.
-fn failed(rt: &impl Eprint, files: &[String], error: SumError) -> ExitCode
+/// Tells why the merge was given up, unless a pipe was closed, and gives the status.
+fn failed(rt: &impl Eprint, files: &[String], error: SumError, pipe_closed: bool) -> ExitCode
     ensures { exit_status result ≡ 1 }
 {
     match error {
@@ -75,7 +75,9 @@ fn failed(rt: &impl Eprint, files: &[String], error: SumError) -> ExitCode
             let _ = eprintln!(rt; "kmc_merge: {name}: cannot be read");
         }
         SumError::Write => {
-            let _ = rt.eprintln("kmc_merge: cannot write");
+            if !pipe_closed {
+                let _ = rt.eprintln("kmc_merge: cannot write");
+            }
         }
         SumError::Memory => {
             let _ = rt.eprintln("kmc_merge: out of memory");
@@ -101,15 +103,15 @@ fn opened<T: Files + Eprint + Alloc<A = Global>>(
             return Err(ExitCode::from(FAILED));
         };
         if readers.push(Counted::new(file)).is_err() {
-            return Err(failed(rt, files, SumError::Memory));
+            return Err(failed(rt, files, SumError::Memory, false));
         }
     }
     Ok(readers)
 }
 
 /// Reads the files that the words name, and writes the dump of the sum of what they list, within the limits of the words.
-/// A fault is shown in one line on standard error. The exit status is 0 where the dump was written, 2 where the words ask
-/// for nothing, and else 1.
+/// A fault is shown in one line on standard error, but for a write to a pipe whose other end is closed. The exit status is 0
+/// where the dump was written, 2 where the words ask for nothing, and else 1.
 pub fn sum_files<T: Files + Eprint + Alloc<A = Global>, W: Write>(
     rt: &T,
     words: Vec<String>,
@@ -132,7 +134,7 @@ pub fn sum_files<T: Files + Eprint + Alloc<A = Global>, W: Write>(
     };
     match merge(rt.alloc(), readers.as_mut_slice(), &asked.limits, writer) {
         Ok(_) => ExitCode::from(0),
-        Err(error) => failed(rt, &asked.files, error),
+        Err(error) => failed(rt, &asked.files, error, writer.is_pipe_closed()),
     }
 }
 

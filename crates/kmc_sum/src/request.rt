@@ -1,8 +1,9 @@
 //! What the words of a command line ask for: limits and the names of files.
-ghost use Rattle.std.specs.Prelude.{◌≡◌, ◌≢◌, ◌≤◌, ◌<◌, ◌^◌, ◌||◌, ℕ, [], ◌∷◌, Some, None, option_map, MatchResult, IfOk, IfErr, length, map, not, is_some, string_bytes, codes};
+ghost use Rattle.std.specs.Prelude.{◌≡◌, ◌≢◌, ◌≤◌, ◌<◌, ◌^◌, ◌||◌, ℕ, [], ◌∷◌, Some, None, option_map, MatchResult, IfOk, IfErr, IsErrOf, length, map, not, is_some, string_bytes, codes};
 ghost use Rattle.std.specs.List.{list_all};
 ghost use Rattle.kmc_argument.specs.Words.{number_of};
-ghost use Rattle.kmc_sum.specs.Request.{is_file, is_option, given, texts_of, IsLimit, IsRequest, AsksForNothing};
+ghost use Rattle.kmc_sum.specs.declared.request.RequestError.TheVariants.{Memory};
+ghost use Rattle.kmc_sum.specs.Request.{is_file, is_option, given, texts_of, IsLimit, IsRequest, IsTaken, GivesNoLimits, AsksForNothing};
 
 use kmc_argument::number::number;
 use kmc_argument::prefix::rest_after;
@@ -26,15 +27,17 @@ pub struct Request {
 /// Why the words ask for nothing.
 #[derive(Clone, Copy, Debug, PartialEq, Eq)]
 pub enum RequestError {
-    /// A word is no option, an option is given twice or without a number, or there is no file or more than are taken.
+    /// A word is no option, an option is given twice, or there is no file or more than are taken.
     Usage,
-    /// The value of an option is out of its range.
+    /// The value of an option is no number, or out of its range.
     OutOfRange,
     /// Memory was refused.
     Memory,
 }
 
 impl From<AllocError> for RequestError {
+    ghost from_gives = { λ _ e. e ≡ Memory };
+
     fn from(_: AllocError) -> RequestError {
         RequestError::Memory
     }
@@ -88,7 +91,7 @@ fn given<'a>(name: &str, words: &'a [String]) -> Result<Option<&'a str>, Request
 /// The number of an option.
 fn limit(name: &str, words: &[String], default: u64) -> Result<u64, RequestError>
     ensures { MatchResult result (λ n. IsLimit (given name.now (map string_bytes words.now)) default n)
-        (λ e. (e ≢ RequestError.Memory) × ((n : ℕ) → IsLimit (given name.now (map string_bytes words.now)) default n → 2 ^ 64 ≤ n)) }
+        (λ e. (e ≢ RequestError.Memory) × (e ≡ RequestError.Usage → 2 ≤ length (given name.now (map string_bytes words.now))) × ((n : ℕ) → IsLimit (given name.now (map string_bytes words.now)) default n → 2 ^ 64 ≤ n)) }
 {
     match given(name, words)? {
         None => Ok(default),
@@ -103,6 +106,8 @@ fn limit(name: &str, words: &[String], default: u64) -> Result<u64, RequestError
 pub fn asked_for(words: Vec<String>, most: usize) -> Result<Request, RequestError>
     ensures asked { IfOk result (λ r. IsRequest most (map string_bytes words.items) r.limits (map string_bytes r.files.items)) }
     ensures refused { IfErr result (λ e. (e ≢ RequestError.Memory) × AsksForNothing most (map string_bytes words.items)) }
+    ensures usage { IsErrOf result RequestError.Usage → IsTaken most (map string_bytes words.items) → ⊥ }
+    ensures range { IsErrOf result RequestError.OutOfRange → GivesNoLimits (map string_bytes words.items) }
 {
     if !are_known(&words) {
         return Err(RequestError::Usage);

@@ -24,6 +24,17 @@ returns-then-count-eq0-clause-refused c = (
       ],
 )
 
+pub returns-then-count-eq0-clause-usage : goal.returns-then-count-eq0-clause-usage
+returns-then-count-eq0-clause-usage c = λ _ taken.
+    let words = c.args.words.items in
+    let is : map string_bytes c.retain.new.self.items ≡ filter is_file (map string_bytes words) =
+    ap (map string_bytes) (filter_from_retain _ (λ w. is_file (string_bytes w)) (λ p x b q t. search rules) _ _ _ c.retain.ensures.filtered) ∙ sym (filter_of_map string_bytes is_file words) in
+    let len : c.len-count.result ≡ length (filter is_file (map string_bytes words)) = c.len-count.ensures ∙ c.retain.new.self.ok.0 ∙ sym (length-map c.retain.new.self.items string_bytes) ∙ ap length is in
+    elim c.then-count-eq0.branch [
+      | then-count-eq0-via-then-count-eq0 w ↦ omega (arith, len, taken.some, w.if-count-eq0.true)
+      | then-count-eq0-via-else-count-eq0+then-count-most w ↦ omega (arith, len, taken.few, w.if-count-most.true)
+    ]
+
 pub returns-in-Some-clause-asked : goal.returns-in-Some-clause-asked
 returns-in-Some-clause-asked c =
     let words = c.args.words.items in
