@@ -8,6 +8,7 @@ ghost use Rattle.kmc_base.specs.Words.{IsKmer, rev_comp, canonical, letter, kmer
 ghost use Rattle.kmc_base.specs.Strands.{key};
 ghost use Rattle.kmc_base.specs.Packed.{unpack};
 
+use crate::letters::write_four;
 use crate::strands::Strands;
 use crate::word::Word;
 use std::alloc::AllocError;
@@ -138,8 +139,13 @@ impl Kmer {
         ensures { out.new ≡ map letter self.now ++ drop (length self.now) out.old }
     {
         let k = self.k();
+        let whole = k / 4;
         let mut rest = self.packed;
-        for j in 0..k {
+        'words: for j in 0..whole {
+            write_four(out, k - 4 - 4 * j, (rest % 256) as u8);
+            rest /= 256;
+        }
+        'head: for j in 4 * whole..k {
             out[k - 1 - j] = letter_of((rest % 4) as u8);
             rest /= 4;
         }

@@ -7,6 +7,7 @@ pub mod base;
 pub mod keys;
 pub mod kmer;
 pub mod laws;
+mod letters;
 pub mod pieces;
 pub mod segment;
 pub mod strands;

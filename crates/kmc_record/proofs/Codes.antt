@@ -1,6 +1,7 @@
 -- The codes in bytes, place by place.
-use Rattle.std.proofs.Common.{◌≡◌, ℕ, zero, suc, ◌+◌, ◌*◌, ◌-◌, ◌/◌, ◌%◌, ◌^◌, ◌<◌, List, [], ◌∷◌, ◌++◌, length, get_or, take, refl, sym, ap, ◌∙◌, arith}
+use Rattle.std.proofs.Common.{◌≡◌, ◌≢◌, ◌≤◌, Bool, true, false, nat_eq, ℕ, zero, suc, ◌+◌, ◌*◌, ◌-◌, ◌/◌, ◌%◌, ◌^◌, ◌<◌, List, [], ◌∷◌, ◌++◌, length, get_or, take, refl, sym, ap, ◌∙◌, arith}
 use Rattle.std.proofs.lemmas.List.{get_or-take}
+use Rattle.std.proofs.lemmas.Bool.Decides.{nat_tests}
 use Rattle.kmc_base.specs.Lemmas.Packs.{AreCodes}
 use Rattle.kmc_record.specs.Record.{quarters, codes_in}
 
@@ -54,3 +55,44 @@ byte_codes bs j h =
       sym (at bs j 2 h (omega arith)),
       sym whole ∙ sym (at bs j 3 h (omega arith)),
     )
+
+-- ---- the lowest codes of a byte
+
+pub low_mask : (p : ℕ) → p < 4 → 1 * 2 ^ (2 * p) % 256 ≡ 2 ^ (2 * p)
+low_mask p hp = four (λ q. 1 * 2 ^ (2 * q) % 256 ≡ 2 ^ (2 * q)) refl refl refl refl p hp
+
+pub lowest_zero : (b p r : ℕ) → p < 4 → r < 4 → 4 ≤ r + p → b % 2 ^ (2 * p) ≡ 0 → b / 2 ^ (6 - 2 * r) % 4 ≡ 0
+lowest_zero b p r hp hr =
+    four (λ q. 4 ≤ r + q → b % 2 ^ (2 * q) ≡ 0 → b / 2 ^ (6 - 2 * r) % 4 ≡ 0)
+    (λ e h. absurd (omega arith))
+    (four (λ s. 4 ≤ s + 1 → b % 4 ≡ 0 → b / 2 ^ (6 - 2 * s) % 4 ≡ 0) (λ e h. absurd (omega arith)) (λ e h. absurd (omega arith)) (λ e h. absurd (omega arith)) (λ e h. omega arith) r hr)
+    (four (λ s. 4 ≤ s + 2 → b % 16 ≡ 0 → b / 2 ^ (6 - 2 * s) % 4 ≡ 0) (λ e h. absurd (omega arith)) (λ e h. absurd (omega arith)) (λ e h. omega arith) (λ e h. omega arith) r hr)
+    (four (λ s. 4 ≤ s + 3 → b % 64 ≡ 0 → b / 2 ^ (6 - 2 * s) % 4 ≡ 0) (λ e h. absurd (omega arith)) (λ e h. omega arith) (λ e h. omega arith) (λ e h. omega arith) r hr)
+    p hp
+
+-- one of the lowest codes is not zero
+abbrev pub HasLow : ℕ → ℕ → Type 0
+HasLow b p = (r : ℕ) × (r < 4) × (4 ≤ r + p) × (b / 2 ^ (6 - 2 * r) % 4 ≡ 0 → ⊥)
+
+last_or : (b p : ℕ) → (b % 4 ≡ 0 → HasLow b (p + 1)) → HasLow b (p + 1)
+last_or b p other = go (nat_eq (b % 4) 0) refl
+  where
+    go : (t : Bool) → nat_eq (b % 4) 0 ≡ t → HasLow b (p + 1)
+    go true e = other (grind (arith, nat_tests))
+    go false e = (3, omega arith, omega arith, λ h. let ne : b % 4 ≢ 0 = grind (arith, nat_tests) in ne (omega (arith, h)))
+
+third_or : (b p : ℕ) → (b / 4 % 4 ≡ 0 → HasLow b (p + 2)) → HasLow b (p + 2)
+third_or b p other = go (nat_eq (b / 4 % 4) 0) refl
+  where
+    go : (t : Bool) → nat_eq (b / 4 % 4) 0 ≡ t → HasLow b (p + 2)
+    go true e = other (grind (arith, nat_tests))
+    go false e = (2, omega arith, omega arith, λ h. let ne : b / 4 % 4 ≢ 0 = grind (arith, nat_tests) in ne (omega (arith, h)))
+
+pub lowest_some : (b p : ℕ) → p < 4 → (b % 2 ^ (2 * p) ≡ 0 → ⊥) → HasLow b p
+lowest_some b p hp =
+    four (λ q. (b % 2 ^ (2 * q) ≡ 0 → ⊥) → HasLow b q)
+    (λ h. absurd (h (omega arith)))
+    (λ h. last_or b 0 (λ z. absurd (h z)))
+    (λ h. last_or b 1 (λ z. third_or b 0 (λ y. absurd (h (omega (arith, z, y))))))
+    (λ h. last_or b 2 (λ z. third_or b 1 (λ y. (1, omega arith, omega arith, λ x. h (omega (arith, z, y, x))))))
+    p hp

@@ -22,18 +22,18 @@ pub fn code_at(bytes: &[u8], i: usize) -> u8
     (bytes[i / 4] >> (6 - 2 * (i % 4))) % 4
 }
 
-/// Whether all codes from a place on are zero.
+/// Whether all codes from a place on are zero, of which there are at most three: the lowest bits of the last byte.
 fn rest_is_zero(bytes: &[u8], start: usize) -> bool
     requires few { length bytes.now < 1000 }
+    requires within { start ≤ 4 * length bytes.now }
+    requires last { 4 * length bytes.now < start + 4 }
     ensures yes { IsTrue result → All (λ c. c ≡ 0) (drop start (codes_in bytes.now)) }
     ensures no { ¬ (IsTrue result) → ((i : ℕ) × (start ≤ i) × (i < 4 * length bytes.now) × (slice_index (codes_in bytes.now) i ≢ 0)) }
 {
-    for i in start..4 * bytes.len() {
-        if code_at(bytes, i) != 0 {
-            return false;
-        }
+    if bytes.len() == 0 {
+        return true;
     }
-    true
+    bytes[bytes.len() - 1] % (1 << (2 * (4 * bytes.len() - start))) == 0
 }
 
 /// How many symbols the first record of the bytes has.

@@ -6,7 +6,7 @@ use kmc_base::kmer::{Kmer, MAX_K};
 use kmc_base::laws;
 use kmc_base::pieces::{piece_count, push_pieces};
 use kmc_base::strands::Strands;
-use kmc_base::stretch::segments;
+use kmc_base::stretch::{leading_codes, segments};
 use std::alloc::{AllocError, Global};
 use std::process::Abort;
 use std::test::Fail;
@@ -32,6 +32,24 @@ fn codes_of_all_bytes(rt: HostRuntime) {
     ] {
         assert_eq!(rt; code(letter), want);
     }
+}
+
+#[test]
+fn leading_codes_end_at_the_first_byte_that_is_no_base(rt: HostRuntime) -> Result<(), Fail> {
+    let alloc = rt.alloc();
+    let mut codes = Vec::new(alloc);
+    for (text, want) in [
+        ("GATTACA", [2, 0, 3, 3, 0, 1, 0].as_slice()),
+        ("cgNT", [1, 2].as_slice()),
+        ("", [].as_slice()),
+        ("TNA", [3].as_slice()),
+        ("NACGT", [].as_slice()),
+        ("ACGT", [0, 1, 2, 3].as_slice()),
+    ] {
+        leading_codes(text.as_bytes(), &mut codes)?;
+        assert_eq!(rt; codes.as_slice(), want);
+    }
+    Ok(())
 }
 
 #[test]

@@ -42,6 +42,28 @@ pub(crate) fn long_read(alloc: Global, symbols: usize) -> Result<String, AllocEr
     Ok(read)
 }
 
+/// Reads at random, between which stand commas: empty, short and long ones, with a byte that is no base here and there.
+pub(crate) fn mixed_reads(alloc: Global) -> Result<String, AllocError> {
+    let mut reads = String::new(alloc);
+    let mut state: u64 = 7;
+    for length in [0usize, 1, 3, 8, 24, 25, 33, 64, 65, 300] {
+        for _symbol in 0..length {
+            state = state
+                .wrapping_mul(6364136223846793005)
+                .wrapping_add(1442695040888963407);
+            let letter = if (state >> 40) % 61 == 0 {
+                'N'
+            } else {
+                ['A', 'C', 'g', 'T'][(state >> 62) as usize % 4]
+            };
+            reads.push(letter)?;
+        }
+        reads.push(',')?;
+    }
+    reads.push('N')?;
+    Ok(reads)
+}
+
 /// The shape of k, p and n.
 pub(crate) fn shape_of(rt: &impl Abort, k: usize, p: usize, n: usize) -> Shape {
     Shape::new(k, p, n).expect(rt, "a shape")

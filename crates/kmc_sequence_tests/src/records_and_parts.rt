@@ -1,7 +1,7 @@
 //! Records and parts: worked values in both directions, refusals, and a table from an independent program.
 mod rows;
 
-use crate::given::{chunk_of, long_read, one_segment, push_bin, same_bytes, shape_of};
+use crate::given::{chunk_of, long_read, mixed_reads, one_segment, push_bin, same_bytes, shape_of};
 use kmc_base::keys::push_keys;
 use kmc_base::strands::Strands;
 use kmc_base::stretch::segments;
@@ -182,6 +182,19 @@ fn agrees_with_the_model_and_with_the_plain_body(rt: HostRuntime) -> Result<(), 
         assert_eq!(rt; made.as_str(), *want, "{reads} at {k}, {p} and {n}");
         let plain = plain_text(&rt, alloc, reads, shape)?;
         assert_eq!(rt; plain.as_str(), *want, "{reads} at {k}, {p} and {n}");
+    }
+    Ok(())
+}
+
+#[test]
+fn parts_of_mixed_reads_are_those_of_the_plain_body(rt: HostRuntime) -> Result<(), Fail> {
+    let alloc = rt.alloc();
+    let reads = mixed_reads(alloc)?;
+    for k in [1, 2, 3, 4, 5, 8, 9, 25, 31, 32, 33, 63, 64] {
+        let shape = shape_of(&rt, k, 5, 7);
+        let made = parts_text(&rt, alloc, reads.as_str(), shape)?;
+        let plain = plain_text(&rt, alloc, reads.as_str(), shape)?;
+        assert_eq!(rt; made.as_str(), plain.as_str(), "{k}");
     }
     Ok(())
 }

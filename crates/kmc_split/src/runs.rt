@@ -26,19 +26,22 @@ pub(crate) fn group(signatures: &[u32], runs: &mut Vec<Run>) -> Result<(), Alloc
 {
     runs.clear();
     let mut start = 0;
+    let mut value = signatures[0];
     for i in 1..signatures.len() {
+        let next = signatures[i];
         let words = i - start;
-        if signatures[i] != signatures[start] || words == MOST_WORDS {
-            let signature = Sig::of_value(signatures[start]);
+        if next != value || words == MOST_WORDS {
+            let signature = Sig::of_value(value);
             runs.push(Run {
                 start,
                 words,
                 signature,
             })?;
             start = i;
+            value = next;
         }
     }
-    let signature = Sig::of_value(signatures[start]);
+    let signature = Sig::of_value(value);
     runs.push(Run {
         start,
         words: signatures.len() - start,

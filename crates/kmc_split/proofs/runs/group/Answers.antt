@@ -4,7 +4,7 @@ use Rattle.kmc_split.specs.declared.runs.Run.{Run}
 use Rattle.kmc_split.specs.Cut.{AreRuns}
 use Rattle.kmc_split.proofs.Grouping.{grow, cut_here}
 use Rattle.kmc_split.proofs.runs.group.Goals as goal
-use Rattle.kmc_split.proofs.runs.group.Goals.{then-signatures-i+in_ok-push, then-signatures-i-via-then-signatures-i, then-signatures-i-via-else-signatures-i+then-words-eq-MOST_WORDS, else-signatures-i+else-words-eq-MOST_WORDS}
+use Rattle.kmc_split.proofs.runs.group.Goals.{then-next-value+in_ok-push, then-next-value-via-then-next-value, then-next-value-via-else-next-value+then-words-eq-MOST_WORDS, else-next-value+else-words-eq-MOST_WORDS}
 
 -- the runs with a closed one at their end
 closed : (rs : List Run) (start words at s : ℕ) → s ≡ at
@@ -17,18 +17,21 @@ loop-i-preserved c =
     let items : Vec Run Global → List Run = λ v. v.items in
     let i = c.loop-i.i in
     let start = c.loop-i.start in
-    elim c.if-signatures-i.branch [
-      | then-signatures-i+in_ok-push w ↦
+    let same = c.loop-i.invariant.2 in
+    elim c.if-next-value.branch [
+      | then-next-value+in_ok-push w ↦
           let apart : at start ≡ at i → i - start ≡ 256 =
-          elim w.then-signatures-i.branch [
-            | then-signatures-i-via-then-signatures-i v ↦ λ e. absurd (grind (arith, nat_tests, v.if-signatures-i.true, e))
-            | then-signatures-i-via-else-signatures-i+then-words-eq-MOST_WORDS v ↦ λ e. grind (arith, nat_tests, v.if-words-eq-MOST_WORDS.true)
+          elim w.then-next-value.branch [
+            | then-next-value-via-then-next-value v ↦ λ e. absurd (grind (arith, nat_tests, v.if-next-value.true, same, e))
+            | then-next-value-via-else-next-value+then-words-eq-MOST_WORDS v ↦ λ e. grind (arith, nat_tests, v.if-words-eq-MOST_WORDS.true)
           ] in
-          let pushed = ap items w.runs-is ∙ w.in_ok-push.ensures.items ∙ closed c.loop-i.runs.items start (i - start) (at start) w.of_value-signature.result w.of_value-signature.ensures in
-          cut_here at i start c.if-signatures-i.start c.loop-i.runs.items c.if-signatures-i.runs.items w.start-is pushed c.loop-i.invariant.2 apart
-      | else-signatures-i+else-words-eq-MOST_WORDS w ↦
-          grow at i start c.if-signatures-i.start c.loop-i.runs.items c.if-signatures-i.runs.items w.start-is (ap items w.runs-is) c.loop-i.invariant.0 c.loop-i.invariant.1 c.loop-i.invariant.2
-          (grind (arith, nat_tests, w.if-signatures-i.false)) (λ e. grind (arith, nat_tests, w.if-words-eq-MOST_WORDS.false, e))
+          let pushed = ap items w.runs-is ∙ w.in_ok-push.ensures.items ∙ closed c.loop-i.runs.items start (i - start) (at start) w.of_value-signature.result (w.of_value-signature.ensures ∙ same) in
+          let r = cut_here at i start c.if-next-value.start c.loop-i.runs.items c.if-next-value.runs.items w.start-is pushed c.loop-i.invariant.3 apart in
+          (r.0, r.1, w.value-is ∙ ap at (sym w.start-is), r.2)
+      | else-next-value+else-words-eq-MOST_WORDS w ↦
+          let r = grow at i start c.if-next-value.start c.loop-i.runs.items c.if-next-value.runs.items w.start-is (ap items w.runs-is) c.loop-i.invariant.0 c.loop-i.invariant.1 c.loop-i.invariant.3
+          (grind (arith, nat_tests, w.if-next-value.false, same)) (λ e. grind (arith, nat_tests, w.if-words-eq-MOST_WORDS.false, e)) in
+          (r.0, r.1, w.value-is ∙ same ∙ ap at (sym w.start-is), r.2)
     ]
 
 pub returns : goal.returns
@@ -36,6 +39,6 @@ returns c =
     let at : ℕ → ℕ = slice_index c.args.signatures.now in
     let end = length c.args.signatures.now in
     let start = c.loop-i.start in
-    let pushed = c.in_ok-push-2.ensures.items ∙ closed c.loop-i.runs.items start (end - start) (at start) c.of_value-signature-2.result c.of_value-signature-2.ensures in
+    let pushed = c.in_ok-push-2.ensures.items ∙ closed c.loop-i.runs.items start (end - start) (at start) c.of_value-signature-2.result (c.of_value-signature-2.ensures ∙ c.loop-i.invariant.2) in
     let e : c.loop-i.i ≡ end = omega arith in
-    subst (AreRuns at 0 end) (sym pushed) (subst (λ (n : ℕ). AreRuns at 0 n (c.loop-i.runs.items ++ record { start = start; words = n - start; signature = at start } ∷ [])) e c.loop-i.invariant.2)
+    subst (AreRuns at 0 end) (sym pushed) (subst (λ (n : ℕ). AreRuns at 0 n (c.loop-i.runs.items ++ record { start = start; words = n - start; signature = at start } ∷ [])) e c.loop-i.invariant.3)
