@@ -5,4 +5,8 @@
 #[cfg(test)]
 mod device;
 #[cfg(test)]
+mod dice;
+#[cfg(test)]
 mod inputs;
+#[cfg(test)]
+mod pieces;
