@@ -1,9 +1,10 @@
 # The k-mer counter: `make count` builds it and counts the example, `make check` is the gate.
 KMC := ./kmc
 KMC_MERGE := ./kmc_merge
-# programs that bench/hostile.py and bench/damaged.py try
+# programs that the scripts in bench/ try
 REFUSED := ./kmc_refused_growths
 BODIES := ./kmc_damaged_bodies
+MANY := ./kmc_many_threads
 
 # where `make install` puts the program and its page, and under which name: Debian's `kmc` is KMC 3
 PREFIX := /usr/local
@@ -33,7 +34,7 @@ $(KMC_MERGE): crates.txt $(shell find crates/kmc_base crates/kmc_count crates/km
 	@rm -f crates/kmc_merge/out.log
 	@cp crates/kmc_merge/out/kmc_merge $(KMC_MERGE)
 
-$(REFUSED) $(BODIES): ./%: crates.txt $(shell find crates -path '*/out' -prune -o -type f -name '*.rt' -print -o -type f -name '*.antt' -print)
+$(REFUSED) $(BODIES) $(MANY): ./%: crates.txt $(shell find crates -path '*/out' -prune -o -type f -name '*.rt' -print -o -type f -name '*.antt' -print)
 	@echo "make: proving and building $*"
 	@cd crates/$* && rt run < stdin > /dev/null 2> out.log || { cat out.log; rm -f out.log; exit 1; }
 	@rm -f crates/$*/out.log
@@ -80,8 +81,8 @@ devices: $(KMC)
 limits: $(KMC)
 	KMC="$(abspath $(KMC))" bench/system_limits.sh
 
-threads: $(KMC)
-	KMC="$(abspath $(KMC))" bench/hostile_threads.sh
+threads: $(KMC) $(MANY)
+	KMC="$(abspath $(KMC))" MANY="$(abspath $(MANY))" bench/hostile_threads.sh
 
 bench: $(KMC)
 	bench/compare.sh
@@ -92,4 +93,4 @@ merges: $(KMC_MERGE)
 	bench/merge_time.sh
 
 clean:
-	rm -rf crates/*/out $(KMC) $(KMC_MERGE) $(REFUSED) $(BODIES)
+	rm -rf crates/*/out $(KMC) $(KMC_MERGE) $(REFUSED) $(BODIES) $(MANY)

@@ -1,14 +1,16 @@
 #!/usr/bin/env bash
-# Runs ./kmc many times in a row while other processes keep the processors busy: the same dump each time.
+# Runs ./kmc, and ./kmc_many_threads, many times in a row while other processes keep the processors busy: the same answer each time.
 #
 # usage: bench/hostile_threads.sh [RUNS [BUSY]]
 #
-# RUNS (200) runs in turn with -sp4 -sr4 and -sp16 -sr16, each of 12000 reads, three chunks, and ended after 120 seconds if it
-# has not ended by then; BUSY (4) processes that do nothing else run beside them. The dump is that of bench/count_plainly.py. The
-# variable KMC names another program.
+# RUNS (200) runs of ./kmc in turn with -sp4 -sr4 and -sp16 -sr16, each of 12000 reads, and as many of ./kmc_many_threads, whose 16
+# writers and 8 readers call the queue in threads of their own. Each is ended after 120 seconds if it has not ended by then. BUSY (4)
+# processes that do nothing else run beside them. The dump is that of bench/count_plainly.py. The variables KMC and MANY name other
+# programs.
 set -u
 top=$(cd "$(dirname "$0")/.." && pwd)
 kmc=${KMC:-$top/kmc}
+many=${MANY:-$top/kmc_many_threads}
 runs=${1:-200}
 busy=${2:-4}
 work=$(mktemp -d) || exit 1
@@ -25,17 +27,26 @@ while [ "$number" -lt "$busy" ]; do
     number=$((number + 1))
 done
 
+run=0
 tried=0
 wrong=0
 started=$(date +%s)
-while [ "$tried" -lt "$runs" ]; do
-    threads=$((tried % 2 == 0 ? 4 : 16))
+while [ "$run" -lt "$runs" ]; do
+    threads=$((run % 2 == 0 ? 4 : 16))
+    run=$((run + 1))
     timeout 120 "$kmc" -k21 -sp$threads -sr$threads < "$work/reads.fastq" > "$work/out" 2> "$work/err"
     status=$?
     tried=$((tried + 1))
     if [ "$status" -ne 0 ] || [ -s "$work/err" ] || ! cmp -s "$work/out" "$work/dump"; then
         wrong=$((wrong + 1))
-        echo "threads: run $tried with -sp$threads -sr$threads is wrong: status $status, $(head -c 300 "$work/err")"
+        echo "threads: run $run with -sp$threads -sr$threads is wrong: status $status, $(head -c 300 "$work/err")"
+    fi
+    timeout 120 "$many" > "$work/out" 2> "$work/err"
+    status=$?
+    tried=$((tried + 1))
+    if [ "$status" -ne 0 ] || [ -s "$work/err" ] || ! cmp -s "$work/out" "$top/crates/kmc_many_threads/stdout"; then
+        wrong=$((wrong + 1))
+        echo "threads: run $run of many threads is wrong: status $status, $(head -c 300 "$work/out" "$work/err")"
     fi
 done
 echo "threads: $busy busy processes, $(wc -l < "$work/dump") k-mers, $(($(date +%s) - started)) seconds"

@@ -7,4 +7,6 @@ mod failing;
 #[cfg(test)]
 mod listed;
 #[cfg(test)]
+mod prefixes;
+#[cfg(test)]
 mod rows;

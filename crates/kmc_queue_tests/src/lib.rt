@@ -11,5 +11,3 @@ mod held;
 mod lanes;
 #[cfg(test)]
 mod lists;
-#[cfg(test)]
-mod many;

@@ -1,111 +1,16 @@
-//! Sixteen writers and eight readers, each in a thread of its own, by the calls that wait.
+//! The threads: each puts or takes by the calls that wait.
 ghost use Rattle.std.specs.Prelude.{◌≡◌, ◌<◌, ℕ, IfOk};
 ghost use Rattle.kmc_partqueue.specs.Counts.{Each, total_of, same};
 ghost use Rattle.kmc_partqueue.specs.Dealing.{row_from};
 ghost use Rattle.kmc_partqueue.specs.Seats.{IsWriterOf, IsReaderOf, new_writer, new_reader};
 
-use crate::lanes::gathered;
-use kmc_partcore::{QueueShape, Received, Taken, Totals};
+use crate::seen::{EACH, Seen, WRITERS, item_of};
+use kmc_partcore::{Taken, Totals};
 use kmc_partqueue::{DoneSeat, Lanes, NoGate, ReaderSeat, WriterSeat};
-use std::alloc::{AllocError, Global};
-use std::process::Abort;
+use std::alloc::AllocError;
 use std::sync::Wait;
-use std::sync::atomic::{AtomicBool, AtomicU64, Ordering};
-use std::test::Fail;
 use std::thread;
 use std::thread::Threads;
-use std::time::{Clock, Duration};
-
-const WRITERS: usize = 16;
-
-const READERS: usize = 8;
-
-/// The parts of each writer.
-const EACH: u64 = 100;
-
-/// The threads have so many hundredths of a second.
-const PATIENCE: u32 = 4000;
-
-/// The part of this number of a writer, told apart from all others.
-fn item_of(writer: usize, number: u64) -> u64
-    requires { (writer < 16) × (number < 100) }
-{
-    writer as u64 * 1000 + number
-}
-
-/// How often each part came, the parts of one writer side by side, and whether anything else was seen.
-#[derive(Drop)]
-struct Seen {
-    times: Vec<AtomicU64>,
-    strange: AtomicBool,
-}
-
-impl Seen {
-    fn new(alloc: Global) -> Result<Seen, AllocError> {
-        let mut times = Vec::new(alloc);
-        for _ in 0..WRITERS as u64 * EACH {
-            times.push(AtomicU64::new(0))?;
-        }
-        Ok(Seen {
-            times,
-            strange: AtomicBool::new(false),
-        })
-    }
-
-    fn note_strange(&self) {
-        self.strange.store(true, Ordering::SeqCst);
-    }
-
-    /// A reader got the part. Of each writer it has got no part from `least[writer]` on.
-    fn came(&self, least: &mut [u64], part: Received<u64>) {
-        let Received {
-            writer,
-            number,
-            item,
-        } = part;
-        if writer >= WRITERS || number >= EACH {
-            self.note_strange();
-            return;
-        }
-        if item != item_of(writer, number) {
-            self.note_strange();
-        }
-        match least.get_mut(writer) {
-            Some(from) => {
-                if number < *from {
-                    self.note_strange();
-                }
-                *from = number + 1;
-            }
-            None => self.note_strange(),
-        }
-        match self.times.get(writer * 100 + number as usize) {
-            Some(count) => {
-                count.fetch_add(1, Ordering::SeqCst);
-            }
-            None => self.note_strange(),
-        }
-    }
-
-    /// A reader was told that the queue is finished.
-    fn ended(&self, totals: &Totals) {
-        for writer in 0..WRITERS {
-            if totals.of(writer) != Some(EACH) {
-                self.note_strange();
-            }
-        }
-    }
-
-    /// Each part came once, and nothing else was seen.
-    fn each_once(&self) -> bool {
-        for count in self.times.iter() {
-            if count.load(Ordering::SeqCst) != 1 {
-                return false;
-            }
-        }
-        !self.strange.load(Ordering::SeqCst)
-    }
-}
 
 /// Puts all parts of a writer, and completes.
 fn put_all<R: Wait>(
@@ -193,14 +98,30 @@ fn read<R: Threads + Wait + Sync>(
     )
 }
 
-/// All threads run, and then `over` is set. The totals are those that `gather` answers, where all seats came back and the first reader has seen each lane at its end.
-fn pass_all<R: Threads + Wait + Sync>(
+/// What `gather` answers, where the first of the readers has seen each lane at its end.
+fn gathered<T: Drop>(
+    lanes: Lanes<T>,
+    writers: Vec<DoneSeat<T>>,
+    readers: Vec<ReaderSeat<T>>,
+) -> Option<Totals>
+    requires queue { Each (IsWriterOf lanes.table.shared.table_id lanes.shape) writers.items × Each (IsReaderOf lanes.table.shared.table_id lanes.shape) readers.items }
+    requires writers { (w : ℕ) → w < lanes.shape.writers → total_of (λ s. same s.number w) writers.items ≡ 1 }
+    requires readers { (q : ℕ) → q < lanes.shape.readers → total_of (λ s. same s.number q) readers.items ≡ 1 }
+{
+    if readers.is_empty() || !readers[0].finished() {
+        return None;
+    }
+    Some(lanes.gather(writers, readers))
+}
+
+/// All threads run. The totals are those that `gather` answers, where all seats came back and the first reader has seen each
+/// lane at its end.
+pub fn pass_all<R: Threads + Wait + Sync>(
     rt: &R,
     lanes: Lanes<u64>,
     writers: Vec<WriterSeat<u64>>,
     readers: Vec<ReaderSeat<u64>>,
     seen: &Seen,
-    over: &AtomicBool,
 ) -> Option<Totals>
     requires writers { writers.items ≡ row_from (new_writer lanes.table.shared.table_id lanes.shape) 0 lanes.shape.writers }
     requires readers { readers.items ≡ row_from (new_reader lanes.table.shared.table_id lanes.shape) 0 lanes.shape.readers }
@@ -219,48 +140,8 @@ fn pass_all<R: Threads + Wait + Sync>(
             ensures numbers { IfOk result (λ v. (q : ℕ) → q < queue.entry.now.shape.readers → total_of (λ s. same s.number q) v.items ≡ 1) }
         { read(rt, queue, readers, seen) },
     );
-    over.store(true, Ordering::SeqCst);
     match (written, read) {
-        (Ok(done), Ok(back)) => return gathered(lanes, done, back),
-        _ => return None,
+        (Ok(done), Ok(back)) => gathered(lanes, done, back),
+        _ => None,
     }
-}
-
-/// Ends the test with a failure, where the threads have not ended in time.
-fn watch(rt: &(impl Abort + Clock), over: &AtomicBool) {
-    for _ in 0..PATIENCE {
-        if over.load(Ordering::SeqCst) {
-            return;
-        }
-        thread::sleep(rt, Duration::from_millis(10));
-    }
-    assert!(rt; false, "the threads have not ended");
-}
-
-#[test]
-fn many_threads_pass_each_part_once(rt: HostRuntime) -> Result<(), Fail> {
-    let shape = QueueShape {
-        writers: WRITERS,
-        per_writer: 1,
-        readers: READERS,
-    };
-    let (lanes, writers, readers) = Lanes::<u64>::new(rt.alloc(), shape)?;
-    let seen = Seen::new(rt.alloc())?;
-    let over = AtomicBool::new(false);
-    let (handle, shown, flag) = (&rt, &seen, &over);
-    let (totals, ()) = thread::join(
-        &rt,
-        move || -> Option<Totals>
-            requires writers { writers.items ≡ row_from (new_writer lanes.table.shared.table_id lanes.shape) 0 lanes.shape.writers }
-            requires readers { readers.items ≡ row_from (new_reader lanes.table.shared.table_id lanes.shape) 0 lanes.shape.readers }
-        { pass_all(handle, lanes, writers, readers, shown, flag) },
-        move || watch(handle, flag),
-    );
-    assert!(rt; seen.each_once());
-    let totals = totals.expect(&rt, "all seats came back");
-    for writer in 0..WRITERS {
-        assert!(rt; totals.of(writer) == Some(EACH), "writer {writer}");
-    }
-    assert!(rt; totals.of(WRITERS).is_none());
-    Ok(())
 }

@@ -1,0 +1,34 @@
+//! Sixteen writers and eight readers, each in a thread of its own, pass a hundred parts of each writer through a queue whose lanes have
+//! one slot. It tells whether each part came once, in the order of its writer, and whether the totals are right. bench/hostile_threads.sh
+//! runs it again and again beside other work.
+#![tactic(auto)]
+
+mod many;
+mod seen;
+
+use crate::many::pass_all;
+use crate::seen::{Seen, WRITERS};
+use kmc_partcore::QueueShape;
+use kmc_partqueue::Lanes;
+use std::io;
+
+const READERS: usize = 8;
+
+fn main(rt: HostRuntime) -> io::Result<()> {
+    let shape = QueueShape {
+        writers: WRITERS,
+        per_writer: 1,
+        readers: READERS,
+    };
+    let (lanes, writers, readers) = Lanes::<u64>::new(rt.alloc(), shape)?;
+    let seen = Seen::new(rt.alloc())?;
+    match pass_all(&rt, lanes, writers, readers, &seen) {
+        Some(totals) => seen.ended(&totals),
+        None => seen.note_strange(),
+    }
+    if seen.each_once() {
+        rt.println("1600 parts came once each")
+    } else {
+        rt.println("a part was lost, came twice or came late")
+    }
+}

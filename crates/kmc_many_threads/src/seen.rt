@@ -1,0 +1,93 @@
+//! What came through the queue.
+ghost use Rattle.std.specs.Prelude.{◌<◌};
+
+use kmc_partcore::{Received, Totals};
+use std::alloc::{AllocError, Global};
+use std::sync::atomic::{AtomicBool, AtomicU64, Ordering};
+
+/// The writers, each of which has a thread.
+pub const WRITERS: usize = 16;
+
+/// The parts of each writer.
+pub const EACH: u64 = 100;
+
+/// The part of this number of a writer, told apart from all others.
+pub fn item_of(writer: usize, number: u64) -> u64
+    requires { (writer < 16) × (number < 100) }
+{
+    writer as u64 * 1000 + number
+}
+
+/// How often each part came, the parts of one writer side by side, and whether anything else was seen.
+#[derive(Drop)]
+pub struct Seen {
+    times: Vec<AtomicU64>,
+    strange: AtomicBool,
+}
+
+impl Seen {
+    pub fn new(alloc: Global) -> Result<Seen, AllocError> {
+        let mut times = Vec::new(alloc);
+        for _ in 0..WRITERS as u64 * EACH {
+            times.push(AtomicU64::new(0))?;
+        }
+        Ok(Seen {
+            times,
+            strange: AtomicBool::new(false),
+        })
+    }
+
+    pub fn note_strange(&self) {
+        self.strange.store(true, Ordering::SeqCst);
+    }
+
+    /// A reader got the part. Of each writer it has got no part from `least[writer]` on.
+    pub fn came(&self, least: &mut [u64], part: Received<u64>) {
+        let Received {
+            writer,
+            number,
+            item,
+        } = part;
+        if writer >= WRITERS || number >= EACH {
+            self.note_strange();
+            return;
+        }
+        if item != item_of(writer, number) {
+            self.note_strange();
+        }
+        match least.get_mut(writer) {
+            Some(from) => {
+                if number < *from {
+                    self.note_strange();
+                }
+                *from = number + 1;
+            }
+            None => self.note_strange(),
+        }
+        match self.times.get(writer * 100 + number as usize) {
+            Some(count) => {
+                count.fetch_add(1, Ordering::SeqCst);
+            }
+            None => self.note_strange(),
+        }
+    }
+
+    /// A reader was told that the queue is finished.
+    pub fn ended(&self, totals: &Totals) {
+        for writer in 0..WRITERS {
+            if totals.of(writer) != Some(EACH) {
+                self.note_strange();
+            }
+        }
+    }
+
+    /// Each part came once, and nothing else was seen.
+    pub fn each_once(&self) -> bool {
+        for count in self.times.iter() {
+            if count.load(Ordering::SeqCst) != 1 {
+                return false;
+            }
+        }
+        !self.strange.load(Ordering::SeqCst)
+    }
+}
