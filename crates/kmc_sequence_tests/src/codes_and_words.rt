@@ -64,7 +64,7 @@ fn refuses_words_out_of_range(rt: HostRuntime) {
 fn reverse_complement_at_the_edges_of_the_widths(rt: HostRuntime) -> Result<(), Fail> {
     let text = b"ACGTTGCAACCGGTTAGATTACAGATTACACCGGTCATCATGGGACCATTTAACGCGTATCCGAT";
     let other = b"ATCGGATACGCGTTAAATGGTCCCATGATGACCGGTGTAATCTGTAATCTAACCGGTTGCAACGT";
-    for k in [1, 2, 31, 32, 33, 63, 64] {
+    for k in [1, 2, 3, 4, 5, 8, 9, 25, 31, 32, 33, 63, 64] {
         let segment = one_segment(&rt, rt.alloc(), &text[..k])?;
         let w = Kmer::new(&segment.codes).expect(&rt, "a word");
         assert_eq!(rt; w.k(), k);
