@@ -98,7 +98,7 @@ body_past : (t : Bool) (n : ℕ) (read l : List ℕ) (ls : List (List ℕ)) → 
 body_past true n read l ls = refl
 body_past false n read l ls = refl
 
-bodies_same : (n : ℕ) (read : List ℕ) (ls : List (List ℕ)) → reads_from (record { number = n; stage = Body; read = read }) ls ≡ Ok (onto_read read (reads_after ls))
+pub bodies_same : (n : ℕ) (read : List ℕ) (ls : List (List ℕ)) → reads_from (record { number = n; stage = Body; read = read }) ls ≡ Ok (onto_read read (reads_after ls))
 bodies_same n read [] = ap (λ (t : List ℕ). Ok (t ∷ [])) (sym (append-nil read))
 bodies_same n read (l ∷ ls) =
     ap (with_reads (cond (is_header l) (read ∷ []) [])) (body_past (is_header l) (line_past n 1) read l ls)

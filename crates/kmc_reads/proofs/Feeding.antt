@@ -7,7 +7,7 @@ use Rattle.std.specs.Io.BufRead.{strip_last, ends_with_byte}
 use Rattle.std.specs.Io.Iter.{u64_saturate}
 use Rattle.kmc_reads.specs.declared.scan.Scan.{Scan}
 use Rattle.kmc_reads.specs.declared.stage.Stage.{Stage}
-use Rattle.kmc_reads.specs.declared.stage.Stage.TheVariants.{Header, Sequence, Plus, Quality, FirstHeader, Body, Name}
+use Rattle.kmc_reads.specs.declared.stage.Stage.TheVariants.{Header, Sequence, Plus, Quality, FirstHeader, Body, Name, Rest}
 use Rattle.kmc_reads.specs.Fasta.{is_header}
 use Rattle.kmc_reads.specs.Pieces.{last_line}
 use Rattle.kmc_reads.specs.Rows.{ends_from}
@@ -105,6 +105,7 @@ settled_none Quality read = refl
 settled_none FirstHeader read = refl
 settled_none Body read = refl
 settled_none Name read = refl
+settled_none Rest read = refl
 
 pub settled_more : (stage : Stage) (read front piece : List ℕ) → begun_by stage read front ≡ [] → (stage ≡ Body → front ≡ [] → is_header piece ≡ false) → begun_by stage read (front ++ piece) ≡ []
 settled_more Header read front piece h none = refl
@@ -113,6 +114,7 @@ settled_more Plus read front piece h none = refl
 settled_more Quality read front piece h none = refl
 settled_more FirstHeader read front piece h none = refl
 settled_more Name read front piece h none = refl
+settled_more Rest read front piece h none = refl
 settled_more Body read (x ∷ front) piece h none = h
 settled_more Body read [] piece h none = ap (λ t. cond t (read ∷ []) []) (none refl refl)
 
@@ -123,6 +125,7 @@ settled_stripped Plus read front h = refl
 settled_stripped Quality read front h = refl
 settled_stripped FirstHeader read front h = refl
 settled_stripped Name read front h = refl
+settled_stripped Rest read front h = refl
 settled_stripped Body read front h = ap (λ t. cond t (read ∷ []) []) (header_stripped front) ∙ h
 
 -- only a quality line gives a read then
@@ -134,6 +137,7 @@ none_given Plus read line other h = refl
 none_given FirstHeader read line other h = refl
 none_given Body read line other h = h
 none_given Name read line other h = refl
+none_given Rest read line other h = refl
 
 module _ (rows : List (List ℕ)) (n : ℕ) (read line : List ℕ) (w : Scan) where
   pub given : (st : Stage) → st ≡ Quality → At (rows ++ read ∷ []) (past (record { number = n; stage = st; read = [] }) line) [] w → At (rows ++ given_by st read line) (past (record { number = n; stage = st; read = read }) line) [] w
@@ -144,6 +148,7 @@ module _ (rows : List (List ℕ)) (n : ℕ) (read line : List ℕ) (w : Scan) wh
   given FirstHeader q h = cc
   given Body q h = cc
   given Name q h = cc
+  given Rest q h = cc
 
   pub not_given : (st : Stage) → (st ≡ Quality → ⊥) → begun_by st read line ≡ [] → At rows (past (record { number = n; stage = st; read = read }) line) [] w → At (rows ++ given_by st read line) (past (record { number = n; stage = st; read = read }) line) [] w
   not_given st other none h = subst (λ t. At t (past (record { number = n; stage = st; read = read }) line) [] w) (sym (append-nil rows) ∙ ap (λ (t : List (List ℕ)). rows ++ t) (sym (none_given st read line other none))) h

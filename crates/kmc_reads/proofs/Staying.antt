@@ -4,7 +4,7 @@ use Rattle.std.proofs.lemmas.Bool.{eqb-true}
 use Rattle.std.specs.Io.BufRead.{strip_last}
 use Rattle.kmc_reads.specs.declared.error.ReadsError.{ReadsError}
 use Rattle.kmc_reads.specs.declared.stage.Stage.{Stage}
-use Rattle.kmc_reads.specs.declared.stage.Stage.TheVariants.{Header, Sequence, Plus, Quality, FirstHeader, Body, Name}
+use Rattle.kmc_reads.specs.declared.stage.Stage.TheVariants.{Header, Sequence, Plus, Quality, FirstHeader, Body, Name, Rest}
 use Rattle.kmc_reads.specs.Answer.{Answer, with_reads}
 use Rattle.kmc_reads.specs.Laws.{FaultStays, EndedStay}
 use Rattle.kmc_reads.specs.Pieces.{whole_from, open_from, lines_from}
@@ -39,6 +39,7 @@ opened n Plus read front rest = (_, sym (with_none _))
 opened n Quality read front rest = (_, sym (with_none _))
 opened n FirstHeader read front rest = (_, sym (with_none _))
 opened n Name read front rest = (_, sym (with_none _))
+opened n Rest read front rest = (_, sym (with_none _))
 opened n Body read [] rest = (_, sym (with_none _))
 opened n Body read (c ∷ xs) rest = go (c == 62) refl
   where

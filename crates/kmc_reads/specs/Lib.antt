@@ -1,5 +1,6 @@
 pub mod Lines
 pub mod Answer
+pub mod Cuts
 pub mod Fastq
 pub mod Fasta
 pub mod Reads

@@ -5,7 +5,7 @@ use Rattle.kmc_reads.specs.declared.error.ReadsError.TheVariants.{BadHeader, Bad
 use Rattle.kmc_reads.specs.declared.format.Format.{Format}
 use Rattle.kmc_reads.specs.declared.format.Format.TheVariants.{Fasta, Fastq}
 use Rattle.kmc_reads.specs.declared.stage.Stage.{Stage}
-use Rattle.kmc_reads.specs.declared.stage.Stage.TheVariants.{Header, Sequence, Plus, Quality, FirstHeader, Body, Name}
+use Rattle.kmc_reads.specs.declared.stage.Stage.TheVariants.{Header, Sequence, Plus, Quality, FirstHeader, Body, Name, Rest}
 use Rattle.kmc_reads.specs.Fastq.{at_sign, plus_sign}
 use Rattle.kmc_reads.specs.Fasta.{is_header}
 use Rattle.kmc_reads.specs.Answer.{Answer, with_reads}
@@ -37,6 +37,7 @@ fault_of n FirstHeader read [] = None
 fault_of n FirstHeader read (c ∷ line) = if is_header (c ∷ line) then None else Some (BadHeader n)
 fault_of n Body read line = None
 fault_of n Name read line = None
+fault_of n Rest read line = None
 
 -- what comes after a line: blank ones may stand where a header may
 abbrev pub stage_past : Stage → List ℕ → Stage
@@ -49,6 +50,7 @@ stage_past FirstHeader [] = FirstHeader
 stage_past FirstHeader (c ∷ line) = Body
 stage_past Body line = Body
 stage_past Name line = Body
+stage_past Rest line = Body
 
 -- the open read after a line
 abbrev pub read_past : Stage → List ℕ → List ℕ → List ℕ
@@ -59,6 +61,7 @@ read_past Quality read line = []
 read_past FirstHeader read line = read
 read_past Body read line = if is_header line then [] else read ++ line
 read_past Name read line = read
+read_past Rest read line = read ++ line
 
 abbrev pub past : Spot → List ℕ → Spot
 past s line = record { number = line_past s.number 1; stage = stage_past s.stage line; read = read_past s.stage s.read line }
@@ -72,6 +75,7 @@ begun_by Quality read front = []
 begun_by FirstHeader read front = []
 begun_by Body read front = if is_header front then read ∷ [] else []
 begun_by Name read front = []
+begun_by Rest read front = []
 
 -- a whole line ends it where it is the next header, or the quality line
 abbrev pub given_by : Stage → List ℕ → List ℕ → List (List ℕ)
@@ -82,6 +86,7 @@ given_by Quality read line = read ∷ []
 given_by FirstHeader read line = []
 given_by Body read line = begun_by Body read line
 given_by Name read line = []
+given_by Rest read line = []
 
 abbrev pub or_else : Option ReadsError → Option ReadsError → Option ReadsError
 or_else None other = other
@@ -119,6 +124,7 @@ answer_at_end n Quality read = Err (Truncated n)
 answer_at_end n FirstHeader read = Ok []
 answer_at_end n Body read = Ok (read ∷ [])
 answer_at_end n Name read = Ok (read ∷ [])
+answer_at_end n Rest read = Ok (read ∷ [])
 
 abbrev pub answer_past : Option ReadsError → List (List ℕ) → Answer → Answer
 answer_past None given rest = with_reads given rest

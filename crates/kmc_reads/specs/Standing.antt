@@ -7,9 +7,10 @@ use Rattle.kmc_reads.specs.declared.error.ReadsError.{ReadsError}
 use Rattle.kmc_reads.specs.declared.format.Format.{Format}
 use Rattle.kmc_reads.specs.declared.scan.Scan.{Scan}
 use Rattle.kmc_reads.specs.declared.stage.Stage.{Stage}
-use Rattle.kmc_reads.specs.declared.stage.Stage.TheVariants.{Header, Sequence, Plus, Quality, FirstHeader, Body, Name}
+use Rattle.kmc_reads.specs.declared.stage.Stage.TheVariants.{Header, Sequence, Plus, Quality, FirstHeader, Body, Name, Rest}
 use Rattle.kmc_reads.specs.Lines.{line_feed, carriage_return}
 use Rattle.kmc_reads.specs.Answer.{with_reads}
+use Rattle.kmc_reads.specs.Cuts.{IsCutAnswer}
 use Rattle.kmc_reads.specs.Fasta.{is_header}
 use Rattle.kmc_reads.specs.Pieces.{whole_from, open_from, lines_from, last_line}
 use Rattle.kmc_reads.specs.Rows.{ends_from}
@@ -24,6 +25,7 @@ kept Quality line = []
 kept FirstHeader line = []
 kept Body line = line
 kept Name line = []
+kept Rest line = line
 
 -- rows that lie one behind the other, before these bytes
 pub record Lies (rows : List (List ℕ)) (behind : List ℕ) (v : Scan) : Type 0 where
@@ -46,6 +48,17 @@ pub record At (rows : List (List ℕ)) (spot : Spot) (front : List ℕ) (v : Sca
   pub held : v.place.held ≡ ends_with_byte carriage_return front
   pub settled : begun_by spot.stage spot.read front ≡ []
 
+-- the symbols of the open read that can be handed out before it ends: those of a FASTA read
+abbrev pub open_symbols : Stage → List ℕ → List ℕ → List ℕ
+open_symbols Header read content = []
+open_symbols Sequence read content = []
+open_symbols Plus read content = []
+open_symbols Quality read content = []
+open_symbols FirstHeader read content = []
+open_symbols Body read content = read ++ content
+open_symbols Name read content = []
+open_symbols Rest read content = read ++ content
+
 -- the scan stands somewhere in a text
 pub record IsSomewhere (v : Scan) : Type 0 where
   pub rows : List (List ℕ)
@@ -58,6 +71,11 @@ pub record Leads (s : Spot) (front p : List ℕ) (more : List (List ℕ)) (t : S
   pub fault : (rest : List ℕ) → fault_from s (whole_from front (p ++ rest)) ≡ fault_from t (whole_from left rest)
   pub ended : (rest : List ℕ) → ended_from s (whole_from front (p ++ rest)) (open_from front (p ++ rest)) ≡ more ++ ended_from t (whole_from left rest) (open_from left rest)
   pub reads : (rest : List ℕ) → reads_from s (lines_from front (p ++ rest)) ≡ with_reads more (reads_from t (lines_from left rest))
+
+-- the same where reads may be cut in pieces that overlap by so many symbols
+pub record LeadsCut (overlap : ℕ) (s : Spot) (front p : List ℕ) (more : List (List ℕ)) (t : Spot) (left : List ℕ) : Type 0 where
+  pub fault : (rest : List ℕ) → fault_from s (whole_from front (p ++ rest)) ≡ fault_from t (whole_from left rest)
+  pub reads : (rest : List ℕ) → IsCutAnswer overlap (reads_from s (lines_from front (p ++ rest))) (with_reads more (reads_from t (lines_from left rest)))
 
 -- the bytes p end a line that has this fault, whatever follows
 abbrev pub HasFault : Spot → List ℕ → List ℕ → ReadsError → Type 0
@@ -108,6 +126,15 @@ pub record EndsText (rows : List (List ℕ)) (spot : Spot) (front : List ℕ) (v
   pub behind : List ℕ
   pub lies : Lies (rows ++ more) behind v
 
+-- the scan handed out its rows and symbols of the open read, and stands as if that read began with the last of these
+pub record Hands (overlap : ℕ) (rows : List (List ℕ)) (spot : Spot) (front : List ℕ) (reads : List (List ℕ)) (v : Scan) : Type 0 where
+  pub more : List (List ℕ)
+  pub next : Spot
+  pub left : List ℕ
+  pub given : reads ≡ rows ++ more
+  pub leads : LeadsCut overlap spot front [] more next left
+  pub stands : At [] next left v
+
 -- the buffers and the place are the same
 pub record IsAgain (old new : Scan) : Type 0 where
   pub bytes : new.bytes.items ≡ old.bytes.items
@@ -125,6 +152,15 @@ pub record StandsAt (format : Format) (text : List ℕ) (taken : List (List ℕ)
   pub spot : Spot
   pub front : List ℕ
   pub leads : Leads (first_spot format) [] text (taken ++ rows) spot front
+  pub stands : At rows spot front v.scan
+  pub sound : v.refusal ≡ None
+
+-- the same of a feeder that may have handed out open reads in pieces: these reads and pieces were taken
+pub record StandsCut (overlap : ℕ) (format : Format) (text : List ℕ) (taken : List (List ℕ)) (v : FeederState) : Type 0 where
+  pub rows : List (List ℕ)
+  pub spot : Spot
+  pub front : List ℕ
+  pub leads : LeadsCut overlap (first_spot format) [] text (taken ++ rows) spot front
   pub stands : At rows spot front v.scan
   pub sound : v.refusal ≡ None
 

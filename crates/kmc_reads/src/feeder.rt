@@ -1,9 +1,11 @@
 //! A text in pieces.
 ghost use Rattle.std.specs.Prelude.{◌≡◌, ◌≢◌, ℕ, ◌+◌, List, [], ◌++◌, length, IfOk, IfErr, OnOk, OnErr, IsErrOf, Ok, Err, None};
+ghost use Rattle.std.specs.Io.BufRead.{strip_last};
 ghost use Rattle.std.specs.List.{concat};
 ghost use Rattle.kmc_reads.specs.Reads.{reads_of};
 ghost use Rattle.kmc_reads.specs.Stages.{fault, ended};
-ghost use Rattle.kmc_reads.specs.Standing.{StandsAt, Refuses};
+ghost use Rattle.kmc_reads.specs.Cuts.{AreCut};
+ghost use Rattle.kmc_reads.specs.Standing.{StandsAt, StandsCut, IsSomewhere, Refuses, open_symbols};
 
 use crate::error::ReadsError;
 use crate::format::Format;
@@ -36,7 +38,8 @@ impl Model for Feeder {
 impl Feeder {
     /// A feeder at the empty text.
     pub fn new(alloc: Global, format: Format) -> Feeder
-        ensures { StandsAt format [] [] result }
+        ensures stands { StandsAt format [] [] result }
+        ensures cut { (overlap : ℕ) → StandsCut overlap format [] [] result }
     {
         Feeder {
             scan: Scan::new(alloc, format),
@@ -52,6 +55,11 @@ impl Feeder {
         ensures refused { (format : Format) (text : List ℕ) (taken : List (List ℕ)) → StandsAt format text taken self.old → IfErr result (λ e. e ≢ ReadsError.Memory → (fault format (text ++ piece.now) ≡ Some e) × Refuses e self.new) }
         ensures memory { (format : Format) (text : List ℕ) (taken : List (List ℕ)) → StandsAt format text taken self.old → IsErrOf result ReadsError.Memory → StandsAt format text taken self.new }
         ensures again { (e : ReadsError) → Refuses e self.old → (result ≡ Err e) × (self.new ≡ self.old) }
+
+        // The same where open reads were handed out in pieces.
+        ensures cut { (overlap : ℕ) (format : Format) (text : List ℕ) (taken : List (List ℕ)) → StandsCut overlap format text taken self.old → OnOk result (StandsCut overlap format (text ++ piece.now) taken self.new) }
+        ensures cut_refused { (overlap : ℕ) (format : Format) (text : List ℕ) (taken : List (List ℕ)) → StandsCut overlap format text taken self.old → IfErr result (λ e. e ≢ ReadsError.Memory → (fault format (text ++ piece.now) ≡ Some e) × Refuses e self.new) }
+        ensures cut_memory { (overlap : ℕ) (format : Format) (text : List ℕ) (taken : List (List ℕ)) → StandsCut overlap format text taken self.old → IsErrOf result ReadsError.Memory → StandsCut overlap format text taken self.new }
     {
         if let Some(e) = self.refusal {
             return Err(e);
@@ -93,6 +101,25 @@ impl Feeder {
         self.scan.take(alloc)
     }
 
+    /// Hands out the reads that have ended and were not taken yet and, of a FASTA read that is open, its symbols so far as
+    /// a piece. The last `overlap` of these stay: the next piece of this read, or its end, begins with them. So a sequence of any
+    /// length passes in little memory. Where no more symbols are open, or a carriage return came last, it is [`Feeder::take`],
+    /// and so it is for FASTQ, where the length of a read is wanted for its quality line.
+    pub fn take_open(&mut self, alloc: Global, overlap: usize) -> Result<Reads, AllocError>
+        ensures stands { (format : Format) (text : List ℕ) (taken : List (List ℕ)) → StandsCut overlap format text taken self.old → IfOk result (λ reads. StandsCut overlap format text (taken ++ reads) self.new) }
+        ensures memory { (format : Format) (text : List ℕ) (taken : List (List ℕ)) → StandsCut overlap format text taken self.old → OnErr result (StandsCut overlap format text taken self.new) }
+        ensures refused { (e : ReadsError) → Refuses e self.old → Refuses e self.new }
+    {
+        self.scan.take_open(alloc, overlap)
+    }
+
+    /// How many symbols of the open read [`Feeder::take_open`] can hand out.
+    pub fn open_symbols(&self) -> usize
+        ensures { (at : IsSomewhere self.now.scan) → result ≡ length (open_symbols at.spot.stage at.spot.read (strip_last 13 at.front)) }
+    {
+        self.scan.open()
+    }
+
     /// Ends the text: the reads that were not taken yet, or the refusal of the first faulty line, with
     /// the feeder.
     pub fn finish(self) -> Result<Reads, (ReadsError, Feeder)>
@@ -100,6 +127,10 @@ impl Feeder {
         ensures refused { (format : Format) (text : List ℕ) (taken : List (List ℕ)) → StandsAt format text taken self → IfErr result (λ p. p.0 ≢ ReadsError.Memory → (reads_of format text ≡ Err p.0) × Refuses p.0 p.1) }
         ensures memory { (format : Format) (text : List ℕ) (taken : List (List ℕ)) → StandsAt format text taken self → IfErr result (λ p. p.0 ≡ ReadsError.Memory → StandsAt format text taken p.1) }
         ensures again { (e : ReadsError) → Refuses e self → result ≡ Err (e, self) }
+
+        // The same where open reads were handed out in pieces.
+        ensures cut { (overlap : ℕ) (format : Format) (text : List ℕ) (taken : List (List ℕ)) → StandsCut overlap format text taken self → IfOk result (λ reads. (whole : List (List ℕ)) × (reads_of format text ≡ Ok whole) × AreCut overlap whole (taken ++ reads)) }
+        ensures cut_refused { (overlap : ℕ) (format : Format) (text : List ℕ) (taken : List (List ℕ)) → StandsCut overlap format text taken self → IfErr result (λ p. p.0 ≢ ReadsError.Memory → (reads_of format text ≡ Err p.0) × Refuses p.0 p.1) }
     {
         let mut feeder = self;
         if let Some(e) = feeder.refusal {

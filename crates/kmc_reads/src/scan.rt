@@ -1,12 +1,12 @@
 //! One pass over a text that comes in pieces.
-ghost use Rattle.std.specs.Prelude.{true, false, ◌≡◌, ◌≢◌, ℕ, ◌+◌, ◌<◌, ◌≤◌, List, [], ◌∷◌, ◌++◌, length, take, IfOk, IfErr, OnOk, OnErr, Ok, Err, Some, None};
+ghost use Rattle.std.specs.Prelude.{true, false, ◌≡◌, ◌≢◌, ◌⊎◌, ℕ, ◌+◌, ◌<◌, ◌≤◌, List, [], ◌∷◌, ◌++◌, length, take, IfOk, IfErr, OnOk, OnErr, Ok, Err, Some, None};
 ghost use Rattle.std.specs.Io.BufRead.{strip_last};
 ghost use Rattle.std.specs.List.{concat};
-ghost use Rattle.kmc_reads.specs.declared.stage.Stage.TheVariants.{Body, Name};
+ghost use Rattle.kmc_reads.specs.declared.stage.Stage.TheVariants.{Body, Name, Rest};
 ghost use Rattle.kmc_reads.specs.Answer.{with_reads};
 ghost use Rattle.kmc_reads.specs.Pieces.{last_line};
 ghost use Rattle.kmc_reads.specs.Stages.{Spot, first_stage, first_spot, fault_of, past, begun_by, given_by, answer_at_end, reads_from};
-ghost use Rattle.kmc_reads.specs.Standing.{Lies, Keeps, At, IsSomewhere, Goes, HasFault, HasNoFeed, IsName, EndsLine, EndsRead, EndsText, IsAgain, kept};
+ghost use Rattle.kmc_reads.specs.Standing.{Lies, Keeps, At, IsSomewhere, Goes, HasFault, HasNoFeed, IsName, EndsLine, EndsRead, EndsText, Hands, IsAgain, kept, open_symbols};
 
 use crate::error::ReadsError;
 use crate::format::Format;
@@ -43,6 +43,21 @@ pub struct Scan {
     place: Place,
 }
 
+/// The place once all symbols of the open read were handed out: what comes of the open line is the rest of a line.
+fn emptied(place: Place) -> Place
+    ensures between { place.length ≡ 0 → result.stage ≡ place.stage }
+    ensures inside { 0 < place.length → result.stage ≡ Rest }
+    ensures rest { (result.number ≡ place.number) × (result.length ≡ 0) × (result.held ≡ place.held) × (result.start ≡ 0) }
+{
+    let mut next = place;
+    if place.length > 0 {
+        next.stage = Stage::Rest;
+        next.length = 0;
+    }
+    next.start = 0;
+    next
+}
+
 impl Scan {
     /// A scan at the empty text.
     pub fn new(alloc: Global, format: Format) -> Scan
@@ -70,7 +85,7 @@ impl Scan {
         ensures ends { self.new.ends.items ≡ self.old.ends.items }
     {
         match self.place.stage {
-            Stage::Sequence | Stage::Body => self.bytes.extend_from_slice(content)?,
+            Stage::Sequence | Stage::Body | Stage::Rest => self.bytes.extend_from_slice(content)?,
             _ => {}
         }
         if self.place.length == 0 && !content.is_empty() {
@@ -202,7 +217,7 @@ impl Scan {
             Stage::Plus => Stage::Quality,
             Stage::Quality => Stage::Header,
             Stage::FirstHeader if self.place.length == 0 => Stage::FirstHeader,
-            Stage::FirstHeader | Stage::Body | Stage::Name => Stage::Body,
+            Stage::FirstHeader | Stage::Body | Stage::Name | Stage::Rest => Stage::Body,
         };
         self.place.stage = stage;
         self.place.number = self.place.number.saturating_add(1);
@@ -300,7 +315,7 @@ impl Scan {
         match self.place.stage {
             Stage::Header => Ok(()),
             Stage::FirstHeader => Ok(()),
-            Stage::Body | Stage::Name => {
+            Stage::Body | Stage::Name | Stage::Rest => {
                 self.close()?;
                 Ok(())
             }
@@ -354,6 +369,51 @@ impl Scan {
         let ends = mem::replace(&mut self.ends, Vec::new(alloc));
         self.place.start = 0;
         Ok(Reads::of_rows(bytes, ends))
+    }
+
+    /// Hands out the reads that have ended and, as a last one, the symbols of the open read, of which the last ones stay.
+    fn cut(&mut self, alloc: Global, overlap: usize) -> Result<Reads, AllocError>
+        requires somewhere { IsSomewhere self.old }
+        requires stage { (self.old.place.stage ≡ Body) ⊎ (self.old.place.stage ≡ Rest) }
+        requires held { self.old.place.held ≡ false }
+        requires open { self.old.place.start + overlap ≤ length self.old.bytes.items }
+        ensures taken { (rows : List (List ℕ)) (spot : Spot) (front : List ℕ) → At rows spot front self.old → IfOk result (λ reads. Hands overlap rows spot front reads self.new) }
+        ensures again { OnErr result (IsAgain self.old self.new) }
+    {
+        let kept = Vec::from_slice(alloc, &self.bytes[self.bytes.len() - overlap..])?;
+        match self.ends.push(self.bytes.len()) {
+            Ok(_) => {}
+            Err(e) => return Err(AllocError::from(e)),
+        }
+        let bytes = mem::replace(&mut self.bytes, kept);
+        let ends = mem::replace(&mut self.ends, Vec::new(alloc));
+        self.place = emptied(self.place);
+        Ok(Reads::of_rows(bytes, ends))
+    }
+
+    /// Hands out the reads that have ended and, where more than `overlap` symbols of a FASTA read are open and no
+    /// carriage return came last, these as a piece, whose last `overlap` symbols stay open.
+    pub fn take_open(&mut self, alloc: Global, overlap: usize) -> Result<Reads, AllocError>
+        requires { IsSomewhere self.old }
+        ensures taken { (rows : List (List ℕ)) (spot : Spot) (front : List ℕ) → At rows spot front self.old → IfOk result (λ reads. Hands overlap rows spot front reads self.new) }
+        ensures again { OnErr result (IsAgain self.old self.new) }
+    {
+        let symbols = matches!(self.place.stage, Stage::Body | Stage::Rest);
+        if !symbols || self.place.held || self.bytes.len() - self.place.start <= overlap {
+            return self.take(alloc);
+        }
+        self.cut(alloc, overlap)
+    }
+
+    /// How many symbols of the open read can be handed out.
+    pub fn open(&self) -> usize
+        requires { IsSomewhere self.now }
+        ensures { (rows : List (List ℕ)) (spot : Spot) (front : List ℕ) → At rows spot front self.now → result ≡ length (open_symbols spot.stage spot.read (strip_last 13 front)) }
+    {
+        match self.place.stage {
+            Stage::Body | Stage::Rest => self.bytes.len() - self.place.start,
+            _ => 0,
+        }
     }
 
     /// How many reads have ended.

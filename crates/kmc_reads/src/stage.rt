@@ -21,6 +21,8 @@ pub enum Stage {
     Body,
     /// FASTA: a header after the first, whose first byte has come.
     Name,
+    /// FASTA: the rest of a line of symbols, whose first ones were handed out.
+    Rest,
 }
 
 impl Stage {

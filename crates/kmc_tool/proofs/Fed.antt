@@ -1,5 +1,5 @@
 -- Bytes that a feeder took, a read after the other.
-use Rattle.std.proofs.Common.{◌≡◌, ◌⊎◌, inl, inr, ℕ, zero, suc, ◌+◌, ◌<◌, ◌≤◌, Bool, true, false, List, [], ◌++◌, Option, Some, None, Result, Ok, Err, refl, sym, ap, subst, ◌∙◌, append_assoc, append-nil, length-append, arith}
+use Rattle.std.proofs.Common.{◌≡◌, ◌⊎◌, inl, inr, ℕ, zero, suc, ◌+◌, ◌-◌, ◌<◌, ◌≤◌, Bool, true, false, List, [], ◌++◌, Option, Some, None, Result, Ok, Err, refl, sym, ap, subst, ◌∙◌, append_assoc, append-nil, length-append, arith}
 use Rattle.std.specs.List.{flat_map}
 use Rattle.std.proofs.lemmas.Grind.{flat_map-append}
 use Rattle.kmc_base.specs.Pieces.{pieces}
@@ -9,7 +9,7 @@ use Rattle.kmc_reads.specs.declared.format.Format.{Format}
 use Rattle.kmc_reads.specs.Laws.{FaultStays}
 use Rattle.kmc_reads.specs.Reads.{reads_of}
 use Rattle.kmc_reads.specs.Stages.{fault}
-use Rattle.kmc_reads.specs.Standing.{FeederState, StandsAt}
+use Rattle.kmc_reads.specs.Standing.{FeederState, StandsCut}
 use Rattle.kmc_record.specs.Shapes.{Sizes}
 use Rattle.kmc_store.specs.Bins.{BinList, Merged}
 use Rattle.kmc_store.specs.Holds.{HoldsReads}
@@ -29,28 +29,28 @@ consumes_on (Some all) (Some rest) None xs ys a b = absurd b
 consumes_on (Some all) (Some rest) (Some left) xs ys a b = a ∙ ap (λ t. xs ++ t) b ∙ sym (append_assoc xs ys left)
 
 -- nothing was read yet
-pub fed_none : (format : Format) (old : Option (List ℕ)) (n : ℕ) (text : List ℕ) (taken : List (List ℕ)) (v : FeederState) → StandsAt format text taken v → IsFed format old old n n text taken v
-fed_none format old n text taken v s = record {
+pub fed_none : (overlap : ℕ) (format : Format) (old : Option (List ℕ)) (n : ℕ) (text : List ℕ) (taken : List (List ℕ)) (v : FeederState) → StandsCut overlap format text taken v → IsFed overlap format old old n n text taken v
+fed_none overlap format old n text taken v s = record {
   bytes = [];
   given = consumes_none old;
   many = omega arith;
-  stands = subst (λ t. StandsAt format t taken v) (sym (append-nil text)) s;
+  stands = subst (λ t. StandsCut overlap format t taken v) (sym (append-nil text)) s;
 }
 
 -- more was read
-pub fed_on : (format : Format) (old mid new : Option (List ℕ)) (a b c : ℕ) (text : List ℕ) (taken : List (List ℕ)) (v w : FeederState) (f : IsFed format old mid a b text taken v)
-    → IsFed format mid new b c (text ++ f.bytes) taken w → IsFed format old new a c text taken w
-fed_on format old mid new a b c text taken v w f g = record {
+pub fed_on : (overlap : ℕ) (format : Format) (old mid new : Option (List ℕ)) (a b c : ℕ) (text : List ℕ) (taken : List (List ℕ)) (v w : FeederState) (f : IsFed overlap format old mid a b text taken v)
+    → IsFed overlap format mid new b c (text ++ f.bytes) taken w → IsFed overlap format old new a c text taken w
+fed_on overlap format old mid new a b c text taken v w f g = record {
   bytes = f.bytes ++ g.bytes;
   given = consumes_on old mid new f.bytes g.bytes f.given g.given;
   many = omega (arith, f.many, g.many, length-append f.bytes g.bytes);
-  stands = subst (λ t. StandsAt format t taken w) (append_assoc text f.bytes g.bytes) g.stands;
+  stands = subst (λ t. StandsCut overlap format t taken w) (append_assoc text f.bytes g.bytes) g.stands;
 }
 
 -- and refused
-pub refused_on : (format : Format) (old mid new : Option (List ℕ)) (a b : ℕ) (text : List ℕ) (taken : List (List ℕ)) (v : FeederState) (e : ReadsError) (f : IsFed format old mid a b text taken v)
+pub refused_on : (overlap : ℕ) (format : Format) (old mid new : Option (List ℕ)) (a b : ℕ) (text : List ℕ) (taken : List (List ℕ)) (v : FeederState) (e : ReadsError) (f : IsFed overlap format old mid a b text taken v)
     → IsRefused format mid new (text ++ f.bytes) e → IsRefused format old new text e
-refused_on format old mid new a b text taken v e f r =
+refused_on overlap format old mid new a b text taken v e f r =
     let same = append_assoc text f.bytes r.bytes in
     record {
       bytes = f.bytes ++ r.bytes;
@@ -69,14 +69,14 @@ refused_for_good format old new text bytes e law given faulty = record {
 }
 
 -- whatever was answered after that
-pub fed_by : (format : Format) (old mid new : Option (List ℕ)) (a b c : ℕ) (text : List ℕ) (taken : List (List ℕ)) (v w : FeederState) (r : Result Bool RunError) (f : IsFed format old mid a b text taken v)
-    → IsFedBy format mid new b c (text ++ f.bytes) taken w r → IsFedBy format old new a c text taken w r
-fed_by format old mid new a b c text taken v w (Ok more) f g = fed_on format old mid new a b c text taken v w f g
-fed_by format old mid new a b c text taken v w (Err Memory) f g = tt
-fed_by format old mid new a b c text taken v w (Err Read) f g = tt
-fed_by format old mid new a b c text taken v w (Err Write) f g = tt
-fed_by format old mid new a b c text taken v w (Err (Input e)) f g = refused_on format old mid new a b text taken v e f g
-fed_by format old mid new a b c text taken v w (Err TooLong) f g = fed_on format old mid new a b c text taken v w f g
+pub fed_by : (overlap : ℕ) (format : Format) (old mid new : Option (List ℕ)) (a b c : ℕ) (text : List ℕ) (taken : List (List ℕ)) (v w : FeederState) (r : Result Bool RunError) (f : IsFed overlap format old mid a b text taken v)
+    → IsFedBy overlap format mid new b c (text ++ f.bytes) taken w r → IsFedBy overlap format old new a c text taken w r
+fed_by overlap format old mid new a b c text taken v w (Ok more) f g = fed_on overlap format old mid new a b c text taken v w f g
+fed_by overlap format old mid new a b c text taken v w (Err Memory) f g = tt
+fed_by overlap format old mid new a b c text taken v w (Err Read) f g = tt
+fed_by overlap format old mid new a b c text taken v w (Err Write) f g = tt
+fed_by overlap format old mid new a b c text taken v w (Err (Input e)) f g = refused_on overlap format old mid new a b text taken v e f g
+fed_by overlap format old mid new a b c text taken v w (Err TooLong) f g = fed_on overlap format old mid new a b c text taken v w f g
 
 -- a read that was counted gave a byte at least
 pub reads_many : (n m before after : ℕ) → n ≡ m → (0 < n → after ≡ before + 1) → (n ≡ 0 → after ≡ before) → after ≤ before + m
@@ -87,12 +87,12 @@ reads_many (suc n) m before after same more none = let e = more (omega arith) in
 pub record IsUnderWay (old new : Option (List ℕ)) (before after failed fails reads : ℕ) (v w : FeederState) : Type 0 where
   pub kept : fails ≡ failed
   pub many : before + reads ≤ after
-  pub fed : (format : Format) (text : List ℕ) (taken : List (List ℕ)) → StandsAt format text taken v → IsFed format old new before after text taken w
+  pub fed : (overlap : ℕ) (format : Format) (text : List ℕ) (taken : List (List ℕ)) → StandsCut overlap format text taken v → IsFed overlap format old new before after text taken w
 
 -- what the rounds before one did: the bins hold the pieces of the reads that were taken
 pub record AreStored (format : Format) (shape : Sizes) (limit : ℕ) (old new : Option (List ℕ)) (before after : ℕ) (bins : BinList) (v : FeederState) : Type 0 where
   pub taken : List (List ℕ)
-  pub fed : IsFed format old new before after [] taken v
+  pub fed : IsFed (shape.k - 1) format old new before after [] taken v
   pub holds : HoldsPieces shape limit taken bins.bodies
 
 -- the numbers of a round, whether the text goes on or not
@@ -115,9 +115,9 @@ counts_on Write most before mid after failed between fails less same c = c
 counts_on (Input e) most before mid after failed between fails less same c = (c.0 ∙ same, omega (arith, c.1, less), c.2)
 counts_on TooLong most before mid after failed between fails less same c = (c.0 ∙ same, omega (arith, c.1, less), c.2)
 
-module _ (format : Format) (most : ℕ) (old new : Option (List ℕ)) where
+module _ (overlap : ℕ) (format : Format) (most : ℕ) (old new : Option (List ℕ)) where
   -- a refusal of the reader or the feeder
-  pub fed_cause : (before after failed fails : ℕ) (taken : List (List ℕ)) (v : FeederState) (e : RunError) → IsFedBy format old new before after [] taken v (Err e)
+  pub fed_cause : (before after failed fails : ℕ) (taken : List (List ℕ)) (v : FeederState) (e : RunError) → IsFedBy overlap format old new before after [] taken v (Err e)
       → AreCountsOf (before + most) before after failed fails e → IsInputError format most old new e
   fed_cause before after failed fails taken v Memory f c = tt
   fed_cause before after failed fails taken v Read f c = tt
@@ -133,7 +133,7 @@ module _ (format : Format) (most : ℕ) (old new : Option (List ℕ)) where
   last_counts bound before after failed fails text (Input e) same least below h = (same, least, below)
   last_counts bound before after failed fails text TooLong same least below h = absurd h
 
-  pub last_input : (before after : ℕ) (taken : List (List ℕ)) (v : FeederState) (e : RunError) (f : IsFed format old new before after [] taken v) → IsAtEnd new
+  pub last_input : (before after : ℕ) (taken : List (List ℕ)) (v : FeederState) (e : RunError) (f : IsFed overlap format old new before after [] taken v) → IsAtEnd new
       → IsLastError format f.bytes e → IsInputError format most old new e
   last_input before after taken v Memory f end h = tt
   last_input before after taken v Read f end h = tt
@@ -142,8 +142,8 @@ module _ (format : Format) (most : ℕ) (old new : Option (List ℕ)) where
   last_input before after taken v TooLong f end h = absurd h
 
 -- the reads that were ended were taken
-abbrev pub taken_fed : (format : Format) (old new : Option (List ℕ)) (a b : ℕ) (taken more : List (List ℕ)) (v w : FeederState) (f : IsFed format old new a b [] taken v) → StandsAt format f.bytes (taken ++ more) w → IsFed format old new a b [] (taken ++ more) w
-taken_fed format old new a b taken more v w f s = record { bytes = f.bytes; given = f.given; many = f.many; stands = s }
+abbrev pub taken_fed : (overlap : ℕ) (format : Format) (old new : Option (List ℕ)) (a b : ℕ) (taken more : List (List ℕ)) (v w : FeederState) (f : IsFed overlap format old new a b [] taken v) → StandsCut overlap format f.bytes (taken ++ more) w → IsFed overlap format old new a b [] (taken ++ more) w
+taken_fed overlap format old new a b taken more v w f s = record { bytes = f.bytes; given = f.given; many = f.many; stands = s }
 
 -- bins that hold the pieces of reads, merged with bins that hold those of more, hold the pieces of both
 pub both_held : MergedBinsHoldBoth → (shape : Sizes) (limit : ℕ) (reads more : List (List ℕ)) (old other new : BinList)

@@ -1,7 +1,8 @@
 -- Laws of counting by bins.
-use Rattle.std.specs.Prelude.{◌≡◌, ℕ, ◌≤◌, List, map}
+use Rattle.std.specs.Prelude.{◌≡◌, ℕ, ◌-◌, ◌≤◌, List, map}
 use Rattle.std.specs.List.{AllZip}
 use Rattle.kmc_base.specs.declared.strands.Strands.{Strands}
+use Rattle.kmc_reads.specs.Cuts.{AreCut}
 use Rattle.kmc_record.specs.Shapes.{Sizes}
 use Rattle.kmc_record.specs.Record.{IsBodyOf}
 use Rattle.kmc_record.specs.RecordWords.{record_keys}
@@ -15,6 +16,11 @@ abbrev pub HeldReadsAreCounted : Type 0
 HeldReadsAreCounted = (strands : Strands) (shape : Sizes) (reads bodies : List (List ℕ)) (sss : List (List (List ℕ)))
     → 1 ≤ shape.k → 1 ≤ shape.n → HoldsReads shape reads bodies → AllZip (IsBodyOf shape.k) sss bodies
     → (x : List ℕ) → occurrences (joined (map (record_keys strands shape.k) sss)) x ≡ count_of strands shape.k reads x
+
+-- reads, and the same cut in pieces that overlap by k - 1 symbols, have one direct count
+abbrev pub CutReadsAreCounted : Type 0
+CutReadsAreCounted = (strands : Strands) (k : ℕ) (reads cuts : List (List ℕ)) → 1 ≤ k → AreCut (k - 1) reads cuts
+    → (x : List ℕ) → count_of strands k cuts x ≡ count_of strands k reads x
 
 -- the keys of different bins differ
 abbrev pub BinsShareNoKey : Type 0

@@ -1,12 +1,13 @@
 -- A text that is read in rounds.
-use Rattle.std.specs.Prelude.{◌≡◌, ◌⊎◌, ℕ, ◌+◌, ◌<◌, ◌≤◌, Bool, true, false, List, [], ◌++◌, length, Option, Result, Ok, Err}
+use Rattle.std.specs.Prelude.{◌≡◌, ◌⊎◌, ℕ, ◌+◌, ◌-◌, ◌<◌, ◌≤◌, Bool, true, false, List, [], ◌++◌, length, Option, Result, Ok, Err}
 use Rattle.std.specs.List.{flat_map}
 use Rattle.std.specs.Io.KnownBytes.{Consumes, IsAtEnd}
 use Rattle.kmc_count.specs.Device.{GaveAll}
 use Rattle.kmc_reads.specs.declared.error.ReadsError.{ReadsError}
 use Rattle.kmc_reads.specs.declared.format.Format.{Format}
+use Rattle.kmc_reads.specs.Cuts.{AreCut}
 use Rattle.kmc_reads.specs.Reads.{reads_of}
-use Rattle.kmc_reads.specs.Standing.{FeederState, StandsAt}
+use Rattle.kmc_reads.specs.Standing.{FeederState, StandsCut}
 use Rattle.kmc_base.specs.Pieces.{pieces}
 use Rattle.kmc_record.specs.Shapes.{Sizes}
 use Rattle.kmc_store.specs.Bins.{BinList}
@@ -14,12 +15,12 @@ use Rattle.kmc_store.specs.Holds.{HoldsReads}
 use Rattle.kmc_tool.specs.declared.error.RunError.{RunError}
 use Rattle.kmc_tool.specs.declared.error.RunError.TheVariants.{Memory, Read, Write, Input, TooLong}
 
--- the reader gave bytes, at least one a read that was counted, and the feeder, which stood at this text, took them
-pub record IsFed (format : Format) (old new : Option (List ℕ)) (before after : ℕ) (text : List ℕ) (taken : List (List ℕ)) (v : FeederState) : Type 0 where
+-- the reader gave bytes, at least one a read that was counted, and the feeder, which stood at this text, took them: of its reads, some maybe cut, these were taken
+pub record IsFed (overlap : ℕ) (format : Format) (old new : Option (List ℕ)) (before after : ℕ) (text : List ℕ) (taken : List (List ℕ)) (v : FeederState) : Type 0 where
   pub bytes : List ℕ
   pub given : Consumes old new bytes
   pub many : after ≤ before + length bytes
-  pub stands : StandsAt format (text ++ bytes) taken v
+  pub stands : StandsCut overlap format (text ++ bytes) taken v
 
 -- the reader gave bytes with which the text is refused: whatever follows, or since nothing does
 pub record IsRefused (format : Format) (old new : Option (List ℕ)) (text : List ℕ) (e : ReadsError) : Type 0 where
@@ -29,13 +30,13 @@ pub record IsRefused (format : Format) (old new : Option (List ℕ)) (text : Lis
   pub for_good : ((rest : List ℕ) → reads_of format ((text ++ bytes) ++ rest) ≡ Err e) ⊎ IsAtEnd new
 
 -- what was fed, by the answer: all that was read, or what is refused with it
-abbrev pub IsFedBy : Format → Option (List ℕ) → Option (List ℕ) → ℕ → ℕ → List ℕ → List (List ℕ) → FeederState → Result Bool RunError → Type 0
-IsFedBy format old new before after text taken v (Ok more) = IsFed format old new before after text taken v
-IsFedBy format old new before after text taken v (Err Memory) = Unit {0}
-IsFedBy format old new before after text taken v (Err Read) = Unit {0}
-IsFedBy format old new before after text taken v (Err Write) = Unit {0}
-IsFedBy format old new before after text taken v (Err (Input e)) = IsRefused format old new text e
-IsFedBy format old new before after text taken v (Err TooLong) = IsFed format old new before after text taken v
+abbrev pub IsFedBy : ℕ → Format → Option (List ℕ) → Option (List ℕ) → ℕ → ℕ → List ℕ → List (List ℕ) → FeederState → Result Bool RunError → Type 0
+IsFedBy overlap format old new before after text taken v (Ok more) = IsFed overlap format old new before after text taken v
+IsFedBy overlap format old new before after text taken v (Err Memory) = Unit {0}
+IsFedBy overlap format old new before after text taken v (Err Read) = Unit {0}
+IsFedBy overlap format old new before after text taken v (Err Write) = Unit {0}
+IsFedBy overlap format old new before after text taken v (Err (Input e)) = IsRefused format old new text e
+IsFedBy overlap format old new before after text taken v (Err TooLong) = IsFed overlap format old new before after text taken v
 
 -- how many reads gave bytes, at most so many, and how many calls failed, by the cause of a refusal
 abbrev pub AreCountsOf : ℕ → ℕ → ℕ → ℕ → ℕ → RunError → Type 0
@@ -55,14 +56,16 @@ AreCounts most before after failed fails (Err e) = AreCountsOf most before after
 abbrev pub HoldsPieces : Sizes → ℕ → List (List ℕ) → List (List ℕ) → Type 0
 HoldsPieces shape limit reads bodies = HoldsReads shape (flat_map (pieces shape.k limit) reads) bodies
 
--- the bins hold the reads of all that the reader gave
+-- the bins hold the reads of all that the reader gave, of which some were cut while they came
 pub record HoldsInput (format : Format) (shape : Sizes) (limit : ℕ) (old new : Option (List ℕ)) (bins : BinList) : Type 0 where
   pub bytes : List ℕ
   pub given : GaveAll old new bytes
   pub reads : List (List ℕ)
   pub are_reads : reads_of format bytes ≡ Ok reads
+  pub cuts : List (List ℕ)
+  pub cut : AreCut (shape.k - 1) reads cuts
   pub shaped : bins.shape ≡ shape
-  pub holds : HoldsPieces shape limit reads bins.bodies
+  pub holds : HoldsPieces shape limit cuts bins.bodies
 
 -- why the last round gave no bins
 abbrev pub IsLastError : Format → List ℕ → RunError → Type 0

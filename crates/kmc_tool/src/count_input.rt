@@ -7,7 +7,7 @@ ghost use Rattle.kmc_tool.specs.Rounds.{AreCountsOf, IsInputError};
 ghost use Rattle.kmc_tool.specs.Run.{IsDumpOfInput};
 
 use crate::error::RunError;
-use crate::laws::held_reads_are_counted;
+use crate::laws::{cut_reads_are_counted, held_reads_are_counted};
 use crate::params::Params;
 use crate::rounds::bins_of_input;
 use crate::stage_two::stage_two;
@@ -45,6 +45,7 @@ pub fn count_input<T: Threads + Wait + Sync, R: Read, G: Gate + Sync>(
     ensures cause { IfErr result (IsInputError params.now.format max_reads (R.remaining reader.old.inner) (R.remaining reader.new.inner)) }
 {
     held_reads_are_counted();
+    cut_reads_are_counted();
     pieces_are_counted_as_reads();
     let bins = match bins_of_input(rt, alloc, reader, params, gate, max_reads, PIECE_SYMBOLS) {
         Ok(bins) => bins,

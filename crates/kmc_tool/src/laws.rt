@@ -1,5 +1,5 @@
 //! Laws of counting by bins, each the contract of a function that does nothing but call other laws.
-ghost use Rattle.kmc_tool.specs.Laws.{HeldReadsAreCounted, BinsShareNoKey};
+ghost use Rattle.kmc_tool.specs.Laws.{HeldReadsAreCounted, CutReadsAreCounted, BinsShareNoKey};
 
 use kmc_base::laws::{keys_of_segments, segments_are_maximal};
 use kmc_count::laws::keys_of_reads_are_counted;
@@ -16,6 +16,11 @@ pub fn held_reads_are_counted()
     body_has_one_list();
     keys_of_reads_are_counted();
 }
+
+/// Reads and their pieces that overlap by k - 1 symbols have one direct count.
+pub fn cut_reads_are_counted()
+    ensures { CutReadsAreCounted }
+{}
 
 /// The keys of different bins differ: equal keys share a bin.
 pub fn bins_share_no_key()

@@ -2,7 +2,7 @@
 ghost use Rattle.std.specs.Prelude.{◌≡◌, ℕ, ◌+◌, ◌-◌, ◌^◌, ◌<◌, ◌≤◌, List, false, OnOk, IsErrOf, Ok};
 ghost use Rattle.std.specs.Io.KnownBytes.{IsAtEnd};
 ghost use Rattle.kmc_reads.specs.declared.format.Format.{Format};
-ghost use Rattle.kmc_reads.specs.Standing.{StandsAt};
+ghost use Rattle.kmc_reads.specs.Standing.{StandsCut};
 ghost use Rattle.kmc_tool.specs.Rounds.{IsFedBy, AreCounts};
 
 use crate::error::RunError;
@@ -23,8 +23,8 @@ fn read_and_feed<R: Read>(reader: &mut Counted<R>, feeder: &mut Feeder) -> Resul
     requires failures { reader.old.failures < 2 ^ 64 - 1 }
     requires reads { reader.old.reads < 2 ^ 64 - 1 }
     ensures counts { AreCounts (reader.old.reads + 1) reader.old.reads reader.new.reads reader.old.failures reader.new.failures result }
-    ensures fed { (format : Format) (text : List ℕ) (taken : List (List ℕ)) → StandsAt format text taken feeder.old
-        → IsFedBy format (R.remaining reader.old.inner) (R.remaining reader.new.inner) reader.old.reads reader.new.reads text taken feeder.new result }
+    ensures fed { (overlap : ℕ) (format : Format) (text : List ℕ) (taken : List (List ℕ)) → StandsCut overlap format text taken feeder.old
+        → IsFedBy overlap format (R.remaining reader.old.inner) (R.remaining reader.new.inner) reader.old.reads reader.new.reads text taken feeder.new result }
     ensures at_end { result ≡ Ok false → IsAtEnd (R.remaining reader.new.inner) }
     ensures short { IsErrOf result RunError.TooLong → ⊥ }
 {
@@ -45,7 +45,7 @@ fn read_and_feed<R: Read>(reader: &mut Counted<R>, feeder: &mut Feeder) -> Resul
     }
 }
 
-/// Reads and feeds until so many reads wait, or their symbols fill a round, or the text ends. The answer is whether
+/// Reads and feeds until so many reads wait, or their symbols or those of an open read fill a round, or the text ends. The answer is whether
 /// it goes on. No read is made once `most` of them gave bytes: then the input is too long.
 pub fn fill_round<R: Read>(
     reader: &mut Counted<R>,
@@ -56,8 +56,8 @@ pub fn fill_round<R: Read>(
     requires failures { reader.old.failures < 2 ^ 64 - 1 }
     requires reads { reader.old.reads ≤ most }
     ensures counts { AreCounts most reader.old.reads reader.new.reads reader.old.failures reader.new.failures result }
-    ensures fed { (format : Format) (text : List ℕ) (taken : List (List ℕ)) → StandsAt format text taken feeder.old
-        → IsFedBy format (R.remaining reader.old.inner) (R.remaining reader.new.inner) reader.old.reads reader.new.reads text taken feeder.new result }
+    ensures fed { (overlap : ℕ) (format : Format) (text : List ℕ) (taken : List (List ℕ)) → StandsCut overlap format text taken feeder.old
+        → IsFedBy overlap format (R.remaining reader.old.inner) (R.remaining reader.new.inner) reader.old.reads reader.new.reads text taken feeder.new result }
     ensures at_end { result ≡ Ok false → IsAtEnd (R.remaining reader.new.inner) }
 {
     for _ in 0..1u64 << 32 {
@@ -71,7 +71,10 @@ pub fn fill_round<R: Read>(
         if !more {
             return Ok(false);
         }
-        if feeder.waiting() >= reads || feeder.waiting_symbols() >= ROUND {
+        if feeder.waiting() >= reads
+            || feeder.waiting_symbols() >= ROUND
+            || feeder.open_symbols() >= ROUND
+        {
             return Ok(true);
         }
     }

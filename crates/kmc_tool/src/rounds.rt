@@ -2,8 +2,9 @@
 ghost use Rattle.std.specs.Prelude.{◌≡◌, ℕ, ◌+◌, ◌-◌, ◌^◌, ◌<◌, ◌≤◌, List, false, IfOk, IfErr, OnOk, Ok};
 ghost use Rattle.std.specs.Io.KnownBytes.{IsAtEnd};
 ghost use Rattle.kmc_reads.specs.declared.format.Format.{Format};
+ghost use Rattle.kmc_reads.specs.Cuts.{AreCut};
 ghost use Rattle.kmc_reads.specs.Reads.{reads_of};
-ghost use Rattle.kmc_reads.specs.Standing.{StandsAt};
+ghost use Rattle.kmc_reads.specs.Standing.{StandsCut};
 ghost use Rattle.kmc_tool.specs.Rounds.{IsFedBy, AreCounts, AreCountsOf, HoldsPieces, HoldsInput, IsLastError, IsInputError};
 ghost use Rattle.kmc_tool.specs.Stages.{shape_of};
 
@@ -44,8 +45,8 @@ fn feed_round<T: Threads + Wait + Sync, R: Read, G: Gate + Sync>(
     ensures shape { IfOk result.0 (λ b. b.shape ≡ shape_of dealing.now.params) }
     ensures holds { IfOk result.0 (λ b. HoldsPieces (shape_of dealing.now.params) dealing.now.limit round.now b.bodies) }
     ensures counts { AreCounts most reader.old.reads reader.new.reads reader.old.failures reader.new.failures result.1 }
-    ensures fed { (format : Format) (text : List ℕ) (taken : List (List ℕ)) → StandsAt format text taken feeder.old
-        → IsFedBy format (R.remaining reader.old.inner) (R.remaining reader.new.inner) reader.old.reads reader.new.reads text taken feeder.new result.1 }
+    ensures fed { (overlap : ℕ) (format : Format) (text : List ℕ) (taken : List (List ℕ)) → StandsCut overlap format text taken feeder.old
+        → IsFedBy overlap format (R.remaining reader.old.inner) (R.remaining reader.new.inner) reader.old.reads reader.new.reads text taken feeder.new result.1 }
     ensures at_end { result.1 ≡ Ok false → IsAtEnd (R.remaining reader.new.inner) }
 {
     let reads = round_of(&dealing.params);
@@ -59,8 +60,8 @@ fn feed_round<T: Threads + Wait + Sync, R: Read, G: Gate + Sync>(
             requires failures { reader.now.failures < 2 ^ 64 - 1 }
             requires reads { reader.now.reads ≤ most }
             ensures counts { AreCounts most reader.entry.now.reads reader.exit.now.reads reader.entry.now.failures reader.exit.now.failures result }
-            ensures fed { (format : Format) (text : List ℕ) (taken : List (List ℕ)) → StandsAt format text taken feeder.entry.now
-                → IsFedBy format (R.remaining reader.entry.now.inner) (R.remaining reader.exit.now.inner) reader.entry.now.reads reader.exit.now.reads text taken feeder.exit.now result }
+            ensures fed { (overlap : ℕ) (format : Format) (text : List ℕ) (taken : List (List ℕ)) → StandsCut overlap format text taken feeder.entry.now
+                → IsFedBy overlap format (R.remaining reader.entry.now.inner) (R.remaining reader.exit.now.inner) reader.entry.now.reads reader.exit.now.reads text taken feeder.exit.now result }
             ensures at_end { result ≡ Ok false → IsAtEnd (R.remaining reader.exit.now.inner) }
         { fill_round(reader, feeder, most, reads) },
     )
@@ -77,9 +78,9 @@ fn last_round<T: Threads + Wait + Sync, G: Gate + Sync>(
 ) -> Result<Bins, RunError>
     requires { bins.shape ≡ shape_of dealing.now.params }
     ensures shape { IfOk result (λ b. b.shape ≡ shape_of dealing.now.params) }
-    ensures holds { (format : Format) (text : List ℕ) (taken : List (List ℕ)) → StandsAt format text taken feeder → HoldsPieces (shape_of dealing.now.params) dealing.now.limit taken bins.bodies
-        → IfOk result (λ b. (reads : List (List ℕ)) × (reads_of format text ≡ Ok reads) × HoldsPieces (shape_of dealing.now.params) dealing.now.limit reads b.bodies) }
-    ensures cause { (format : Format) (text : List ℕ) (taken : List (List ℕ)) → StandsAt format text taken feeder → IfErr result (IsLastError format text) }
+    ensures holds { (format : Format) (text : List ℕ) (taken : List (List ℕ)) → StandsCut (dealing.now.params.k - 1) format text taken feeder → HoldsPieces (shape_of dealing.now.params) dealing.now.limit taken bins.bodies
+        → IfOk result (λ b. (reads cuts : List (List ℕ)) × (reads_of format text ≡ Ok reads) × AreCut (dealing.now.params.k - 1) reads cuts × HoldsPieces (shape_of dealing.now.params) dealing.now.limit cuts b.bodies) }
+    ensures cause { (format : Format) (text : List ℕ) (taken : List (List ℕ)) → StandsCut (dealing.now.params.k - 1) format text taken feeder → IfErr result (IsLastError format text) }
 {
     merged_bins_hold_both();
     let reads = match feeder.finish() {
@@ -103,7 +104,7 @@ fn last_round<T: Threads + Wait + Sync, G: Gate + Sync>(
 }
 
 /// Bins that hold the reads of all that the reader gives, of which at most `max_reads` reads may give bytes. Of a
-/// round's reads and the next round's bytes no more than one round is held at a time, beside the bins and one open read.
+/// round's reads and the next round's bytes no more than one round is held at a time, beside the bins: a FASTA read that is open is taken in pieces.
 /// Each read is held as its pieces of at most `limit` symbols.
 pub fn bins_of_input<T: Threads + Wait + Sync, R: Read, G: Gate + Sync>(
     rt: &T,
@@ -146,7 +147,7 @@ pub fn bins_of_input<T: Threads + Wait + Sync, R: Read, G: Gate + Sync>(
                 Err(e) => Err(e),
             };
         }
-        let round = match feeder.take(alloc) {
+        let round = match feeder.take_open(alloc, params.k - 1) {
             Ok(round) => round,
             Err(_) => return Err(RunError::Memory),
         };

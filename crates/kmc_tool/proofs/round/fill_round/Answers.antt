@@ -6,7 +6,7 @@ use Rattle.kmc_tool.proofs.round.fill_round.Goals as goal
 pub loop-init : goal.loop-init
 loop-init g c = record {
   most = c.requires.reads;
-  way = record { kept = refl; many = omega arith; fed = λ format text taken s. fed_none format _ c.args.reader.now.reads text taken c.args.feeder.now s };
+  way = record { kept = refl; many = omega arith; fed = λ overlap format text taken s. fed_none overlap format _ c.args.reader.now.reads text taken c.args.feeder.now s };
 }
 
 pub loop-preserved : goal.loop-preserved
@@ -20,26 +20,26 @@ loop-preserved g c =
       way = record {
         kept = h.0 ∙ way.kept;
         many = omega (arith, h.1, way.many);
-        fed = λ format text taken s. let f = way.fed format text taken s in
-            fed_on format _ _ _ c.args.reader.now.reads c.loop.reader.reads c.read_and_feed.new.reader.reads text taken c.loop.feeder c.read_and_feed.new.feeder f
-            (c.in-Ok.ensures.fed format _ taken f.stands);
+        fed = λ overlap format text taken s. let f = way.fed overlap format text taken s in
+            fed_on overlap format _ _ _ c.args.reader.now.reads c.loop.reader.reads c.read_and_feed.new.reader.reads text taken c.loop.feeder c.read_and_feed.new.feeder f
+            (c.in-Ok.ensures.fed overlap format _ taken f.stands);
       };
     }
 
 pub returns-in-Err-clause-fed : goal.returns-in-Err-clause-fed
-returns-in-Err-clause-fed g c = λ format text taken s.
-    let f = c.loop.invariant.way.fed format text taken s in
-    fed_by format _ _ _ c.args.reader.now.reads c.loop.reader.reads c.read_and_feed.new.reader.reads text taken c.loop.feeder c.read_and_feed.new.feeder (Err c.in-Err.e) f
-    (c.in-Err.ensures.fed format _ taken f.stands)
+returns-in-Err-clause-fed g c = λ overlap format text taken s.
+    let f = c.loop.invariant.way.fed overlap format text taken s in
+    fed_by overlap format _ _ _ c.args.reader.now.reads c.loop.reader.reads c.read_and_feed.new.reader.reads text taken c.loop.feeder c.read_and_feed.new.feeder (Err c.in-Err.e) f
+    (c.in-Err.ensures.fed overlap format _ taken f.stands)
 
 pub returns-then-not-more-clause-fed : goal.returns-then-not-more-clause-fed
-returns-then-not-more-clause-fed g c = λ format text taken s.
-    let f = c.loop.invariant.way.fed format text taken s in
-    fed_by format _ _ _ c.args.reader.now.reads c.loop.reader.reads c.read_and_feed.new.reader.reads text taken c.loop.feeder c.read_and_feed.new.feeder (Ok false) f
-    (c.in-Ok.ensures.fed format _ taken f.stands)
+returns-then-not-more-clause-fed g c = λ overlap format text taken s.
+    let f = c.loop.invariant.way.fed overlap format text taken s in
+    fed_by overlap format _ _ _ c.args.reader.now.reads c.loop.reader.reads c.read_and_feed.new.reader.reads text taken c.loop.feeder c.read_and_feed.new.feeder (Ok false) f
+    (c.in-Ok.ensures.fed overlap format _ taken f.stands)
 
 pub returns-then-waiting-reads-clause-fed : goal.returns-then-waiting-reads-clause-fed
-returns-then-waiting-reads-clause-fed g c = λ format text taken s.
-    let f = c.loop.invariant.way.fed format text taken s in
-    fed_by format _ _ _ c.args.reader.now.reads c.loop.reader.reads c.read_and_feed.new.reader.reads text taken c.loop.feeder c.read_and_feed.new.feeder (Ok true) f
-    (c.in-Ok.ensures.fed format _ taken f.stands)
+returns-then-waiting-reads-clause-fed g c = λ overlap format text taken s.
+    let f = c.loop.invariant.way.fed overlap format text taken s in
+    fed_by overlap format _ _ _ c.args.reader.now.reads c.loop.reader.reads c.read_and_feed.new.reader.reads text taken c.loop.feeder c.read_and_feed.new.feeder (Ok true) f
+    (c.in-Ok.ensures.fed overlap format _ taken f.stands)

@@ -1,4 +1,4 @@
-use Rattle.std.proofs.Common.{◌≡◌, ◌+◌, [], ◌++◌, Ok, IfOk, sym, ap, subst, ◌∙◌, arith}
+use Rattle.std.proofs.Common.{◌≡◌, ◌+◌, ◌-◌, [], ◌++◌, Ok, IfOk, sym, ap, subst, ◌∙◌, arith}
 use Rattle.kmc_store.specs.Bins.{BinList, empty_bins}
 use Rattle.kmc_store.specs.Holds.{HoldsReads}
 use Rattle.kmc_tool.specs.Rounds.{AreCounts, AreCountsOf, HoldsPieces, IsFedBy}
@@ -11,8 +11,8 @@ returns-in-Err-fill_round-clause-cause g c =
     let format = c.args.params.now.format in let e = c.in-Err-fill_round.e in
     let old = c.args.reader.now in let new = c.fill_round.new.reader in
     let counts = subst (λ n. AreCountsOf (n + c.args.max_reads) old.reads new.reads old.failures new.failures e) c.reads.ensures c.in-Err-fill_round.ensures.counts in
-    fed_cause format c.args.max_reads _ _ old.reads new.reads old.failures new.failures [] c.fill_round.new.feeder e
-    (c.in-Err-fill_round.ensures.fed format [] [] c.new-feeder.ensures) counts
+    fed_cause (c.args.params.now.k - 1) format c.args.max_reads _ _ old.reads new.reads old.failures new.failures [] c.fill_round.new.feeder e
+    (c.in-Err-fill_round.ensures.fed (c.args.params.now.k - 1) format [] [] (c.new-feeder.ensures.cut (c.args.params.now.k - 1))) counts
 
 pub loop-init : goal.loop-init
 loop-init g c =
@@ -30,7 +30,7 @@ loop-init g c =
       ended = λ e. c.in-Ok-fill_round.ensures.at_end (ap Ok e);
       stored = record {
         taken = [];
-        fed = c.in-Ok-fill_round.ensures.fed c.args.params.now.format [] [] c.new-feeder.ensures;
+        fed = c.in-Ok-fill_round.ensures.fed (c.args.params.now.k - 1) c.args.params.now.format [] [] (c.new-feeder.ensures.cut (c.args.params.now.k - 1));
         holds = subst (λ (b : BinList). HoldsReads shape [] b.bodies) (sym empty) (c.empty_bins_hold_no_reads.ensures shape);
       };
     }
@@ -39,19 +39,19 @@ pub returns-in-Ok-last_round-clause-ok : goal.returns-in-Ok-last_round-clause-ok
 returns-in-Ok-last_round-clause-ok g c =
     let st = c.loop.invariant.stored in let f = st.fed in
     let last = c.in-Ok-last_round.ensures.holds c.args.params.now.format f.bytes st.taken f.stands st.holds in
-    record { bytes = f.bytes; given = (f.given, c.loop.invariant.ended c.if-not-more.true); reads = last.0; are_reads = last.1; shaped = c.in-Ok-last_round.ensures.shape; holds = last.2 }
+    record { bytes = f.bytes; given = (f.given, c.loop.invariant.ended c.if-not-more.true); reads = last.0; cuts = last.1; are_reads = last.2; cut = last.3; shaped = c.in-Ok-last_round.ensures.shape; holds = last.4 }
 
 pub returns-in-Err-last_round-clause-counts : goal.returns-in-Err-last_round-clause-counts
 returns-in-Err-last_round-clause-counts g c =
     let inv = c.loop.invariant in let st = inv.stored in
-    last_counts c.args.params.now.format c.args.max_reads (g.R.Read.remaining c.args.reader.now.inner) (g.R.Read.remaining c.loop.reader.inner)
+    last_counts (c.args.params.now.k - 1) c.args.params.now.format c.args.max_reads (g.R.Read.remaining c.args.reader.now.inner) (g.R.Read.remaining c.loop.reader.inner)
     (c.args.reader.now.reads + c.args.max_reads) c.args.reader.now.reads c.loop.reader.reads c.args.reader.now.failures c.loop.reader.failures st.fed.bytes c.in-Err-last_round.e
     inv.kept (omega (arith, inv.many)) (omega (arith, inv.below, c.reads.ensures)) (c.in-Err-last_round.ensures.cause c.args.params.now.format st.fed.bytes st.taken st.fed.stands)
 
 pub returns-in-Err-last_round-clause-cause : goal.returns-in-Err-last_round-clause-cause
 returns-in-Err-last_round-clause-cause g c =
     let inv = c.loop.invariant in let st = inv.stored in
-    last_input c.args.params.now.format c.args.max_reads _ _ c.args.reader.now.reads c.loop.reader.reads st.taken c.loop.feeder
+    last_input (c.args.params.now.k - 1) c.args.params.now.format c.args.max_reads _ _ c.args.reader.now.reads c.loop.reader.reads st.taken c.loop.feeder
     c.in-Err-last_round.e st.fed (inv.ended c.if-not-more.true) (c.in-Err-last_round.ensures.cause c.args.params.now.format st.fed.bytes st.taken st.fed.stands)
 
 pub returns-in-Err-fed-clause-counts : goal.returns-in-Err-fed-clause-counts
@@ -68,13 +68,13 @@ returns-in-Err-fed-clause-cause g c =
     let old = c.args.reader.now in let mid = c.loop.reader in let new = c.feed_round-own.new.reader in
     let here = subst (λ r. AreCounts (c.reads.result + c.args.max_reads) mid.reads new.reads mid.failures new.failures r) c.in-Err-fed.is c.feed_round-own.ensures.counts in
     let counts = subst (λ n. AreCountsOf (n + c.args.max_reads) mid.reads new.reads mid.failures new.failures e) c.reads.ensures here in
-    let round = c.in-Ok-take.round in
-    let stands = c.in-Ok-take.ensures.stands format st.fed.bytes st.taken st.fed.stands in
-    let f = taken_fed format _ _ old.reads mid.reads st.taken round c.loop.feeder c.take.new.self st.fed stands in
-    let more = c.feed_round-own.ensures.fed format st.fed.bytes (st.taken ++ round) stands in
-    let fed = fed_by format _ _ _ old.reads mid.reads new.reads [] (st.taken ++ round) c.take.new.self c.feed_round-own.new.feeder c.feed_round-own.result.1 f more in
-    fed_cause format c.args.max_reads _ _ old.reads new.reads old.failures new.failures (st.taken ++ round) c.feed_round-own.new.feeder e
-    (subst (λ r. IsFedBy format (g.R.Read.remaining old.inner) (g.R.Read.remaining new.inner) old.reads new.reads [] (st.taken ++ round) c.feed_round-own.new.feeder r) c.in-Err-fed.is fed)
+    let round = c.in-Ok-take_open.round in
+    let stands = c.in-Ok-take_open.ensures.stands format st.fed.bytes st.taken st.fed.stands in
+    let f = taken_fed (c.args.params.now.k - 1) format _ _ old.reads mid.reads st.taken round c.loop.feeder c.take_open.new.self st.fed stands in
+    let more = c.feed_round-own.ensures.fed (c.args.params.now.k - 1) format st.fed.bytes (st.taken ++ round) stands in
+    let fed = fed_by (c.args.params.now.k - 1) format _ _ _ old.reads mid.reads new.reads [] (st.taken ++ round) c.take_open.new.self c.feed_round-own.new.feeder c.feed_round-own.result.1 f more in
+    fed_cause (c.args.params.now.k - 1) format c.args.max_reads _ _ old.reads new.reads old.failures new.failures (st.taken ++ round) c.feed_round-own.new.feeder e
+    (subst (λ r. IsFedBy (c.args.params.now.k - 1) format (g.R.Read.remaining old.inner) (g.R.Read.remaining new.inner) old.reads new.reads [] (st.taken ++ round) c.feed_round-own.new.feeder r) c.in-Err-fed.is fed)
     (counts_on e (old.reads + c.args.max_reads) old.reads mid.reads new.reads old.failures mid.failures new.failures (omega (arith, inv.many)) inv.kept counts)
 
 pub returns-in-Err-own-clause-counts : goal.returns-in-Err-own-clause-counts
@@ -100,11 +100,11 @@ loop-preserved g c =
     let here = subst (λ r. AreCounts (c.reads.result + c.args.max_reads) mid.reads new.reads mid.failures new.failures r) c.in-Ok-fed.is c.feed_round-own.ensures.counts in
     let r = risen (c.reads.result + c.args.max_reads) mid.reads new.reads mid.failures new.failures c.in-Ok-fed.more here in
     let begun = inv.some c.if-not-more.false in
-    let round = c.in-Ok-take.round in
-    let stands = c.in-Ok-take.ensures.stands p.format st.fed.bytes st.taken st.fed.stands in
-    let f = taken_fed p.format _ _ old.reads mid.reads st.taken round c.loop.feeder c.take.new.self st.fed stands in
-    let more = subst (λ o. IsFedBy p.format (g.R.Read.remaining mid.inner) (g.R.Read.remaining new.inner) mid.reads new.reads st.fed.bytes (st.taken ++ round) c.feed_round-own.new.feeder o) c.in-Ok-fed.is
-    (c.feed_round-own.ensures.fed p.format st.fed.bytes (st.taken ++ round) stands) in
+    let round = c.in-Ok-take_open.round in
+    let stands = c.in-Ok-take_open.ensures.stands p.format st.fed.bytes st.taken st.fed.stands in
+    let f = taken_fed (c.args.params.now.k - 1) p.format _ _ old.reads mid.reads st.taken round c.loop.feeder c.take_open.new.self st.fed stands in
+    let more = subst (λ o. IsFedBy (c.args.params.now.k - 1) p.format (g.R.Read.remaining mid.inner) (g.R.Read.remaining new.inner) mid.reads new.reads st.fed.bytes (st.taken ++ round) c.feed_round-own.new.feeder o) c.in-Ok-fed.is
+    (c.feed_round-own.ensures.fed (c.args.params.now.k - 1) p.format st.fed.bytes (st.taken ++ round) stands) in
     let own = subst (λ o. IfOk o (λ b. HoldsPieces shape c.args.limit round b.bodies)) c.in-Ok-own.is c.feed_round-own.ensures.holds in
     record {
       shaped = c.in-Ok-merge.ensures.ok.shape ∙ inv.shaped;
@@ -116,7 +116,7 @@ loop-preserved g c =
       ended = λ e. c.feed_round-own.ensures.at_end (c.in-Ok-fed.is ∙ ap Ok e);
       stored = record {
         taken = st.taken ++ round;
-        fed = fed_on p.format _ _ _ old.reads mid.reads new.reads [] (st.taken ++ round) c.take.new.self c.feed_round-own.new.feeder f more;
+        fed = fed_on (c.args.params.now.k - 1) p.format _ _ _ old.reads mid.reads new.reads [] (st.taken ++ round) c.take_open.new.self c.feed_round-own.new.feeder f more;
         holds = both_held c.merged_bins_hold_both.ensures shape c.args.limit st.taken round c.loop.bins c.in-Ok-own.own c.merge.new.self st.holds own c.in-Ok-merge.ensures.ok;
       };
     }

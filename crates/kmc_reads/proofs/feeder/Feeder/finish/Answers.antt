@@ -1,7 +1,9 @@
-use Rattle.std.proofs.Common.{ℕ, List, ◌++◌, Ok, refl, sym, ap, subst, ◌∙◌, append_assoc}
+use Rattle.std.proofs.Common.{ℕ, List, ◌++◌, Ok, Err, refl, sym, ap, subst, ◌∙◌, append_assoc}
 use Rattle.kmc_reads.specs.Answer.{with_reads}
 use Rattle.kmc_reads.specs.Standing.{At}
+use Rattle.kmc_reads.specs.Reads.{reads_of}
 use Rattle.kmc_reads.proofs.Stands.{answer_is}
+use Rattle.kmc_reads.proofs.StandsCut.{cut_reads, cut_refusal, cut_answer_is}
 use Rattle.kmc_reads.proofs.feeder.Feeder.finish.Goals as goal
 
 pub returns-in-Ok-clause-all : goal.returns-in-Ok-clause-all
@@ -16,3 +18,20 @@ pub returns-then-ne-clause-refused : goal.returns-then-ne-clause-refused
 returns-then-ne-clause-refused c = λ format text taken s other.
     let at = subst (λ t. At s.rows s.spot s.front t) (sym (ap (λ v. v.scan) c.feeder.view_is)) s.stands in
     (answer_is format text taken c.args.self s ∙ ap (with_reads (taken ++ s.rows)) (c.in-Err.ensures.refused s.rows s.spot s.front at other), refl)
+
+pub returns-in-Ok-clause-cut : goal.returns-in-Ok-clause-cut
+returns-in-Ok-clause-cut c = λ overlap format text taken s.
+    let at = subst (λ t. At s.rows s.spot s.front t) (sym (ap (λ v. v.scan) c.feeder.view_is)) s.stands in
+    let w = c.in-Ok.ensures.whole s.rows s.spot s.front at in
+    let rows = c.into_reads.ensures (s.rows ++ w.more) w.behind w.lies in
+    cut_reads overlap (reads_of format text) (taken ++ c.into_reads.result)
+    (cut_answer_is overlap format text taken c.args.self s (Ok (taken ++ c.into_reads.result))
+    (ap (with_reads (taken ++ s.rows)) w.reads ∙ ap Ok (append_assoc taken s.rows w.more ∙ ap (λ (t : List (List ℕ)). taken ++ t) (sym rows))))
+
+pub returns-then-ne-clause-cut_refused : goal.returns-then-ne-clause-cut_refused
+returns-then-ne-clause-cut_refused c = λ overlap format text taken s other.
+    let at = subst (λ t. At s.rows s.spot s.front t) (sym (ap (λ v. v.scan) c.feeder.view_is)) s.stands in (
+      cut_refusal overlap (reads_of format text) c.in-Err.e
+          (cut_answer_is overlap format text taken c.args.self s (Err c.in-Err.e) (ap (with_reads (taken ++ s.rows)) (c.in-Err.ensures.refused s.rows s.spot s.front at other))),
+      refl,
+    )

@@ -1,4 +1,4 @@
-use Rattle.std.proofs.Common.{◌≡◌, ◌+◌, length, sym, ap, subst, ◌∙◌, length-append, arith}
+use Rattle.std.proofs.Common.{◌+◌, length, sym, ap, subst, ◌∙◌, length-append}
 use Rattle.kmc_reads.specs.Standing.{At}
 use Rattle.kmc_reads.proofs.Stands.{ended_are}
 use Rattle.kmc_reads.proofs.feeder.Feeder.waiting.Goals as goal
