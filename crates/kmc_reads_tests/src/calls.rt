@@ -24,3 +24,14 @@ pub(crate) fn finish(feeder: Feeder) -> Result<Reads, (ReadsError, Feeder)> {
         answer => answer,
     }
 }
+
+pub(crate) fn take_open(
+    alloc: Global,
+    feeder: &mut Feeder,
+    overlap: usize,
+) -> Result<Reads, AllocError> {
+    match feeder.take_open(alloc, overlap) {
+        Err(_) => feeder.take_open(alloc, overlap),
+        answer => answer,
+    }
+}

@@ -8,6 +8,8 @@ mod calls;
 #[cfg(test)]
 mod dice;
 #[cfg(test)]
+mod open_reads;
+#[cfg(test)]
 mod plain;
 #[cfg(test)]
 mod random_texts;
