@@ -35,7 +35,7 @@ end() {
 }
 trap end EXIT
 trap 'exit 1' HUP INT TERM
-for number in 1 2 3 4; do
+for _ in 1 2 3 4; do
     sh -c 'while :; do :; done' &
     busy="$busy $!"
 done
