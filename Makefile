@@ -82,6 +82,8 @@ limits: $(KMC)
 	KMC="$(abspath $(KMC))" bench/system_limits.sh
 
 threads: $(KMC) $(MANY)
+	@cd crates/kmc_queue_tests && rt test > out.log 2>&1 || { cat out.log; rm -f out.log; exit 1; }
+	@rm -f crates/kmc_queue_tests/out.log
 	KMC="$(abspath $(KMC))" MANY="$(abspath $(MANY))" bench/hostile_threads.sh
 
 bench: $(KMC)

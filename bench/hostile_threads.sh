@@ -4,13 +4,15 @@
 # usage: bench/hostile_threads.sh [RUNS [BUSY]]
 #
 # RUNS (200) runs of ./kmc in turn with -sp4 -sr4 and -sp16 -sr16, each of 12000 reads, and as many of ./kmc_many_threads, whose 16
-# writers and 8 readers call the queue in threads of their own. Each is ended after 120 seconds if it has not ended by then. BUSY (4)
-# processes that do nothing else run beside them. The dump is that of bench/count_plainly.py. The variables KMC and MANY name other
-# programs.
+# writers and 8 readers call the queue in threads of their own, and of each test of the queue in which a seat is held (kmc_queue_tests,
+# held). Each is ended after 120 seconds if it has not ended by then. BUSY (4)
+# processes that do nothing else run beside them. The dump is that of bench/count_plainly.py. The variables KMC, MANY and HELD (the
+# built tests, as `rt test` leaves them) name other programs.
 set -u
 top=$(cd "$(dirname "$0")/.." && pwd)
 kmc=${KMC:-$top/kmc}
 many=${MANY:-$top/kmc_many_threads}
+held=${HELD:-$top/crates/kmc_queue_tests/out/kmc_queue_tests_tests}
 runs=${1:-200}
 busy=${2:-4}
 work=$(mktemp -d) || exit 1
@@ -26,6 +28,9 @@ while [ "$number" -lt "$busy" ]; do
     pids+=($!)
     number=$((number + 1))
 done
+
+tests=$("$held" --list | sed -n 's/^\(held::.*\): test$/\1/p')
+[ -n "$tests" ] || { echo "threads: no tests in $held" >&2; exit 1; }
 
 run=0
 tried=0
@@ -48,6 +53,13 @@ while [ "$run" -lt "$runs" ]; do
         wrong=$((wrong + 1))
         echo "threads: run $run of many threads is wrong: status $status, $(head -c 300 "$work/out" "$work/err")"
     fi
+    for test in $tests; do
+        tried=$((tried + 1))
+        if ! timeout 120 "$held" "$test" > "$work/out" 2>&1; then
+            wrong=$((wrong + 1))
+            echo "threads: run $run of $test is wrong: $(head -c 300 "$work/out")"
+        fi
+    done
 done
 echo "threads: $busy busy processes, $(wc -l < "$work/dump") k-mers, $(($(date +%s) - started)) seconds"
 echo "$tried tried, $wrong wrong"
