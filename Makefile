@@ -17,13 +17,14 @@ MAN = $(DESTDIR)$(PREFIX)/share/man/man1
 
 all: count $(KMC_MERGE)
 
-# libraries that do not stand on one another are proved side by side; what fails here is told once more by what follows
-prove = printf '%s\n' $(1) | xargs -P 4 -I {} sh -c 'cd crates/{} && rt lib > /dev/null 2>&1' || true
+# prove JOBS LIBRARY ..: one library after the other, each before those that stand on it, which spares a pass over all sources;
+# what fails here is told once more by what follows
+prove = for library in $(2); do (cd crates/$$library && rt lib --jobs $(1) > /dev/null 2>&1) || true; done
 
 $(KMC): crates.txt $(shell find crates -path '*/out' -prune -o -type f -name '*.rt' -print -o -type f -name '*.antt' -print)
 	@echo "make: proving and building the program (some minutes the first time)"
-	@$(call prove,kmc_record kmc_reads kmc_partqueue kmc_argument)
-	@$(call prove,kmc_dump kmc_workers)
+	@($(call prove,1,kmc_partcore kmc_partqueue kmc_reads kmc_argument)) & $(call prove,3,kmc_base kmc_split kmc_record kmc_count kmc_dump); wait
+	@$(call prove,4,kmc_store kmc_workers kmc_tool kmc_command)
 	@cd crates/kmc && rt run < stdin > /dev/null 2> out.log || { cat out.log; rm -f out.log; exit 1; }
 	@rm -f crates/kmc/out.log
 	@cp crates/kmc/out/kmc $(KMC)

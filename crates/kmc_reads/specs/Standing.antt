@@ -1,5 +1,5 @@
 -- Where a feeder stands.
-use Rattle.std.specs.Prelude.{◌≡◌, ℕ, ◌<◌, true, List, [], ◌∷◌, ◌++◌, length, get_or, Option, Some, None, Ok}
+use Rattle.std.specs.Prelude.{◌≡◌, ℕ, ◌-◌, ◌<◌, ◌≤◌, true, false, List, [], ◌∷◌, ◌++◌, length, get_or, Option, Some, None, Ok}
 use Rattle.std.specs.List.{concat}
 use Rattle.std.specs.Io.BufRead.{strip_last, ends_with_byte}
 use Rattle.std.specs.Io.Iter.{u64_saturate}
@@ -134,6 +134,18 @@ pub record Hands (overlap : ℕ) (rows : List (List ℕ)) (spot : Spot) (front :
   pub given : reads ≡ rows ++ more
   pub leads : LeadsCut overlap spot front [] more next left
   pub stands : At [] next left v
+
+-- no read waits, and of the open one no more than so many symbols can be handed out, unless a carriage return came last
+abbrev pub IsHandedOut : ℕ → Scan → Type 0
+IsHandedOut overlap v = (rows : List (List ℕ)) (spot : Spot) (front : List ℕ) → At rows spot front v
+    → (rows ≡ []) × (ends_with_byte carriage_return front ≡ false → length (open_symbols spot.stage spot.read (strip_last carriage_return front)) ≤ overlap)
+
+-- the scan kept its place and the bytes behind its rows
+pub record Moves (old new : Scan) : Type 0 where
+  pub ends : new.ends.items ≡ []
+  pub stage : new.place.stage ≡ old.place.stage
+  pub held : new.place.held ≡ old.place.held
+  pub long : length new.bytes.items ≡ length old.bytes.items - old.place.start
 
 -- the buffers and the place are the same
 pub record IsAgain (old new : Scan) : Type 0 where

@@ -5,7 +5,7 @@ ghost use Rattle.std.specs.List.{concat};
 ghost use Rattle.kmc_reads.specs.Reads.{reads_of};
 ghost use Rattle.kmc_reads.specs.Stages.{fault, ended};
 ghost use Rattle.kmc_reads.specs.Cuts.{AreCut};
-ghost use Rattle.kmc_reads.specs.Standing.{StandsAt, StandsCut, IsSomewhere, Refuses, open_symbols};
+ghost use Rattle.kmc_reads.specs.Standing.{StandsAt, StandsCut, IsSomewhere, IsHandedOut, Refuses, open_symbols};
 
 use crate::error::ReadsError;
 use crate::format::Format;
@@ -108,6 +108,7 @@ impl Feeder {
     pub fn take_open(&mut self, alloc: Global, overlap: usize) -> Result<Reads, AllocError>
         ensures stands { (format : Format) (text : List ℕ) (taken : List (List ℕ)) → StandsCut overlap format text taken self.old → IfOk result (λ reads. StandsCut overlap format text (taken ++ reads) self.new) }
         ensures memory { (format : Format) (text : List ℕ) (taken : List (List ℕ)) → StandsCut overlap format text taken self.old → OnErr result (StandsCut overlap format text taken self.new) }
+        ensures handed { OnOk result (IsHandedOut overlap self.new.scan) }
         ensures refused { (e : ReadsError) → Refuses e self.old → Refuses e self.new }
     {
         self.scan.take_open(alloc, overlap)

@@ -6,7 +6,7 @@ ghost use Rattle.kmc_reads.specs.declared.stage.Stage.TheVariants.{Body, Name, R
 ghost use Rattle.kmc_reads.specs.Answer.{with_reads};
 ghost use Rattle.kmc_reads.specs.Pieces.{last_line};
 ghost use Rattle.kmc_reads.specs.Stages.{Spot, first_stage, first_spot, fault_of, past, begun_by, given_by, answer_at_end, reads_from};
-ghost use Rattle.kmc_reads.specs.Standing.{Lies, Keeps, At, IsSomewhere, Goes, HasFault, HasNoFeed, IsName, EndsLine, EndsRead, EndsText, Hands, IsAgain, kept, open_symbols};
+ghost use Rattle.kmc_reads.specs.Standing.{Lies, Keeps, At, IsSomewhere, Goes, HasFault, HasNoFeed, IsName, EndsLine, EndsRead, EndsText, Hands, IsAgain, IsHandedOut, Moves, kept, open_symbols};
 
 use crate::error::ReadsError;
 use crate::format::Format;
@@ -362,6 +362,7 @@ impl Scan {
     pub fn take(&mut self, alloc: Global) -> Result<Reads, AllocError>
         requires { IsSomewhere self.old }
         ensures taken { (rows : List (List ℕ)) (spot : Spot) (front : List ℕ) → At rows spot front self.old → IfOk result (λ reads. (reads ≡ rows) × At [] spot front self.new) }
+        ensures moved { OnOk result (Moves self.old self.new) }
         ensures same { OnErr result (self.new ≡ self.old) }
     {
         let open = self.bytes.split_off(self.place.start)?;
@@ -378,6 +379,7 @@ impl Scan {
         requires held { self.old.place.held ≡ false }
         requires open { self.old.place.start + overlap ≤ length self.old.bytes.items }
         ensures taken { (rows : List (List ℕ)) (spot : Spot) (front : List ℕ) → At rows spot front self.old → IfOk result (λ reads. Hands overlap rows spot front reads self.new) }
+        ensures handed { OnOk result (IsHandedOut overlap self.new) }
         ensures again { OnErr result (IsAgain self.old self.new) }
     {
         let kept = Vec::from_slice(alloc, &self.bytes[self.bytes.len() - overlap..])?;
@@ -396,6 +398,7 @@ impl Scan {
     pub fn take_open(&mut self, alloc: Global, overlap: usize) -> Result<Reads, AllocError>
         requires { IsSomewhere self.old }
         ensures taken { (rows : List (List ℕ)) (spot : Spot) (front : List ℕ) → At rows spot front self.old → IfOk result (λ reads. Hands overlap rows spot front reads self.new) }
+        ensures handed { OnOk result (IsHandedOut overlap self.new) }
         ensures again { OnErr result (IsAgain self.old self.new) }
     {
         let symbols = matches!(self.place.stage, Stage::Body | Stage::Rest);

@@ -1,7 +1,8 @@
-use Rattle.std.proofs.Common.{rules, ◌≡◌, ◌∷◌, [], ◌++◌, Vec, Global, ℕ, List, length, sym, ap, subst, ◌∙◌}
+use Rattle.std.proofs.Common.{rules, ◌≡◌, ◌∷◌, [], ◌++◌, Vec, Global, ℕ, List, length, ◌-◌, sym, ap, subst, ◌∙◌, length-drop, arith}
 use Rattle.std.specs.Io.BufRead.{strip_last}
 use Rattle.kmc_reads.specs.Rows.{rows_from, AreEnds}
 use Rattle.kmc_reads.specs.Standing.{kept}
+use Rattle.kmc_reads.proofs.HandedOut.{few_open}
 use Rattle.kmc_reads.proofs.Handing.{hands, rising, last_of}
 use Rattle.kmc_reads.proofs.scan.Scan.cut.Goals as goal
 
@@ -41,3 +42,12 @@ returns-clause-taken c = λ rows spot front at.
       reads_are = c.of_rows.ensures ∙ (λ i. rows_from 0 (ends i) (bytes i));
     })
     c.requires.stage at
+
+pub returns-clause-handed : goal.returns-clause-handed
+returns-clause-handed c =
+    let old = c.args.self.now in
+    let first : c.len.result ≡ length old.bytes.items = search rules in
+    let bytes = ap items c.replace-bytes.ensures.after ∙ c.in_ok-kept.ensures.items ∙ last_of c.deref.result.now old.bytes.items c.len.result c.args.overlap c.deref.ensures.value first in
+    few_open c.args.overlap (record { bytes = c.replace-bytes.new.dest; ends = c.replace-ends.new.dest; place = c.emptied-self.result })
+    (ap items c.replace-ends.ensures.after ∙ c.new.ensures.items)
+    (omega (arith, ap length bytes, length-drop (length old.bytes.items - c.args.overlap) old.bytes.items, c.requires.open))
