@@ -58,6 +58,15 @@ fn emptied(place: Place) -> Place
     next
 }
 
+/// The same bytes with room for so many more and an eighth, where memory is to be had: the next round is about as long as the last.
+fn with_room(bytes: Vec<u8>, more: usize) -> Vec<u8>
+    ensures { result.items ≡ bytes.items }
+{
+    let mut roomy = bytes;
+    let _ = roomy.reserve(more.saturating_add(more / 8));
+    roomy
+}
+
 impl Scan {
     /// A scan at the empty text.
     pub fn new(alloc: Global, format: Format) -> Scan
@@ -366,7 +375,8 @@ impl Scan {
         ensures same { OnErr result (self.new ≡ self.old) }
     {
         let open = self.bytes.split_off(self.place.start)?;
-        let bytes = mem::replace(&mut self.bytes, open);
+        let next = with_room(open, self.bytes.len());
+        let bytes = mem::replace(&mut self.bytes, next);
         let ends = mem::replace(&mut self.ends, Vec::new(alloc));
         self.place.start = 0;
         Ok(Reads::of_rows(bytes, ends))
@@ -387,7 +397,8 @@ impl Scan {
             Ok(_) => {}
             Err(e) => return Err(AllocError::from(e)),
         }
-        let bytes = mem::replace(&mut self.bytes, kept);
+        let next = with_room(kept, self.bytes.len());
+        let bytes = mem::replace(&mut self.bytes, next);
         let ends = mem::replace(&mut self.ends, Vec::new(alloc));
         self.place = emptied(self.place);
         Ok(Reads::of_rows(bytes, ends))

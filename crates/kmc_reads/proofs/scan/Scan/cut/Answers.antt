@@ -31,7 +31,7 @@ returns-clause-taken c = λ rows spot front at.
     (record {
       held = c.requires.held;
       room = c.requires.open;
-      bytes = ap items c.replace-bytes.ensures.after ∙ c.in_ok-kept.ensures.items ∙ last_of c.deref.result.now old.bytes.items c.len.result c.args.overlap c.deref.ensures.value first;
+      bytes = ap items c.replace-bytes.ensures.after ∙ c.with_room-next.ensures ∙ c.in_ok-kept.ensures.items ∙ last_of c.deref.result.now old.bytes.items c.len.result c.args.overlap c.deref.ensures.value first;
       ends = ap items c.replace-ends.ensures.after ∙ c.new.ensures.items;
       between = c.emptied-self.ensures.between;
       inside = c.emptied-self.ensures.inside;
@@ -47,7 +47,7 @@ pub returns-clause-handed : goal.returns-clause-handed
 returns-clause-handed c =
     let old = c.args.self.now in
     let first : c.len.result ≡ length old.bytes.items = search rules in
-    let bytes = ap items c.replace-bytes.ensures.after ∙ c.in_ok-kept.ensures.items ∙ last_of c.deref.result.now old.bytes.items c.len.result c.args.overlap c.deref.ensures.value first in
+    let bytes = ap items c.replace-bytes.ensures.after ∙ c.with_room-next.ensures ∙ c.in_ok-kept.ensures.items ∙ last_of c.deref.result.now old.bytes.items c.len.result c.args.overlap c.deref.ensures.value first in
     few_open c.args.overlap (record { bytes = c.replace-bytes.new.dest; ends = c.replace-ends.new.dest; place = c.emptied-self.result })
     (ap items c.replace-ends.ensures.after ∙ c.new.ensures.items)
     (omega (arith, ap length bytes, length-drop (length old.bytes.items - c.args.overlap) old.bytes.items, c.requires.open))

@@ -26,7 +26,7 @@ returns-clause-taken c = λ rows spot front at.
     let bytes : c.replace-bytes.result.items ≡ concat rows =
     ap items c.replace-bytes.ensures.value ∙ c.in_ok-open.ensures.items ∙ (λ i. take (k.start i) (k.bytes i)) ∙ take_at (concat rows) open_read (length (concat rows)) refl in
     let tail : c.replace-bytes.new.dest.items ≡ open_read =
-    ap items c.replace-bytes.ensures.after ∙ c.in_ok-open.ensures.tail ∙ (λ i. drop (k.start i) (k.bytes i)) ∙ drop_at (concat rows) open_read (length (concat rows)) refl in
+    ap items c.replace-bytes.ensures.after ∙ c.with_room-next.ensures ∙ c.in_ok-open.ensures.tail ∙ (λ i. drop (k.start i) (k.bytes i)) ∙ drop_at (concat rows) open_read (length (concat rows)) refl in
     let ends : c.replace-ends.result.items ≡ ends_from 0 rows = ap items c.replace-ends.ensures.value ∙ k.ends in (
       c.of_rows.ensures ∙ (λ i. rows_from 0 (ends i) ((bytes ∙ sym (append-nil (concat rows))) i)) ∙ rows_same 0 rows [],
       record {
