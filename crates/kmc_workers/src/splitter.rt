@@ -107,10 +107,7 @@ pub(crate) fn split<R: Wait, G: Gate>(
         if c % way.writers == s.number() {
             let chunk = chunk_of(reads, plan.batch, c);
             let parts = parts_of_reads(way.alloc, c as u64, chunk, plan.shape)?;
-            match put_all(rt, way, &mut s, parts, gate) {
-                Ok(()) => {}
-                Err(cause) => return Err(cause),
-            }
+            put_all(rt, way, &mut s, parts, gate)?;
         }
     }
     Ok(way.lanes.complete(s))
