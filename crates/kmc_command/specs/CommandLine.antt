@@ -1,37 +1,39 @@
 -- What a command line in long form says: the command that reads it, and what stands for each
 -- option.
 use Rattle.std.specs.Prelude.{◌++◌, ◌==◌, ◌&&◌, ℕ, Bool, true, false, List, [], Option, Some, None, map, length}
-use Rattle.std.specs.Prelude.{if◌then◌else◌, nat_le, nat_lt, option_and_then, codes}
+use Rattle.std.specs.Prelude.{if◌then◌else◌, nat_le, option_and_then, codes}
 use Rattle.std.specs.Option.{option_map_or}
-use Rattle.std.specs.Char.{is_ascii_digit}
-use Rattle.std.specs.List.{list_all}
 use Rattle.std.specs.Str.{bytes_eq}
-use Rattle.std.specs.Str.Parse.{digits_value}
 use Rattle.clap.specs.Faults.{fault_of}
 use Rattle.clap.specs.Simple.{App, matches_of, new_rule, new_shape}
 use Rattle.clap.specs.Walk.{Row, Rule, first_of}
+use Rattle.clap.specs.declared.builder.action.ArgAction.{ArgAction}
 use Rattle.clap.specs.declared.builder.action.ArgAction.TheVariants.{Set, SetTrue}
 use Rattle.kmc_base.specs.declared.strands.Strands.{Strands}
 use Rattle.kmc_base.specs.declared.strands.Strands.TheVariants.{Apart, Joined}
 use Rattle.kmc_reads.specs.declared.format.Format.{Format}
 use Rattle.kmc_reads.specs.declared.format.Format.TheVariants.{Fasta, Fastq}
 use Rattle.kmc_argument.specs.Words.{Word, number_of}
-use Rattle.kmc_command.specs.Flags.{flag_name, flags}
-use Rattle.kmc_tool.specs.Settings.{bounds_of, name_of, settings}
+use Rattle.kmc_command.specs.Names.{flag_name, flags, name_of, settings}
+use Rattle.kmc_tool.specs.Settings.{bounds_of}
 use Rattle.kmc_tool.specs.declared.setting.Bounds.{Bounds}
-use Rattle.kmc_command.specs.declared.flag.Flag.{Flag}
-use Rattle.kmc_command.specs.declared.flag.Flag.TheVariants.{B, Fa, Fm, Fq}
+use Rattle.kmc_command.specs.declared.named.Flag.{Flag}
+use Rattle.kmc_command.specs.declared.named.Flag.TheVariants.{B, Fa, Fm, Fq}
 use Rattle.kmc_tool.specs.declared.setting.Setting.{Setting}
 
 -- ---- the command
 
--- `--name VALUE` or `--name=VALUE`, at most once
-abbrev pub option_rule : Setting → Rule
-option_rule s = record (new_rule (name_of s)) { long = Some (name_of s); action = Some Set }
+-- two hyphens and the name, at most once
+abbrev pub rule_of : ArgAction → List ℕ → Rule
+rule_of action name = record (new_rule name) { long = Some name; action = Some action }
 
--- `--name`, at most once
+-- `--name VALUE` or `--name=VALUE`
+abbrev pub option_rule : Setting → Rule
+option_rule s = rule_of Set (name_of s)
+
+-- `--name`
 abbrev pub flag_rule : Flag → Rule
-flag_rule f = record (new_rule (flag_name f)) { long = Some (flag_name f); action = Some SetTrue }
+flag_rule f = rule_of SetTrue (flag_name f)
 
 -- the eight options and the four flags, and nothing else: no positional argument, no help, no
 -- version

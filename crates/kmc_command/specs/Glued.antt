@@ -1,12 +1,11 @@
 -- KMC's glued words put into long form: `-k31` becomes `--k=31`, and `-fa` becomes `--fa`.
-use Rattle.std.specs.Prelude.{◌++◌, ℕ, Bool, List, [], ◌∷◌, Option, Some, None, map, length, drop, find}
-use Rattle.std.specs.Prelude.{if◌then◌else◌, nat_eq, is_some, option_and_then, codes}
+use Rattle.std.specs.Prelude.{◌++◌, Bool, List, [], ◌∷◌, Option, Some, None, map, length, drop, find}
+use Rattle.std.specs.Prelude.{if◌then◌else◌, is_some, option_and_then, codes}
 use Rattle.std.specs.Option.{option_map_or}
-use Rattle.std.specs.List.{list_any, starts_with}
+use Rattle.std.specs.List.{list_any}
 use Rattle.std.specs.Str.{bytes_eq}
 use Rattle.kmc_argument.specs.Words.{Word, rest_after}
-use Rattle.kmc_command.specs.Flags.{flags, flag_name}
-use Rattle.kmc_tool.specs.Settings.{name_of, settings}
+use Rattle.kmc_command.specs.Names.{flag_name, flags, name_of, settings}
 use Rattle.kmc_tool.specs.declared.setting.Setting.{Setting}
 
 -- a flag as KMC spells it, with one hyphen, and nothing after it

@@ -1,4 +1,4 @@
-pub mod Flags
+pub mod Names
 pub mod Glued
 pub mod CommandLine
 pub mod Options

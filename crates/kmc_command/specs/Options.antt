@@ -3,7 +3,7 @@ use Rattle.std.specs.Prelude.{◌≡◌, ◌&&◌, Bool, true, false, not, List,
 use Rattle.clap.specs.Walk.{Row}
 use Rattle.kmc_command.specs.CommandLine.{format_of, found, is_accepted, strands_of, value_of}
 use Rattle.kmc_argument.specs.Words.{Word}
-use Rattle.kmc_tool.specs.Settings.{settings}
+use Rattle.kmc_command.specs.Names.{settings}
 use Rattle.kmc_command.specs.declared.options.error.ParamsError.{ParamsError}
 use Rattle.kmc_command.specs.declared.options.error.ParamsError.TheVariants.{Memory, OutOfRange, Usage}
 use Rattle.kmc_tool.specs.declared.params.Params.{Params}

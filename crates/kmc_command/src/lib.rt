@@ -4,6 +4,6 @@
 #![tactic(auto)]
 
 pub mod fault;
-mod flag;
+mod named;
 pub mod options;
 pub mod program;

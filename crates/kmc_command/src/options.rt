@@ -10,8 +10,6 @@ mod command;
 pub mod error;
 mod given;
 mod glued;
-mod number;
-mod reading;
 
 use command::parse;
 use error::ParamsError;

@@ -1,7 +1,8 @@
 -- What holds of a refusal, at the cause that it has.
-use Rattle.std.proofs.Common.{◌≡◌, ◌≢◌, ℕ, ◌≤◌, refl, subst, arith}
-use Rattle.std.specs.Prelude.{Result, Err, IfErr}
-use Rattle.kmc_tool.specs.Rounds.{AreCountsOf}
+use Rattle.std.proofs.Common.{◌≡◌, ◌≢◌, ℕ, ◌≤◌, List, ap, refl, sym, subst, arith}
+use Rattle.std.specs.Prelude.{Option, Result, Ok, Err, IfErr, IsErrAnd}
+use Rattle.kmc_reads.specs.declared.format.Format.{Format}
+use Rattle.kmc_tool.specs.Rounds.{AreCountsOf, IsInputError}
 use Rattle.kmc_tool.specs.declared.error.RunError.{RunError}
 use Rattle.kmc_tool.specs.declared.error.RunError.TheVariants as run
 
@@ -23,3 +24,21 @@ most_by most before after failed fails run.Read h = omega (arith, h.2)
 most_by most before after failed fails run.Write h = absurd h
 most_by most before after failed fails (run.Input e) h = h.2
 most_by most before after failed fails run.TooLong h = omega (arith, h.2)
+
+pub same_err : {A E : Type 0} (r : Result A E) (e : E) → IsErrAnd r (λ x. x ≡ e) → r ≡ Err e
+same_err (Ok x) e is = absurd is
+same_err (Err x) e is = ap Err is
+
+-- a refusal that is passed on has what the first one had
+pub passed_on : {A E : Type 0} (P : E → Type 0) (r : Result A E) (e : E) → IsErrAnd r (λ x. x ≡ e) → P e → IfErr r P
+passed_on P (Ok x) e is h = absurd is
+passed_on P (Err x) e is h = subst P (sym is) h
+
+-- and so at the cause that it has: the numbers, and why an input gave no bins
+pub counted : {A : Type 0} (most before after failed fails : ℕ) (r : Result A RunError) (e cause : RunError) → IsErrAnd r (λ x. x ≡ e) → AreCountsOf most before after failed fails e
+    → r ≡ Err cause → AreCountsOf most before after failed fails cause
+counted most before after failed fails r e cause passed h is = of_err (AreCountsOf most before after failed fails) r cause is (passed_on (AreCountsOf most before after failed fails) r e passed h)
+
+pub told_of : {A : Type 0} (format : Format) (most : ℕ) (old new : Option (List ℕ)) (r : Result A RunError) (e cause : RunError) → IsErrAnd r (λ x. x ≡ e) → IsInputError format most old new e
+    → r ≡ Err cause → IsInputError format most old new cause
+told_of format most old new r e cause passed h is = of_err (IsInputError format most old new) r cause is (passed_on (IsInputError format most old new) r e passed h)

@@ -115,6 +115,12 @@ counts_on Write most before mid after failed between fails less same c = c
 counts_on (Input e) most before mid after failed between fails less same c = (c.0 ∙ same, omega (arith, c.1, less), c.2)
 counts_on TooLong most before mid after failed between fails less same c = (c.0 ∙ same, omega (arith, c.1, less), c.2)
 
+-- the numbers where memory is refused after one more round
+pub memory_on : (most mid after between fails : ℕ) (more : Bool) (before failed bound : ℕ) → AreCounts most mid after between fails (Ok more)
+    → before ≤ mid → between ≡ failed → most ≡ bound → AreCountsOf bound before after failed fails Memory
+memory_on most mid after between fails more before failed bound counts less same is =
+    let r = risen most mid after between fails more counts in (r.kept ∙ same, omega (arith, less, r.least), omega (arith, r.below, is))
+
 module _ (overlap : ℕ) (format : Format) (most : ℕ) (old new : Option (List ℕ)) where
   -- a refusal of the reader or the feeder
   pub fed_cause : (before after failed fails : ℕ) (taken : List (List ℕ)) (v : FeederState) (e : RunError) → IsFedBy overlap format old new before after [] taken v (Err e)

@@ -47,12 +47,6 @@ pub fn count_input<T: Threads + Wait + Sync, R: Read, G: Gate + Sync>(
     held_reads_are_counted();
     cut_reads_are_counted();
     pieces_are_counted_as_reads();
-    let bins = match bins_of_input(rt, alloc, reader, params, gate, max_reads, PIECE_SYMBOLS) {
-        Ok(bins) => bins,
-        Err(e) => return Err(e),
-    };
-    match stage_two(rt, alloc, bins, params) {
-        Ok(lists) => Ok(lists),
-        Err(_) => Err(RunError::Memory),
-    }
+    let bins = bins_of_input(rt, alloc, reader, params, gate, max_reads, PIECE_SYMBOLS)?;
+    Ok(stage_two(rt, alloc, bins, params)?)
 }

@@ -15,11 +15,13 @@ use std::alloc::{AllocError, Global};
 use std::sync::Wait;
 use std::thread::Threads;
 
-/// How reads are dealt: by the settings of a run, and each as its pieces of at most so many symbols.
-#[derive(Clone, Copy)]
-pub(crate) struct Dealing {
+/// How reads are dealt: by the settings of a run, and each as its pieces of at most so many symbols. The gate is told of
+/// the points that their parts pass.
+#[derive(Drop)]
+pub(crate) struct Dealing<'a, G> {
     pub(crate) params: Params,
     pub(crate) limit: usize,
+    pub(crate) gate: &'a G,
     pub ghost some: { params.k ≤ limit },
 }
 
@@ -42,16 +44,12 @@ pub(crate) fn bins_of_round<T: Threads + Wait + Sync, G: Gate + Sync>(
     rt: &T,
     alloc: Global,
     round: &Reads,
-    dealing: &Dealing,
-    gate: &G,
+    dealing: &Dealing<'_, G>,
 ) -> Result<Bins, AllocError>
     ensures shape { IfOk result (λ b. b.shape ≡ shape_of dealing.now.params) }
     ensures holds { IfOk result (λ b. HoldsPieces (shape_of dealing.now.params) dealing.now.limit round.now b.bodies) }
 {
     let params = &dealing.params;
     let pieces = pieces_of(alloc, round, params.k, dealing.limit)?;
-    match stage_one(rt, alloc, &pieces, params, gate) {
-        Ok(bins) => Ok(bins),
-        Err(e) => Err(e),
-    }
+    stage_one(rt, alloc, &pieces, params, dealing.gate)
 }

@@ -64,10 +64,7 @@ pub fn fill_round<R: Read>(
         if reader.reads() >= most {
             return Err(RunError::TooLong);
         }
-        let more = match read_and_feed(reader, feeder) {
-            Ok(more) => more,
-            Err(e) => return Err(e),
-        };
+        let more = read_and_feed(reader, feeder)?;
         if !more {
             return Ok(false);
         }

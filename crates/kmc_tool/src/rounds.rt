@@ -34,8 +34,7 @@ fn feed_round<T: Threads + Wait + Sync, R: Read, G: Gate + Sync>(
     rt: &T,
     alloc: Global,
     round: &Reads,
-    dealing: &Dealing,
-    gate: &G,
+    dealing: &Dealing<'_, G>,
     reader: &mut Counted<R>,
     feeder: &mut Feeder,
     most: u64,
@@ -55,7 +54,7 @@ fn feed_round<T: Threads + Wait + Sync, R: Read, G: Gate + Sync>(
         &mut || -> Result<Bins, AllocError>
             ensures shape { IfOk result (λ b. b.shape ≡ shape_of dealing.entry.now.params) }
             ensures holds { IfOk result (λ b. HoldsPieces (shape_of dealing.entry.now.params) dealing.entry.now.limit round.entry.now b.bodies) }
-        { bins_of_round(rt, alloc, round, dealing, gate) },
+        { bins_of_round(rt, alloc, round, dealing) },
         &mut || -> Result<bool, RunError>
             requires failures { reader.now.failures < 2 ^ 64 - 1 }
             requires reads { reader.now.reads ≤ most }
@@ -73,8 +72,7 @@ fn last_round<T: Threads + Wait + Sync, G: Gate + Sync>(
     alloc: Global,
     bins: Bins,
     feeder: Feeder,
-    dealing: &Dealing,
-    gate: &G,
+    dealing: &Dealing<'_, G>,
 ) -> Result<Bins, RunError>
     requires { bins.shape ≡ shape_of dealing.now.params }
     ensures shape { IfOk result (λ b. b.shape ≡ shape_of dealing.now.params) }
@@ -92,10 +90,7 @@ fn last_round<T: Threads + Wait + Sync, G: Gate + Sync>(
             return Err(RunError::Input(e));
         }
     };
-    let own = match bins_of_round(rt, alloc, &reads, dealing, gate) {
-        Ok(own) => own,
-        Err(_) => return Err(RunError::Memory),
-    };
+    let own = bins_of_round(rt, alloc, &reads, dealing)?;
     let mut bins = bins;
     match bins.merge(own) {
         Ok(()) => Ok(bins),
@@ -129,11 +124,9 @@ pub fn bins_of_input<T: Threads + Wait + Sync, R: Read, G: Gate + Sync>(
     let dealing = Dealing {
         params: *params,
         limit,
+        gate,
     };
-    let mut bins = match Bins::new(alloc, params.shape()) {
-        Ok(bins) => bins,
-        Err(_) => return Err(RunError::Memory),
-    };
+    let mut bins = Bins::new(alloc, params.shape())?;
     let mut feeder = Feeder::new(alloc, params.format);
     let most = reader.reads() + max_reads;
     let mut more = match fill_round(reader, &mut feeder, most, round_of(params)) {
@@ -142,16 +135,13 @@ pub fn bins_of_input<T: Threads + Wait + Sync, R: Read, G: Gate + Sync>(
     };
     for _ in 0..1u64 << 32 {
         if !more {
-            return match last_round(rt, alloc, bins, feeder, &dealing, gate) {
+            return match last_round(rt, alloc, bins, feeder, &dealing) {
                 Ok(bins) => Ok(bins),
                 Err(e) => Err(e),
             };
         }
-        let round = match feeder.take_open(alloc, params.k - 1) {
-            Ok(round) => round,
-            Err(_) => return Err(RunError::Memory),
-        };
-        let (own, fed) = feed_round(rt, alloc, &round, &dealing, gate, reader, &mut feeder, most);
+        let round = feeder.take_open(alloc, params.k - 1)?;
+        let (own, fed) = feed_round(rt, alloc, &round, &dealing, reader, &mut feeder, most);
         more = match fed {
             Ok(more) => more,
             Err(e) => return Err(e),

@@ -60,10 +60,7 @@ pub fn run<T: Threads + Wait + Sync, R: Read, W: Write, G: Gate + Sync>(
     ensures reads_most { reader.new.reads ≤ reader.old.reads + 2 ^ 32 }
 {
     memory_is_no_fault();
-    let lists = match count_input(rt, alloc, reader, params, gate, MOST_READS) {
-        Ok(lists) => lists,
-        Err(e) => return Err(e),
-    };
+    let lists = count_input(rt, alloc, reader, params, gate, MOST_READS)?;
     match write_bins(rt, alloc, writer, &lists, params.k, params.sr) {
         Ok(lines) => Ok(lines),
         Err(DumpError::Memory) => Err(RunError::Memory),

@@ -1,4 +1,4 @@
-//! The options of the command line: their names, and the ranges of those that take a number.
+//! The numbers that a run is told, and their ranges.
 ghost use Rattle.std.specs.Prelude.{◌≡◌, ◌↔◌, IsTrue};
 
 use kmc_base::kmer::MAX_K;
@@ -6,7 +6,6 @@ use kmc_count::limits::GREATEST_COUNT;
 use kmc_partcore::MAX_WRITERS;
 use kmc_record::shape::{LEAST_P, MOST_BINS};
 use kmc_split::signature::MAX_M;
-use std::fmt;
 
 /// A range of numbers, both ends included, with the number that stands where none is given.
 #[derive(Clone, Copy, Debug, PartialEq, Eq)]
@@ -16,7 +15,7 @@ pub struct Bounds {
     pub default: u64,
 }
 
-/// An option of the command line that takes a number. The meanings are those of KMC's documentation.
+/// A number that a run is told. The meanings are those of KMC's documentation.
 #[derive(Clone, Copy, Debug, PartialEq, Eq)]
 pub enum Setting {
     /// The symbols of a counted word.
@@ -37,106 +36,45 @@ pub enum Setting {
     Sr,
 }
 
-const WORD_LENGTH: Bounds = Bounds {
-    least: 1,
-    most: MAX_K as u64,
-    default: 25,
-};
-
-const SIGNATURE_LENGTH: Bounds = Bounds {
-    least: LEAST_P as u64,
-    most: MAX_M as u64,
-    default: 9,
-};
-
-const BINS: Bounds = Bounds {
-    least: 1,
-    most: MOST_BINS as u64,
-    default: 512,
-};
-
-const LEAST_COUNT: Bounds = Bounds {
-    least: 0,
-    most: GREATEST_COUNT,
-    default: 2,
-};
-
-const MOST_COUNT: Bounds = Bounds {
-    least: 0,
-    most: GREATEST_COUNT,
-    default: 1_000_000_000,
-};
-
-const SHOWN_COUNT: Bounds = Bounds {
-    least: 1,
-    most: GREATEST_COUNT,
-    default: 255,
-};
-
 // each splitter is a writer of the queue, and as many threads may count
-const THREADS: Bounds = Bounds {
-    least: 1,
-    most: MAX_WRITERS as u64,
-    default: 2,
-};
+const MOST_THREADS: u64 = MAX_WRITERS as u64;
 
-impl Setting {
-    ghost use Rattle.kmc_tool.specs.Settings.{bounds_of, name_of, IsFor};
-
-    /// All of them, in the order in which their values are judged.
-    pub const ALL: [Setting; 8] = [
-        Setting::K,
-        Setting::P,
-        Setting::N,
-        Setting::Ci,
-        Setting::Cx,
-        Setting::Cs,
-        Setting::Sp,
-        Setting::Sr,
-    ];
-
-    /// The option's name without its hyphens.
-    pub fn name(self) -> &'static str
-        ensures { result.now ≡ name_of self }
+impl Bounds {
+    /// From the least number to the greatest.
+    fn new(least: u64, most: u64, default: u64) -> Bounds
+        ensures { result ≡ record { least = least; most = most; default = default } }
     {
-        match self {
-            Setting::K => "k",
-            Setting::P => "p",
-            Setting::N => "n",
-            Setting::Ci => "ci",
-            Setting::Cx => "cx",
-            Setting::Cs => "cs",
-            Setting::Sp => "sp",
-            Setting::Sr => "sr",
+        Bounds {
+            least,
+            most,
+            default,
         }
     }
+}
 
-    /// The numbers that the option takes, and its default.
+impl Setting {
+    ghost use Rattle.kmc_tool.specs.Settings.{bounds_of, IsFor};
+
+    /// The numbers that the setting may have, and its default.
     pub fn bounds(self) -> Bounds
         ensures { result ≡ bounds_of self }
     {
         match self {
-            Setting::K => WORD_LENGTH,
-            Setting::P => SIGNATURE_LENGTH,
-            Setting::N => BINS,
-            Setting::Ci => LEAST_COUNT,
-            Setting::Cx => MOST_COUNT,
-            Setting::Cs => SHOWN_COUNT,
-            Setting::Sp | Setting::Sr => THREADS,
+            Setting::K => Bounds::new(1, MAX_K as u64, 25),
+            Setting::P => Bounds::new(LEAST_P as u64, MAX_M as u64, 9),
+            Setting::N => Bounds::new(1, MOST_BINS as u64, 512),
+            Setting::Ci => Bounds::new(0, GREATEST_COUNT, 2),
+            Setting::Cx => Bounds::new(0, GREATEST_COUNT, 1_000_000_000),
+            Setting::Cs => Bounds::new(1, GREATEST_COUNT, 255),
+            Setting::Sp | Setting::Sr => Bounds::new(1, MOST_THREADS, 2),
         }
     }
 
-    /// Whether the option takes this number.
+    /// Whether the setting may have this number.
     pub fn takes(self, number: u64) -> bool
         ensures { IsTrue result ↔ IsFor self number }
     {
         let bounds = self.bounds();
         bounds.least <= number && number <= bounds.most
-    }
-}
-
-impl fmt::Display for Setting {
-    fn fmt<W: fmt::Write>(&self, f: &mut fmt::Formatter<W>) -> fmt::Result {
-        f.write_str(self.name())
     }
 }

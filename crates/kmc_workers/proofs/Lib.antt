@@ -3,6 +3,7 @@ mod Chunks
 mod Few
 mod Fresh
 mod Merging
+mod Passed
 mod Returned
 mod Sent
 mod Stored

@@ -72,10 +72,7 @@ pub fn fill_bins<R: Threads + Wait + Sync, G: Gate + Sync>(
     gathered::<Part>();
     gathered_bins_hold_reads();
     let shape = plan.shape;
-    let (lanes, done, shards) = match pass_parts(rt, alloc, reads, plan, queue, gate) {
-        Ok(passed) => passed,
-        Err(cause) => return Err(cause),
-    };
+    let (lanes, done, shards) = pass_parts(rt, alloc, reads, plan, queue, gate)?;
     let (bins, seats) = merge_shards(alloc, shape, shards)?;
     let totals = lanes.gather(done, seats);
     Ok((bins, totals))

@@ -30,7 +30,8 @@ fn open_way(alloc: Global, queue: QueueShape) -> Result<(Way, Seats), AllocError
     ensures fresh { IfOk result (λ q. Each (IsFreshReader q.0.lanes.table.shared.table_id q.0.lanes.shape) q.1.readers.items) }
 {
     let (lanes, writers, readers) = Lanes::new(alloc, queue)?;
-    Ok((Way::new(lanes, queue.writers), Seats { writers, readers }))
+    let way = Way::new(lanes, queue.writers, alloc);
+    Ok((way, Seats { writers, readers }))
 }
 
 /// Passes the parts of the reads through a queue of this shape: of its writers, splitter w cuts the chunks c with
@@ -64,7 +65,7 @@ pub fn pass_parts<R: Threads + Wait + Sync, G: Gate + Sync>(
             ensures done { IfOk result (λ q. AllZip (IsDone plan.shape plan.batch (map (λ v. v.now) reads.entry.now) shared.entry.now.writers) seats.writers.items q.0.items) }
             ensures shards { IfOk result (λ q. AllZip (IsShard plan.shape) seats.readers.items q.1.items) }
             ensures cause { IfErr result (IsCause plan.shape plan.batch (map (λ v. v.now) reads.entry.now) shared.entry.now.writers) }
-        { store_all(rt, alloc, scope, shared, seats, reads, plan, gate) },
+        { store_all(rt, scope, shared, seats, reads, plan, gate) },
     );
     let (done, shards) = back?;
     Ok((way.into_lanes(), done, shards))

@@ -13,7 +13,6 @@ use crate::way::Way;
 use kmc_partqueue::{DoneSeat, Gate, Point, TryPutError, WriterSeat};
 use kmc_record::part::Part;
 use kmc_record::parts::parts_of_reads;
-use std::alloc::Global;
 use std::sync::Wait;
 
 /// Puts a part, and waits while the lane is full. The stop word is read before each try.
@@ -94,7 +93,6 @@ fn chunk_of<'a, 'b>(reads: &'a [&'b [u8]], batch: usize, c: usize) -> &'a [&'b [
 /// Cuts the chunks that are dealt to the seat, in rising order, and puts the parts of each in rising order of bins.
 pub(crate) fn split<R: Wait, G: Gate>(
     rt: &R,
-    alloc: Global,
     way: &Way,
     mut s: WriterSeat<Part>,
     reads: &[&[u8]],
@@ -108,11 +106,8 @@ pub(crate) fn split<R: Wait, G: Gate>(
     for c in 0..chunks(reads.len(), plan.batch) {
         if c % way.writers == s.number() {
             let chunk = chunk_of(reads, plan.batch, c);
-            let parts = parts_of_reads(alloc, c as u64, chunk, plan.shape)?;
-            match put_all(rt, way, &mut s, parts, gate) {
-                Ok(()) => {}
-                Err(cause) => return Err(cause),
-            }
+            let parts = parts_of_reads(way.alloc, c as u64, chunk, plan.shape)?;
+            put_all(rt, way, &mut s, parts, gate)?;
         }
     }
     Ok(way.lanes.complete(s))

@@ -13,14 +13,12 @@ use kmc_record::part::Part;
 use kmc_record::shape::Shape;
 use kmc_store::bins::Bins;
 use kmc_store::laws::{absorbed_bins_are_bodies, empty_bins_are_no_bodies};
-use std::alloc::Global;
 use std::sync::Wait;
 
 /// Takes parts until the queue is finished, and absorbs them. The stop word is read before each try. A part of another
 /// shape, which no splitter sends, ends it.
 pub(crate) fn store<R: Wait, G: Gate>(
     rt: &R,
-    alloc: Global,
     way: &Way,
     mut seat: ReaderSeat<Part>,
     shape: Shape,
@@ -33,7 +31,7 @@ pub(crate) fn store<R: Wait, G: Gate>(
     // bins that are the bodies of what was got stay so with each part
     empty_bins_are_no_bodies();
     absorbed_bins_are_bodies();
-    let mut bins = Bins::new(alloc, shape)?;
+    let mut bins = Bins::new(way.alloc, shape)?;
     let mut pause = Pause::new();
     for _ in rt.forever() {
         if way.is_stopped() {

@@ -3,6 +3,7 @@ ghost use Rattle.std.specs.Prelude.{◌≡◌};
 
 use kmc_partqueue::Lanes;
 use kmc_record::part::Part;
+use std::alloc::Global;
 use std::sync::Wait;
 use std::sync::atomic::{AtomicU64, Ordering};
 use std::time::Duration;
@@ -15,24 +16,27 @@ const STOPPED: u64 = 1;
 /// The most microseconds of a sleep.
 const SLEEP: u64 = 100;
 
-/// The queue that the parts pass, with its number of writers, and the word that tells all workers to stop.
+/// The queue that the parts pass, with its number of writers, where memory comes from, and the word that tells all workers
+/// to stop.
 #[derive(Drop)]
 pub(crate) struct Way {
     pub(crate) lanes: Lanes<Part>,
     pub(crate) writers: usize,
+    pub(crate) alloc: Global,
     stop: AtomicU64,
     ghost as_many: { writers ≡ lanes.shape.writers },
 }
 
 impl Way {
     /// The way through a queue of so many writers, on which no worker has been told to stop.
-    pub(crate) fn new(lanes: Lanes<Part>, writers: usize) -> Way
+    pub(crate) fn new(lanes: Lanes<Part>, writers: usize, alloc: Global) -> Way
         requires { writers ≡ lanes.shape.writers }
         ensures { (result.lanes ≡ lanes) × (result.writers ≡ writers) }
     {
         Way {
             lanes,
             writers,
+            alloc,
             stop: AtomicU64::new(GOING),
         }
     }
@@ -61,6 +65,7 @@ impl Way {
         let Way {
             lanes,
             writers: _,
+            alloc: _,
             stop: _,
         } = self;
         lanes

@@ -15,7 +15,7 @@ use crate::way::Way;
 use kmc_partqueue::{DoneSeat, Gate, ReaderSeat, WriterSeat};
 use kmc_record::part::Part;
 use kmc_record::shape::Shape;
-use std::alloc::{AllocError, Global};
+use std::alloc::AllocError;
 use std::snapshot::Snapshot;
 use std::sync::Wait;
 use std::thread::{Promise, Scope, Threads};
@@ -50,7 +50,6 @@ impl Promise<Result<Shard, Refusal>> for Takes {
 /// One splitter. Where it has a cause, the others stop.
 fn split_one<R: Wait, G: Gate>(
     rt: &R,
-    alloc: Global,
     way: &Way,
     seat: WriterSeat<Part>,
     reads: &[&[u8]],
@@ -62,7 +61,7 @@ fn split_one<R: Wait, G: Gate>(
         (λ d. IsDone plan.shape plan.batch (map (λ v. v.now) reads.now) way.now.writers seat d)
         (IsCause plan.shape plan.batch (map (λ v. v.now) reads.now) way.now.writers) }
 {
-    let done = split(rt, alloc, way, seat, reads, plan, gate);
+    let done = split(rt, way, seat, reads, plan, gate);
     if done.is_err() {
         way.stop();
     }
@@ -81,7 +80,6 @@ fn with_one<T: Drop>(list: Vec<T>, one: T) -> Result<Vec<T>, AllocError>
 /// Starts one splitter, then the others, and joins it.
 fn split_all<'s, E, R: Threads + Wait + Sync, G: Gate + Sync>(
     rt: &'s R,
-    alloc: Global,
     scope: &Scope<'s, E>,
     way: &'s Way,
     mut seats: Vec<WriterSeat<Part>>,
@@ -95,7 +93,7 @@ fn split_all<'s, E, R: Threads + Wait + Sync, G: Gate + Sync>(
         (IsCause plan.shape plan.batch (map (λ v. v.now) reads.now) way.now.writers) }
 {
     let Some(seat) = seats.pop() else {
-        return Ok(Vec::new(alloc));
+        return Ok(Vec::new(way.alloc));
     };
     let shape = plan.shape;
     let batch = plan.batch;
@@ -114,7 +112,7 @@ fn split_all<'s, E, R: Threads + Wait + Sync, G: Gate + Sync>(
             ensures { MatchResult result
                 (λ d. IsDone plan.shape plan.batch (map (λ v. v.now) reads.entry.now) way.entry.now.writers seat d)
                 (IsCause plan.shape plan.batch (map (λ v. v.now) reads.entry.now) way.entry.now.writers) }
-        { split_one(rt, alloc, way, seat, reads, plan, gate) },
+        { split_one(rt, way, seat, reads, plan, gate) },
     );
     let child = match started {
         Ok(child) => child,
@@ -123,7 +121,7 @@ fn split_all<'s, E, R: Threads + Wait + Sync, G: Gate + Sync>(
             return Err(Refusal::Memory);
         }
     };
-    let rest = split_all(rt, alloc, scope, way, seats, reads, plan, gate);
+    let rest = split_all(rt, scope, way, seats, reads, plan, gate);
     let (done, own) = both(rest, child.join(rt))?;
     Ok(with_one(done, own)?)
 }
@@ -131,7 +129,6 @@ fn split_all<'s, E, R: Threads + Wait + Sync, G: Gate + Sync>(
 /// One storer. Where it has a cause, the others stop.
 fn store_one<R: Wait, G: Gate>(
     rt: &R,
-    alloc: Global,
     way: &Way,
     seat: ReaderSeat<Part>,
     shape: Shape,
@@ -140,7 +137,7 @@ fn store_one<R: Wait, G: Gate>(
     requires { IsFreshReader way.now.lanes.table.shared.table_id way.now.lanes.shape seat }
     ensures { MatchResult result (λ h. IsShard shape seat h) IsStorersCause }
 {
-    let shard = store(rt, alloc, way, seat, shape, gate);
+    let shard = store(rt, way, seat, shape, gate);
     if shard.is_err() {
         way.stop();
     }
@@ -157,7 +154,6 @@ pub(crate) struct Seats {
 /// Starts one storer, then the others and the splitters, and joins it.
 pub(crate) fn store_all<'s, E, R: Threads + Wait + Sync, G: Gate + Sync>(
     rt: &'s R,
-    alloc: Global,
     scope: &Scope<'s, E>,
     way: &'s Way,
     seats: Seats,
@@ -176,8 +172,8 @@ pub(crate) fn store_all<'s, E, R: Threads + Wait + Sync, G: Gate + Sync>(
         mut readers,
     } = seats;
     let Some(seat) = readers.pop() else {
-        let done = split_all(rt, alloc, scope, way, writers, reads, plan, gate)?;
-        return Ok((done, Vec::new(alloc)));
+        let done = split_all(rt, scope, way, writers, reads, plan, gate)?;
+        return Ok((done, Vec::new(way.alloc)));
     };
     let shape = plan.shape;
     let promise = Takes {
@@ -189,7 +185,7 @@ pub(crate) fn store_all<'s, E, R: Threads + Wait + Sync, G: Gate + Sync>(
         move || -> Result<Shard, Refusal>
             requires { IsFreshReader way.now.lanes.table.shared.table_id way.now.lanes.shape seat }
             ensures { MatchResult result (λ h. IsShard shape seat h) IsStorersCause }
-        { store_one(rt, alloc, way, seat, shape, gate) },
+        { store_one(rt, way, seat, shape, gate) },
     );
     let child = match started {
         Ok(child) => child,
@@ -199,7 +195,7 @@ pub(crate) fn store_all<'s, E, R: Threads + Wait + Sync, G: Gate + Sync>(
         }
     };
     let seats = Seats { writers, readers };
-    let rest = store_all(rt, alloc, scope, way, seats, reads, plan, gate);
+    let rest = store_all(rt, scope, way, seats, reads, plan, gate);
     let (others, own) = both(rest, child.join(rt))?;
     let (done, shards) = others;
     Ok((done, with_one(shards, own)?))

@@ -2,16 +2,13 @@
 ghost use Rattle.std.specs.Prelude.{◌≡◌, IfOk, MatchResult, map, string_bytes, true};
 ghost use Rattle.std.specs.List.{fold};
 ghost use Rattle.clap.specs.Words.{app_of, found_of, rows_of, with_rule};
-ghost use Rattle.kmc_command.specs.CommandLine.{command, flag_rule, found, is_accepted, option_rule};
-ghost use Rattle.kmc_command.specs.Flags.{flags};
-ghost use Rattle.kmc_tool.specs.Settings.{settings};
+ghost use Rattle.kmc_command.specs.CommandLine.{command, found, is_accepted, rule_of};
 ghost use Rattle.kmc_command.specs.Parsed.{FailsAs};
 
 use super::error::ParamsError;
-use crate::flag::Flag;
+use crate::named::{FLAGS, Named, OPTIONS};
 use clap::error::ErrorKind;
-use clap::{Arg, ArgAction, ArgMatches, Command};
-use kmc_tool::setting::Setting;
+use clap::{Arg, ArgMatches, Command};
 use std::alloc::{AllocError, Global};
 
 /// What `clap` finds in the words.
@@ -38,48 +35,32 @@ fn command<'a>(alloc: Global) -> Result<Command<'a>, AllocError>
         .no_binary_name(true)
         .disable_help_flag(true)
         .disable_version_flag(true);
-    with_flags(alloc, with_options(alloc, plain)?)
+    with_each(alloc, with_each(alloc, plain, &OPTIONS)?, &FLAGS)
 }
 
-fn with_options<'a>(alloc: Global, plain: Command<'a>) -> Result<Command<'a>, AllocError>
-    ensures { IfOk result (λ r.
-        app_of r ≡ fold with_rule (app_of plain.entry) (map option_rule settings)) }
+fn with_each<'a, N: Named>(
+    alloc: Global,
+    plain: Command<'a>,
+    all: &[N],
+) -> Result<Command<'a>, AllocError>
+    ensures { IfOk result (λ r. app_of r
+        ≡ fold with_rule (app_of plain.entry) (map (λ n. rule_of N.action (N.known_as n)) all.now)) }
 {
     let mut command = plain;
-    for setting in Setting::ALL {
-        command = with_option(alloc, command, setting)?;
+    for named in all {
+        command = with(alloc, command, *named)?;
     }
     Ok(command)
 }
 
-fn with_flags<'a>(alloc: Global, plain: Command<'a>) -> Result<Command<'a>, AllocError>
-    ensures { IfOk result (λ r.
-        app_of r ≡ fold with_rule (app_of plain.entry) (map flag_rule flags)) }
-{
-    let mut command = plain;
-    for flag in Flag::ALL {
-        command = with_flag(alloc, command, flag)?;
-    }
-    Ok(command)
-}
-
-fn with_option<'a>(
+fn with<'a, N: Named>(
     alloc: Global,
     command: Command<'a>,
-    setting: Setting,
+    named: N,
 ) -> Result<Command<'a>, AllocError>
     ensures { IfOk result (λ r.
-        app_of r ≡ with_rule (app_of command.entry) (option_rule setting)) }
+        app_of r ≡ with_rule (app_of command.entry) (rule_of N.action (N.known_as named))) }
 {
-    let name: &'a str = setting.name();
-    let option = Arg::new(alloc, name).long(name).action(ArgAction::Set);
-    command.arg(option)
-}
-
-fn with_flag<'a>(alloc: Global, command: Command<'a>, flag: Flag) -> Result<Command<'a>, AllocError>
-    ensures { IfOk result (λ r. app_of r ≡ with_rule (app_of command.entry) (flag_rule flag)) }
-{
-    let name: &'a str = flag.name();
-    let switch = Arg::new(alloc, name).long(name).action(ArgAction::SetTrue);
-    command.arg(switch)
+    let name: &'a str = named.name();
+    command.arg(Arg::new(alloc, name).long(name).action(N::action()))
 }

@@ -2,6 +2,7 @@
 ghost use Rattle.std.specs.Prelude.{◌≡◌};
 ghost use Rattle.kmc_command.specs.declared.options.error.ParamsError.TheVariants.{Memory};
 
+use crate::named::Named;
 use kmc_tool::setting::Setting;
 use std::alloc::AllocError;
 use thiserror::Error;
@@ -15,7 +16,7 @@ pub enum ParamsError {
     #[error("usage: kmc [-fa|-fq|-fm] [-k<len>] [-p<len>] [-ci<n>] [-cx<n>] [-cs<n>] [-n<bins>] [-sp<n>] [-sr<n>] [-b]")]
     Usage,
     /// The value of this option is no number, or is out of the option's range.
-    #[error("kmc: value of -{0} is out of range")]
+    #[error("kmc: value of -{} is out of range", .0.name())]
     OutOfRange(Setting),
     /// Memory for the words was refused. It says nothing of them.
     #[error("kmc: out of memory")]

@@ -2,7 +2,7 @@
 ghost use Rattle.std.specs.Prelude.{◌≡◌, IfOk, option_map, string_bytes};
 ghost use Rattle.kmc_command.specs.Glued.{is_flag, long_form, option_in, value_in, with_value};
 
-use crate::flag::Flag;
+use crate::named::{FLAGS, Named, OPTIONS};
 use kmc_argument::prefix::rest_after;
 use kmc_tool::setting::Setting;
 use std::alloc::{AllocError, Global};
@@ -29,7 +29,7 @@ pub fn long_form(alloc: Global, word: String) -> Result<String, AllocError>
 fn is_flag(word: &str) -> bool
     ensures { result ≡ is_flag word.now }
 {
-    Flag::ALL
+    FLAGS
         .iter()
         .any(|flag| word.strip_prefix("-") == Some(flag.name()))
 }
@@ -38,7 +38,7 @@ fn is_flag(word: &str) -> bool
 fn option_in(word: &str) -> Option<Setting>
     ensures { result ≡ option_in word.now }
 {
-    Setting::ALL
+    OPTIONS
         .iter()
         .copied()
         .find(|setting| value_in(*setting, word).is_some())

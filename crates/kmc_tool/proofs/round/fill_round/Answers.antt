@@ -1,5 +1,6 @@
-use Rattle.std.proofs.Common.{◌+◌, Ok, true, false, Err, refl, subst, ◌∙◌, arith}
-use Rattle.kmc_tool.specs.Rounds.{AreCounts}
+use Rattle.std.proofs.Common.{◌+◌, ◌++◌, Ok, true, false, refl, sym, subst, ◌∙◌, arith}
+use Rattle.kmc_tool.specs.Rounds.{AreCounts, IsFedBy}
+use Rattle.kmc_tool.proofs.Causes.{same_err}
 use Rattle.kmc_tool.proofs.Fed.{fed_none, fed_on, fed_by}
 use Rattle.kmc_tool.proofs.round.fill_round.Goals as goal
 
@@ -14,7 +15,7 @@ loop-preserved g c =
     let way = c.loop.invariant.way in
     let most = c.loop.invariant.most in
     let reads = c.loop.reader.reads in let after = c.read_and_feed.new.reader.reads in
-    let h = subst (λ b. AreCounts (reads + 1) reads after c.loop.reader.failures c.read_and_feed.new.reader.failures (Ok b)) c.if-not-more.false c.in-Ok.ensures.counts in
+    let h = subst (λ b. AreCounts (reads + 1) reads after c.loop.reader.failures c.read_and_feed.new.reader.failures (Ok b)) c.if-not-more.false c.in_ok-more.ensures.counts in
     record {
       most = omega (arith, h.2, c.if-reads-most.false, c.reads.ensures);
       way = record {
@@ -22,24 +23,24 @@ loop-preserved g c =
         many = omega (arith, h.1, way.many);
         fed = λ overlap format text taken s. let f = way.fed overlap format text taken s in
             fed_on overlap format _ _ _ c.args.reader.now.reads c.loop.reader.reads c.read_and_feed.new.reader.reads text taken c.loop.feeder c.read_and_feed.new.feeder f
-            (c.in-Ok.ensures.fed overlap format _ taken f.stands);
+            (c.in_ok-more.ensures.fed overlap format _ taken f.stands);
       };
     }
 
-pub returns-in-Err-clause-fed : goal.returns-in-Err-clause-fed
-returns-in-Err-clause-fed g c = λ overlap format text taken s.
+pub returns-in_err-more-clause-fed : goal.returns-in_err-more-clause-fed
+returns-in_err-more-clause-fed g c = λ overlap format text taken s.
     let f = c.loop.invariant.way.fed overlap format text taken s in
-    fed_by overlap format _ _ _ c.args.reader.now.reads c.loop.reader.reads c.read_and_feed.new.reader.reads text taken c.loop.feeder c.read_and_feed.new.feeder (Err c.in-Err.e) f
-    (c.in-Err.ensures.fed overlap format _ taken f.stands)
+    fed_by overlap format _ _ _ c.args.reader.now.reads c.loop.reader.reads c.read_and_feed.new.reader.reads text taken c.loop.feeder c.read_and_feed.new.feeder c.from_residual.result f
+    (subst (IsFedBy overlap format _ _ _ _ (text ++ f.bytes) taken c.read_and_feed.new.feeder) (sym (same_err c.from_residual.result c.in_err-more.field-0.0 c.from_residual.ensures.1)) (c.in_err-more.ensures.fed overlap format _ taken f.stands))
 
 pub returns-then-not-more-clause-fed : goal.returns-then-not-more-clause-fed
 returns-then-not-more-clause-fed g c = λ overlap format text taken s.
     let f = c.loop.invariant.way.fed overlap format text taken s in
     fed_by overlap format _ _ _ c.args.reader.now.reads c.loop.reader.reads c.read_and_feed.new.reader.reads text taken c.loop.feeder c.read_and_feed.new.feeder (Ok false) f
-    (c.in-Ok.ensures.fed overlap format _ taken f.stands)
+    (c.in_ok-more.ensures.fed overlap format _ taken f.stands)
 
 pub returns-then-waiting-reads-clause-fed : goal.returns-then-waiting-reads-clause-fed
 returns-then-waiting-reads-clause-fed g c = λ overlap format text taken s.
     let f = c.loop.invariant.way.fed overlap format text taken s in
     fed_by overlap format _ _ _ c.args.reader.now.reads c.loop.reader.reads c.read_and_feed.new.reader.reads text taken c.loop.feeder c.read_and_feed.new.feeder (Ok true) f
-    (c.in-Ok.ensures.fed overlap format _ taken f.stands)
+    (c.in_ok-more.ensures.fed overlap format _ taken f.stands)

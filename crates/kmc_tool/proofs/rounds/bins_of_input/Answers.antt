@@ -3,23 +3,23 @@ use Rattle.kmc_store.specs.Bins.{BinList, empty_bins}
 use Rattle.kmc_store.specs.Holds.{HoldsReads}
 use Rattle.kmc_tool.specs.Rounds.{AreCounts, AreCountsOf, HoldsPieces, IsFedBy}
 use Rattle.kmc_tool.specs.Stages.{shape_of}
-use Rattle.kmc_tool.proofs.Fed.{risen, counts_on, fed_on, fed_by, fed_cause, last_counts, last_input, taken_fed, both_held}
+use Rattle.kmc_tool.proofs.Fed.{risen, counts_on, fed_on, fed_by, fed_cause, last_counts, last_input, memory_on, taken_fed, both_held}
 use Rattle.kmc_tool.proofs.rounds.bins_of_input.Goals as goal
 
-pub returns-in-Err-fill_round-clause-cause : goal.returns-in-Err-fill_round-clause-cause
-returns-in-Err-fill_round-clause-cause g c =
-    let format = c.args.params.now.format in let e = c.in-Err-fill_round.e in
+pub returns-in-Err-clause-cause : goal.returns-in-Err-clause-cause
+returns-in-Err-clause-cause g c =
+    let format = c.args.params.now.format in let e = c.in-Err.e in
     let old = c.args.reader.now in let new = c.fill_round.new.reader in
-    let counts = subst (λ n. AreCountsOf (n + c.args.max_reads) old.reads new.reads old.failures new.failures e) c.reads.ensures c.in-Err-fill_round.ensures.counts in
+    let counts = subst (λ n. AreCountsOf (n + c.args.max_reads) old.reads new.reads old.failures new.failures e) c.reads.ensures c.in-Err.ensures.counts in
     fed_cause (c.args.params.now.k - 1) format c.args.max_reads _ _ old.reads new.reads old.failures new.failures [] c.fill_round.new.feeder e
-    (c.in-Err-fill_round.ensures.fed (c.args.params.now.k - 1) format [] [] (c.new-feeder.ensures.cut (c.args.params.now.k - 1))) counts
+    (c.in-Err.ensures.fed (c.args.params.now.k - 1) format [] [] (c.new-feeder.ensures.cut (c.args.params.now.k - 1))) counts
 
 pub loop-init : goal.loop-init
 loop-init g c =
     let shape = shape_of c.args.params.now in
-    let empty : c.in-Ok.bins ≡ empty_bins shape = c.in-Ok.ensures ∙ ap empty_bins c.shape.ensures in
+    let empty : c.in_ok-bins.bins ≡ empty_bins shape = c.in_ok-bins.ensures ∙ ap empty_bins c.shape.ensures in
     let old = c.args.reader.now in let new = c.fill_round.new.reader in
-    let r = risen (c.reads.result + c.args.max_reads) old.reads new.reads old.failures new.failures c.in-Ok-fill_round.more c.in-Ok-fill_round.ensures.counts in
+    let r = risen (c.reads.result + c.args.max_reads) old.reads new.reads old.failures new.failures c.in-Ok.more c.in-Ok.ensures.counts in
     record {
       shaped = ap (λ (b : BinList). b.shape) empty;
       kept = r.kept;
@@ -27,10 +27,10 @@ loop-init g c =
       some = λ e. (let k = r.some e in omega (arith, k));
       below = r.below;
       under = r.under;
-      ended = λ e. c.in-Ok-fill_round.ensures.at_end (ap Ok e);
+      ended = λ e. c.in-Ok.ensures.at_end (ap Ok e);
       stored = record {
         taken = [];
-        fed = c.in-Ok-fill_round.ensures.fed (c.args.params.now.k - 1) c.args.params.now.format [] [] (c.new-feeder.ensures.cut (c.args.params.now.k - 1));
+        fed = c.in-Ok.ensures.fed (c.args.params.now.k - 1) c.args.params.now.format [] [] (c.new-feeder.ensures.cut (c.args.params.now.k - 1));
         holds = subst (λ (b : BinList). HoldsReads shape [] b.bodies) (sym empty) (c.empty_bins_hold_no_reads.ensures shape);
       };
     }
@@ -68,8 +68,8 @@ returns-in-Err-fed-clause-cause g c =
     let old = c.args.reader.now in let mid = c.loop.reader in let new = c.feed_round-own.new.reader in
     let here = subst (λ r. AreCounts (c.reads.result + c.args.max_reads) mid.reads new.reads mid.failures new.failures r) c.in-Err-fed.is c.feed_round-own.ensures.counts in
     let counts = subst (λ n. AreCountsOf (n + c.args.max_reads) mid.reads new.reads mid.failures new.failures e) c.reads.ensures here in
-    let round = c.in-Ok-take_open.round in
-    let stands = c.in-Ok-take_open.ensures.stands format st.fed.bytes st.taken st.fed.stands in
+    let round = c.in_ok-round.round in
+    let stands = c.in_ok-round.ensures.stands format st.fed.bytes st.taken st.fed.stands in
     let f = taken_fed (c.args.params.now.k - 1) format _ _ old.reads mid.reads st.taken round c.loop.feeder c.take_open.new.self st.fed stands in
     let more = c.feed_round-own.ensures.fed (c.args.params.now.k - 1) format st.fed.bytes (st.taken ++ round) stands in
     let fed = fed_by (c.args.params.now.k - 1) format _ _ _ old.reads mid.reads new.reads [] (st.taken ++ round) c.take_open.new.self c.feed_round-own.new.feeder c.feed_round-own.result.1 f more in
@@ -79,19 +79,11 @@ returns-in-Err-fed-clause-cause g c =
 
 pub returns-in-Err-own-clause-counts : goal.returns-in-Err-own-clause-counts
 returns-in-Err-own-clause-counts g c =
-    let inv = c.loop.invariant in
-    let mid = c.loop.reader in let new = c.feed_round-own.new.reader in
-    let here = subst (λ r. AreCounts (c.reads.result + c.args.max_reads) mid.reads new.reads mid.failures new.failures r) c.in-Ok-fed.is c.feed_round-own.ensures.counts in
-    let r = risen (c.reads.result + c.args.max_reads) mid.reads new.reads mid.failures new.failures c.in-Ok-fed.more here in
-    (r.kept ∙ inv.kept, omega (arith, inv.many, r.least), omega (arith, r.below, c.reads.ensures))
+    let inv = c.loop.invariant in memory_on _ _ _ _ _ c.in-Ok-fed.more _ _ _ (subst (AreCounts _ _ _ _ _) c.in-Ok-fed.is c.feed_round-own.ensures.counts) (omega (arith, inv.many)) inv.kept (ap (λ n. n + c.args.max_reads) c.reads.ensures)
 
 pub returns-in-Err-merge-clause-counts : goal.returns-in-Err-merge-clause-counts
 returns-in-Err-merge-clause-counts g c =
-    let inv = c.loop.invariant in
-    let mid = c.loop.reader in let new = c.feed_round-own.new.reader in
-    let here = subst (λ r. AreCounts (c.reads.result + c.args.max_reads) mid.reads new.reads mid.failures new.failures r) c.in-Ok-fed.is c.feed_round-own.ensures.counts in
-    let r = risen (c.reads.result + c.args.max_reads) mid.reads new.reads mid.failures new.failures c.in-Ok-fed.more here in
-    (r.kept ∙ inv.kept, omega (arith, inv.many, r.least), omega (arith, r.below, c.reads.ensures))
+    let inv = c.loop.invariant in memory_on _ _ _ _ _ c.in-Ok-fed.more _ _ _ (subst (AreCounts _ _ _ _ _) c.in-Ok-fed.is c.feed_round-own.ensures.counts) (omega (arith, inv.many)) inv.kept (ap (λ n. n + c.args.max_reads) c.reads.ensures)
 
 pub loop-preserved : goal.loop-preserved
 loop-preserved g c =
@@ -100,8 +92,8 @@ loop-preserved g c =
     let here = subst (λ r. AreCounts (c.reads.result + c.args.max_reads) mid.reads new.reads mid.failures new.failures r) c.in-Ok-fed.is c.feed_round-own.ensures.counts in
     let r = risen (c.reads.result + c.args.max_reads) mid.reads new.reads mid.failures new.failures c.in-Ok-fed.more here in
     let begun = inv.some c.if-not-more.false in
-    let round = c.in-Ok-take_open.round in
-    let stands = c.in-Ok-take_open.ensures.stands p.format st.fed.bytes st.taken st.fed.stands in
+    let round = c.in_ok-round.round in
+    let stands = c.in_ok-round.ensures.stands p.format st.fed.bytes st.taken st.fed.stands in
     let f = taken_fed (c.args.params.now.k - 1) p.format _ _ old.reads mid.reads st.taken round c.loop.feeder c.take_open.new.self st.fed stands in
     let more = subst (λ o. IsFedBy (c.args.params.now.k - 1) p.format (g.R.Read.remaining mid.inner) (g.R.Read.remaining new.inner) mid.reads new.reads st.fed.bytes (st.taken ++ round) c.feed_round-own.new.feeder o) c.in-Ok-fed.is
     (c.feed_round-own.ensures.fed (c.args.params.now.k - 1) p.format st.fed.bytes (st.taken ++ round) stands) in

@@ -11,7 +11,7 @@ returns-in-Ok-merge-clause-holds g c = λ format text taken s h.
       taken ++ c.in-Ok.reads,
       all.1,
       all.2,
-      both_held c.merged_bins_hold_both.ensures (shape_of c.args.dealing.now.params) c.args.dealing.now.limit taken c.in-Ok.reads c.args.bins c.in-Ok-bins_of_round.own c.merge.new.self h c.in-Ok-bins_of_round.ensures.holds c.in-Ok-merge.ensures.ok,
+      both_held c.merged_bins_hold_both.ensures (shape_of c.args.dealing.now.params) c.args.dealing.now.limit taken c.in-Ok.reads c.args.bins c.in_ok-own.own c.merge.new.self h c.in_ok-own.ensures.holds c.in-Ok-merge.ensures.ok,
     )
 
 pub returns-in-Err-clause-cause : goal.returns-in-Err-clause-cause

@@ -7,52 +7,52 @@ use Rattle.kmc_workers.proofs.fill_bins.fill_bins.Goals as goal
 
 pub merge_shards-requires : goal.merge_shards-requires
 merge_shards-requires g c =
-    shards_shaped c.args.plan.shape c.in-Ok.passed.0.table.shared.table_id c.args.queue c.in-Ok.passed.2.items c.in-Ok.ensures.shards
+    shards_shaped c.args.plan.shape c.in_ok-lanes.lanes.table.shared.table_id c.args.queue c.in_ok-lanes.shards.items c.in_ok-lanes.ensures.shards
 
 pub gather-totals-requires-clause-queue : goal.gather-totals-requires-clause-queue
 gather-totals-requires-clause-queue g c =
-    let shape = c.args.plan.shape in let queue = c.args.queue in let id = c.in-Ok.passed.0.table.shared.table_id in
+    let shape = c.args.plan.shape in let queue = c.args.queue in let id = c.in_ok-lanes.lanes.table.shared.table_id in
     let reads = map (λ (r : Bor (List ℕ)). r.now) c.args.reads.now in
-    rw c.in-Ok.ensures.queue (
-      writers_of id queue shape c.args.plan.batch reads queue.writers c.in-Ok.passed.1.items c.in-Ok.ensures.done,
-      readers_of id queue shape c.in-Ok.passed.2.items c.in_ok-bins.seats.items c.in_ok-bins.ensures.seats c.in-Ok.ensures.shards,
+    rw c.in_ok-lanes.ensures.queue (
+      writers_of id queue shape c.args.plan.batch reads queue.writers c.in_ok-lanes.done.items c.in_ok-lanes.ensures.done,
+      readers_of id queue shape c.in_ok-lanes.shards.items c.in_ok-bins.seats.items c.in_ok-bins.ensures.seats c.in_ok-lanes.ensures.shards,
     )
 
 pub gather-totals-requires-clause-writers : goal.gather-totals-requires-clause-writers
 gather-totals-requires-clause-writers g c =
     let queue = c.args.queue in let reads = map (λ (r : Bor (List ℕ)). r.now) c.args.reads.now in
-    rw c.in-Ok.ensures.queue
-    (writers_once c.in-Ok.passed.0.table.shared.table_id queue c.args.plan.shape c.args.plan.batch reads queue.writers c.in-Ok.passed.1.items c.in-Ok.ensures.done)
+    rw c.in_ok-lanes.ensures.queue
+    (writers_once c.in_ok-lanes.lanes.table.shared.table_id queue c.args.plan.shape c.args.plan.batch reads queue.writers c.in_ok-lanes.done.items c.in_ok-lanes.ensures.done)
 
 pub gather-totals-requires-clause-readers : goal.gather-totals-requires-clause-readers
 gather-totals-requires-clause-readers g c =
-    rw c.in-Ok.ensures.queue
-    (readers_once c.in-Ok.passed.0.table.shared.table_id c.args.queue c.args.plan.shape c.in-Ok.passed.2.items c.in_ok-bins.seats.items c.in_ok-bins.ensures.seats c.in-Ok.ensures.shards)
+    rw c.in_ok-lanes.ensures.queue
+    (readers_once c.in_ok-lanes.lanes.table.shared.table_id c.args.queue c.args.plan.shape c.in_ok-lanes.shards.items c.in_ok-bins.seats.items c.in_ok-bins.ensures.seats c.in_ok-lanes.ensures.shards)
 
 pub gather-totals-requires-clause-finished : goal.gather-totals-requires-clause-finished
 gather-totals-requires-clause-finished g c =
     let within = c.args.queue.within in let some : 0 < c.args.queue.readers = omega arith in
-    one_ended c.in-Ok.passed.0.table.shared.table_id c.args.queue c.args.plan.shape c.in-Ok.passed.2.items c.in_ok-bins.seats.items c.in_ok-bins.ensures.seats c.in-Ok.ensures.shards some
+    one_ended c.in_ok-lanes.lanes.table.shared.table_id c.args.queue c.args.plan.shape c.in_ok-lanes.shards.items c.in_ok-bins.seats.items c.in_ok-bins.ensures.seats c.in_ok-lanes.ensures.shards some
 
 pub returns-clause-holds : goal.returns-clause-holds
 returns-clause-holds g c =
-    let plan = c.args.plan in let queue = c.args.queue in let id = c.in-Ok.passed.0.table.shared.table_id in
+    let plan = c.args.plan in let queue = c.args.queue in let id = c.in_ok-lanes.lanes.table.shared.table_id in
     let reads = map (λ (r : Bor (List ℕ)). r.now) c.args.reads.now in
     let within = queue.within in let some_w : 0 < queue.writers = omega arith in
-    held plan.shape plan.batch reads id queue c.in-Ok.passed.1.items c.in-Ok.ensures.done c.gathered.ensures c.gathered_bins_hold_reads.ensures
+    held plan.shape plan.batch reads id queue c.in_ok-lanes.done.items c.in_ok-lanes.ensures.done c.gathered.ensures c.gathered_bins_hold_reads.ensures
     c.in_ok-bins.seats.items c.in_ok-bins.bins.bodies plan.some.1 some_w plan.some.0 c.gather-totals.ensures.gathered c.in_ok-bins.ensures.bodies
 
 pub returns-clause-passage : goal.returns-clause-passage
 returns-clause-passage g c =
-    let plan = c.args.plan in let queue = c.args.queue in let id = c.in-Ok.passed.0.table.shared.table_id in
-    let reads = map (λ (r : Bor (List ℕ)). r.now) c.args.reads.now in let done = c.in-Ok.passed.1.items in
+    let plan = c.args.plan in let queue = c.args.queue in let id = c.in_ok-lanes.lanes.table.shared.table_id in
+    let reads = map (λ (r : Bor (List ℕ)). r.now) c.args.reads.now in let done = c.in_ok-lanes.done.items in
     let history = c.gather-totals.ensures.history in
     record {
       writers = done;
       readers = c.in_ok-bins.seats.items;
       history = history.0;
-      told = subst (λ (q : QueueShape). IsHistoryOf q done c.in_ok-bins.seats.items history.0) c.in-Ok.ensures.queue history.1;
-      dealt = each_dealt plan.shape plan.batch reads id queue done c.in-Ok.ensures.done;
-      every_writer = writers_once id queue plan.shape plan.batch reads queue.writers done c.in-Ok.ensures.done;
+      told = subst (λ (q : QueueShape). IsHistoryOf q done c.in_ok-bins.seats.items history.0) c.in_ok-lanes.ensures.queue history.1;
+      dealt = each_dealt plan.shape plan.batch reads id queue done c.in_ok-lanes.ensures.done;
+      every_writer = writers_once id queue plan.shape plan.batch reads queue.writers done c.in_ok-lanes.ensures.done;
       stored = c.in_ok-bins.ensures.bodies;
     }
