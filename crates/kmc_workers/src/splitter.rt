@@ -1,5 +1,5 @@
 //! What a splitter does: it cuts the chunks that are dealt to it, and puts their parts.
-ghost use Rattle.std.specs.Prelude.{◌≡◌, ◌+◌, ◌*◌, ◌<◌, ◌≤◌, ◌∷◌, ◌++◌, [], length, map, OnOk, IfOk, IfErr, IsErrOf};
+ghost use Rattle.std.specs.Prelude.{◌≡◌, ◌↔◌, ◌+◌, ◌*◌, ◌<◌, ◌≤◌, ◌∷◌, ◌++◌, [], length, map, OnOk, IfOk, IfErr, IsErrOf, Err};
 ghost use Rattle.kmc_partcore.specs.declared.shape.TheConstants.{MAX_ITEMS};
 ghost use Rattle.kmc_partqueue.specs.Seats.{IsWriterOf};
 ghost use Rattle.kmc_store.specs.Deals.{chunk_at};
@@ -15,7 +15,8 @@ use kmc_record::part::Part;
 use kmc_record::parts::parts_of_reads;
 use std::sync::Wait;
 
-/// Puts a part, and waits while the lane is full. The stop word is read before each try.
+/// Puts a part, and waits while the lane is full. Spent numbers come before all else; the stop word is read where the lane
+/// was full, before the next try.
 fn put_part<R: Wait, G: Gate>(
     rt: &R,
     way: &Way,
@@ -26,26 +27,24 @@ fn put_part<R: Wait, G: Gate>(
     requires { IsWriterOf way.now.lanes.table.shared.table_id way.now.lanes.shape s.old }
     ensures seat { IsSameWriter s.old s.new }
     ensures put { OnOk result (s.new.sent ≡ s.old.sent ++ part ∷ []) }
-    ensures spent { IsErrOf result Refusal.NumbersSpent → length s.old.sent ≡ MAX_ITEMS }
+    ensures spent { (result ≡ Err Refusal.NumbersSpent) ↔ (length s.old.sent ≡ MAX_ITEMS) }
 {
     gate.pass(Point::BeforePut(s.number(), s.next_number()));
     let mut part = part;
     let mut pause = Pause::new();
     for _ in rt.forever() {
-        if way.is_stopped() {
-            return Err(Refusal::Stopped);
-        }
         match way.lanes.try_put(s, part, gate) {
             Ok(number) => {
                 gate.pass(Point::AfterPut(s.number(), number));
                 return Ok(());
             }
             Err((TryPutError::NumbersSpent, _)) => return Err(Refusal::NumbersSpent),
-            Err((TryPutError::Full, back)) => {
-                part = back;
-                pause.wait(rt, way);
-            }
+            Err((TryPutError::Full, back)) => part = back,
         }
+        if way.is_stopped() {
+            return Err(Refusal::Stopped);
+        }
+        pause.wait(rt, way);
     }
     unreachable!()
 }
