@@ -54,27 +54,6 @@ pub fn cut(
         spare,
         ends,
     } = scratch;
-    cut_in(codes, k, m, values, spare, ends, runs)?;
-    Ok(())
-}
-
-/// The cut, worked out in vectors of numbers.
-fn cut_in(
-    codes: &[u8],
-    k: usize,
-    m: usize,
-    values: &mut Vec<u32>,
-    spare: &mut Vec<u32>,
-    ends: &mut Vec<usize>,
-    runs: &mut Vec<Run>,
-) -> Result<(), AllocError>
-    requires some { 1 ≤ m }
-    requires most { m ≤ MAX_M }
-    requires within { m ≤ k }
-    requires long { k ≤ length codes.now }
-    requires codes { All (λ c. c < 4) codes.now }
-    ensures { OnOk result (IsCut k m codes.now runs.new.items) }
-{
     values.resize(codes.len() - (m - 1), 0)?;
     offers(codes, m, values);
     lows(values, spare, k - (m - 1))?;
