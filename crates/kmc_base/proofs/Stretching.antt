@@ -1,13 +1,14 @@
 -- An open stretch before the stretches of what follows it.
-use Rattle.std.proofs.Common.{◌≡◌, ℕ, suc, ◌+◌, ◌-◌, ◌<◌, ◌≤◌, ◌==◌, Bool, true, false, cond, nat_le, List, [], ◌∷◌, ◌++◌, length, drop, get_or, Option, None, Some, refl, sym, ap, subst, ◌∙◌, arith, append_assoc, append-nil, add-one, add-zero, length-append, drop_of_length-le}
+use Rattle.std.proofs.Common.{◌≡◌, ℕ, suc, ◌+◌, ◌-◌, ◌<◌, ◌≤◌, ◌==◌, ◌⊎◌, inl, inr, Bool, true, false, cond, nat_le, List, [], ◌∷◌, ◌++◌, length, take, drop, get_or, Option, None, Some, refl, sym, ap, subst, ◌∙◌, arith, append_assoc, append-nil, add-one, add-zero, length-append, drop_of_length-le}
 use Rattle.std.proofs.lemmas.Bool.{eq-eqb, ne_eqb}
 use Rattle.std.proofs.lemmas.Bool.Decides.{nat_tests}
 use Rattle.std.proofs.lemmas.List.Elements.{filter-append, All-from_recursion}
 use Rattle.std.proofs.Math.Seq.{drop-cons}
+use Rattle.std.proofs.lemmas.List.{get_or-take, get_or-drop, length-take, length-drop}
 use Rattle.std.specs.List.{filter, All, AllByRecursion}
 use Rattle.kmc_base.specs.Words.{code_of}
 use Rattle.kmc_base.specs.Lemmas.Keys.{IsCode, code_small}
-use Rattle.kmc_base.specs.Stretches.{Stretch, with_place, stretches_from, led_by, leading}
+use Rattle.kmc_base.specs.Stretches.{Stretch, with_place, stretches_from, led_by, leading, IsBase, AreBases}
 
 abbrev pub long_enough : ℕ → List Stretch → List Stretch
 long_enough k ss = filter (λ s. nat_le k (length s.codes)) ss
@@ -142,3 +143,46 @@ small_leading (b ∷ bs) = go (code_of b) (code_small b) (small_leading bs)
 
 pub leading_small : (bs : List ℕ) → All (λ c. c < 4) (leading bs)
 leading_small bs = All-from_recursion (λ (c : ℕ). c < 4) (leading bs) (small_leading bs)
+
+-- codes that are those of the bytes at their places, up to the first byte that is no base
+leading_is : (bytes codes : List ℕ) → length codes ≤ length bytes
+    → ((i : ℕ) → i < length codes → Some (get_or codes i 0) ≡ code_of (get_or bytes i 0))
+    → (length codes < length bytes → code_of (get_or bytes (length codes) 0) ≡ None)
+    → codes ≡ leading bytes
+leading_is [] [] within each end = refl
+leading_is [] (c ∷ codes) within each end = absurd (omega arith)
+leading_is (b ∷ bytes) [] within each end = rw (end (omega arith)) refl
+leading_is (b ∷ bytes) (c ∷ codes) within each end =
+    let rest : codes ≡ leading bytes = leading_is bytes codes (omega arith) (λ i h. each (suc i) (omega arith)) (λ h. end (omega arith)) in
+    ap (λ (cs : List ℕ). c ∷ cs) rest ∙ ap (λ o. led_by o (leading bytes)) (each 0 (omega arith))
+
+-- the first n bytes, taken alone, are bases
+pub bases_taken : (n : ℕ) (bytes : List ℕ) → AreBases n bytes → AreBases (length (take n bytes)) (take n bytes)
+bases_taken n bytes each i inside =
+    let below : i < n = omega (arith, length-take n bytes) in
+    subst IsBase (sym (get_or-take n bytes i 0 below)) (each i below)
+
+-- the codes of the first n bytes, where those are bases up to the first that is none
+pub leading_is_taken : (n : ℕ) (bytes codes : List ℕ) → length codes ≡ n → n ≤ length bytes
+    → ((i : ℕ) → i < length (take n bytes) → Some (get_or codes i 0) ≡ code_of (get_or (take n bytes) i 0))
+    → (n < length bytes → code_of (get_or bytes n 0) ≡ None)
+    → codes ≡ leading bytes
+leading_is_taken n bytes codes long within each end =
+    leading_is bytes codes (omega arith)
+    (λ i h. each i (omega (arith, length-take n bytes)) ∙ ap code_of (get_or-take n bytes i 0 (omega arith)))
+    (λ h. ap (λ j. code_of (get_or bytes j 0)) long ∙ end (omega arith))
+
+-- so many bases more
+pub bases_more : (n d : ℕ) (bytes more : List ℕ) → more ≡ take (n + d - n) (drop n bytes) → n + d ≤ length bytes → AreBases (length more) more → AreBases n bytes → AreBases (n + d) bytes
+bases_more n d bytes more is long rest each i inside =
+    let many : length more ≡ d = ap length is ∙ length-take (n + d - n) (drop n bytes) ∙ omega (arith, length-drop n bytes) in
+    elim (nat_cases i n) [
+      | inl h ↦ each i h
+      | inr h ↦ let place : n + (i - n) ≡ i = omega arith in subst IsBase (at (i - n) (omega arith) ∙ ap (λ (j : ℕ). get_or bytes j 0) place) (rest (i - n) (omega (arith, many)))
+    ]
+  where
+    nat_cases : (i n : ℕ) → (i < n) ⊎ (n ≤ i)
+    nat_cases i n = grind arith
+
+    at : (j : ℕ) → j < d → get_or more j 0 ≡ get_or bytes (n + j) 0
+    at j below = ap (λ (xs : List ℕ). get_or xs j 0) is ∙ get_or-take (n + d - n) (drop n bytes) j 0 (omega arith) ∙ get_or-drop n bytes j 0

@@ -53,6 +53,31 @@ fn leading_codes_end_at_the_first_byte_that_is_no_base(rt: HostRuntime) -> Resul
 }
 
 #[test]
+fn leading_codes_are_those_of_single_bytes(rt: HostRuntime) -> Result<(), Fail> {
+    let alloc = rt.alloc();
+    let mut codes = Vec::new(alloc);
+    for b in 0..=255 {
+        leading_codes(&[b], &mut codes)?;
+        assert_eq!(rt; codes.first().copied(), code(b), "{b}");
+    }
+    // bytes are tested in blocks of 32: a byte that is no base stands at each place of more than three of them
+    let text =
+        b"GATTACAgattacaCCGGTTAACCGGTTAATGCATGCAtgcatgcaGGGGCCCCTTTTAAAAacgtACGTacgtACGTGATTACAGATTACAACGTG";
+    for end in 0..=text.len() {
+        let mut bytes = Vec::new(alloc);
+        bytes.extend_from_slice(&text[..end])?;
+        bytes.push(b'N')?;
+        bytes.extend_from_slice(&text[end..])?;
+        leading_codes(&bytes, &mut codes)?;
+        assert_eq!(rt; codes.len(), end);
+        for (i, b) in text[..end].iter().enumerate() {
+            assert_eq!(rt; codes.get(i).copied(), code(*b), "{i} of {end}");
+        }
+    }
+    Ok(())
+}
+
+#[test]
 fn refuses_words_out_of_range(rt: HostRuntime) {
     assert!(rt; Kmer::new(&[]).is_none());
     assert!(rt; Kmer::new(&[4]).is_none());

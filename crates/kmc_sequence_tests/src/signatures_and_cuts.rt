@@ -113,13 +113,20 @@ fn cuts_where_the_signature_changes(rt: HostRuntime) -> Result<(), Fail> {
 #[test]
 fn cuts_after_256_words(rt: HostRuntime) -> Result<(), Fail> {
     let alloc = rt.alloc();
-    for (length, first, second) in [(280, 280, 0), (281, 280, 25), (300, 280, 44)] {
+    for (length, first, second, third) in [
+        (280, 280, 0, 0),
+        (281, 280, 25, 0),
+        (300, 280, 44, 0),
+        (536, 280, 280, 0),
+        (537, 280, 280, 25),
+    ] {
         let segment = one_segment(&rt, alloc, &same_bytes(alloc, b'A', length)?)?;
         assert!(rt; segment.codes.len() >= 25);
         let pieces = super_kmers(alloc, &segment, 25, 9)?;
         let mut lengths = pieces.iter().map(|piece| piece.codes().len());
         assert_eq!(rt; lengths.next(), Some(first), "{length}");
         assert_eq!(rt; lengths.next().unwrap_or(0), second, "{length}");
+        assert_eq!(rt; lengths.next().unwrap_or(0), third, "{length}");
         assert_eq!(rt; lengths.next(), None, "{length}");
     }
     Ok(())

@@ -1,5 +1,6 @@
 pub mod Lowest
 pub mod Grouping
+pub mod RowEnds
 pub mod Pairs
 pub mod Written
 pub mod Rolled

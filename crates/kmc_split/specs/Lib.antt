@@ -4,4 +4,5 @@ pub mod SuperKmer
 pub mod Pieces
 pub mod Laws
 pub mod Minima
+pub mod Rows
 pub mod Offers

@@ -15,6 +15,7 @@ use std::alloc::{AllocError, Global};
 pub struct Scratch {
     values: Vec<u32>,
     spare: Vec<u32>,
+    ends: Vec<usize>,
 }
 
 impl Scratch {
@@ -23,6 +24,7 @@ impl Scratch {
         Scratch {
             values: Vec::new(alloc),
             spare: Vec::new(alloc),
+            ends: Vec::new(alloc),
         }
     }
 }
@@ -47,29 +49,14 @@ pub fn cut(
     ensures each { OnOk result (All (IsRunOf k m codes.now) runs.new.items) }
     ensures words { OnOk result (run_words k codes.now runs.new.items ≡ windows k codes.now) }
 {
-    cut_in(codes, k, m, &mut scratch.values, &mut scratch.spare, runs)?;
-    Ok(())
-}
-
-/// The cut, worked out in two vectors of numbers.
-fn cut_in(
-    codes: &[u8],
-    k: usize,
-    m: usize,
-    values: &mut Vec<u32>,
-    spare: &mut Vec<u32>,
-    runs: &mut Vec<Run>,
-) -> Result<(), AllocError>
-    requires some { 1 ≤ m }
-    requires most { m ≤ MAX_M }
-    requires within { m ≤ k }
-    requires long { k ≤ length codes.now }
-    requires codes { All (λ c. c < 4) codes.now }
-    ensures { OnOk result (IsCut k m codes.now runs.new.items) }
-{
+    let Scratch {
+        values,
+        spare,
+        ends,
+    } = scratch;
     values.resize(codes.len() - (m - 1), 0)?;
     offers(codes, m, values);
     lows(values, spare, k - (m - 1))?;
-    group(values, runs)?;
+    group(values, ends, runs)?;
     Ok(())
 }

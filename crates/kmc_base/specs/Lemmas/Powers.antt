@@ -2,6 +2,7 @@
 use Rattle.std.proofs.Common.{◌≡◌, ℕ, zero, suc, ◌+◌, ◌*◌, ◌-◌, ◌/◌, ◌%◌, ◌^◌, ◌<◌, ◌≤◌, bit_and, le_refl, zero-add, suc-add, sym, ap, ◌∙◌, arith}
 use Rattle.std.proofs.lemmas.Nat.{and_mask, pow-add, mul-pow, mod_below, mul-le}
 use Rattle.std.proofs.Math.Nat.{pow-succ'}
+use Rattle.kmc_base.specs.Bytes.{turned}
 
 pub pow_up : (n d : ℕ) → 4 ^ n ≤ 4 ^ (d + n)
 pow_up n zero = rw zero-add (le_refl _)
@@ -60,8 +61,20 @@ parts_of_top t j least e =
 pub part_some : (t j : ℕ) → 3 ≤ j → t ≡ 4 ^ j → 1 ≤ t / 64
 part_some t j least e = omega (arith, part_of_top t j least e, pow_some (j - 3))
 
-pub part_most : (t j : ℕ) → 3 ≤ j → t ≡ 4 ^ j → j < 32 → t / 64 ≤ 4 ^ 28
-part_most t j least e less = omega (arith, e, pow_most 32 j less)
+-- ---- four codes at once, in a number that holds m codes
 
-pub part_most_wide : (t j : ℕ) → 3 ≤ j → t ≡ 4 ^ j → j < 64 → t / 64 ≤ 4 ^ 60
-part_most_wide t j least e less = omega (arith, e, pow_most 64 j less)
+pub masked_part : (n t j : ℕ) → 3 ≤ j → t ≡ 4 ^ j → bit_and n (t / 64 - 1) ≡ n % (t / 64)
+masked_part n t j least e = masked n (t / 64) (j - 3) (part_of_top t j least e)
+
+pub room_low_byte : (m n t j b : ℕ) → 3 ≤ j → t ≡ 4 ^ j → j < m → b ≤ 255 → n % (t / 64) * 256 + b < 4 ^ m
+room_low_byte m n t j b least e less small =
+    let low : n % (t / 64) < t / 64 = mod_below n (t / 64) (omega (arith, part_some t j least e)) in
+    omega (arith, low, parts_of_top t j least e, pow_most m j less)
+
+pub room_back_byte : (m b t j r : ℕ) → 3 ≤ j → t ≡ 4 ^ j → j < m → b / 4 < t → r ≤ 255 → b / 256 + r * (t / 64) < 4 ^ m
+room_back_byte m b t j r least e less below small =
+    let high : b / 256 < t / 64 = omega (arith, parts_of_top t j least e) in
+    omega (arith, high, mul-le r (t / 64) 255 (t / 64) small (le_refl (t / 64)), parts_of_top t j least e, pow_most m j less)
+
+pub turned_most : (b r : ℕ) → r ≡ turned b → r ≤ 255
+turned_most b r e = omega arith

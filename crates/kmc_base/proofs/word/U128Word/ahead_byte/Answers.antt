@@ -1,6 +1,5 @@
-use Rattle.std.proofs.Common.{◌-◌, ◌/◌, ◌%◌, ◌<◌, arith}
-use Rattle.std.proofs.lemmas.Nat.{mod_below}
-use Rattle.kmc_base.specs.Lemmas.Powers.{masked, part_of_top, part_some, part_most_wide}
+use Rattle.std.proofs.Common.{arith}
+use Rattle.kmc_base.specs.Lemmas.Powers.{masked_part, part_some, room_low_byte}
 use Rattle.kmc_base.proofs.word.U128Word.ahead_byte.Goals as goal
 
 pub overflow_sub-result : goal.overflow_sub-result
@@ -8,17 +7,12 @@ overflow_sub-result c = omega (arith, part_some c.args.top c.requires.top.0 c.re
 
 pub overflow_mul-result : goal.overflow_mul-result
 overflow_mul-result c =
-    let q = c.args.top / 64 in
-    let some = part_some c.args.top c.requires.top.0 c.requires.top.1 c.requires.top.3 in
-    let low : c.args.self % q < q = mod_below c.args.self q (omega (arith, some)) in
-    omega (arith, low, masked c.args.self q (c.requires.top.0 - 3) (part_of_top c.args.top c.requires.top.0 c.requires.top.1 c.requires.top.3), part_most_wide c.args.top c.requires.top.0 c.requires.top.1 c.requires.top.3 c.requires.top.2)
+    omega (arith, masked_part c.args.self c.args.top c.requires.top.0 c.requires.top.1 c.requires.top.3, room_low_byte 64 c.args.self c.args.top c.requires.top.0 0 c.requires.top.1 c.requires.top.3 c.requires.top.2 (omega arith))
 
 pub overflow_add-result : goal.overflow_add-result
 overflow_add-result c =
-    let q = c.args.top / 64 in
-    let some = part_some c.args.top c.requires.top.0 c.requires.top.1 c.requires.top.3 in
-    let low : c.args.self % q < q = mod_below c.args.self q (omega (arith, some)) in
-    omega (arith, low, c.from.ensures, c.ranges.byte.fits, masked c.args.self q (c.requires.top.0 - 3) (part_of_top c.args.top c.requires.top.0 c.requires.top.1 c.requires.top.3), part_most_wide c.args.top c.requires.top.0 c.requires.top.1 c.requires.top.3 c.requires.top.2)
+    let room = room_low_byte 64 c.args.self c.args.top c.requires.top.0 c.args.byte c.requires.top.1 c.requires.top.3 c.requires.top.2 (omega (arith, c.ranges.byte.fits)) in
+    omega (arith, c.from.ensures, masked_part c.args.self c.args.top c.requires.top.0 c.requires.top.1 c.requires.top.3, room)
 
 pub returns : goal.returns
-returns c = omega (arith, c.from.ensures, masked c.args.self (c.args.top / 64) (c.requires.top.0 - 3) (part_of_top c.args.top c.requires.top.0 c.requires.top.1 c.requires.top.3))
+returns c = omega (arith, c.from.ensures, masked_part c.args.self c.args.top c.requires.top.0 c.requires.top.1 c.requires.top.3)

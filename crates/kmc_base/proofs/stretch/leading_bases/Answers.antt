@@ -1,0 +1,12 @@
+use Rattle.std.proofs.Common.{refl, arith, below_more}
+use Rattle.kmc_base.proofs.Stretching.{bases_more}
+use Rattle.kmc_base.proofs.stretch.leading_bases.Goals as goal
+
+pub whole-preserved : goal.whole-preserved
+whole-preserved c = record {
+  within = omega arith;
+  bases = bases_more c.whole.count 32 c.args.bytes.now _ refl c.whole-test.true (c.if-are_bases.ensures refl) c.whole.invariant.bases;
+}
+
+pub loop-i-preserved : goal.loop-i-preserved
+loop-i-preserved c = below_more _ _ c.loop-i.invariant (c.if-not-is_base.ensures.yes refl)
