@@ -29,7 +29,7 @@ $(KMC): crates.txt $(shell find crates -path '*/out' -prune -o -type f -name '*.
 	@rm -f crates/kmc/out.log
 	@cp crates/kmc/out/kmc $(KMC)
 
-$(KMC_MERGE): crates.txt $(shell find crates/kmc_base crates/kmc_count crates/kmc_sum crates/kmc_merge -path '*/out' -prune -o -type f -name '*.rt' -print -o -type f -name '*.antt' -print)
+$(KMC_MERGE): crates.txt $(shell find crates/kmc_base crates/kmc_device crates/kmc_count crates/kmc_sum crates/kmc_merge -path '*/out' -prune -o -type f -name '*.rt' -print -o -type f -name '*.antt' -print)
 	@echo "make: proving and building the program that sums dumps"
 	@cd crates/kmc_merge && rt run -- data/a.dump > /dev/null 2> out.log || { cat out.log; rm -f out.log; exit 1; }
 	@rm -f crates/kmc_merge/out.log

@@ -3,7 +3,7 @@
 #![tactic(auto)]
 
 use kmc_command::program::program;
-use kmc_count::device::Counted;
+use kmc_device::counted::Counted;
 use std::io;
 use std::process::ExitCode;
 

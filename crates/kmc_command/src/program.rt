@@ -2,7 +2,7 @@
 ghost use Rattle.std.specs.Prelude.{◌≡◌, ◌≢◌, ℕ, ◌+◌, ◌-◌, ◌^◌, ◌<◌, ◌≤◌, ◌⊎◌, List, [], IfOk, IfErr, IsErrOf, length, map, string_bytes};
 ghost use Rattle.std.specs.Io.KnownBytes.{Appends, Consumes};
 ghost use Rattle.std.specs.Process.{exit_status};
-ghost use Rattle.kmc_count.specs.Device.{AppendsFront, GaveAll};
+ghost use Rattle.kmc_device.specs.Device.{AppendsFront, GaveAll};
 ghost use Rattle.kmc_tool.specs.Rounds.{IsRefused};
 ghost use Rattle.kmc_argument.specs.Words.{Word};
 ghost use Rattle.kmc_command.specs.Glued.{long_forms};
@@ -13,7 +13,7 @@ ghost use Rattle.kmc_command.specs.Status.{status_of_answer};
 use crate::fault::Fault;
 use crate::options::error::ParamsError;
 use crate::options::settings;
-use kmc_count::device::Counted;
+use kmc_device::counted::Counted;
 use kmc_partqueue::NoGate;
 use kmc_reads::error::ReadsError;
 use kmc_tool::error::RunError;

@@ -6,7 +6,7 @@ use Rattle.std.proofs.lemmas.List.{map-append}
 use Rattle.std.proofs.lemmas.Grind.{flat_map-append}
 use Rattle.std.proofs.lemmas.List.Elements.{recursion_from_All}
 use Rattle.std.proofs.lemmas.List.Sorted.{All-permutation}
-use Rattle.kmc_count.specs.Dump.{line_of, text_of}
+use Rattle.kmc_device.specs.Line.{line_of, text_of}
 use Rattle.kmc_dump.specs.Listed.{Listed, spell, spelled}
 use Rattle.kmc_dump.specs.Ranges.{is_within, within, whole, joined, packs, range_text, AreRanges}
 use Rattle.kmc_dump.specs.declared.ranges.Ranges.{Ranges}

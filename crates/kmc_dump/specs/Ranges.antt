@@ -2,7 +2,7 @@
 use Rattle.std.specs.Prelude.{◌≡◌, ℕ, ◌+◌, ◌-◌, ◌/◌, ◌^◌, ◌<◌, ◌≤◌, ◌&&◌, Bool, if◌then◌else◌, nat_le, nat_lt, List, [], ◌∷◌, length, take, drop, map, slice_index_or}
 use Rattle.std.specs.List.{filter, flat_map, All, AllByRecursion}
 use Rattle.kmc_base.specs.declared.kmer.TheConstants.{MAX_K}
-use Rattle.kmc_count.specs.Dump.{text_of}
+use Rattle.kmc_device.specs.Line.{text_of}
 use Rattle.kmc_dump.specs.Listed.{Listed, spelled}
 use Rattle.kmc_dump.specs.declared.ranges.Ranges.{Ranges}
 

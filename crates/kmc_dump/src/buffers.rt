@@ -3,7 +3,7 @@ ghost use Rattle.std.specs.Prelude.{◌≡◌, ℕ, ◌*◌, ◌≤◌, List, le
 
 use crate::shown::Shown;
 use kmc_base::word::Word;
-use kmc_count::dump::LINE;
+use kmc_device::line::LINE;
 use std::alloc::{AllocError, Global};
 
 /// Room for the pairs of one range, and for its text, of which the first `filled` bytes are written.

@@ -8,7 +8,7 @@ use crate::range::put_range;
 use crate::ranges::Ranges;
 use crate::shown::Shown;
 use kmc_base::word::Word;
-use kmc_count::dump::LINE;
+use kmc_device::line::LINE;
 use std::thread;
 use std::thread::Threads;
 

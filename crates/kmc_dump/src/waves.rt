@@ -2,8 +2,8 @@
 ghost use Rattle.std.specs.Prelude.{◌≡◌, ℕ, ◌+◌, ◌-◌, ◌*◌, ◌^◌, ◌<◌, ◌≤◌, List, length, take, All, vec_len, vec_capacity, OnOk, OnErr};
 ghost use Rattle.std.specs.List.{flat_map};
 ghost use Rattle.std.specs.Io.KnownBytes.{Appends};
-ghost use Rattle.kmc_count.specs.Device.{AppendsFront, RisesByOne};
-ghost use Rattle.kmc_count.specs.Dump.{text_of};
+ghost use Rattle.kmc_device.specs.Device.{AppendsFront, RisesByOne};
+ghost use Rattle.kmc_device.specs.Line.{text_of};
 ghost use Rattle.kmc_dump.specs.Listed.{spelled};
 ghost use Rattle.kmc_dump.specs.Ranges.{whole, AreRanges};
 
@@ -13,8 +13,9 @@ use crate::ranges::Ranges;
 use crate::shown::Shown;
 use crate::wave::fill_wave;
 use kmc_base::word::Word;
-use kmc_count::device::Counted;
-use kmc_count::dump::{LINE, WriteFault, write_text};
+use kmc_device::counted::Counted;
+use kmc_device::line::LINE;
+use kmc_device::text::{WriteFault, write_text};
 use std::io::Write;
 use std::thread::Threads;
 

@@ -1,8 +1,8 @@
 //! The dump of lists that share no word, on a device.
 ghost use Rattle.std.specs.Prelude.{◌≡◌, ◌+◌, ◌-◌, ◌^◌, ◌<◌, ◌≤◌, length, OnOk, IfOk, IsErrOf};
 ghost use Rattle.std.specs.Io.KnownBytes.{Appends};
-ghost use Rattle.kmc_count.specs.Device.{AppendsFront, RisesByOne};
-ghost use Rattle.kmc_count.specs.Dump.{text_of};
+ghost use Rattle.kmc_device.specs.Device.{AppendsFront, RisesByOne};
+ghost use Rattle.kmc_device.specs.Line.{text_of};
 ghost use Rattle.kmc_dump.specs.Listed.{spelled};
 ghost use Rattle.kmc_dump.specs.Ranges.{CanBeMerged, joined, packs, whole};
 
@@ -13,7 +13,7 @@ use crate::shown::Shown;
 use crate::waves::write_ranges;
 use kmc_base::kmer::MAX_K;
 use kmc_base::word::Word;
-use kmc_count::device::Counted;
+use kmc_device::counted::Counted;
 use std::alloc::{AllocError, Global};
 use std::io::Write;
 use std::thread::Threads;

@@ -2,7 +2,7 @@
 ghost use Rattle.std.specs.Prelude.{Some};
 
 use crate::listed::{Dice, alone, listed, plain, settings, thrown};
-use kmc_count::device::Counted;
+use kmc_device::counted::Counted;
 use kmc_dump::lists::write_bins;
 use kmc_dump::write::DumpError;
 use std::io;

@@ -2,7 +2,7 @@
 //! error and ends with the fault's status. All of it is `kmc_sum`'s.
 #![tactic(auto)]
 
-use kmc_count::device::Counted;
+use kmc_device::counted::Counted;
 use kmc_sum::program::program;
 use std::io;
 use std::process::ExitCode;

@@ -1,7 +1,7 @@
 //! Inputs in rounds.
 use crate::device::PieceReader;
-use kmc_count::device::Counted;
 use kmc_count::limits::Limits;
+use kmc_device::counted::Counted;
 use kmc_partqueue::NoGate;
 use kmc_reads::error::ReadsError;
 use kmc_reads::format::Format;

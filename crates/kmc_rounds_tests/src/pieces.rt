@@ -1,10 +1,10 @@
 //! Reads that are longer than a piece may be: they are counted as whole reads.
 use crate::device::PieceReader;
 use crate::dice::Dice;
-use kmc_count::device::Counted;
 use kmc_count::direct::count_direct;
 use kmc_count::dump::write_dump;
 use kmc_count::limits::Limits;
+use kmc_device::counted::Counted;
 use kmc_dump::lists::write_bins;
 use kmc_partqueue::NoGate;
 use kmc_reads::format::Format;

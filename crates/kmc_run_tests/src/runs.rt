@@ -5,8 +5,8 @@ mod rows;
 
 use crate::devices::{Full, NarrowWriter, PieceReader};
 use kmc_base::strands::Strands;
-use kmc_count::device::Counted;
 use kmc_count::limits::Limits;
+use kmc_device::counted::Counted;
 use kmc_partqueue::NoGate;
 use kmc_reads::format::Format;
 use kmc_tool::error::RunError;

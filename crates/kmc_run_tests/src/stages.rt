@@ -1,10 +1,10 @@
 //! Bins filled part by part in any order, and what stage two makes of them, against the direct count of the same reads.
 use crate::dice::Dice;
 use kmc_base::strands::Strands;
-use kmc_count::device::Counted;
 use kmc_count::direct::count_direct;
 use kmc_count::dump::write_dump;
 use kmc_count::limits::Limits;
+use kmc_device::counted::Counted;
 use kmc_dump::lists::write_bins;
 use kmc_dump::write::DumpError;
 use kmc_partqueue::NoGate;

@@ -8,8 +8,8 @@ use Rattle.kmc_sum.specs.declared.heads.Head.{Head}
 use Rattle.kmc_sum.specs.declared.source.Room.{Room}
 use Rattle.kmc_sum.specs.Heads.{rank, no_head, head_at, pending, IsWinner, IsTree}
 use Rattle.kmc_sum.specs.Source.{unread, IsRoom}
-use Rattle.kmc_count.specs.Dump.{text_of}
-use Rattle.kmc_count.specs.Device.{Watched, RisesByOne}
+use Rattle.kmc_device.specs.Line.{text_of}
+use Rattle.kmc_device.specs.Device.{Watched, RisesByOne}
 use Rattle.kmc_sum.specs.Faults.{GaveFront, IsFaultAt}
 use Rattle.kmc_sum.specs.declared.error.LineFault.{LineFault}
 use Rattle.kmc_sum.specs.Sources.{IsSource, AreReady, AreSources, GaveFronts, left_at, list_at, with_first}

@@ -10,7 +10,7 @@ use Rattle.std.specs.Int.{IsInRange}
 use Rattle.kmc_base.specs.Words.{letter}
 use Rattle.kmc_base.specs.Packed.{unpack}
 use Rattle.kmc_base.specs.Lemmas.Packs.{AreCodes}
-use Rattle.kmc_count.specs.Dump.{line_of}
+use Rattle.kmc_device.specs.Line.{line_of}
 use Rattle.kmc_sum.specs.Listed.{IsLength, IsPair}
 use Rattle.kmc_sum.specs.Line.{IsLetter}
 

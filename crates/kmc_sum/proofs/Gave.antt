@@ -13,7 +13,8 @@ use Rattle.kmc_base.specs.Words.{kmer_cmp}
 use Rattle.kmc_base.specs.Packed.{unpack}
 use Rattle.kmc_base.specs.Lemmas.Packs.{AreCodes, codes_append}
 use Rattle.kmc_base.specs.Lemmas.Packing.{length_unpack}
-use Rattle.kmc_count.specs.Dump.{words_of, line_of, text_of}
+use Rattle.kmc_count.specs.Dump.{words_of}
+use Rattle.kmc_device.specs.Line.{line_of, text_of}
 use Rattle.kmc_count.proofs.Listing.{kmer_total}
 use Rattle.kmc_count.proofs.PackedRuns.{cmp_packed}
 use Rattle.kmc_sum.specs.Listed.{IsPair, AreListed}

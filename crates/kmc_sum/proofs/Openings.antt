@@ -7,7 +7,7 @@ use Rattle.std.specs.Io.KnownBytes.{Consumes, IsAtEnd}
 use Rattle.std.specs.List.Sorted.{IsStrictlySortedBy}
 use Rattle.kmc_base.specs.Words.{kmer_cmp}
 use Rattle.kmc_base.specs.Packed.{unpack}
-use Rattle.kmc_count.specs.Dump.{text_of}
+use Rattle.kmc_device.specs.Line.{text_of}
 use Rattle.kmc_sum.specs.Line.{IsLineOf}
 use Rattle.kmc_sum.specs.Faults.{GaveFront, IsOfOtherLength, IsMalformed, BeginsNoLine}
 use Rattle.kmc_sum.specs.Heads.{no_head, head_at, pending}

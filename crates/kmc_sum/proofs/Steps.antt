@@ -10,9 +10,10 @@ use Rattle.kmc_base.specs.Lemmas.Powers.{pow_up}
 use Rattle.std.specs.declared.cmp.Ordering.TheVariants.{Less}
 use Rattle.kmc_count.specs.declared.limits.Limits.{Limits}
 use Rattle.kmc_count.specs.Occurrences.{same_word}
-use Rattle.kmc_count.specs.Device.{AppendsFront, WritesOut}
-use Rattle.kmc_count.specs.Dump.{line_of, text_of, IsDump}
-use Rattle.kmc_count.proofs.Devices.{front_of}
+use Rattle.kmc_device.specs.Device.{AppendsFront, WritesOut}
+use Rattle.kmc_count.specs.Dump.{IsDump}
+use Rattle.kmc_device.specs.Line.{line_of, text_of}
+use Rattle.kmc_device.proofs.Devices.{front_of}
 use Rattle.kmc_sum.specs.Sum.{listed_count, sum_of}
 use Rattle.kmc_sum.specs.Tally.{kept_pair, Tallied}
 use Rattle.kmc_sum.specs.Faults.{GaveFront}

@@ -5,11 +5,11 @@ use Rattle.std.specs.Io.KnownBytes.{Appends, Keeps}
 use Rattle.std.specs.List.{cons_option}
 use Rattle.std.specs.Option.{option_map}
 use Rattle.kmc_count.specs.declared.limits.Limits.{Limits}
-use Rattle.kmc_count.specs.Dump.{kept, line_of, text_of}
+use Rattle.kmc_count.specs.Dump.{kept}
+use Rattle.kmc_device.specs.Line.{line_of, text_of}
 use Rattle.kmc_sum.specs.Tally.{kept_pair}
-use Rattle.kmc_count.specs.Device.{AppendsFront, WritesOut}
-use Rattle.kmc_count.proofs.Devices.{front_after, front_all}
-use Rattle.kmc_count.proofs.DumpText.{gathered_out}
+use Rattle.kmc_device.specs.Device.{AppendsFront, WritesOut}
+use Rattle.kmc_device.proofs.Devices.{front_after, front_all, gathered_out}
 
 -- nothing is put
 pub out_same : (a b : Option (List ℕ)) (text left : List ℕ) → WritesOut a b text left → WritesOut a b (text ++ []) left

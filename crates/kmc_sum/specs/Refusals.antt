@@ -1,7 +1,7 @@
 -- The causes of refusals.
 use Rattle.std.specs.Prelude.{◌≤◌, ◌-◌, ◌^◌, ℕ, ◌<◌, ⊤, List, length, slice_index_or, Option}
 use Rattle.std.specs.List.{sum_by}
-use Rattle.kmc_count.specs.Device.{RisesByOne}
+use Rattle.kmc_device.specs.Device.{RisesByOne}
 use Rattle.kmc_sum.specs.Sources.{left_at, GaveFronts}
 use Rattle.kmc_sum.specs.Faults.{IsFaultAt}
 use Rattle.kmc_sum.specs.declared.error.LineFault.{LineFault}

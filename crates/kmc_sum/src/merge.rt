@@ -1,6 +1,6 @@
 //! The dump of the sum of dumps.
 ghost use Rattle.std.specs.Prelude.{◌≡◌, ℕ, ◌+◌, ◌*◌, ◌-◌, ◌^◌, ◌<◌, ◌≤◌, List, length, map, IfOk, OnErr, IfErr, IsErrOf, Option, slice_index_or};
-ghost use Rattle.kmc_count.specs.Device.{RisesByOne};
+ghost use Rattle.kmc_device.specs.Device.{RisesByOne};
 ghost use Rattle.kmc_sum.specs.Sum.{sum_of};
 ghost use Rattle.kmc_sum.specs.Listed.{IsLength};
 ghost use Rattle.kmc_sum.specs.Heads.{IsTree};
@@ -15,9 +15,9 @@ use crate::opening::{heads_for, open, rooms_for};
 use crate::source::Room;
 use crate::sources::advance;
 use crate::writing::{close, put_pair};
-use kmc_count::device::Counted;
-use kmc_count::dump::ROOM;
 use kmc_count::limits::Limits;
+use kmc_device::counted::Counted;
+use kmc_device::line::ROOM;
 use std::alloc::Global;
 use std::io::{Read, Write};
 

@@ -1,6 +1,6 @@
 //! The first lines of all sources.
 ghost use Rattle.std.specs.Prelude.{◌≡◌, ℕ, ◌+◌, ◌*◌, ◌^◌, ◌<◌, ◌≤◌, ◌⊎◌, [], List, length, map, OnOk, OnErr, IfOk, IfErr, IsErrOf, Option, slice_index_or};
-ghost use Rattle.kmc_count.specs.Device.{RisesByOne};
+ghost use Rattle.kmc_device.specs.Device.{RisesByOne};
 ghost use Rattle.kmc_sum.specs.Listed.{IsLength};
 ghost use Rattle.kmc_sum.specs.Faults.{GaveFront, IsFaultAt};
 ghost use Rattle.kmc_sum.specs.Heads.{head_at};
@@ -13,7 +13,7 @@ use crate::error::{LineFault, SumError};
 use crate::heads::Head;
 use crate::source::{NextFault, Room, next_line};
 use kmc_base::kmer::MAX_K;
-use kmc_count::device::Counted;
+use kmc_device::counted::Counted;
 use std::alloc::{AllocError, Global};
 use std::io::Read;
 

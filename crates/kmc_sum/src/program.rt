@@ -8,7 +8,7 @@ ghost use Rattle.kmc_sum.specs.Program.{IsAnswered, IsGivenUp, status_of};
 use crate::error::{LineFault, SumError};
 use crate::merge::{MOST_SOURCES, merge};
 use crate::request::{RequestError, asked_for};
-use kmc_count::device::Counted;
+use kmc_device::counted::Counted;
 use std::alloc::Global;
 use std::io::Write;
 use std::process::ExitCode;

@@ -1,7 +1,7 @@
 //! A source of lines: a reader, and a room for the bytes that it gave and that are not yet judged, a piece at a time.
 ghost use Rattle.std.specs.Prelude.{◌≡◌, ◌≢◌, ℕ, ◌+◌, ◌-◌, ◌^◌, ◌<◌, ◌≤◌, ◌++◌, [], List, length, take, drop, min, OnOk, OnErr, IfOk, IsErrOf, MatchOption, Option, IfSome, None};
 ghost use Rattle.std.specs.Io.KnownBytes.{Consumes, IsAtEnd, Keeps};
-ghost use Rattle.kmc_count.specs.Device.{RisesByOne};
+ghost use Rattle.kmc_device.specs.Device.{RisesByOne};
 ghost use Rattle.kmc_sum.specs.Line.{IsLineOf};
 ghost use Rattle.kmc_sum.specs.Faults.{BeginsNoLine, GaveFront, IsFaultAt, line_after};
 ghost use Rattle.kmc_sum.specs.Pairs.{EndsIn, pairs_of};
@@ -10,7 +10,7 @@ ghost use Rattle.kmc_sum.specs.Source.{unread, IsRoom, IsEnough, GoesOn};
 use crate::error::LineFault;
 use crate::line::{Line, line_at};
 use kmc_base::kmer::MAX_K;
-use kmc_count::device::Counted;
+use kmc_device::counted::Counted;
 use std::alloc::{AllocError, Global};
 use std::io::Read;
 

@@ -1,6 +1,6 @@
 //! Many sources side by side: their first lines, and one line more of the source whose head is first.
 ghost use Rattle.std.specs.Prelude.{◌≡◌, ℕ, ◌+◌, ◌*◌, ◌<◌, ◌≤◌, ◌^◌, ◌++◌, List, length, map, true, OnOk, OnErr, IfOk, IfErr, IsErrOf, Option, slice_index_or};
-ghost use Rattle.kmc_count.specs.Device.{RisesByOne};
+ghost use Rattle.kmc_device.specs.Device.{RisesByOne};
 ghost use Rattle.kmc_sum.specs.Heads.{rank, head_at, pending, IsTree};
 ghost use Rattle.kmc_sum.specs.Sources.{IsSource, AreReady, AreSources, with_first, GaveFronts};
 ghost use Rattle.kmc_sum.specs.Refusals.{IsFirstFault, HasFailed, IsOfSource};
@@ -11,7 +11,7 @@ ghost use Rattle.kmc_sum.specs.declared.error.LineFault.{LineFault};
 use crate::error::SumError;
 use crate::heads::{Head, mend};
 use crate::source::{PairFault, Room, next_pair};
-use kmc_count::device::Counted;
+use kmc_device::counted::Counted;
 use std::io::Read;
 
 /// The head of a source behind one with the word `packed` of `k` codes.

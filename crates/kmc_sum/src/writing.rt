@@ -2,14 +2,15 @@
 ghost use Rattle.std.specs.Prelude.{◌≡◌, ℕ, ◌-◌, ◌^◌, ◌<◌, ◌≤◌, ◌++◌, List, length, take, OnOk, OnErr, IfOk, Option};
 ghost use Rattle.std.specs.Io.KnownBytes.{Appends};
 ghost use Rattle.kmc_base.specs.Packed.{unpack};
-ghost use Rattle.kmc_count.specs.Device.{AppendsFront, RisesByOne, WritesOut};
-ghost use Rattle.kmc_count.specs.Dump.{text_of};
+ghost use Rattle.kmc_device.specs.Device.{AppendsFront, RisesByOne, WritesOut};
+ghost use Rattle.kmc_device.specs.Line.{text_of};
 ghost use Rattle.kmc_sum.specs.Tally.{kept_pair};
 
 use kmc_base::kmer::{Kmer, MAX_K};
-use kmc_count::device::Counted;
-use kmc_count::dump::{LINE, WriteFault, make_room, put_line, write_text};
 use kmc_count::limits::Limits;
+use kmc_device::counted::Counted;
+use kmc_device::line::{LINE, make_room, put_line};
+use kmc_device::text::{WriteFault, write_text};
 use std::io::Write;
 
 /// Puts the line of a word behind the first `filled` bytes of the room, where its count is not 0 and is listed. Says

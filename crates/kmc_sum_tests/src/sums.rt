@@ -1,6 +1,6 @@
 use crate::devices::{Full, NarrowWriter, PieceReader};
-use kmc_count::device::Counted;
 use kmc_count::limits::Limits;
+use kmc_device::counted::Counted;
 use kmc_sum::error::{LineFault, SumError};
 use kmc_sum::merge::{MOST_SOURCES, merge};
 use std::alloc::Global;

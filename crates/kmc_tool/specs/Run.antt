@@ -1,12 +1,13 @@
 -- What a run does.
 use Rattle.std.specs.Prelude.{◌≡◌, ℕ, List, length, Ok, Option}
-use Rattle.kmc_count.specs.Device.{GaveAll}
+use Rattle.kmc_device.specs.Device.{GaveAll}
 use Rattle.kmc_base.specs.declared.strands.Strands.{Strands}
 use Rattle.kmc_reads.specs.declared.format.Format.{Format}
 use Rattle.kmc_reads.specs.Reads.{reads_of}
 use Rattle.kmc_count.specs.declared.limits.Limits.{Limits}
 use Rattle.kmc_count.specs.Occurrences.{count_of}
-use Rattle.kmc_count.specs.Dump.{IsDump, text_of}
+use Rattle.kmc_count.specs.Dump.{IsDump}
+use Rattle.kmc_device.specs.Line.{text_of}
 
 -- the pairs are the dump of the direct count of the reads of all that a reader gave
 pub record IsDumpOfInput (format : Format) (strands : Strands) (k : ℕ) (limits : Limits) (old new : Option (List ℕ)) (pairs : List (List ℕ × ℕ)) : Type 0 where

@@ -6,7 +6,7 @@ ghost use Rattle.kmc_reads.specs.Standing.{StandsCut};
 ghost use Rattle.kmc_tool.specs.Rounds.{IsFedBy, AreCounts};
 
 use crate::error::RunError;
-use kmc_count::device::Counted;
+use kmc_device::counted::Counted;
 use kmc_reads::error::ReadsError;
 use kmc_reads::feeder::Feeder;
 use kmc_reads::laws::fault_stays;

@@ -12,7 +12,7 @@ use crate::dealing::{Dealing, bins_of_round};
 use crate::error::RunError;
 use crate::params::Params;
 use crate::round::fill_round;
-use kmc_count::device::Counted;
+use kmc_device::counted::Counted;
 use kmc_partqueue::Gate;
 use kmc_reads::error::ReadsError;
 use kmc_reads::feeder::Feeder;

@@ -1,14 +1,14 @@
 //! A run: from the bytes of a reader to the dump on a writer.
 ghost use Rattle.std.specs.Prelude.{◌≡◌, ◌≢◌, ℕ, ◌+◌, ◌-◌, ◌^◌, ◌<◌, ◌≤◌, List, [], length, IfOk, IfErr, IsErrOf};
 ghost use Rattle.std.specs.Io.KnownBytes.{Appends, Consumes};
-ghost use Rattle.kmc_count.specs.Device.{GaveAll, AppendsFront};
+ghost use Rattle.kmc_device.specs.Device.{GaveAll, AppendsFront};
 ghost use Rattle.kmc_tool.specs.Rounds.{IsRefused};
 ghost use Rattle.kmc_tool.specs.Run.{IsDumpOf};
 
 use crate::count_input::count_input;
 use crate::error::RunError;
 use crate::params::Params;
-use kmc_count::device::Counted;
+use kmc_device::counted::Counted;
 use kmc_dump::lists::write_bins;
 use kmc_dump::write::DumpError;
 use kmc_partqueue::Gate;

@@ -1,5 +1,5 @@
 use Rattle.std.proofs.Common.{take, arith}
-use Rattle.kmc_count.proofs.Devices.{on_err}
+use Rattle.kmc_device.proofs.Devices.{on_err}
 use Rattle.kmc_count.proofs.DumpText.{line_gathered, gathered_front, not_flushed}
 use Rattle.kmc_count.proofs.dump.write_dump.Goals as goal
 

@@ -1,6 +1,6 @@
 use Rattle.std.proofs.Common.{◌≡◌, ◌≤◌, length, take}
-use Rattle.kmc_count.specs.Dump.{text_of}
-use Rattle.kmc_count.specs.Device.{WritesOut}
+use Rattle.kmc_device.specs.Line.{text_of}
+use Rattle.kmc_device.specs.Device.{WritesOut}
 use Rattle.kmc_count.proofs.dump.write_dump.Given as goal
 
 -- the lines so far are out but for those that are gathered

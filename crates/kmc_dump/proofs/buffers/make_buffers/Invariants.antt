@@ -1,5 +1,5 @@
 use Rattle.std.proofs.Common.{◌≡◌, ◌≤◌, ◌*◌, All, length, vec_len, vec_capacity}
-use Rattle.kmc_count.specs.declared.dump.TheConstants.{LINE}
+use Rattle.kmc_device.specs.declared.line.TheConstants.{LINE}
 use Rattle.kmc_dump.proofs.buffers.make_buffers.Given as goal
 
 -- the buffers so far have their room

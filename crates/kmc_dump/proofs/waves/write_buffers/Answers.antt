@@ -1,5 +1,5 @@
 use Rattle.std.proofs.Common.{take, ap}
-use Rattle.kmc_count.proofs.Devices.{on_err}
+use Rattle.kmc_device.proofs.Devices.{on_err}
 use Rattle.kmc_dump.proofs.Pieces.{buffer_front}
 use Rattle.kmc_dump.proofs.waves.write_buffers.Goals as goal
 

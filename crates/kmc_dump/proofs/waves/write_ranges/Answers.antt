@@ -3,10 +3,10 @@ use Rattle.std.proofs.lemmas.List.{length-take-le}
 use Rattle.std.proofs.lemmas.Nat.{pow_pos}
 use Rattle.std.proofs.lemmas.List.Elements.{All-append, All-drop}
 use Rattle.std.specs.Io.KnownBytes.{Appends}
-use Rattle.kmc_count.specs.declared.dump.TheConstants.{LINE}
+use Rattle.kmc_device.specs.declared.line.TheConstants.{LINE}
 use Rattle.std.proofs.KnownBytes.{Appends-nil}
-use Rattle.kmc_count.specs.Device.{AppendsFront}
-use Rattle.kmc_count.proofs.Devices.{on_err, front_all}
+use Rattle.kmc_device.specs.Device.{AppendsFront}
+use Rattle.kmc_device.proofs.Devices.{on_err, front_all}
 use Rattle.kmc_dump.proofs.Texts.{no_text, all_text}
 use Rattle.kmc_dump.proofs.Pieces.{wave_out, wave_front, all_out}
 use Rattle.kmc_dump.proofs.waves.write_ranges.Goals as goal

@@ -1,6 +1,6 @@
 use Rattle.std.proofs.Common.{◌≡◌, ◌-◌, ◌*◌, ◌≤◌, ◌^◌, All, length, get_or, vec_capacity}
 use Rattle.std.specs.Io.KnownBytes.{Appends}
-use Rattle.kmc_count.specs.declared.dump.TheConstants.{LINE}
+use Rattle.kmc_device.specs.declared.line.TheConstants.{LINE}
 use Rattle.kmc_dump.specs.Ranges.{range_text}
 use Rattle.kmc_dump.proofs.waves.write_ranges.Given as goal
 

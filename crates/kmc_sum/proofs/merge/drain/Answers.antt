@@ -2,7 +2,7 @@ use Rattle.std.proofs.Common.{◌≡◌, ◌+◌, ◌<◌, ◌≤◌, ◌^◌, �
 use Rattle.std.proofs.lemmas.List.{length-map}
 use Rattle.kmc_base.specs.Lemmas.Powers.{pow_some}
 use Rattle.kmc_base.specs.Packed.{unpack}
-use Rattle.kmc_count.specs.Device.{Watched}
+use Rattle.kmc_device.specs.Device.{Watched}
 use Rattle.kmc_sum.specs.Heads.{rank, head_at}
 use Rattle.kmc_sum.specs.Sources.{AreReady}
 use Rattle.kmc_sum.specs.State.{IsBegun}

@@ -1,7 +1,7 @@
 use Rattle.std.proofs.Common.{◌≡◌, ◌*◌, length, map, arith}
 use Rattle.std.proofs.lemmas.List.{length-map}
-use Rattle.kmc_count.specs.Device.{Watched}
-use Rattle.kmc_count.proofs.Devices.{on_err_then}
+use Rattle.kmc_device.specs.Device.{Watched}
+use Rattle.kmc_device.proofs.Devices.{on_err_then}
 use Rattle.kmc_sum.specs.Sources.{no_lists}
 use Rattle.kmc_sum.proofs.Openings.{none_sum}
 use Rattle.kmc_sum.proofs.Advances.{failed_after}

@@ -1,6 +1,6 @@
 use Rattle.std.proofs.Common.{◌≡◌, ◌+◌, ◌<◌, [], length, map, set, get_or, None, Err, refl, sym, ap, subst, ◌∙◌, arith, inl, inr}
 use Rattle.std.proofs.lemmas.List.{length-set, get_or-map, get_or-set_same, map-set}
-use Rattle.kmc_count.specs.Device.{Watched}
+use Rattle.kmc_device.specs.Device.{Watched}
 use Rattle.kmc_sum.specs.Faults.{IsFaultAt, GaveFront}
 use Rattle.kmc_sum.specs.Sources.{IsSource, AreReady, AreOpened, GaveFronts, left_at, no_lists}
 use Rattle.kmc_sum.specs.declared.error.SumError.TheVariants.{Line, Read}

@@ -1,6 +1,6 @@
 use Rattle.std.proofs.Common.{◌≡◌, ◌^◌, length, map, set, Err, None, cond, refl, sym, ap, subst, ◌∙◌, arith}
 use Rattle.std.proofs.lemmas.List.{length-set, length-map, get_or-map, get_or-set_same, map-set}
-use Rattle.kmc_count.specs.Device.{Watched}
+use Rattle.kmc_device.specs.Device.{Watched}
 use Rattle.kmc_sum.specs.Heads.{rank, head_at}
 use Rattle.kmc_sum.specs.Sources.{AreReady, AreSources, left_at, list_at, with_first, GaveFronts}
 use Rattle.kmc_sum.specs.declared.error.SumError.TheVariants.{Line, Read}

@@ -1,6 +1,6 @@
 use Rattle.std.proofs.Common.{◌≡◌, ℕ, List, ◌++◌, take, sym, ap, ◌∙◌}
 use Rattle.kmc_base.specs.Packed.{unpack}
-use Rattle.kmc_count.specs.Dump.{line_of, text_of}
+use Rattle.kmc_device.specs.Line.{line_of, text_of}
 use Rattle.kmc_sum.specs.Tally.{kept_pair}
 use Rattle.kmc_sum.proofs.Written.{out_more, line_kept}
 use Rattle.kmc_sum.proofs.writing.put_pair.Goals as goal

@@ -3,7 +3,7 @@ use Rattle.std.specs.Prelude.{Err}
 use Rattle.std.proofs.lemmas.List.{length-map}
 use Rattle.kmc_reads.specs.declared.error.ReadsError.TheVariants as reads
 use Rattle.kmc_reads.specs.Reads.{reads_of}
-use Rattle.kmc_count.specs.Dump.{text_of}
+use Rattle.kmc_device.specs.Line.{text_of}
 use Rattle.kmc_dump.specs.Listed.{spell, spelled}
 use Rattle.kmc_dump.specs.Lists.{lists_of}
 use Rattle.kmc_dump.specs.Ranges.{whole}

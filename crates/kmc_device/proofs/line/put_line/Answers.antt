@@ -2,8 +2,8 @@ use Rattle.std.proofs.Common.{◌≡◌, ◌+◌, ◌-◌, [], ◌∷◌, ◌++�
 use Rattle.std.proofs.lemmas.List.{take_at, length-map}
 use borrow.Rule.Slice.PartMut.{put_mid}
 use Rattle.kmc_base.specs.Words.{letter}
-use Rattle.kmc_count.proofs.Lines.{line_made}
-use Rattle.kmc_count.proofs.dump.put_line.Goals as goal
+use Rattle.kmc_device.proofs.Lines.{line_made}
+use Rattle.kmc_device.proofs.line.put_line.Goals as goal
 
 pub returns-clause-line : goal.returns-clause-line
 returns-clause-line c =

@@ -2,7 +2,7 @@
 ghost use Rattle.std.specs.Prelude.{◌≡◌, ◌<◌, false, length, OnOk, OnErr, IfOk, IfErr};
 ghost use Rattle.std.specs.Io.{ReadsAtMost, WritesAtMost};
 ghost use Rattle.std.specs.Io.KnownBytes.{Keeps, ReadConsumes, WriteAppends};
-ghost use Rattle.kmc_count.specs.Device.{Watched, RisesByOne, TellsOfPipe};
+ghost use Rattle.kmc_device.specs.Device.{Watched, RisesByOne, TellsOfPipe};
 
 use std::io;
 use std::io::{ErrorKind, Read, Write};

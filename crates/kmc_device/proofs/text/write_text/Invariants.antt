@@ -1,6 +1,6 @@
 use Rattle.std.proofs.Common.{length, ◌-◌, ◌≡◌, ◌≤◌, take}
 use Rattle.std.specs.Io.KnownBytes.{Appends}
-use Rattle.kmc_count.proofs.dump.write_text.Given as goal
+use Rattle.kmc_device.proofs.text.write_text.Given as goal
 
 -- the front that is done is out
 abbrev pub invariant-loop-done : goal.invariant-loop-done
