@@ -16,7 +16,8 @@ use Rattle.kmc_count.specs.Dump.{words_of}
 use Rattle.kmc_count.specs.Merge.{joined, AreApart, EachRises, IsMerged}
 use Rattle.kmc_count.proofs.Apart.{occurrences_more, occurrences_both, occurs_has, tail_apart, none_behind}
 use Rattle.kmc_count.proofs.Listing.{kmer_total, same_is, same_itself}
-use Rattle.kmc_count.proofs.OneDump.{not_below_itself, below_has}
+use Rattle.kmc_count.proofs.Members.{below_has}
+use Rattle.kmc_count.proofs.OneDump.{not_below_itself, Below}
 
 -- ---- each word once
 
@@ -29,7 +30,7 @@ rising_once x (w ∷ ws) h = go (same_word w x) refl (occurrences ws x) refl (ri
     go false e n f few = let none : occurrences (w ∷ ws) x ≡ 0 + occurrences ws x = occurrences_more x w ws ∙ ap (λ b. cond b 1 0 + occurrences ws x) e in omega (arith, none, few)
     go true e zero f few = let one : occurrences (w ∷ ws) x ≡ 1 + occurrences ws x = occurrences_more x w ws ∙ ap (λ b. cond b 1 0 + occurrences ws x) e in omega (arith, one, f)
     go true e (suc n) f few =
-        let less = below_has w x ws h.0 (occurs_has x ws (omega (arith, f))) in
+        let less = below_has Below w x ws h.0 (occurs_has x ws (omega (arith, f))) in
         absurd (not_below_itself x (subst (λ v. kmer_cmp v x ≡ Less) (same_is w x e) less))
 
 words_joined : (lists : List (List (List ℕ × ℕ))) → words_of (joined lists) ≡ joined (map words_of lists)

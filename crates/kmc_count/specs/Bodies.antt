@@ -1,6 +1,9 @@
 -- What is counted in bodies of records.
-use Rattle.std.specs.Prelude.{ℕ, ◌<◌, ◌⊎◌, List, [], length, take, slice_index_or}
+use Rattle.std.specs.Prelude.{ℕ, ◌<◌, ◌⊎◌, List, [], length, map, take, slice_index_or}
 use Rattle.std.specs.List.{All, AllZip}
+use Rattle.std.specs.List.Sorted.{IsPermutation, IsSorted}
+use Rattle.std.specs.Ordering.{nat_cmp}
+use Rattle.kmc_base.specs.Packed.{pack}
 use Rattle.kmc_base.specs.declared.strands.Strands.{Strands}
 use Rattle.kmc_record.specs.declared.fault.RecordFault.{RecordFault}
 use Rattle.kmc_record.specs.Record.{IsBodyOf}
@@ -10,6 +13,13 @@ use Rattle.kmc_record.specs.Refusals.{StopsAtRecord}
 use Rattle.kmc_count.specs.declared.limits.Limits.{Limits}
 use Rattle.kmc_count.specs.Occurrences.{occurrences}
 use Rattle.kmc_count.specs.Dump.{IsDump}
+
+-- the body is whole records, and the numbers are the packed keys of their words, rising
+pub record AreSortedKeys (strands : Strands) (k : ℕ) (body numbers : List ℕ) : Type 0 where
+  pub super_kmers : List (List ℕ)
+  pub records : IsBodyOf k super_kmers body
+  pub moved : IsPermutation (map pack (record_keys strands k super_kmers)) numbers
+  pub sorted : IsSorted nat_cmp numbers
 
 -- the body is whole records, and the pairs are the dump of the keys of their words
 pub record IsDumpOfBody (strands : Strands) (k : ℕ) (l : Limits) (body : List ℕ) (pairs : List (List ℕ × ℕ)) : Type 0 where

@@ -1,8 +1,10 @@
 //! The count of a bin: the packed words of its body in one list, sorted.
-ghost use Rattle.std.specs.Prelude.{ℕ, ◌<◌, ◌≤◌, IfOk, IsErrOf};
+ghost use Rattle.std.specs.Prelude.{◌≡◌, ℕ, ◌<◌, ◌≤◌, map, OnOk, IfOk, IsErrOf};
 ghost use Rattle.kmc_record.specs.Faults.{IsFirstFault};
+ghost use Rattle.kmc_record.specs.Refusals.{StopsAtRecord};
 ghost use Rattle.kmc_record.specs.declared.fault.RecordFault.{RecordFault};
-ghost use Rattle.kmc_count.specs.Bodies.{IsDumpOfBody, WantsMemory};
+ghost use Rattle.kmc_count.specs.Bodies.{AreSortedKeys, IsDumpOfBody, WantsMemory};
+ghost use Rattle.kmc_count.specs.declared.bin.CountError.TheVariants.{Memory};
 
 use crate::direct::NARROW_K;
 use crate::limits::Limits;
@@ -12,7 +14,7 @@ use kmc_base::strands::Strands;
 use kmc_base::word::Word;
 use kmc_record::body::push_body;
 use kmc_record::fault::{BodyError, RecordFault};
-use std::alloc::Global;
+use std::alloc::{AllocError, Global};
 
 /// Why a count of bodies was given up.
 #[derive(Clone, Copy, Debug, PartialEq, Eq)]
@@ -21,6 +23,39 @@ pub enum CountError {
     Damaged(RecordFault, usize),
     /// A growth was refused.
     Memory,
+}
+
+impl From<AllocError> for CountError {
+    ghost from_gives = { λ _ e. e ≡ Memory };
+
+    fn from(_: AllocError) -> CountError {
+        CountError::Memory
+    }
+}
+
+/// The packed keys of the words of a body, sorted, in a vector that may be used again for the next body.
+pub fn sorted_keys<W: Word + Drop>(
+    words: &mut Vec<W>,
+    body: &[u8],
+    k: usize,
+    strands: Strands,
+) -> Result<(), CountError>
+    requires some { 1 ≤ k }
+    requires most { k ≤ W.most }
+    requires limit { k ≤ MAX_K }
+    ensures ok { OnOk result (AreSortedKeys strands k body.now (map W.number words.new.items)) }
+    ensures damaged { (fault : RecordFault) (offset : ℕ) → IsErrOf result (CountError.Damaged fault offset) → IsFirstFault k fault offset body.now }
+    ensures memory { IsErrOf result CountError.Memory → StopsAtRecord k body.now }
+{
+    words.clear();
+    match push_body(words, body, k, strands) {
+        Ok(()) => {
+            W::sort(words);
+            Ok(())
+        }
+        Err(BodyError::Damaged(fault, offset)) => Err(CountError::Damaged(fault, offset)),
+        Err(BodyError::Memory) => Err(CountError::Memory),
+    }
 }
 
 /// The dump of a body. The vector for its packed words may be used again for the next body.
@@ -39,17 +74,11 @@ pub(crate) fn count_into<W: Word + Drop>(
     ensures damaged { (fault : RecordFault) (offset : ℕ) → IsErrOf result (CountError.Damaged fault offset) → IsFirstFault k fault offset body.now }
     ensures memory { IsErrOf result CountError.Memory → WantsMemory k body.now }
 {
-    words.clear();
-    match push_body(words, body, k, strands) {
+    match sorted_keys(words, body, k, strands) {
         Ok(()) => {}
-        Err(BodyError::Damaged(fault, offset)) => return Err(CountError::Damaged(fault, offset)),
-        Err(BodyError::Memory) => return Err(CountError::Memory),
+        Err(error) => return Err(error),
     }
-    W::sort(words);
-    match tally(alloc, words, k, limits) {
-        Ok(pairs) => Ok(pairs),
-        Err(_) => Err(CountError::Memory),
-    }
+    Ok(tally(alloc, words, k, limits)?)
 }
 
 /// The dump of the records of a body: each key of their words, rising, with the number of words that have it

@@ -17,7 +17,7 @@ use Rattle.kmc_count.specs.Merge.{AreApart, AreDumps, EachRises, joined as words
 use Rattle.kmc_count.proofs.PackedRuns.{cmp_packed}
 use Rattle.kmc_dump.specs.Listed.{Listed, spelled, pairs_of, IsListOf}
 use Rattle.kmc_dump.specs.Ranges.{Rises, joined, Apart, packs, CanBeMerged, whole}
-use Rattle.kmc_dump.proofs.Order.{Has}
+use Rattle.kmc_count.proofs.Members.{Has}
 use Rattle.kmc_dump.proofs.Whole.{whole_merged}
 
 module _ (k : ℕ) where

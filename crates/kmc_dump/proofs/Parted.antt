@@ -1,42 +1,25 @@
 -- Ranges of slots, closed one after the other.
-use Rattle.std.proofs.Common.{◌≡◌, ℕ, ◌+◌, ◌-◌, ◌/◌, ◌<◌, ◌≤◌, Bool, true, false, cond, nat_lt, List, [], ◌∷◌, ◌++◌, length, get_or, refl, sym, ap, ◌∙◌, arith}
+use Rattle.std.proofs.Common.{◌≡◌, ℕ, ◌+◌, ◌-◌, ◌<◌, ◌≤◌, Bool, true, false, cond, nat_lt, List, [], ◌∷◌, ◌++◌, length, get_or, refl, sym, ap, ◌∙◌, arith}
 use Rattle.std.specs.Ordering.{nat_cmp, ord_max, is_lt}
 use Rattle.std.proofs.lemmas.Bool.Decides.{nat_tests}
 use Rattle.std.proofs.lemmas.List.{length-append, get_or_append_left, get_or-append-add}
 use Rattle.kmc_dump.specs.Listed.{Listed}
 use Rattle.kmc_dump.specs.Ranges.{is_within, within, joined, packs, count_within, AreBounds}
 
+more : (w from to : ℕ) (p : ℕ × ℕ) (ps : List (ℕ × ℕ)) → length (within w from to (p ∷ ps)) ≡ cond (is_within w from to p) 1 0 + length (within w from to ps)
+more w from to p ps = go (is_within w from to p)
+  where
+    go : (t : Bool) → length (cond t (p ∷ within w from to ps) (within w from to ps)) ≡ cond t 1 0 + length (within w from to ps)
+    go true = omega arith
+    go false = omega arith
+
 -- one range behind the other has as many pairs as both
 module _ (w a b c : ℕ) (low : a ≤ b) (high : b ≤ c) where
   both : (ps : List (ℕ × ℕ)) → length (within w a b ps) + length (within w b c ps) ≡ length (within w a c ps)
   both [] = omega arith
-  both (p ∷ ps) = go (nat_lt (p.0 / w) a) (nat_lt (p.0 / w) b) (nat_lt (p.0 / w) c) refl refl refl (both ps)
-    where
-      is : (from to : ℕ) (t : Bool) → is_within w from to p ≡ t → length (within w from to (p ∷ ps)) ≡ length (cond t (p ∷ within w from to ps) (within w from to ps))
-      is from to t e = ap (λ u. length (cond u (p ∷ within w from to ps) (within w from to ps))) e
-
-      go : (x y z : Bool) → nat_lt (p.0 / w) a ≡ x → nat_lt (p.0 / w) b ≡ y → nat_lt (p.0 / w) c ≡ z → length (within w a b ps) + length (within w b c ps) ≡ length (within w a c ps)
-          → length (within w a b (p ∷ ps)) + length (within w b c (p ∷ ps)) ≡ length (within w a c (p ∷ ps))
-      go true y z e f g more =
-          let n1 : is_within w a b p ≡ false = grind (arith, nat_tests) in
-          let n2 : is_within w b c p ≡ false = grind (arith, nat_tests) in
-          let n3 : is_within w a c p ≡ false = grind (arith, nat_tests) in
-          omega (arith, is a b false n1, is b c false n2, is a c false n3, more)
-      go false true z e f g more =
-          let n1 : is_within w a b p ≡ true = grind (arith, nat_tests) in
-          let n2 : is_within w b c p ≡ false = grind (arith, nat_tests) in
-          let n3 : is_within w a c p ≡ true = grind (arith, nat_tests) in
-          omega (arith, is a b true n1, is b c false n2, is a c true n3, more)
-      go false false true e f g more =
-          let n1 : is_within w a b p ≡ false = grind (arith, nat_tests) in
-          let n2 : is_within w b c p ≡ true = grind (arith, nat_tests) in
-          let n3 : is_within w a c p ≡ true = grind (arith, nat_tests) in
-          omega (arith, is a b false n1, is b c true n2, is a c true n3, more)
-      go false false false e f g more =
-          let n1 : is_within w a b p ≡ false = grind (arith, nat_tests) in
-          let n2 : is_within w b c p ≡ false = grind (arith, nat_tests) in
-          let n3 : is_within w a c p ≡ false = grind (arith, nat_tests) in
-          omega (arith, is a b false n1, is b c false n2, is a c false n3, more)
+  both (p ∷ ps) =
+      let one : cond (is_within w a b p) 1 0 + cond (is_within w b c p) 1 0 ≡ cond (is_within w a c p) 1 0 = grind (arith, nat_tests) in
+      omega (arith, more w a b p ps, more w b c p ps, more w a c p ps, one, both ps)
 
 pub max_above : (a b : ℕ) → (a ≤ ord_max nat_cmp a b) × (b ≤ ord_max nat_cmp a b)
 max_above a b = go (is_lt (nat_cmp b a)) refl

@@ -11,10 +11,8 @@ use crate::tally::tally;
 use kmc_base::kmer::MAX_K;
 use kmc_base::strands::Strands;
 use kmc_base::word::Word;
-use kmc_count::bin::CountError;
+use kmc_count::bin::{CountError, sorted_keys};
 use kmc_count::limits::Limits;
-use kmc_record::body::push_body;
-use kmc_record::fault::BodyError;
 use std::alloc::Global;
 
 /// The dump of a body in packed form. The vector for its packed words may be used again for the next body.
@@ -34,19 +32,12 @@ pub fn list_body<W: Word + Drop, C: Shown + Drop>(
     ensures ok { IfOk result (λ c. IsDumpOfBody strands k limits.now body.now (pairs_of c)) }
     ensures damaged { (fault : RecordFault) (offset : ℕ) → IsErrOf result (CountError.Damaged fault offset) → IsFirstFault k fault offset body.now }
 {
-    words.clear();
     // The records of a usual bin have about one word a byte, whatever k is.
-    if words.reserve(body.len()).is_err() {
-        return Err(CountError::Memory);
-    }
-    match push_body(words, body, k, strands) {
+    words.clear();
+    words.reserve(body.len())?;
+    match sorted_keys(words, body, k, strands) {
         Ok(()) => {}
-        Err(BodyError::Damaged(fault, offset)) => return Err(CountError::Damaged(fault, offset)),
-        Err(BodyError::Memory) => return Err(CountError::Memory),
+        Err(error) => return Err(error),
     }
-    W::sort(words);
-    match tally(alloc, words, k, limits) {
-        Ok(pairs) => Ok(pairs),
-        Err(_) => Err(CountError::Memory),
-    }
+    Ok(tally(alloc, words, k, limits)?)
 }

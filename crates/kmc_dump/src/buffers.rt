@@ -1,9 +1,11 @@
 //! Room for ranges, had before the first byte of a dump goes out.
 ghost use Rattle.std.specs.Prelude.{◌≡◌, ℕ, ◌*◌, ◌≤◌, List, length, All, vec_len, vec_capacity, IfOk};
+ghost use Rattle.kmc_device.specs.Line.{line_room};
 
 use crate::shown::Shown;
+use kmc_base::kmer::MAX_K;
 use kmc_base::word::Word;
-use kmc_device::line::LINE;
+use kmc_device::line::line_room;
 use std::alloc::{AllocError, Global};
 
 /// Room for the pairs of one range, and for its text, of which the first `filled` bytes are written.
@@ -20,8 +22,7 @@ fn make_buffer<W: Word + Drop, C: Shown + Drop>(
     widest: usize,
     bytes: usize,
 ) -> Result<Buffer<W, C>, AllocError>
-    requires { widest * LINE ≤ bytes }
-    ensures { IfOk result (λ b. (widest ≤ vec_capacity b.pairs) × (widest * LINE ≤ length b.text.items)) }
+    ensures { IfOk result (λ b. (widest ≤ vec_capacity b.pairs) × (length b.text.items ≡ bytes)) }
 {
     let pairs = Vec::with_capacity(alloc, widest)?;
     let text = vec![in alloc; 0; bytes]?;
@@ -32,17 +33,19 @@ fn make_buffer<W: Word + Drop, C: Shown + Drop>(
     })
 }
 
-/// So many buffers, each with room for `widest` pairs and their lines.
+/// So many buffers, each with room for `widest` pairs of words of `k` symbols, and for their lines.
 pub fn make_buffers<W: Word + Drop, C: Shown + Drop>(
     alloc: Global,
     count: usize,
     widest: usize,
+    k: usize,
 ) -> Result<Vec<Buffer<W, C>>, AllocError>
+    requires { k ≤ MAX_K }
     ensures count { IfOk result (λ v. vec_len v ≡ count) }
     ensures pairs { IfOk result (λ v. All (λ b. widest ≤ vec_capacity b.pairs) v.items) }
-    ensures text { IfOk result (λ v. All (λ b. widest * LINE ≤ length b.text.items) v.items) }
+    ensures text { IfOk result (λ v. All (λ b. widest * line_room k C.most_digits ≤ length b.text.items) v.items) }
 {
-    let Some(bytes) = widest.checked_mul(LINE) else {
+    let Some(bytes) = widest.checked_mul(line_room(k, C::digits())) else {
         return Err(AllocError);
     };
     let mut buffers = Vec::with_capacity(alloc, count)?;

@@ -107,34 +107,6 @@ pub fn list_bins<R: Threads + Sync>(
     }
 }
 
-/// Writes the dump of lists over words of one width.
-fn write_sized<R: Threads + Sync, D: Write, W: Word + Drop + Send + Sync>(
-    rt: &R,
-    alloc: Global,
-    writer: &mut Counted<D>,
-    lists: &SizedLists<W>,
-    k: usize,
-    threads: usize,
-) -> Result<u64, DumpError>
-    requires some { 1 ≤ k }
-    requires most { k ≤ MAX_K }
-    requires merge { CanBeMerged k (sized_lists lists.now) }
-    requires threads { 1 ≤ threads }
-    requires failures { writer.old.failures < 2 ^ 64 - 1 }
-    ensures ok { OnOk result (Appends (D.contents writer.old.inner) (D.contents writer.new.inner) (text_of (spelled k (whole (sized_lists lists.now))))) }
-    ensures lines { IfOk result (λ lines. lines ≡ length (whole (sized_lists lists.now))) }
-    ensures kept { OnOk result (writer.new.failures ≡ writer.old.failures) }
-    ensures failed { IsErrOf result DumpError.Write → RisesByOne writer.old.failures writer.new.failures }
-    ensures front { IsErrOf result DumpError.Write → AppendsFront (D.contents writer.old.inner) (D.contents writer.new.inner) (text_of (spelled k (whole (sized_lists lists.now)))) }
-    ensures silent { IsErrOf result DumpError.Memory → writer.new ≡ writer.old }
-{
-    match lists {
-        SizedLists::Byte(lists) => write_lists(rt, alloc, writer, lists, k, threads),
-        SizedLists::Half(lists) => write_lists(rt, alloc, writer, lists, k, threads),
-        SizedLists::Full(lists) => write_lists(rt, alloc, writer, lists, k, threads),
-    }
-}
-
 /// Writes the dump of the lists of bins that share no word: the lines of all their pairs in the order of the words, and
 /// nothing else. The answer is the number of lines. Ranges of words are made by so many threads, and written by the calling
 /// one. All memory is had before the first write: after a refusal other than `Write` nothing was written, and after
@@ -160,7 +132,23 @@ pub fn write_bins<R: Threads + Sync, D: Write>(
     ensures silent { IsErrOf result DumpError.Memory → writer.new ≡ writer.old }
 {
     match lists {
-        BinLists::Narrow(lists) => write_sized(rt, alloc, writer, lists, k, threads),
-        BinLists::Wide(lists) => write_sized(rt, alloc, writer, lists, k, threads),
+        BinLists::Narrow(SizedLists::Byte(lists)) => {
+            write_lists(rt, alloc, writer, lists, k, threads)
+        }
+        BinLists::Narrow(SizedLists::Half(lists)) => {
+            write_lists(rt, alloc, writer, lists, k, threads)
+        }
+        BinLists::Narrow(SizedLists::Full(lists)) => {
+            write_lists(rt, alloc, writer, lists, k, threads)
+        }
+        BinLists::Wide(SizedLists::Byte(lists)) => {
+            write_lists(rt, alloc, writer, lists, k, threads)
+        }
+        BinLists::Wide(SizedLists::Half(lists)) => {
+            write_lists(rt, alloc, writer, lists, k, threads)
+        }
+        BinLists::Wide(SizedLists::Full(lists)) => {
+            write_lists(rt, alloc, writer, lists, k, threads)
+        }
     }
 }

@@ -1,5 +1,6 @@
 //! A wave: ranges that follow one another, each put into a buffer by a thread of its own.
 ghost use Rattle.std.specs.Prelude.{◌≡◌, ℕ, ◌+◌, ◌*◌, ◌^◌, ◌<◌, ◌≤◌, List, length, take, All, vec_len, vec_capacity, slice_index_or, slice_index};
+ghost use Rattle.kmc_device.specs.Line.{line_room};
 ghost use Rattle.kmc_dump.specs.Ranges.{range_text, AreRanges};
 
 use crate::buffers::Buffer;
@@ -8,7 +9,6 @@ use crate::range::put_range;
 use crate::ranges::Ranges;
 use crate::shown::Shown;
 use kmc_base::word::Word;
-use kmc_device::line::LINE;
 use std::thread;
 use std::thread::Threads;
 
@@ -22,7 +22,7 @@ fn fill<W: Word + Drop, C: Shown + Drop>(
     requires ranges { AreRanges ranges.now lists.now }
     requires inside { range + 1 < length ranges.now.bounds.items }
     requires pairs { ranges.now.widest ≤ vec_capacity buffer.old.pairs }
-    requires text { ranges.now.widest * LINE ≤ length buffer.old.text.items }
+    requires text { ranges.now.widest * line_room ranges.now.k C.most_digits ≤ length buffer.old.text.items }
     ensures within { buffer.new.filled ≤ length buffer.new.text.items }
     ensures text { take buffer.new.filled buffer.new.text.items
         ≡ range_text ranges.now.k (2 ^ ranges.now.shift) (slice_index ranges.now.bounds.items range) (slice_index ranges.now.bounds.items (range + 1)) lists.now }
@@ -55,12 +55,12 @@ pub fn fill_wave<R: Threads + Sync, W: Word + Drop + Send + Sync, C: Shown + Dro
     requires some { 1 ≤ length buffers.old }
     requires inside { first + length buffers.old < length ranges.now.bounds.items }
     requires pairs { All (λ b. ranges.now.widest ≤ vec_capacity b.pairs) buffers.old }
-    requires text { All (λ b. ranges.now.widest * LINE ≤ length b.text.items) buffers.old }
+    requires text { All (λ b. ranges.now.widest * line_room ranges.now.k C.most_digits ≤ length b.text.items) buffers.old }
     ensures within { All (λ b. b.filled ≤ length b.text.items) buffers.new }
     ensures texts { (i : ℕ) (d : _) → i < length buffers.new → take (slice_index_or buffers.new i d).filled (slice_index_or buffers.new i d).text.items
         ≡ range_text ranges.now.k (2 ^ ranges.now.shift) (slice_index ranges.now.bounds.items (first + i)) (slice_index ranges.now.bounds.items (first + i + 1)) lists.now }
     ensures pairs { All (λ b. ranges.now.widest ≤ vec_capacity b.pairs) buffers.new }
-    ensures text { All (λ b. ranges.now.widest * LINE ≤ length b.text.items) buffers.new }
+    ensures text { All (λ b. ranges.now.widest * line_room ranges.now.k C.most_digits ≤ length b.text.items) buffers.new }
 {
     let threads = buffers.len();
     thread::for_each_mut(

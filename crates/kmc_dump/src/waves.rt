@@ -3,7 +3,7 @@ ghost use Rattle.std.specs.Prelude.{◌≡◌, ℕ, ◌+◌, ◌-◌, ◌*◌, �
 ghost use Rattle.std.specs.List.{flat_map};
 ghost use Rattle.std.specs.Io.KnownBytes.{Appends};
 ghost use Rattle.kmc_device.specs.Device.{AppendsFront, RisesByOne};
-ghost use Rattle.kmc_device.specs.Line.{text_of};
+ghost use Rattle.kmc_device.specs.Line.{line_room, text_of};
 ghost use Rattle.kmc_dump.specs.Listed.{spelled};
 ghost use Rattle.kmc_dump.specs.Ranges.{whole, AreRanges};
 
@@ -14,7 +14,6 @@ use crate::shown::Shown;
 use crate::wave::fill_wave;
 use kmc_base::word::Word;
 use kmc_device::counted::Counted;
-use kmc_device::line::LINE;
 use kmc_device::text::{WriteFault, write_text};
 use std::io::Write;
 use std::thread::Threads;
@@ -55,7 +54,7 @@ pub fn write_ranges<
     requires ranges { AreRanges ranges.now lists.now }
     requires buffers { 1 ≤ length buffers.old }
     requires pairs { All (λ b. ranges.now.widest ≤ vec_capacity b.pairs) buffers.old }
-    requires text { All (λ b. ranges.now.widest * LINE ≤ length b.text.items) buffers.old }
+    requires text { All (λ b. ranges.now.widest * line_room ranges.now.k C.most_digits ≤ length b.text.items) buffers.old }
     requires failures { writer.old.failures < 2 ^ 64 - 1 }
     ensures ok { OnOk result (Appends (D.contents writer.old.inner) (D.contents writer.new.inner) (text_of (spelled ranges.now.k (whole lists.now)))) }
     ensures kept { OnOk result (writer.new.failures ≡ writer.old.failures) }

@@ -81,7 +81,7 @@ pub fn write_lists<
     // No more than hold all pairs once and the widest range once more.
     let wanted = (total / ranges.widest.max(1)).saturating_add(1);
     let count = threads.min(wanted);
-    let mut buffers = match make_buffers(alloc, count, ranges.widest) {
+    let mut buffers = match make_buffers(alloc, count, ranges.widest, k) {
         Ok(buffers) => buffers,
         Err(_) => return Err(DumpError::Memory),
     };

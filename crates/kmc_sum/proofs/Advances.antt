@@ -1,9 +1,9 @@
 -- One line more of the source whose head is first.
 use Rattle.std.proofs.Common.{◌≡◌, ◌≢◌, ℕ, ◌+◌, ◌*◌, ◌-◌, ◌/◌, ◌<◌, ◌≤◌, ◌^◌, ◌⊎◌, inl, inr, List, [], ◌++◌, length, get_or, set, map, Option, None, refl, sym, ap, subst, ◌∙◌, arith}
 use Rattle.std.proofs.lemmas.Bool.{cases_eq}
-use Rattle.std.proofs.lemmas.List.{get_or-set_other, get_or-set_same, get_or_default, length-set, length-map, get_or-map, map-set}
+use Rattle.std.proofs.lemmas.List.{get_or-set_other, get_or-set_same, length-set, length-map, get_or-map, map-set}
 use Rattle.std.proofs.Math.Seq.{map-set_same}
-use Rattle.kmc_sum.specs.Refusals.{HasFailed}
+use Rattle.kmc_sum.specs.Refusals.{HasFailed, IsFirstFault}
 use Rattle.kmc_sum.specs.declared.heads.Head.{Head}
 use Rattle.kmc_sum.specs.declared.source.Room.{Room}
 use Rattle.kmc_sum.specs.Heads.{rank, no_head, head_at, pending, IsWinner, IsTree}
@@ -137,10 +137,6 @@ module _ (k n : ℕ) (rooms : List Room) (heads : List Head) (ready : AreReady k
               source_like k (left_at starts i) _ _ _ _ _ _ _ _ (sym (get_or-set_other nows first i now None differ)) (sym (get_or-set_other rooms first i room r differ)) (sym place)
               (sym (get_or-set_other lists first i more [] differ)) (are.each i r inside)
 
--- what is left of readers, of which one went on
-pub left_after : {T : Type 0} (left : T → Option (List ℕ)) (readers : List T) (s : ℕ) (reader : T) → map left (set readers s reader) ≡ set (map left readers) s (left reader)
-left_after left readers s reader = map-set left readers s reader
-
 pub lost_after : (k n s : ℕ) (starts nows : List (Option (List ℕ))) (rooms : List Room) (heads : List Head) (lists : List (List (List ℕ × ℕ))) (now : Option (List ℕ)) → AreSources k starts nows rooms heads lists
     → s < length starts → ((rest : List ℕ) × GaveFront k (left_at starts s) now (list_at lists s) rest) → ((i : ℕ) → i < length starts → Room) → GaveFronts k starts (set nows s now) lists
 lost_after k n s starts nows rooms heads lists now are inside lost room = record {
@@ -162,10 +158,50 @@ lost_after k n s starts nows rooms heads lists now are inside lost room = record
           subst (λ x. GaveFront k (left_at starts i) x (list_at lists i) (text_of (pending k head) ++ unread (get_or rooms i (room i within)))) (sym (get_or-set_other nows s i now None differ)) fewer,
         )
 
-pub first_like : (k : ℕ) (starts nows : List (Option (List ℕ))) (source s line : ℕ) (fault : LineFault) (now : Option (List ℕ)) → source ≡ s → left_at nows s ≡ now
-    → IsFaultAt k (left_at starts s) now line fault → IsFaultAt k (left_at starts source) (left_at nows source) line fault
-first_like k starts nows source s line fault now e is h =
-    subst (λ i. IsFaultAt k (left_at starts i) (left_at nows i) line fault) (sym e) (subst (λ x. IsFaultAt k (left_at starts s) x line fault) (sym is) h)
+-- one of the readers went on, and its source is at fault
+pub fault_after : {T : Type 0} (left : T → Option (List ℕ)) (readers : List T) (s : ℕ) (reader : T) (k : ℕ) (starts : List (Option (List ℕ))) (source line : ℕ) (fault : LineFault) → s < length readers → s < length starts → source ≡ s
+    → IsFaultAt k (left_at starts s) (left reader) line fault → IsFirstFault k starts (map left (set readers s reader)) source line fault
+fault_after left readers s reader k starts source line fault inside within e h =
+    let nows = map left (set readers s reader) in
+    let now : left_at nows s ≡ left reader = get_or-map left (set readers s reader) s reader None (omega (arith, inside, length-set readers s reader)) ∙ ap left (get_or-set_same readers s reader reader inside) in
+    record {
+      inside = omega (arith, e, within);
+      first = subst (λ i. IsFaultAt k (left_at starts i) (left_at nows i) line fault) (sym e) (subst (λ x. IsFaultAt k (left_at starts s) x line fault) (sym now) h);
+    }
+
+-- the reader of the first head went on
+module _ {T : Type 0} (left : T → Option (List ℕ)) (readers : List T) (reader next : T) (k : ℕ) (rooms : List Room) (heads : List Head) (ready : AreReady k (length readers) rooms heads) (tree : IsTree heads) (some : 1 ≤ length readers)
+    (room : Room) (starts : List (Option (List ℕ))) (lists : List (List (List ℕ × ℕ))) (are : AreSources k starts (map left readers) rooms heads lists) where
+  abbrev s : ℕ
+  s = (head_at heads 1).source
+
+  count : length readers ≡ length (map left readers)
+  count = sym (length-map readers left)
+
+  inside : s < length readers
+  inside = first_inside k (length readers) rooms heads ready tree some
+
+  within : s < length starts
+  within = omega (arith, inside, count, are.nows_long)
+
+  pub source_was : IsSource k (left_at starts s) (left (get_or readers s reader)) (get_or rooms s room) (head_at heads 1) (list_at lists s)
+  source_was = source_first k (length readers) rooms heads ready tree some starts (map left readers) lists _ room _ count are (get_or-map left readers s reader None inside) refl
+
+  pub sources_went_on : (head : Head) (mended : List Head) → length mended ≡ length (set heads (length readers + s) head)
+      → ((j : ℕ) → length (set heads (length readers + s) head) ≤ 2 * j → head_at mended j ≡ head_at (set heads (length readers + s) head) j)
+      → (found : Room) → IsSource k (left_at starts s) (left next) found head (list_at lists s ++ pending k (head_at heads 1))
+      → AreSources k starts (map left (set readers s next)) (set rooms s found) mended (with_first k heads lists)
+  sources_went_on head mended long leaves found is =
+      subst (λ nows. AreSources k starts nows (set rooms s found) mended (with_first k heads lists)) (sym (map-set left readers s next))
+      (sources_after k (length readers) rooms heads ready tree some head mended long leaves starts (map left readers) lists (left next) found count are is)
+
+  pub source_at_fault : (source line : ℕ) (fault : LineFault) → source ≡ s → IsFaultAt k (left_at starts s) (left next) line fault → IsFirstFault k starts (map left (set readers s next)) source line fault
+  source_at_fault source line fault is h = fault_after left readers s next k starts source line fault inside within is h
+
+  pub source_lost : ((rest : List ℕ) × GaveFront k (left_at starts s) (left next) (list_at lists s) rest) → GaveFronts k starts (map left (set readers s next)) lists
+  source_lost lost =
+      subst (λ nows. GaveFronts k starts nows lists) (sym (map-set left readers s next))
+      (lost_after k (length readers) s starts (map left readers) rooms heads lists (left next) are within lost (λ i _. room))
 
 -- a read of one reader failed, or none did
 module _ {T : Type 0} (readers : List (Watched T)) (s : ℕ) (result reader : Watched T) (inside : s < length readers) where

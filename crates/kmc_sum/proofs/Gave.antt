@@ -93,22 +93,26 @@ front_taken k a b pairs p rest more gave is listed = record {
   bytes = subst (Consumes a b) (ap (λ (t : List ℕ). text_of pairs ++ t) is ∙ sym (append_assoc (text_of pairs) (line_of p) more) ∙ ap (λ (t : List ℕ). t ++ more) (sym (text_push pairs p))) gave;
 }
 
+-- the line behind what a source gave has a word of another length
+pub of_other_length : (k : ℕ) (a c : Option (List ℕ)) (pairs : List (List ℕ × ℕ)) (rest : List ℕ) (l : Line) → GaveFront k a c pairs rest → IsLineOf l rest → l.k ≢ k → IsOfOtherLength k a c (line_after pairs)
+of_other_length k a c pairs rest l gave is differ = record {
+  pairs = pairs;
+  rest = rest;
+  gave = gave;
+  number = refl;
+  pair = (unpack l.k l.packed, l.count);
+  n = l.k;
+  long = is.long;
+  other = differ;
+  is = line_pair l rest is;
+  begins = (drop l.end rest, line_splits l rest is);
+}
+
 -- ---- the line behind the last one
 
 module _ (k last : ℕ) (a b c : Option (List ℕ)) (pairs : List (List ℕ × ℕ)) (before rest : List ℕ) (l : Line) (ends : EndsIn k last pairs) (gave : GaveFront k a b pairs before) (goes : GoesOn b c before rest) (is : IsLineOf l rest) where
   pub other_length : l.k ≢ k → IsOfOtherLength k a c (line_after pairs)
-  other_length differ = record {
-    pairs = pairs;
-    rest = rest;
-    gave = front_goes k a b c pairs before rest gave goes;
-    number = refl;
-    pair = (unpack l.k l.packed, l.count);
-    n = l.k;
-    long = is.long;
-    other = differ;
-    is = line_pair l rest is;
-    begins = (drop l.end rest, line_splits l rest is);
-  }
+  other_length differ = of_other_length k a c pairs rest l (front_goes k a b c pairs before rest gave goes) is differ
 
   pair_at : l.k ≡ k → IsPair k (unpack k l.packed, l.count)
   pair_at same = subst (λ n. IsPair n (unpack n l.packed, l.count)) same (line_pair l rest is)

@@ -63,13 +63,14 @@ gave_nothing k starts = record {
 }
 
 -- the tree is built over the heads
-pub sources_built : (k : ℕ) (starts nows : List (Option (List ℕ))) (rooms : List Room) (heads built : List Head) (lists : List (List (List ℕ × ℕ))) → ((j : ℕ) → length heads ≤ 2 * j → head_at built j ≡ head_at heads j)
-    → length heads ≡ 2 * length starts → AreSources k starts nows rooms heads lists → AreSources k starts nows rooms built lists
-sources_built k starts nows rooms heads built lists leaves long are = record {
+pub sources_built : {T : Type 0} (left : T → Option (List ℕ)) (readers : List T) (k : ℕ) (nows : List (Option (List ℕ))) (rooms : List Room) (heads built : List Head) (lists : List (List (List ℕ × ℕ)))
+    → ((j : ℕ) → length heads ≤ 2 * j → head_at built j ≡ head_at heads j) → length heads ≡ 2 * length readers → AreSources k (map left readers) nows rooms heads lists → AreSources k (map left readers) nows rooms built lists
+sources_built left readers k nows rooms heads built lists leaves long are = record {
   nows_long = are.nows_long;
   lists_long = are.lists_long;
   each = λ i room inside.
-      source_like k (left_at starts i) _ _ _ _ _ _ _ _ refl refl (sym (leaves (length starts + i) (omega (arith, long)))) refl (are.each i room inside);
+      let starts = map left readers in
+      source_like k (left_at starts i) _ _ _ _ _ _ _ _ refl refl (sym (leaves (length starts + i) (omega (arith, long, length-map readers left)))) refl (are.each i room inside);
 }
 
 pub if_ok_then : {A E : Type 0} (r : Result A E) (P Q : A → Type 0) → ((x : A) → P x → Q x) → IfOk r P → IfOk r Q

@@ -1,25 +1,27 @@
 -- The first lines of sources.
-use Rattle.std.proofs.Common.{◌≡◌, ◌≢◌, ℕ, ◌+◌, ◌<◌, ◌≤◌, ◌^◌, ◌⊎◌, inl, inr, true, false, List, [], ◌∷◌, ◌++◌, length, get_or, set, drop, Option, None, refl, sym, ap, subst, ◌∙◌, arith, zero-add}
+use Rattle.std.proofs.Common.{◌≡◌, ◌≢◌, ℕ, ◌+◌, ◌<◌, ◌≤◌, ◌^◌, ◌⊎◌, inl, inr, true, false, List, [], ◌∷◌, ◌++◌, length, get_or, map, set, drop, Option, None, refl, sym, ap, subst, ◌∙◌, arith, zero-add}
 use Rattle.std.proofs.lemmas.Bool.{cases_eq, cases_lt}
 use Rattle.std.proofs.lemmas.List.Sums.{sum_by-cons}
-use Rattle.std.proofs.lemmas.List.{length-set, length-map, get_or-set_same, get_or-set_other, get_or-map}
+use Rattle.std.proofs.lemmas.List.{length-set, length-map, get_or-set_same, get_or-set_other, get_or-map, map-set}
 use Rattle.std.specs.Io.KnownBytes.{Consumes, IsAtEnd}
 use Rattle.std.specs.List.Sorted.{IsStrictlySortedBy}
 use Rattle.kmc_base.specs.Words.{kmer_cmp}
 use Rattle.kmc_base.specs.Packed.{unpack}
 use Rattle.kmc_device.specs.Line.{text_of}
 use Rattle.kmc_sum.specs.Line.{IsLineOf}
-use Rattle.kmc_sum.specs.Faults.{GaveFront, IsOfOtherLength, IsMalformed, BeginsNoLine}
+use Rattle.kmc_sum.specs.Faults.{GaveFront, IsFaultAt, IsOfOtherLength, IsMalformed, BeginsNoLine}
 use Rattle.kmc_sum.specs.Heads.{no_head, head_at, pending}
 use Rattle.kmc_sum.specs.Source.{unread, IsRoom, GoesOn, IsEnough}
 use Rattle.kmc_sum.specs.Sources.{IsSource, IsFresh, Agrees, AreReady, AreSources, AreOpened, GaveFronts, left_at, list_at, no_lists}
 use Rattle.kmc_sum.specs.Sum.{sum_of, listed_count}
+use Rattle.kmc_sum.specs.Refusals.{IsFirstFault}
+use Rattle.kmc_sum.specs.declared.error.LineFault.{LineFault}
 use Rattle.kmc_sum.specs.declared.line.Line.{Line}
 use Rattle.kmc_sum.specs.declared.heads.Head.{Head}
 use Rattle.kmc_sum.specs.declared.source.Room.{Room}
 use Rattle.kmc_sum.proofs.Rooms.{goes_nowhere}
-use Rattle.kmc_sum.proofs.Advances.{source_like}
-use Rattle.kmc_sum.proofs.Gave.{line_pair, line_splits, listed_first, front_taken, gave_fewer}
+use Rattle.kmc_sum.proofs.Advances.{source_like, fault_after}
+use Rattle.kmc_sum.proofs.Gave.{line_pair, line_splits, listed_first, front_taken, gave_fewer, of_other_length}
 
 rising_none : IsStrictlySortedBy kmer_cmp []
 unfolding IsStrictlySortedBy
@@ -35,18 +37,7 @@ gave_none m a b before rest none goes = record {
 module _ (a b : Option (List ℕ)) (before rest : List ℕ) (none : before ≡ []) (goes : GoesOn a b before rest) where
   module _ (l : Line) (is : IsLineOf l rest) where
     pub other_first : (m : ℕ) → l.k ≢ m → IsOfOtherLength m a b 1
-    other_first m differ = record {
-      pairs = [];
-      rest = rest;
-      gave = gave_none m a b before rest none goes;
-      number = refl;
-      pair = (unpack l.k l.packed, l.count);
-      n = l.k;
-      long = is.long;
-      other = differ;
-      is = line_pair l rest is;
-      begins = (drop l.end rest, line_splits l rest is);
-    }
+    other_first m differ = of_other_length m a b [] rest l (gave_none m a b before rest none goes) is differ
 
     gave_first : (m : ℕ) → l.k ≡ m → GaveFront m a b ((unpack m l.packed, l.count) ∷ []) (drop l.end rest)
     gave_first m same =
@@ -155,22 +146,23 @@ none_sum [] x = refl
 none_sum (a ∷ starts) x = sum_by-cons (λ (pairs : List (List ℕ × ℕ)). listed_count pairs x) [] (no_lists starts) ∙ zero-add (sum_of (no_lists starts) x) ∙ none_sum starts x
 
 -- all are opened
-pub opened_all : (k m n : ℕ) (starts nows : List (Option (List ℕ))) (rooms : List Room) (heads : List Head) → (i : ℕ) → i ≡ n → AreOpened k n i starts nows rooms heads → Agrees k m → AreReady m n rooms heads × AreSources m starts nows rooms heads (no_lists starts)
-opened_all k m n starts nows rooms heads i end are agrees = (
-  record {
+module _ (k m n : ℕ) (starts nows : List (Option (List ℕ))) (rooms : List Room) (heads : List Head) (i : ℕ) (end : i ≡ n) (are : AreOpened k n i starts nows rooms heads) (agrees : Agrees k m) where
+  pub all_ready : AreReady m n rooms heads
+  all_ready = record {
     rooms_long = are.rooms_long;
     heads_long = are.heads_long;
     rooms_are = λ j r inside. (are.opened m j r agrees (omega arith)).0;
     source = λ j inside. are.source j (omega arith);
     fits = λ j inside. are.fits m j agrees (omega arith);
-  },
-  record {
+  }
+
+  pub all_sources : AreSources m starts nows rooms heads (no_lists starts)
+  all_sources = record {
     nows_long = are.nows_long ∙ sym are.starts_long;
     lists_long = length-map starts (λ _. []);
     each = λ j r inside.
         source_like m (left_at starts j) _ _ _ _ _ _ [] _ refl refl (ap (λ x. head_at heads (x + j)) (sym are.starts_long)) (sym (list_none starts j inside)) (are.opened m j r agrees (omega (arith, inside, are.starts_long))).1;
-  },
-)
+  }
 
 at_any : (k m : ℕ) (a b : Option (List ℕ)) (rest : List ℕ) → GaveFront k a b [] rest → GaveFront m a b [] rest
 at_any k m a b rest h = record { listed = record { each = tt; rising = rising_none }; bytes = h.bytes }
@@ -206,3 +198,29 @@ opened_lost k m n i starts nows rooms heads now room are inside lost = record {
           like j within (left_at starts j) [] (get_or-set_other nows i j now None differ ∙ same)
               (gave_none m (left_at starts j) (left_at starts j) [] [] refl (goes_nowhere (left_at starts j) [] [] refl)),
         )
+
+-- one of the readers is at its first line
+module _ {T : Type 0} (left : T → Option (List ℕ)) (readers : List T) (reader next : T) (k n i : ℕ) (starts : List (Option (List ℕ))) (rooms : List Room) (heads : List Head) (before : AreOpened k n i starts (map left readers) rooms heads)
+    (room : Room) (inside : i < n) where
+  here : i < length readers
+  here = omega (arith, inside, before.nows_long, length-map readers left)
+
+  start : left (get_or readers i reader) ≡ left_at starts i
+  start = sym (get_or-map left readers i reader None here) ∙ (before.fresh i room (omega arith) inside).1
+
+  pub reader_opened : (found : ℕ) (now : Room) (head : Head) → (k ≡ 0) ⊎ (found ≡ k) → IsRoom now → head.source ≡ i → ((m : ℕ) → Agrees found m → head.packed < 4 ^ m)
+      → ((m : ℕ) → Agrees found m → IsSource m (left (get_or readers i reader)) (left next) now head [])
+      → AreOpened found n (i + 1) starts (map left (set readers i next)) (set rooms i now) (set heads (n + i) head)
+  reader_opened found now head kept is own fits first =
+      subst (λ nows. AreOpened found n (i + 1) starts nows (set rooms i now) (set heads (n + i) head)) (sym (map-set left readers i next))
+      (opened_next k found n i starts (map left readers) rooms heads before inside kept (left next) now head is own fits
+      (λ m agrees. subst (λ a. IsSource m a (left next) now head []) start (first m agrees)))
+
+  pub reader_at_fault : (m source line : ℕ) (fault : LineFault) → source ≡ i → IsFaultAt m (left (get_or readers i reader)) (left next) line fault → IsFirstFault m starts (map left (set readers i next)) source line fault
+  reader_at_fault m source line fault is h =
+      fault_after left readers i next m starts source line fault here (omega (arith, inside, before.starts_long)) is (subst (λ a. IsFaultAt m a (left next) line fault) start h)
+
+  pub reader_lost : (m : ℕ) → ((rest : List ℕ) × GaveFront m (left (get_or readers i reader)) (left next) [] rest) → GaveFronts m starts (map left (set readers i next)) (no_lists starts)
+  reader_lost m lost =
+      subst (λ nows. GaveFronts m starts nows (no_lists starts)) (sym (map-set left readers i next))
+      (opened_lost k m n i starts (map left readers) rooms heads (left next) room before inside (lost.0, subst (λ a. GaveFront m a (left next) [] lost.0) start lost.1))

@@ -11,8 +11,9 @@ use Rattle.kmc_count.specs.declared.limits.Limits.{Limits}
 use Rattle.kmc_count.specs.Occurrences.{same_word, is_key_of, count_of}
 use Rattle.kmc_count.specs.Dump.{IsListed, shown, words_of, IsDump}
 use Rattle.kmc_count.specs.Merge.{joined}
-use Rattle.kmc_count.proofs.Listing.{Has, same_is, same_itself}
-use Rattle.kmc_count.proofs.OneDump.{has_contains, listed_has, not_below_itself, below_has}
+use Rattle.kmc_count.proofs.Listing.{same_is, same_itself}
+use Rattle.kmc_count.proofs.Members.{Has, has_contains, below_has}
+use Rattle.kmc_count.proofs.OneDump.{listed_has, not_below_itself, Below}
 use Rattle.kmc_sum.specs.Sum.{listed_count, sum_of}
 use Rattle.kmc_sum.specs.Laws.{ListsEach, AreDumpsOfParts}
 
@@ -38,12 +39,12 @@ module _ (x : List ℕ) where
   unfolding IsStrictlySortedBy
   numbered c [] is up m = absurd m
   numbered c (p ∷ ps) is up (inl e) =
-      let none = none_listed ps (λ m. not_below_itself x (subst (λ w. kmer_cmp w x ≡ Less) e (below_has p.0 x (words_of ps) up.0 m))) in
+      let none = none_listed ps (λ m. not_below_itself x (subst (λ w. kmer_cmp w x ≡ Less) e (below_has Below p.0 x (words_of ps) up.0 m))) in
       listed_more p ps ∙ (λ i. cond (same_word (e i) x) p.1 0 + none i) ∙ ap (λ b. cond b p.1 0 + 0) (same_itself x) ∙ add-zero p.1 ∙ is.0 ∙ ap c e
   numbered c (p ∷ ps) is up (inr m) = go (same_word p.0 x) refl (numbered c ps is.1 up.1 m)
     where
       go : (b : Bool) → same_word p.0 x ≡ b → listed_count ps x ≡ c x → listed_count (p ∷ ps) x ≡ c x
-      go true e more = absurd (not_below_itself x (subst (λ w. kmer_cmp w x ≡ Less) (same_is p.0 x e) (below_has p.0 x (words_of ps) up.0 m)))
+      go true e more = absurd (not_below_itself x (subst (λ w. kmer_cmp w x ≡ Less) (same_is p.0 x e) (below_has Below p.0 x (words_of ps) up.0 m)))
       go false e more = listed_more p ps ∙ (λ i. cond (e i) p.1 0 + more i) ∙ zero-add (c x)
 
   -- the dump in which each count is listed gives a word its count

@@ -1,9 +1,10 @@
 -- What words ask for, one word after the other.
-use Rattle.std.proofs.Common.{◌≡◌, ℕ, ◌+◌, ◌<◌, ◌≤◌, Bool, true, false, cond, List, [], ◌∷◌, ◌++◌, length, map, take, drop, get_or, Option, Some, None, refl, sym, ap, ◌∙◌, arith, append-nil, length-append}
+use Rattle.std.proofs.Common.{◌≡◌, ℕ, ◌+◌, ◌<◌, ◌≤◌, Bool, true, false, List, [], ◌∷◌, ◌++◌, length, map, take, drop, get_or, Option, Some, None, refl, sym, ap, ◌∙◌, arith, length-append}
 use Rattle.std.specs.Prelude.{is_some, option_map}
-use Rattle.std.specs.List.{list_all, filter, filter_map}
+use Rattle.std.specs.List.Retain.{IsFiltered}
+use Rattle.std.specs.List.{list_all, filter}
 use Rattle.std.proofs.lemmas.List.{take_more, take-append-drop, map-append, get_or-map, length-map}
-use Rattle.std.proofs.lemmas.List.Elements.{filter_map-append}
+use Rattle.std.proofs.lemmas.List.Elements.{filter_map-append, filter_from_retain}
 use Rattle.std.proofs.lemmas.List.Folds.{list_all_at}
 use Rattle.kmc_argument.specs.Words.{Word, rest_after}
 use Rattle.kmc_sum.specs.Request.{given, texts_of}
@@ -53,3 +54,7 @@ module _ {X : Type 0} (f : X → Word) where
       first_of : (b : Bool) → p (f x) ≡ b → filter p (map f xs) ≡ map f (filter (λ y. p (f y)) xs) → filter p (map f (x ∷ xs)) ≡ map f (filter (λ y. p (f y)) (x ∷ xs))
       first_of true is rest = rw is (ap (λ l. f x ∷ l) rest)
       first_of false is rest = rw is rest
+
+  -- the words of those that were kept
+  pub kept_words : {P : Type 0} (R : P → X → Bool → P → Type 0) (test : Word → Bool) → ((p : P) (x : X) (b : Bool) (q : P) → R p x b q → b ≡ test (f x)) → (p : P) (xs kept : List X) → IsFiltered R p xs kept → map f kept ≡ filter test (map f xs)
+  kept_words R test says p xs kept h = ap (map f) (filter_from_retain R (λ x. test (f x)) says p xs kept h) ∙ sym (filter_of_map test xs)

@@ -129,6 +129,20 @@ module _ (k : ℕ) (l : Limits) (small : l.cx ≤ 2 ^ 63) (starts nows : List (O
   pub begun_put : (nows' : List (Option (List ℕ))) (new' : Option (List ℕ)) (gathered' : List ℕ) → GaveFronts k starts nows' so.lists → WritesOut old new' (text_of so.pairs ++ text_of (kept_pair l x n)) gathered' → IsBegun k l starts nows' old new'
   begun_put nows' new' gathered' gave out = begun_after nows' new' gave (front_gathered old new' _ gathered' out)
 
+  -- given up at what the readers gave so far
+  module _ (count : ℕ) (long : length nows ≡ count) (ready : AreReady k count rooms heads) where
+    gave_now : GaveFronts k starts nows so.lists
+    gave_now = fronts_of k starts nows rooms heads so.lists (omega (arith, ready.rooms_long, long, so.sources.nows_long)) so.sources
+
+    pub ends_before : IsBegun k l starts nows old new
+    ends_before = begun_before nows gave_now
+
+    pub ends_in_front : (new' : Option (List ℕ)) → AppendsFront old new' (text_of so.pairs) → IsBegun k l starts nows old new'
+    ends_in_front new' text = begun_front nows new' gave_now text
+
+    pub ends_after : (new' : Option (List ℕ)) → AppendsFront old new' (text_of so.pairs ++ text_of (kept_pair l x n)) → IsBegun k l starts nows old new'
+    ends_after new' text = begun_after nows new' gave_now text
+
   -- no source has a line more
   module _ (ready : AreReady k (length starts) rooms heads) (tree : IsTree heads) (some : 1 ≤ length starts) (few : k ≤ 64) (end : (head_at heads 1).live ≡ false) where
     ended : (i : ℕ) → i < length starts → (head_at heads (length starts + i)).live ≡ false

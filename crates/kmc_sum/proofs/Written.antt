@@ -1,6 +1,6 @@
 -- What went out of a text that is gathered in a room.
-use Rattle.std.proofs.Common.{◌≡◌, ℕ, zero, suc, List, [], ◌++◌, Option, Some, refl, sym, ap, subst, ◌∙◌, append_assoc, append-nil}
-use Rattle.std.proofs.KnownBytes.{Appends-trans, Appends-kept}
+use Rattle.std.proofs.Common.{◌≡◌, ℕ, zero, suc, List, [], ◌++◌, Option, Some, refl, sym, ap, subst, ◌∙◌, append-nil}
+use Rattle.std.proofs.KnownBytes.{Appends-kept}
 use Rattle.std.specs.Io.KnownBytes.{Appends, Keeps}
 use Rattle.std.specs.List.{cons_option}
 use Rattle.std.specs.Option.{option_map}
@@ -14,16 +14,6 @@ use Rattle.kmc_device.proofs.Devices.{front_after, front_all, gathered_out}
 -- nothing is put
 pub out_same : (a b : Option (List ℕ)) (text left : List ℕ) → WritesOut a b text left → WritesOut a b (text ++ []) left
 out_same a b text left h = subst (λ (t : List ℕ). WritesOut a b t left) (sym (append-nil text)) h
-
--- a line is put, after some of what was gathered went out
-pub out_more : (a b c : Option (List ℕ)) (text whole left line new : List ℕ) → WritesOut a b text whole → WritesOut b c whole left → new ≡ left ++ line → WritesOut a c (text ++ line) new
-out_more a b c text whole left line new before now is = (
-  before.0 ++ now.0,
-  ap (λ (t : List ℕ). (before.0 ++ now.0) ++ t) is
-      ∙ sym (append_assoc (before.0 ++ now.0) left line)
-      ∙ ap (λ (t : List ℕ). t ++ line) (append_assoc before.0 now.0 left ∙ ap (λ (t : List ℕ). before.0 ++ t) now.1 ∙ before.1),
-  Appends-trans a b c before.0 now.0 before.2 now.2,
-)
 
 -- a front of what was gathered went out
 pub out_front : (a b c : Option (List ℕ)) (text whole : List ℕ) → WritesOut a b text whole → AppendsFront b c whole → AppendsFront a c text

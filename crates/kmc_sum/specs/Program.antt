@@ -8,28 +8,26 @@ use Rattle.kmc_sum.specs.declared.merge.TheConstants.{MOST_SOURCES}
 use Rattle.kmc_sum.specs.declared.request.RequestError.{RequestError}
 use Rattle.kmc_sum.specs.declared.request.RequestError.TheVariants.{Usage, OutOfRange, Memory}
 
--- the words ask for the sum of files within limits, and the dump of the sum of what as many readers gave was written
-pub record IsAnswered (words : List Word) (old new : Option (List ℕ)) : Type 0 where
+-- the words ask for the sum of files within limits, and as many readers gave bytes
+pub record AreRead (words : List Word) : Type 0 where
   pub limits : Limits
   pub files : List Word
   pub request : IsRequest MOST_SOURCES words limits files
   pub starts : List (Option (List ℕ))
   pub nows : List (Option (List ℕ))
   pub each : length starts ≡ length files
-  pub lines : ℕ
-  pub written : IsSumWritten limits starts nows lines old new
 
--- the words ask for the sum of files within limits, and a front of the dump of the sum of what as many readers gave first was
--- written
+-- the dump of the sum of what the readers gave for the words was written
+pub record IsAnswered (words : List Word) (old new : Option (List ℕ)) : Type 0 where
+  pub read : AreRead words
+  pub lines : ℕ
+  pub written : IsSumWritten read.limits read.starts read.nows lines old new
+
+-- a front of the dump of the sum of what the readers gave first for the words was written
 pub record IsGivenUp (words : List Word) (old new : Option (List ℕ)) : Type 0 where
-  pub limits : Limits
-  pub files : List Word
-  pub request : IsRequest MOST_SOURCES words limits files
-  pub starts : List (Option (List ℕ))
-  pub nows : List (Option (List ℕ))
-  pub each : length starts ≡ length files
+  pub read : AreRead words
   pub k : ℕ
-  pub begun : IsBegun k limits starts nows old new
+  pub begun : IsBegun k read.limits read.starts read.nows old new
 
 -- the exit status where the words ask for nothing, or could not be had
 abbrev pub status_of : RequestError → ℕ

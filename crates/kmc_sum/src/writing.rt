@@ -9,7 +9,7 @@ ghost use Rattle.kmc_sum.specs.Tally.{kept_pair};
 use kmc_base::kmer::{Kmer, MAX_K};
 use kmc_count::limits::Limits;
 use kmc_device::counted::Counted;
-use kmc_device::line::{LINE, make_room, put_line};
+use kmc_device::line::{DIGITS, LINE, line_room, make_room, put_line};
 use kmc_device::text::{WriteFault, write_text};
 use std::io::Write;
 
@@ -42,7 +42,7 @@ pub fn put_pair<W: Write>(
         return Ok((filled, 0));
     }
     match limits.keep(count) {
-        Some(shown) => match make_room(writer, room, filled) {
+        Some(shown) => match make_room(writer, room, filled, line_room(k, DIGITS)) {
             Ok(at) => {
                 let word = Kmer::of_packed(packed, k);
                 Ok((put_line(room, at, &word, shown), 1))

@@ -1,5 +1,4 @@
-use Rattle.std.proofs.Common.{◌≡◌, ◌≤◌, ◌*◌, All, length, vec_len, vec_capacity}
-use Rattle.kmc_device.specs.declared.line.TheConstants.{LINE}
+use Rattle.std.proofs.Common.{◌≡◌, ◌≤◌, All, length, vec_len, vec_capacity}
 use Rattle.kmc_dump.proofs.buffers.make_buffers.Given as goal
 
 -- the buffers so far have their room
@@ -7,5 +6,5 @@ abbrev pub invariant-loop-made : goal.invariant-loop-made
 invariant-loop-made g l = record {
   count : vec_len l.buffers ≡ l._made;
   pairs : All (λ s. l.widest ≤ vec_capacity s.pairs) l.buffers.items;
-  text : All (λ s. l.widest * LINE ≤ length s.text.items) l.buffers.items;
+  text : All (λ s. length s.text.items ≡ l.bytes) l.buffers.items;
 }

@@ -3,7 +3,7 @@ use Rattle.std.proofs.lemmas.List.{length-take-le}
 use Rattle.std.proofs.lemmas.Nat.{pow_pos}
 use Rattle.std.proofs.lemmas.List.Elements.{All-append, All-drop}
 use Rattle.std.specs.Io.KnownBytes.{Appends}
-use Rattle.kmc_device.specs.declared.line.TheConstants.{LINE}
+use Rattle.kmc_device.specs.Line.{line_room}
 use Rattle.std.proofs.KnownBytes.{Appends-nil}
 use Rattle.kmc_device.specs.Device.{AppendsFront}
 use Rattle.kmc_device.proofs.Devices.{on_err, front_all}
@@ -24,7 +24,7 @@ pub loop-first-preserved : goal.loop-first-preserved
 loop-first-preserved g c = record {
   inside = omega (arith, c.min-wave.ensures, c.loop-first.invariant.inside);
   pairs = All-append (λ s. c.args.ranges.now.widest ≤ vec_capacity s.pairs) c.fill_wave.new.buffers (drop c.min-wave.result c.loop-first.buffers) c.fill_wave.ensures.pairs (All-drop (λ s. c.args.ranges.now.widest ≤ vec_capacity s.pairs) c.min-wave.result c.loop-first.buffers c.loop-first.invariant.pairs);
-  text = All-append (λ s. c.args.ranges.now.widest * LINE ≤ length s.text.items) c.fill_wave.new.buffers (drop c.min-wave.result c.loop-first.buffers) c.fill_wave.ensures.text (All-drop (λ s. c.args.ranges.now.widest * LINE ≤ length s.text.items) c.min-wave.result c.loop-first.buffers c.loop-first.invariant.text);
+  text = All-append (λ s. c.args.ranges.now.widest * line_room c.args.ranges.now.k g.C.Shown.most_digits ≤ length s.text.items) c.fill_wave.new.buffers (drop c.min-wave.result c.loop-first.buffers) c.fill_wave.ensures.text (All-drop (λ s. c.args.ranges.now.widest * line_room c.args.ranges.now.k g.C.Shown.most_digits ≤ length s.text.items) c.min-wave.result c.loop-first.buffers c.loop-first.invariant.text);
   kept = c.in_ok-write_buffers.ensures.kept ∙ c.loop-first.invariant.kept;
   out = wave_out c.args.ranges.now.k (2 ^ c.args.ranges.now.shift) (pow_pos c.args.ranges.now.shift) c.args.lists.now c.args.ranges.now.bounds.items (λ i inside. (c.requires.ranges.bounds i inside).0) (λ s. take s.filled s.text.items) c.fill_wave.new.buffers
       c.loop-first.first _ _ _ _ (omega (arith, c.fill_wave.auto.buffers, c.min-wave.ensures, length-take-le c.min-wave.result c.loop-first.buffers (omega (arith, c.min-wave.ensures)))) (omega (arith, c.min-wave.ensures, c.loop-first-test.true)) c.fill_wave.ensures.texts c.loop-first.invariant.out c.in_ok-write_buffers.ensures.ok;

@@ -10,7 +10,7 @@ use Rattle.kmc_sum.specs.declared.error.SumError.TheVariants.{Line, Read}
 use Rattle.kmc_sum.proofs.Advances.{first_inside, first_leaf, first_fits, failed_after}
 use Rattle.kmc_sum.proofs.Counted.{taken_more, too_many}
 use Rattle.kmc_sum.proofs.Gave.{less_packed}
-use Rattle.kmc_sum.proofs.Steps.{so_same, so_next, so_start, so_like, room_of, begun_front, begun_before, begun_after, begun_put, written, fronts_of}
+use Rattle.kmc_sum.proofs.Steps.{so_same, so_next, so_start, so_like, room_of, begun_before, begun_put, ends_before, ends_in_front, ends_after, written}
 use Rattle.kmc_sum.proofs.merge.drain.Goals as goal
 use Rattle.kmc_sum.proofs.merge.drain.Goals.{then-next-packed, else-next-packed+in-Ok, else-loop-step-test, then-loop-step-test+then-not-heads}
 
@@ -36,13 +36,8 @@ loop-step-init g c = record {
 
 pub returns-in-Err-clause-begun : goal.returns-in-Err-clause-begun
 returns-in-Err-clause-begun g c = λ starts lists are none.
-    let i = c.loop-step.invariant in
-    let so = i.so starts lists are none in
-    let left = λ (r : Watched g.row.R.Denot). g.R.Read.remaining r.inner in
-    let nows = map left c.loop-step.readers in
-    let long : length c.loop-step.rooms ≡ length starts = omega (arith, i.ready.rooms_long, length-map c.loop-step.readers left, so.sources.nows_long) in
-    begun_front c.args.k c.args.limits.now c.args.limits.now.in_range.1 starts nows c.loop-step.rooms c.loop-step.heads _ c.loop-step.count c.loop-step.lines _ _ _ so nows _
-    (fronts_of c.args.k starts nows c.loop-step.rooms c.loop-step.heads so.lists long so.sources) (c.in-Err.ensures.front _ _ so.out)
+    let so = c.loop-step.invariant.so starts lists are none in
+    ends_in_front _ _ c.args.limits.now.in_range.1 _ _ _ _ _ _ _ _ _ _ so _ (length-map c.loop-step.readers _) c.loop-step.invariant.ready _ (c.in-Err.ensures.front _ _ so.out)
 
 pub returns-in-Err-advance-clause-fault : goal.returns-in-Err-advance-clause-fault
 returns-in-Err-advance-clause-fault g c = λ source line fault is starts lists are none.
@@ -94,14 +89,12 @@ loop-step-preserved g c =
         behind = λ j low high. omega (arith, more j (omega (arith, c.advance.auto.readers)) (omega (arith, c.advance.auto.readers)), w.packed-is, w.if-next-packed.true);
         so = λ starts lists are none.
             let so = i.so starts lists are none in
-            let long : length starts ≡ n = omega (arith, length-map c.loop-step.readers left, so.sources.nows_long) in
             so_like k l starts _ _ _ _ _ _ _ _ _ _ _ _ _ _ (ap (unpack k) w.packed-is) w.count-is w.lines-is (ap (λ (v : Watched g.row.W.Denot). g.W.Write.contents v.inner) w.writer-is) (λ j. take (w.filled-is j) (w.room-is j))
-            (so_same k l l.in_range.1 starts _ c.loop-step.rooms heads _ c.loop-step.count c.loop-step.lines _ _ _ so _ c.advance.new.rooms c.advance.new.heads _ (omega (arith, long, inside)) live
+            (so_same k l l.in_range.1 starts _ c.loop-step.rooms heads _ c.loop-step.count c.loop-step.lines _ _ _ so _ c.advance.new.rooms c.advance.new.heads _ (omega (arith, inside, length-map c.loop-step.readers left, so.sources.nows_long)) live
             (ap (unpack k) w.if-next-packed.true) w.saturating_add-count.ensures (c.in-Ok-advance.ensures.sources starts so.lists so.sources));
         taken = λ starts lists are.
             let taken = i.taken starts lists are in
-            let long : length starts ≡ n = omega (arith, length-map c.loop-step.readers left, taken.sources.nows_long) in
-            taken_more k starts _ _ c.loop-step.rooms c.advance.new.rooms heads c.advance.new.heads c.loop-step._step taken (omega (arith, long, inside)) live (c.in-Ok-advance.ensures.sources starts taken.lists taken.sources);
+            taken_more k starts _ _ _ _ _ _ _ taken (omega (arith, inside, length-map c.loop-step.readers left, taken.sources.nows_long)) live (c.in-Ok-advance.ensures.sources starts taken.lists taken.sources);
       }
       | else-next-packed+in-Ok w ↦ record {
         many = c.advance.auto.readers ∙ i.many;
@@ -115,47 +108,30 @@ loop-step-preserved g c =
         behind = λ j low high. omega (arith, more j (omega (arith, c.advance.auto.readers)) (omega (arith, c.advance.auto.readers)), w.packed-is);
         so = λ starts lists are none.
             let so = i.so starts lists are none in
-            let long : length starts ≡ n = omega (arith, length-map c.loop-step.readers left, so.sources.nows_long) in
             so_like k l starts _ _ _ _ _ _ _ _ _ _ _ _ _ _ (ap (unpack k) w.packed-is) w.count-is w.lines-is (ap (λ (v : Watched g.row.W.Denot). g.W.Write.contents v.inner) w.writer-is) (λ j. take (w.filled-is j) (w.room-is j))
-            (so_next k l l.in_range.1 starts _ c.loop-step.rooms heads _ c.loop-step.count c.loop-step.lines _ _ _ so _ c.advance.new.rooms c.advance.new.heads _ _ _ (omega (arith, long, inside)) live
+            (so_next k l l.in_range.1 starts _ c.loop-step.rooms heads _ c.loop-step.count c.loop-step.lines _ _ _ so _ c.advance.new.rooms c.advance.new.heads _ _ _ (omega (arith, inside, length-map c.loop-step.readers left, so.sources.nows_long)) live
             (less_packed k c.loop-step.packed top.packed i.fits (first_fits k n c.loop-step.rooms heads i.ready i.tree some) (omega (arith, above, w.if-next-packed.false))) (omega arith)
             (w.in-Ok.ensures.text _ _ so.out) (omega (arith, w.in-Ok.ensures.ok.2)) (c.in-Ok-advance.ensures.sources starts so.lists so.sources));
         taken = λ starts lists are.
             let taken = i.taken starts lists are in
-            let long : length starts ≡ n = omega (arith, length-map c.loop-step.readers left, taken.sources.nows_long) in
-            taken_more k starts _ _ c.loop-step.rooms c.advance.new.rooms heads c.advance.new.heads c.loop-step._step taken (omega (arith, long, inside)) live (c.in-Ok-advance.ensures.sources starts taken.lists taken.sources);
+            taken_more k starts _ _ _ _ _ _ _ taken (omega (arith, inside, length-map c.loop-step.readers left, taken.sources.nows_long)) live (c.in-Ok-advance.ensures.sources starts taken.lists taken.sources);
       }
     ]
 
 pub returns-then-heads-offset48-clause-begun : goal.returns-then-heads-offset48-clause-begun
 returns-then-heads-offset48-clause-begun g c = λ starts lists are none.
-    let i = c.loop-step.invariant in
-    let so = i.so starts lists are none in
-    let left = λ (r : Watched g.row.R.Denot). g.R.Read.remaining r.inner in
-    let nows = map left c.loop-step.readers in
-    let long : length c.loop-step.rooms ≡ length starts = omega (arith, i.ready.rooms_long, length-map c.loop-step.readers left, so.sources.nows_long) in
-    begun_before c.args.k c.args.limits.now c.args.limits.now.in_range.1 starts nows c.loop-step.rooms c.loop-step.heads _ c.loop-step.count c.loop-step.lines _ _ _ so nows
-    (fronts_of c.args.k starts nows c.loop-step.rooms c.loop-step.heads so.lists long so.sources)
+    let so = c.loop-step.invariant.so starts lists are none in
+    ends_before _ _ c.args.limits.now.in_range.1 _ _ _ _ _ _ _ _ _ _ so _ (length-map c.loop-step.readers _) c.loop-step.invariant.ready
 
 pub returns-in-Err-close-clause-begun : goal.returns-in-Err-close-clause-begun
 returns-in-Err-close-clause-begun g c = λ starts lists are none.
-    let i = c.loop-step.invariant in
-    let so = i.so starts lists are none in
-    let left = λ (r : Watched g.row.R.Denot). g.R.Read.remaining r.inner in
-    let nows = map left c.loop-step.readers in
-    let long : length c.loop-step.rooms ≡ length starts = omega (arith, i.ready.rooms_long, length-map c.loop-step.readers left, so.sources.nows_long) in
-    begun_after c.args.k c.args.limits.now c.args.limits.now.in_range.1 starts nows c.loop-step.rooms c.loop-step.heads _ c.loop-step.count c.loop-step.lines _ _ _ so nows _
-    (fronts_of c.args.k starts nows c.loop-step.rooms c.loop-step.heads so.lists long so.sources) (c.in-Err-close.ensures.front _ _ (c.in-Ok-put_pair.ensures.text _ _ so.out))
+    let so = c.loop-step.invariant.so starts lists are none in
+    ends_after _ _ c.args.limits.now.in_range.1 _ _ _ _ _ _ _ _ _ _ so _ (length-map c.loop-step.readers _) c.loop-step.invariant.ready _ (c.in-Err-close.ensures.front _ _ (c.in-Ok-put_pair.ensures.text _ _ so.out))
 
 pub returns-in-Err-put_pair-clause-begun : goal.returns-in-Err-put_pair-clause-begun
 returns-in-Err-put_pair-clause-begun g c = λ starts lists are none.
-    let i = c.loop-step.invariant in
-    let so = i.so starts lists are none in
-    let left = λ (r : Watched g.row.R.Denot). g.R.Read.remaining r.inner in
-    let nows = map left c.loop-step.readers in
-    let long : length c.loop-step.rooms ≡ length starts = omega (arith, i.ready.rooms_long, length-map c.loop-step.readers left, so.sources.nows_long) in
-    begun_front c.args.k c.args.limits.now c.args.limits.now.in_range.1 starts nows c.loop-step.rooms c.loop-step.heads _ c.loop-step.count c.loop-step.lines _ _ _ so nows _
-    (fronts_of c.args.k starts nows c.loop-step.rooms c.loop-step.heads so.lists long so.sources) (c.in-Err-put_pair.ensures.front _ _ so.out)
+    let so = c.loop-step.invariant.so starts lists are none in
+    ends_in_front _ _ c.args.limits.now.in_range.1 _ _ _ _ _ _ _ _ _ _ so _ (length-map c.loop-step.readers _) c.loop-step.invariant.ready _ (c.in-Err-put_pair.ensures.front _ _ so.out)
 
 pub returns-in-Ok-close-clause-written : goal.returns-in-Ok-close-clause-written
 returns-in-Ok-close-clause-written g c = λ starts lists are none.

@@ -1,28 +1,19 @@
-use Rattle.std.proofs.Common.{◌≡◌, map, length, inr, sym, ap, ◌∙◌}
+use Rattle.std.proofs.Common.{length, inr, ap, ◌∙◌}
 use Rattle.std.specs.Prelude.{string_bytes}
 use Rattle.std.proofs.lemmas.List.{length-map}
+use Rattle.kmc_sum.proofs.Asked.{are_read}
 use Rattle.kmc_sum.proofs.program.sum_files.Goals as goal
 
 pub returns-in-Ok-merge-clause-done : goal.returns-in-Ok-merge-clause-done
 returns-in-Ok-merge-clause-done g c = λ is. record {
-  limits = c.in-Ok.asked.limits;
-  files = map string_bytes c.in-Ok.asked.files.items;
-  request = c.in-Ok.ensures.asked;
-  starts = _;
-  nows = _;
-  each = length-map c.as_mut_slice.result.now _ ∙ ap length c.as_mut_slice.ensures.value ∙ c.in-Ok-opened.ensures ∙ ap length c.deref.ensures.value ∙ sym (length-map c.in-Ok.asked.files.items string_bytes);
+  read = are_read _ _ string_bytes c.in-Ok.asked.files.items c.in-Ok.ensures.asked _ _ (length-map c.as_mut_slice.result.now _ ∙ ap length c.as_mut_slice.ensures.value ∙ c.in-Ok-opened.ensures ∙ ap length c.deref.ensures.value);
   lines = c.in-Ok-merge.field-0;
   written = c.in-Ok-merge.ensures.ok;
 }
 
 pub returns-clause-failed : goal.returns-clause-failed
 returns-clause-failed g c = λ is. inr (record {
-  limits = c.in-Ok.asked.limits;
-  files = map string_bytes c.in-Ok.asked.files.items;
-  request = c.in-Ok.ensures.asked;
-  starts = _;
-  nows = _;
-  each = length-map c.as_mut_slice.result.now _ ∙ ap length c.as_mut_slice.ensures.value ∙ c.in-Ok-opened.ensures ∙ ap length c.deref.ensures.value ∙ sym (length-map c.in-Ok.asked.files.items string_bytes);
+  read = are_read _ _ string_bytes c.in-Ok.asked.files.items c.in-Ok.ensures.asked _ _ (length-map c.as_mut_slice.result.now _ ∙ ap length c.as_mut_slice.ensures.value ∙ c.in-Ok-opened.ensures ∙ ap length c.deref.ensures.value);
   k = c.in-Err-merge.ensures.begun.0;
   begun = c.in-Err-merge.ensures.begun.1;
 })

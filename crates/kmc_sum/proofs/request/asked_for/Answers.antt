@@ -1,11 +1,9 @@
-use Rattle.std.proofs.Common.{rules, ◌≡◌, ◌||◌, List, map, length, sym, ap, subst, ◌∙◌, arith}
+use Rattle.std.proofs.Common.{rules, ◌≡◌, ◌||◌, map, length, sym, ap, subst, ◌∙◌, arith}
 use Rattle.std.specs.Prelude.{string_bytes, codes}
 use Rattle.std.proofs.lemmas.List.{length-map}
-use Rattle.std.proofs.lemmas.List.Elements.{filter_from_retain}
 use Rattle.std.specs.List.{filter, list_all}
-use Rattle.kmc_argument.specs.Words.{Word}
 use Rattle.kmc_sum.specs.Request.{is_file, is_option, given, IsLimit}
-use Rattle.kmc_sum.proofs.Requests.{filter_of_map}
+use Rattle.kmc_sum.proofs.Requests.{kept_words}
 use Rattle.kmc_sum.proofs.request.asked_for.Goals as goal
 use Rattle.kmc_sum.proofs.request.asked_for.Goals.{then-count-eq0-via-then-count-eq0, then-count-eq0-via-else-count-eq0+then-count-most}
 
@@ -14,8 +12,7 @@ returns-then-count-eq0-clause-refused c = (
   λ e. absurd (cc e),
   λ limits files asked.
       let words = c.args.words.items in
-      let is : map string_bytes c.retain.new.self.items ≡ filter is_file (map string_bytes words) =
-      ap (map string_bytes) (filter_from_retain _ (λ w. is_file (string_bytes w)) (λ p x b q t. search rules) _ _ _ c.retain.ensures.filtered) ∙ sym (filter_of_map string_bytes is_file words) in
+      let is : map string_bytes c.retain.new.self.items ≡ filter is_file (map string_bytes words) = kept_words string_bytes _ is_file (λ p x b q t. search rules) _ words _ c.retain.ensures.filtered in
       let count : length c.retain.new.self.items ≡ length files = sym (length-map c.retain.new.self.items string_bytes) ∙ ap length (is ∙ sym asked.files_are) in
       let len : c.len-count.result ≡ length files = c.len-count.ensures ∙ c.retain.new.self.ok.0 ∙ count in
       elim c.then-count-eq0.branch [
@@ -27,8 +24,7 @@ returns-then-count-eq0-clause-refused c = (
 pub returns-then-count-eq0-clause-usage : goal.returns-then-count-eq0-clause-usage
 returns-then-count-eq0-clause-usage c = λ _ taken.
     let words = c.args.words.items in
-    let is : map string_bytes c.retain.new.self.items ≡ filter is_file (map string_bytes words) =
-    ap (map string_bytes) (filter_from_retain _ (λ w. is_file (string_bytes w)) (λ p x b q t. search rules) _ _ _ c.retain.ensures.filtered) ∙ sym (filter_of_map string_bytes is_file words) in
+    let is : map string_bytes c.retain.new.self.items ≡ filter is_file (map string_bytes words) = kept_words string_bytes _ is_file (λ p x b q t. search rules) _ words _ c.retain.ensures.filtered in
     let len : c.len-count.result ≡ length (filter is_file (map string_bytes words)) = c.len-count.ensures ∙ c.retain.new.self.ok.0 ∙ sym (length-map c.retain.new.self.items string_bytes) ∙ ap length is in
     elim c.then-count-eq0.branch [
       | then-count-eq0-via-then-count-eq0 w ↦ omega (arith, len, taken.some, w.if-count-eq0.true)
@@ -38,8 +34,7 @@ returns-then-count-eq0-clause-usage c = λ _ taken.
 pub returns-in-Some-clause-asked : goal.returns-in-Some-clause-asked
 returns-in-Some-clause-asked c =
     let words = c.args.words.items in
-    let is : map string_bytes c.retain.new.self.items ≡ filter is_file (map string_bytes words) =
-    ap (map string_bytes) (filter_from_retain _ (λ w. is_file (string_bytes w)) (λ p x b q t. search rules) _ _ _ c.retain.ensures.filtered) ∙ sym (filter_of_map string_bytes is_file words) in
+    let is : map string_bytes c.retain.new.self.items ≡ filter is_file (map string_bytes words) = kept_words string_bytes _ is_file (λ p x b q t. search rules) _ words _ c.retain.ensures.filtered in
     let len : c.len-count.result ≡ length (map string_bytes c.retain.new.self.items) = c.len-count.ensures ∙ c.retain.new.self.ok.0 ∙ sym (length-map c.retain.new.self.items string_bytes) in
     record {
       known = ap (λ ws. list_all (λ word. is_file word || is_option word) (map string_bytes ws)) (sym c.deref.ensures.value) ∙ sym c.are_known.ensures ∙ c.if-not-are_known.false;

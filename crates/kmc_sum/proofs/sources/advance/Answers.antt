@@ -1,10 +1,10 @@
-use Rattle.std.proofs.Common.{◌≡◌, ◌^◌, length, map, set, Err, None, cond, refl, sym, ap, subst, ◌∙◌, arith}
-use Rattle.std.proofs.lemmas.List.{length-set, length-map, get_or-map, get_or-set_same, map-set}
+use Rattle.std.proofs.Common.{◌≡◌, ◌^◌, length, set, Err, cond, refl, sym, ap, subst, arith}
+use Rattle.std.proofs.lemmas.List.{length-set}
 use Rattle.kmc_device.specs.Device.{Watched}
 use Rattle.kmc_sum.specs.Heads.{rank, head_at}
-use Rattle.kmc_sum.specs.Sources.{AreReady, AreSources, left_at, list_at, with_first, GaveFronts}
+use Rattle.kmc_sum.specs.Sources.{AreReady}
 use Rattle.kmc_sum.specs.declared.error.SumError.TheVariants.{Line, Read}
-use Rattle.kmc_sum.proofs.Advances.{inside_after, settled_after, ready_after, behind_after, sources_after, source_first, lost_after, first_like, failed_at, kept_at}
+use Rattle.kmc_sum.proofs.Advances.{inside_after, settled_after, ready_after, behind_after, failed_at, kept_at, source_was, sources_went_on, source_at_fault, source_lost}
 use Rattle.kmc_sum.proofs.sources.advance.Goals as goal
 
 pub next_head-requires : goal.next_head-requires
@@ -24,17 +24,10 @@ returns-in-Ok-clause-ready g c =
 
 pub returns-in-Ok-clause-sources : goal.returns-in-Ok-clause-sources
 returns-in-Ok-clause-sources g c = λ starts lists are.
-    let readers = c.args.readers.now in
-    let rooms = c.args.rooms.now in
-    let heads = c.args.heads.now in
-    let s = (head_at heads 1).source in
     let left = λ (r : Watched g.row.R.Denot). g.R.Read.remaining r.inner in
-    let count : length readers ≡ length (map left readers) = sym (length-map readers left) in
-    let old = source_first c.args.k (length readers) rooms heads c.requires.ready c.requires.tree c.requires.some starts (map left readers) lists _ c.index-rooms-source.result _ count are
-    (get_or-map left readers s c.index-readers-source.result None c.requires.inside) refl in
-    subst (λ nows. AreSources c.args.k starts nows (set rooms s c.next_head.new.room) c.mend.new.heads (with_first c.args.k heads lists)) (sym (map-set left readers s c.next_head.new.reader))
-    (sources_after c.args.k (length readers) rooms heads c.requires.ready c.requires.tree c.requires.some c.in-Ok.head c.mend.new.heads c.mend.auto.heads c.mend.ensures.leaves starts (map left readers) lists
-    (left c.next_head.new.reader) c.next_head.new.room count are (c.in-Ok.ensures.ok (left_at starts s) (head_at heads 1) (list_at lists s) c.requires.live refl old))
+    let old = source_was left c.args.readers.now c.index-readers-source.result c.next_head.new.reader _ _ _ c.requires.ready c.requires.tree c.requires.some c.index-rooms-source.result starts lists are in
+    sources_went_on left c.args.readers.now c.index-readers-source.result c.next_head.new.reader _ _ _ c.requires.ready c.requires.tree c.requires.some c.index-rooms-source.result starts lists are c.in-Ok.head c.mend.new.heads c.mend.auto.heads c.mend.ensures.leaves c.next_head.new.room
+    (c.in-Ok.ensures.ok _ _ _ c.requires.live refl old)
 
 pub returns-in-Ok-clause-behind : goal.returns-in-Ok-clause-behind
 returns-in-Ok-clause-behind g c =
@@ -45,23 +38,11 @@ returns-in-Ok-clause-behind g c =
 
 pub returns-in-Err-clause-fault : goal.returns-in-Err-clause-fault
 returns-in-Err-clause-fault g c = λ source line fault is starts lists are.
-    let readers = c.args.readers.now in
-    let rooms = c.args.rooms.now in
-    let heads = c.args.heads.now in
-    let s = (head_at heads 1).source in
     let left = λ (r : Watched g.row.R.Denot). g.R.Read.remaining r.inner in
-    let count : length readers ≡ length (map left readers) = sym (length-map readers left) in
-    let old = source_first c.args.k (length readers) rooms heads c.requires.ready c.requires.tree c.requires.some starts (map left readers) lists _ c.index-rooms-source.result _ count are
-    (get_or-map left readers s c.index-readers-source.result None c.requires.inside) refl in
+    let old = source_was left c.args.readers.now c.index-readers-source.result c.next_head.new.reader _ _ _ c.requires.ready c.requires.tree c.requires.some c.index-rooms-source.result starts lists are in
     let e : c.in-Err.error ≡ Line source line fault = cc is in
     let here = c.in-Err.ensures.fault source line fault (ap Err e) in
-    let long : length starts ≡ length readers = sym (count ∙ are.nows_long) in
-    let now : left_at (map left _) s ≡ left c.next_head.new.reader =
-    ap (λ l. left_at l s) (map-set left readers s c.next_head.new.reader) ∙ get_or-set_same (map left readers) s (left c.next_head.new.reader) None (omega (arith, count, c.requires.inside)) in
-    record {
-      inside = omega (arith, here.0, long, c.requires.inside);
-      first = first_like c.args.k starts _ source s line fault _ here.0 now (here.1 (left_at starts s) (head_at heads 1) (list_at lists s) c.requires.live refl old);
-    }
+    source_at_fault left c.args.readers.now c.index-readers-source.result c.next_head.new.reader _ _ _ c.requires.ready c.requires.tree c.requires.some c.index-rooms-source.result starts lists are source line fault here.0 (here.1 _ _ _ c.requires.live refl old)
 
 pub returns-in-Err-clause-read : goal.returns-in-Err-clause-read
 returns-in-Err-clause-read g c = λ source is.
@@ -75,15 +56,6 @@ returns-in-Ok-clause-kept g c = kept_at c.args.readers.now (head_at c.args.heads
 
 pub returns-in-Err-clause-lost : goal.returns-in-Err-clause-lost
 returns-in-Err-clause-lost g c = λ starts lists are.
-    let readers = c.args.readers.now in
-    let rooms = c.args.rooms.now in
-    let heads = c.args.heads.now in
-    let s = (head_at heads 1).source in
     let left = λ (r : Watched g.row.R.Denot). g.R.Read.remaining r.inner in
-    let count : length readers ≡ length (map left readers) = sym (length-map readers left) in
-    let old = source_first c.args.k (length readers) rooms heads c.requires.ready c.requires.tree c.requires.some starts (map left readers) lists _ c.index-rooms-source.result _ count are
-    (get_or-map left readers s c.index-readers-source.result None c.requires.inside) refl in
-    let long : length starts ≡ length readers = sym (count ∙ are.nows_long) in
-    subst (λ nows. GaveFronts c.args.k starts nows lists) (sym (map-set left readers s c.next_head.new.reader))
-    (lost_after c.args.k (length readers) s starts (map left readers) rooms heads lists (left c.next_head.new.reader) are (omega (arith, long, c.requires.inside))
-    (c.in-Err.ensures.lost (left_at starts s) (head_at heads 1) (list_at lists s) old) (λ i _. c.index-rooms-source.result))
+    let old = source_was left c.args.readers.now c.index-readers-source.result c.next_head.new.reader _ _ _ c.requires.ready c.requires.tree c.requires.some c.index-rooms-source.result starts lists are in
+    source_lost left c.args.readers.now c.index-readers-source.result c.next_head.new.reader _ _ _ c.requires.ready c.requires.tree c.requires.some c.index-rooms-source.result starts lists are (c.in-Err.ensures.lost _ _ _ old)

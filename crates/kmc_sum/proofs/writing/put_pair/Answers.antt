@@ -1,8 +1,10 @@
-use Rattle.std.proofs.Common.{◌≡◌, ℕ, List, ◌++◌, take, sym, ap, ◌∙◌}
+use Rattle.std.proofs.Common.{◌≡◌, ℕ, List, ◌++◌, length, take, sym, ap, ◌∙◌, arith}
 use Rattle.kmc_base.specs.Packed.{unpack}
+use Rattle.kmc_base.specs.Lemmas.Packing.{length_unpack}
 use Rattle.kmc_device.specs.Line.{line_of, text_of}
 use Rattle.kmc_sum.specs.Tally.{kept_pair}
-use Rattle.kmc_sum.proofs.Written.{out_more, line_kept}
+use Rattle.kmc_device.proofs.Devices.{gathered_more}
+use Rattle.kmc_sum.proofs.Written.{line_kept}
 use Rattle.kmc_sum.proofs.writing.put_pair.Goals as goal
 
 pub returns-in-Ok-clause-text : goal.returns-in-Ok-clause-text
@@ -12,4 +14,7 @@ returns-in-Ok-clause-text g c = λ start text h.
     let line : take c.put_line.result c.put_line.new.room ≡ take c.in-Ok.at c.args.room.now ++ text_of (kept_pair c.args.limits.now x c.args.count) =
     c.put_line.ensures.line
     ∙ (λ i. take c.in-Ok.at c.args.room.now ++ (ap (λ (w : List ℕ). line_of (w, c.in-Some.shown)) c.of_packed-word.ensures ∙ sym (line_kept c.args.limits.now x c.args.count c.in-Some.shown c.if-count-eq0.false keep)) i) in
-    out_more start _ _ text _ _ _ _ h c.in-Ok.ensures.ok.2 line
+    gathered_more start _ _ text _ _ _ _ h c.in-Ok.ensures.ok.2 line
+
+pub put_line-requires : goal.put_line-requires
+put_line-requires g c = omega (arith, c.in-Ok.ensures.ok.0, c.line_room.ensures.is, ap length c.of_packed-word.ensures, length_unpack c.args.k c.args.packed)

@@ -1,0 +1,16 @@
+-- Lines of at most so many bytes each, one behind the other.
+use Rattle.std.proofs.Common.{◌≡◌, ℕ, ◌+◌, ◌*◌, ◌<◌, ◌≤◌, add-one, arith}
+use Rattle.std.proofs.Math.Nat.{suc-mul, mul-le-mul_right}
+
+pub lines_more : (i r end line : ℕ) → end ≤ i * r → line ≤ r → end + line ≤ (i + 1) * r
+lines_more i r end line so_far short = let more : (i + 1) * r ≡ i * r + r = rw add-one (suc-mul i r) in omega (arith, more)
+
+-- there is room for one of n lines behind those before it
+pub line_fits : (i n r end line top : ℕ) → i < n → n * r ≤ top → end ≤ i * r → line ≤ r → end + line ≤ top
+line_fits i n r end line top inside room so_far short =
+    let next : i + 1 ≤ n = omega (arith, inside) in
+    omega (arith, lines_more i r end line so_far short, mul-le-mul_right r next)
+
+-- fewer lines have room too
+pub fewer_fit : (m n r top : ℕ) → m ≤ n → n * r ≤ top → m * r ≤ top
+fewer_fit m n r top few room = omega (arith, mul-le-mul_right r few)
