@@ -7,6 +7,7 @@ ghost use Rattle.kmc_partqueue.specs.Seats.{IsWriterOf, IsReaderOf, new_writer, 
 use crate::seen::{EACH, Seen, WRITERS, item_of};
 use kmc_partcore::{Taken, Totals};
 use kmc_partqueue::{DoneSeat, Lanes, NoGate, ReaderSeat, WriterSeat};
+use kmc_testing::queue::gathered;
 use std::alloc::AllocError;
 use std::sync::Wait;
 use std::thread;
@@ -96,22 +97,6 @@ fn read<R: Threads + Wait + Sync>(
             ensures { IsReaderOf lanes.entry.now.table.shared.table_id lanes.entry.now.shape result × (result.number ≡ seat.number) }
         { take_all(rt, lanes, seat, seen) },
     )
-}
-
-/// What `gather` answers, where the first of the readers has seen each lane at its end.
-fn gathered<T: Drop>(
-    lanes: Lanes<T>,
-    writers: Vec<DoneSeat<T>>,
-    readers: Vec<ReaderSeat<T>>,
-) -> Option<Totals>
-    requires queue { Each (IsWriterOf lanes.table.shared.table_id lanes.shape) writers.items × Each (IsReaderOf lanes.table.shared.table_id lanes.shape) readers.items }
-    requires writers { (w : ℕ) → w < lanes.shape.writers → total_of (λ s. same s.number w) writers.items ≡ 1 }
-    requires readers { (q : ℕ) → q < lanes.shape.readers → total_of (λ s. same s.number q) readers.items ≡ 1 }
-{
-    if readers.is_empty() || !readers[0].finished() {
-        return None;
-    }
-    Some(lanes.gather(writers, readers))
 }
 
 /// All threads run. The totals are those that `gather` answers, where all seats came back and the first reader has seen each

@@ -19,7 +19,7 @@ use Rattle.kmc_partqueue.proofs.Sums.{total_set, total_append, each_append, view
 use Rattle.kmc_partqueue.proofs.Numbered.{row_length, row_at, once_from}
 use Rattle.kmc_partqueue.proofs.Turns.{lane_within}
 use Rattle.kmc_partqueue.proofs.OneLane.{lane_of}
-use Rattle.kmc_partqueue.proofs.Frame.{St, heads_of}
+use Rattle.kmc_partqueue.proofs.Frame.{St, heads_of, reseated}
 
 module _ {A : Type 0} where
   first_total : (f : A → ℕ) (l : List A) → total_of f (rest_of l) + total_of f (first_of l) ≡ total_of f l
@@ -61,25 +61,17 @@ blank (suc n) (suc i) near = blank n i (omega arith)
 
 module _ {T : Type 0} (k : QueueShape) where
   -- other seats with the same facts
-  reseated : (s : St T) (r : LanesRule k s) (vs : List (View T)) → ((j : ℕ) (v : View T) → get_elem? vs j ≡ some v → ViewOk k r.lanes (heads_of k s.words) v)
+  dealt_anew : (s : St T) (r : LanesRule k s) (vs : List (View T)) → ((j : ℕ) (v : View T) → get_elem? vs j ≡ some v → ViewOk k r.lanes (heads_of k s.words) v)
       → ((f : View T → ℕ) → ((v w : View T) → f (both v w) ≡ f v + f w) → f spent ≡ 0 → total_of f vs ≡ total_of f s.views) → LanesRule k record { words = s.words; homes = s.homes; views = vs }
-  reseated s r vs seats sums = record {
-    lanes = r.lanes;
-    some_room = r.some_room;
-    some_writer = r.some_writer;
-    wide = r.wide;
-    slots = r.slots;
-    each_lane = r.each_lane;
-    each_seat = seats;
-    one_writer = λ w near. sums (writers_of w) (λ v u. let t = total_append (λ (a : Writing T). same a.number w) u.writers v.writers in let x = writers_of w (both v u) in omega arith) refl ∙ r.one_writer w near;
-    one_reader = λ w near. sums (readers_of w) (λ v u. let t = total_append (λ (b : Reading T). same b.number w) u.readers v.readers in omega arith) refl ∙ r.one_reader w near;
-    taken_once = λ w n near. sums (entries w n) (λ v u. let t = total_append (got_once w n) u.readers v.readers in omega arith) refl ∙ r.taken_once w n near;
-  }
+  dealt_anew s r vs seats sums = reseated k s r vs seats
+      (λ w. sums (writers_of w) (λ v u. let t = total_append (λ (a : Writing T). same a.number w) u.writers v.writers in let x = writers_of w (both v u) in omega arith) refl)
+      (λ w. sums (readers_of w) (λ v u. let t = total_append (λ (b : Reading T). same b.number w) u.readers v.readers in omega arith) refl)
+      (λ w n. sums (entries w n) (λ v u. let t = total_append (got_once w n) u.readers v.readers in omega arith) refl)
 
   -- v is cut into left and right
   cuts : (id : ℕ) (v left right : View T) → ((lanes : ℕ → Lane T) (heads : ℕ → ℕ) → ViewOk k lanes heads v → ViewOk k lanes heads left × ViewOk k lanes heads right)
       → ((f : View T → ℕ) → ((v w : View T) → f (both v w) ≡ f v + f w) → f spent ≡ 0 → f left + f right ≡ f v) → Splits (LanesRule k) id v left right
-  cuts id v left right facts parts s r at = let ok = facts r.lanes (heads_of k s.words) (r.each_seat id v at) in reseated s r (set s.views id left ++ right ∷ [])
+  cuts id v left right facts parts s r at = let ok = facts r.lanes (heads_of k s.words) (r.each_seat id v at) in dealt_anew s r (set s.views id left ++ right ∷ [])
       (λ j u e. ⊎_elim (views_stay (λ _ x. ViewOk k r.lanes (heads_of k s.words) x) s.views id left ok.0 (λ j' u' _ e'. r.each_seat j' u' e') j u) (λ (is : right ≡ u). subst (ViewOk k r.lanes (heads_of k s.words)) is ok.1) (at_snoc (set s.views id left) right u j e))
       (λ f add none. let a = total_append f (set s.views id left) (right ∷ []) in let t = total_set f s.views id v left at in let p = parts f add none in omega arith)
 
@@ -95,7 +87,7 @@ module _ {T : Type 0} (k : QueueShape) where
   joins id v other w s r at ne at' = let vs : List (View T) = set s.views id (both v w) in let hs = heads_of k s.words in
       let a = r.each_seat id v at in let b = r.each_seat other w (sym (set_else s.views id other (both v w) ne) ∙ at') in
       let ab : ViewOk k r.lanes hs (both v w) = (each_append (WriterOk k r.lanes hs) w.writers v.writers b.0 a.0, each_append (ReaderOk k r.lanes hs) w.readers v.readers b.1 a.1) in
-      reseated s r (set vs other spent)
+      dealt_anew s r (set vs other spent)
       (views_stay (λ _ x. ViewOk k r.lanes hs x) vs other spent (tt, tt) (λ j u _ e. views_stay (λ _ x. ViewOk k r.lanes hs x) s.views id (both v w) ab (λ j' u' _ e'. r.each_seat j' u' e') j u e))
       (λ f add none. let t = total_set f s.views id v (both v w) at in let t' = total_set f vs other w spent at' in let p = add v w in omega arith)
 

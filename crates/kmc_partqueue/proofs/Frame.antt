@@ -13,7 +13,7 @@ use Rattle.kmc_partcore.specs.declared.shape.QueueShape.{QueueShape}
 use Rattle.kmc_partqueue.specs.Counts.{total_of, once_below}
 use Rattle.kmc_partqueue.specs.Lane.{reading, Cell, Lane, LaneOk}
 use Rattle.kmc_partqueue.specs.Rule.{head_at, end_at, slot_at, mark_at, entries, writers_of, readers_of, ReaderOk, GotOk, EndOk, ViewOk, LanesRule}
-use Rattle.kmc_partqueue.proofs.Sums.{put, at_put, total_set, each_map, views_stay}
+use Rattle.kmc_partqueue.proofs.Sums.{put, at_put, total_set, total_two, each_map, views_stay}
 use Rattle.kmc_partqueue.proofs.OneLane.{Longer, lane_of, lane_stays}
 
 abbrev pub St : Type 0 → Type 0
@@ -21,6 +21,15 @@ St T = State (Option T) (View T)
 
 abbrev pub heads_of : QueueShape → List ℕ → ℕ → ℕ
 heads_of k ws w = get_or ws (head_at k w) 0
+
+module _ {T : Type 0} (f : View T → ℕ) (s : St T) (id : ℕ) (v : View T) where
+  -- a sum stays where one seat changes that counts as much
+  pub same_total : (v' : View T) → get_elem? s.views id ≡ some v → f v' ≡ f v → total_of f (set s.views id v') ≡ total_of f s.views
+  same_total v' at same = let t = total_set f s.views id v v' at in omega (arith, t, same)
+
+  -- what one seat has, and all seats have once, no other seat has
+  pub alone_with : get_elem? s.views id ≡ some v → f v ≡ 1 → total_of f s.views ≡ 1 → (j : ℕ) (u : View T) → j ≢ id → get_elem? s.views j ≡ some u → f u ≡ 0
+  alone_with at one all j u n e = let t = total_two f s.views j id u v n e at in omega (arith, t, one, all)
 
 module _ {T : Type 0} (k : QueueShape) where
   -- the slots in the hand of the reader r stay
@@ -83,18 +92,26 @@ module _ {T : Type 0} (k : QueueShape) where
     taken_once = once;
   }
 
-  -- a step by the seat id that changes its view alone
-  pub reviewed : (s : St T) (r : LanesRule k s) (id : ℕ) (v v' : View T) → get_elem? s.views id ≡ some v → ViewOk k r.lanes (heads_of k s.words) v'
-      → ((w : ℕ) → writers_of w v' ≡ writers_of w v) → ((w : ℕ) → readers_of w v' ≡ readers_of w v) → ((w n : ℕ) → entries w n v' ≡ entries w n v) → LanesRule k record { words = s.words; homes = s.homes; views = set s.views id v' }
-  reviewed s r id v v' at mine ws rs es = record {
+  -- other seats with the same facts and sums
+  pub reseated : (s : St T) (r : LanesRule k s) (vs : List (View T)) → ((j : ℕ) (v : View T) → get_elem? vs j ≡ some v → ViewOk k r.lanes (heads_of k s.words) v)
+      → ((w : ℕ) → total_of (writers_of w) vs ≡ total_of (writers_of w) s.views) → ((w : ℕ) → total_of (readers_of w) vs ≡ total_of (readers_of w) s.views)
+      → ((w n : ℕ) → total_of (entries w n) vs ≡ total_of (entries w n) s.views) → LanesRule k record { words = s.words; homes = s.homes; views = vs }
+  reseated s r vs seats ws rs es = record {
     lanes = r.lanes;
     some_room = r.some_room;
     some_writer = r.some_writer;
     wide = r.wide;
     slots = r.slots;
     each_lane = r.each_lane;
-    each_seat = views_stay (λ j u. ViewOk k r.lanes (heads_of k s.words) u) s.views id v' mine (λ j u _ e. r.each_seat j u e);
-    one_writer = λ w near. let t = total_set (writers_of w) s.views id v v' at in let e = ws w in let o = r.one_writer w near in omega arith;
-    one_reader = λ w near. let t = total_set (readers_of w) s.views id v v' at in let e = rs w in let o = r.one_reader w near in omega arith;
-    taken_once = λ w n near. let t = total_set (entries w n) s.views id v v' at in let e = es w n in let o = r.taken_once w n near in let x : ℕ = total_of (entries w n) (set s.views id v') in let y : ℕ = total_of (entries w n) s.views in let g : x ≡ y = omega arith in g ∙ o;
+    each_seat = seats;
+    one_writer = λ w near. ws w ∙ r.one_writer w near;
+    one_reader = λ w near. rs w ∙ r.one_reader w near;
+    taken_once = λ w n near. es w n ∙ r.taken_once w n near;
   }
+
+  -- a step by the seat id that changes its view alone
+  pub reviewed : (s : St T) (r : LanesRule k s) (id : ℕ) (v v' : View T) → get_elem? s.views id ≡ some v → ViewOk k r.lanes (heads_of k s.words) v'
+      → ((w : ℕ) → writers_of w v' ≡ writers_of w v) → ((w : ℕ) → readers_of w v' ≡ readers_of w v) → ((w n : ℕ) → entries w n v' ≡ entries w n v) → LanesRule k record { words = s.words; homes = s.homes; views = set s.views id v' }
+  reviewed s r id v v' at mine ws rs es = reseated s r (set s.views id v')
+      (views_stay (λ j u. ViewOk k r.lanes (heads_of k s.words) u) s.views id v' mine (λ j u _ e. r.each_seat j u e))
+      (λ w. same_total (writers_of w) s id v v' at (ws w)) (λ w. same_total (readers_of w) s id v v' at (rs w)) (λ w n. same_total (entries w n) s id v v' at (es w n))

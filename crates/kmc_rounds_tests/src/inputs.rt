@@ -1,6 +1,5 @@
 //! Inputs in rounds.
-use crate::device::PieceReader;
-use kmc_count::limits::Limits;
+use crate::given::settings;
 use kmc_device::counted::Counted;
 use kmc_partqueue::NoGate;
 use kmc_reads::error::ReadsError;
@@ -8,6 +7,7 @@ use kmc_reads::format::Format;
 use kmc_reads::read_all::read_all;
 use kmc_reads::reads::slices_of;
 use kmc_store::bins::Bins;
+use kmc_testing::devices::PieceReader;
 use kmc_tool::count_input::PIECE_SYMBOLS;
 use kmc_tool::error::RunError;
 use kmc_tool::params::Params;
@@ -23,13 +23,6 @@ const FASTQ: &[u8] =
     b"@a\nACGTACGTAC\n+\nIIIIIIIIII\n@b\r\nGATTACANNGATTACA\r\n+\r\nIIIIIIIIIIIIIIII\r\n\n@c\n\n+\n\n@d\nTTTTTTTTTTTTTTTTTTTT\n+\nIIIIIIIIIIIIIIIIIIII";
 
 const FASTA: &[u8] = b">a\nACGTAC\nGTAC\n>b\nGATTACANNGATTACA\n>c\n>d\nTTTTTTTTTTT\nTTTTTTTTT\n";
-
-/// Settings with words of 4 symbols, 7 bins, so many splitters and so many reads a chunk.
-fn settings(rt: &impl Abort, format: Format, sp: usize, batch: usize) -> Params {
-    let limits = Limits::new(1, 1000, 1000).expect(rt, "limits");
-    let params = Params::new(format, 4, 5, 7, sp, 1, limits).expect(rt, "settings");
-    params.with_queue(1, 8, batch).expect(rt, "a queue")
-}
 
 /// The bins of a reader that gives so many bytes a read and fails in one of its reads, if it is not read 0.
 fn bins_of<R: Abort + Threads + Wait + Sync>(
@@ -62,7 +55,7 @@ fn rounds_fill_the_bins_that_one_stage_fills(rt: HostRuntime) -> Result<(), Fail
         let reads = read_all(alloc, text, format)?;
         assert_eq!(rt; reads.len(), 4);
         for (sp, batch) in [(1, 1), (3, 2), (2, 1000)] {
-            let params = settings(&rt, format, sp, batch);
+            let params = settings(&rt, format, 4, sp, batch);
             let whole = stage_one(&rt, alloc, &slices_of(alloc, &reads)?, &params, &NoGate)?;
             for piece in [1, 7, 1000] {
                 let (answer, failures, _) = bins_of(&rt, alloc, text, piece, 0, &params, 1 << 32);
@@ -80,7 +73,7 @@ fn rounds_fill_the_bins_that_one_stage_fills(rt: HostRuntime) -> Result<(), Fail
 
 #[test]
 fn an_empty_input_fills_no_bin(rt: HostRuntime) -> Result<(), Fail> {
-    let params = settings(&rt, Format::Fastq, 2, 1);
+    let params = settings(&rt, Format::Fastq, 4, 2, 1);
     let (answer, _, reads) = bins_of(&rt, rt.alloc(), b"", 7, 0, &params, 1);
     for body in answer?.bodies() {
         assert!(rt; body.is_empty());
@@ -91,7 +84,7 @@ fn an_empty_input_fills_no_bin(rt: HostRuntime) -> Result<(), Fail> {
 
 #[test]
 fn a_failed_read_ends_the_rounds(rt: HostRuntime) {
-    let params = settings(&rt, Format::Fastq, 1, 1);
+    let params = settings(&rt, Format::Fastq, 4, 1, 1);
     for failing in [1, 2, 9, 15] {
         let (answer, failures, reads) = bins_of(
             &rt,
@@ -110,7 +103,7 @@ fn a_failed_read_ends_the_rounds(rt: HostRuntime) {
 
 #[test]
 fn too_many_reads_are_too_long(rt: HostRuntime) {
-    let params = settings(&rt, Format::Fastq, 1, 1);
+    let params = settings(&rt, Format::Fastq, 4, 1, 1);
     let all = FASTQ.len() as u64;
     // the read that gives nothing is one too
     for (most, long) in [(1, true), (20, true), (all, true), (all + 1, false)] {
@@ -128,7 +121,7 @@ fn too_many_reads_are_too_long(rt: HostRuntime) {
 
 #[test]
 fn a_faulty_text_is_refused_where_its_line_ends(rt: HostRuntime) {
-    let params = settings(&rt, Format::Fastq, 2, 1);
+    let params = settings(&rt, Format::Fastq, 4, 2, 1);
     for (text, fault) in [
         (
             b"@a\nACGTA\n+\nIIIII\n@b\nAC\nx\nII\n@c\nA\n+\nI\n".as_slice(),

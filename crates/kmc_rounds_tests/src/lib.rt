@@ -3,9 +3,7 @@
 #![tactic(auto)]
 
 #[cfg(test)]
-mod device;
-#[cfg(test)]
-mod dice;
+mod given;
 #[cfg(test)]
 mod inputs;
 #[cfg(test)]

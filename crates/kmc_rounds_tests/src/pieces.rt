@@ -1,14 +1,14 @@
 //! Reads that are longer than a piece may be: they are counted as whole reads.
-use crate::device::PieceReader;
-use crate::dice::Dice;
+use crate::given::settings;
 use kmc_count::direct::count_direct;
 use kmc_count::dump::write_dump;
-use kmc_count::limits::Limits;
 use kmc_device::counted::Counted;
 use kmc_dump::lists::write_bins;
 use kmc_partqueue::NoGate;
 use kmc_reads::format::Format;
 use kmc_reads::read_all::read_all;
+use kmc_testing::devices::PieceReader;
+use kmc_testing::dice::Dice;
 use kmc_tool::params::Params;
 use kmc_tool::rounds::bins_of_input;
 use kmc_tool::stage_two::stage_two;
@@ -17,13 +17,6 @@ use std::process::Abort;
 use std::sync::Wait;
 use std::test::Fail;
 use std::thread::Threads;
-
-/// Settings for words of k symbols, all of them listed, 7 bins, so many splitters and so many reads a round for each.
-fn settings(rt: &impl Abort, k: usize, sp: usize, batch: usize) -> Params {
-    let limits = Limits::new(1, 100_000, 100_000).expect(rt, "limits");
-    let params = Params::new(Format::Fasta, k, 5, 7, sp, 2, limits).expect(rt, "settings");
-    params.with_queue(1, 8, batch).expect(rt, "a queue")
-}
 
 /// The dump of a text that comes so many bytes a read, its reads dealt as pieces of at most `limit` symbols.
 fn dump_in_pieces<R: Abort + Threads + Wait + Sync>(
@@ -36,14 +29,8 @@ fn dump_in_pieces<R: Abort + Threads + Wait + Sync>(
 ) -> Result<Vec<u8>, Fail> {
     assert!(rt; 1 <= piece && params.k <= limit);
     let mut reader = Counted::new(PieceReader::new(text, piece, 0));
-    let bins = match bins_of_input(rt, alloc, &mut reader, params, &NoGate, 1 << 32, limit) {
-        Ok(bins) => bins,
-        Err(_) => return Err(Fail::from("no bins")),
-    };
-    let lists = match stage_two(rt, alloc, bins, params) {
-        Ok(lists) => lists,
-        Err(_) => return Err(Fail::from("out of memory")),
-    };
+    let bins = bins_of_input(rt, alloc, &mut reader, params, &NoGate, 1 << 32, limit)?;
+    let lists = stage_two(rt, alloc, bins, params)?;
     let mut writer = Counted::new(Vec::new(alloc));
     match write_bins(rt, alloc, &mut writer, &lists, params.k, params.sr) {
         Ok(_) => Ok(writer.into_inner()),
@@ -81,7 +68,7 @@ fn push_record(text: &mut Vec<u8>, dice: &mut Dice, symbols: usize) -> Result<()
 
 #[test]
 fn a_word_at_the_seam_of_two_pieces_is_counted_once(rt: HostRuntime) -> Result<(), Fail> {
-    let params = settings(&rt, 4, 2, 1);
+    let params = settings(&rt, Format::Fasta, 4, 2, 1);
     for limit in [4usize, 5, 6, 7, 8, 100] {
         let dump = dump_in_pieces(&rt, rt.alloc(), b">r\nACGTACGT\n", 7, &params, limit)?;
         assert_eq!(rt; dump.as_slice(), &b"ACGT\t2\nCGTA\t2\nGTAC\t1\n"[..]);
@@ -93,7 +80,7 @@ fn a_word_at_the_seam_of_two_pieces_is_counted_once(rt: HostRuntime) -> Result<(
 fn reads_about_as_long_as_a_piece_are_counted_whole(rt: HostRuntime) -> Result<(), Fail> {
     let alloc = rt.alloc();
     let mut dice = Dice { state: 3 };
-    let params = settings(&rt, 6, 3, 2);
+    let params = settings(&rt, Format::Fasta, 6, 3, 2);
     let limit: usize = 20;
     for symbols in [
         5usize,
@@ -134,7 +121,7 @@ fn random_texts_in_pieces_are_counted_as_whole_reads(rt: HostRuntime) -> Result<
             (3, 2, 7),
             (3, 2, 1000),
         ] {
-            let params = settings(&rt, k, sp, batch);
+            let params = settings(&rt, Format::Fasta, k, sp, batch);
             let want = dump_of_whole(&rt, alloc, &text, &params)?;
             listed = listed.saturating_add(want.len());
             let limit = k + dice.roll(30);

@@ -3,13 +3,13 @@ ghost use Rattle.std.specs.Prelude.{◌<◌, ◌≤◌};
 
 /// A row of numbers that look random, the same one for each first state.
 #[derive(Drop)]
-pub(crate) struct Dice {
-    pub(crate) state: u64,
+pub struct Dice {
+    pub state: u64,
 }
 
 impl Dice {
     /// A number below `sides`.
-    pub(crate) fn roll(&mut self, sides: usize) -> usize
+    pub fn roll(&mut self, sides: usize) -> usize
         requires { 1 ≤ sides }
         ensures { result < sides }
     {

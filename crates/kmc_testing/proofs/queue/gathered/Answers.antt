@@ -1,7 +1,7 @@
 use Rattle.std.proofs.Common.{◌≡◌, ◌∙◌, sym, ap, arith, ℕ, zero, suc, ◌<◌, true, false}
 use Rattle.std.specs.Prelude.{◌==◌, Some}
 use Rattle.kmc_partqueue.proofs.Counted.{get_at}
-use Rattle.kmc_many_threads.proofs.many.gathered.Goals as goal
+use Rattle.kmc_testing.proofs.queue.gathered.Goals as goal
 
 some_left : (n : ℕ) → (n == 0) ≡ false → 0 < n
 some_left zero e = let no : true ≡ false = e in cc
