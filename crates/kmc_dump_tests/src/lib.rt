@@ -3,12 +3,4 @@
 #![tactic(auto)]
 
 #[cfg(test)]
-mod bodies;
-#[cfg(test)]
-mod failing;
-#[cfg(test)]
-mod listed;
-#[cfg(test)]
-mod prefixes;
-#[cfg(test)]
-mod rows;
+mod tests;

@@ -2,9 +2,10 @@
 ghost use Rattle.std.specs.Prelude.{◌≡◌, ◌<◌};
 ghost use Rattle.kmc_partqueue.specs.Seats.{IsWriterOf, IsReaderOf};
 
-use crate::lanes::{gathered, got, is_full, is_not_now, total, totals};
+use crate::lanes::{got, is_full, is_not_now, total, totals};
 use kmc_partcore::QueueShape;
 use kmc_partqueue::{DoneSeat, Gate, Lanes, NoGate, Point, ReaderSeat, WriterSeat};
+use kmc_testing::queue::gathered;
 use std::sync::atomic::{AtomicBool, Ordering};
 use std::test::Fail;
 use std::thread;

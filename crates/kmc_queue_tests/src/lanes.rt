@@ -5,6 +5,7 @@ ghost use Rattle.kmc_partqueue.specs.Seats.{IsWriterOf, IsReaderOf};
 
 use kmc_partcore::{QueueShape, Taken, Totals};
 use kmc_partqueue::{DoneSeat, Lanes, NoGate, ReaderSeat, TryPutError, TryTaken};
+use kmc_testing::queue::gathered;
 use std::test::Fail;
 
 /// What a try got, as its writer, number and item.
@@ -44,22 +45,6 @@ pub(crate) fn is_full(answer: Result<u64, (TryPutError, u8)>, part: u8) -> bool 
         Err((TryPutError::NumbersSpent, _)) => false,
         Ok(_) => false,
     }
-}
-
-/// What `gather` answers, where the first of the readers has seen each lane at its end.
-pub(crate) fn gathered<T: Drop>(
-    lanes: Lanes<T>,
-    writers: Vec<DoneSeat<T>>,
-    readers: Vec<ReaderSeat<T>>,
-) -> Option<Totals>
-    requires queue { Each (IsWriterOf lanes.table.shared.table_id lanes.shape) writers.items × Each (IsReaderOf lanes.table.shared.table_id lanes.shape) readers.items }
-    requires writers { (w : ℕ) → w < lanes.shape.writers → total_of (λ s. same s.number w) writers.items ≡ 1 }
-    requires readers { (q : ℕ) → q < lanes.shape.readers → total_of (λ s. same s.number q) readers.items ≡ 1 }
-{
-    if readers.is_empty() || !readers[0].finished() {
-        return None;
-    }
-    Some(lanes.gather(writers, readers))
 }
 
 /// The writer's total as `gather` answers it, of a queue with one writer and one reader.

@@ -4,14 +4,4 @@
 #![tactic(auto)]
 
 #[cfg(test)]
-mod calls;
-#[cfg(test)]
-mod dice;
-#[cfg(test)]
-mod open_reads;
-#[cfg(test)]
-mod plain;
-#[cfg(test)]
-mod random_texts;
-#[cfg(test)]
-mod rows;
+mod tests;

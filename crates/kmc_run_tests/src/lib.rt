@@ -3,22 +3,4 @@
 #![tactic(auto)]
 
 #[cfg(test)]
-mod counting;
-#[cfg(test)]
-mod devices;
-#[cfg(test)]
-mod dice;
-#[cfg(test)]
-mod fault;
-#[cfg(test)]
-mod options;
-#[cfg(test)]
-mod params;
-#[cfg(test)]
-mod passes;
-#[cfg(test)]
-mod runs;
-#[cfg(test)]
-mod stages;
-#[cfg(test)]
-mod workers;
+mod tests;

@@ -4,14 +4,4 @@
 #![tactic(auto)]
 
 #[cfg(test)]
-mod bins;
-#[cfg(test)]
-mod codes_and_words;
-#[cfg(test)]
-mod given;
-#[cfg(test)]
-mod reads;
-#[cfg(test)]
-mod records_and_parts;
-#[cfg(test)]
-mod signatures_and_cuts;
+mod tests;

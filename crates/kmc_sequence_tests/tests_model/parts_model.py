@@ -1,7 +1,7 @@
 #!/usr/bin/env python3
-"""Parts of chunks by their definitions, for the table of src/records_and_parts/rows.rt.
+"""Parts of chunks by their definitions, for the table of src/tests/records_and_parts/rows.rt.
 
-    python3 parts_model.py > ../src/records_and_parts/rows.rt
+    python3 parts_model.py > ../src/tests/records_and_parts/rows.rt
 
 Each word is taken apart into its m-mers anew, and a record is written bit by bit.
 """
@@ -87,13 +87,13 @@ def main():
     print("//! Random chunks with their parts, each part as bin, words and body: written by `tests_model/parts_model.py`,")
     print("//! which works them out by the definitions.")
     print()
-    print("/// k, p, n, the reads with a comma behind each, and the parts with a semicolon behind each.")
+    print("/// A row on each line: k, p, n, the reads with a comma behind each, and the parts with a semicolon behind each.")
     table = [(k, p, n, "".join(read + "," for read in reads), "".join(
         f"{place} {words} {body.hex()};" for place, (words, body) in parts(reads, k, p, n))) for k, p, n, reads in rows()]
-    print(f"pub(super) static ROWS: [(usize, usize, usize, &str, &str); {len(table)}] = [")
+    print("pub(super) const ROWS: &str = \"\\")
     for k, p, n, reads, found in table:
-        print(f"    (\n        {k},\n        {p},\n        {n},\n        \"{reads}\",\n        \"{found}\",\n    ),")
-    print("];")
+        print(k, p, n, reads, found, sep="|")
+    print("\";")
 
 
 if __name__ == "__main__":

@@ -1,7 +1,7 @@
 #!/usr/bin/env python3
-"""Signatures and cuts by their definitions, for the table of src/signatures_and_cuts/rows.rt.
+"""Signatures and cuts by their definitions, for the table of src/tests/signatures_and_cuts/rows.rt.
 
-    python3 split_model.py > ../src/signatures_and_cuts/rows.rt
+    python3 split_model.py > ../src/tests/signatures_and_cuts/rows.rt
 
 Nothing here rolls or keeps a window: each word is taken apart into its m-mers anew.
 """
@@ -77,12 +77,12 @@ def main():
     print("//! Random segments with their runs, each run as its number of words and its signature: written by")
     print("//! `tests_model/split_model.py`, which works them out by the definitions.")
     print()
-    print("/// k, m, the letters, and the runs.")
-    print("pub(super) static ROWS: [(usize, usize, &str, &str); 40] = [")
+    print("/// A row on each line: k, m, the letters, and the runs.")
+    print("pub(super) const ROWS: &str = \"\\")
     for k, m, text in rows():
         runs = " ".join(f"{words}:{s}" for words, s in cut(text, k, m))
-        print(f"    (\n        {k},\n        {m},\n        \"{text}\",\n        \"{runs}\",\n    ),")
-    print("];")
+        print(k, m, text, runs, sep="|")
+    print("\";")
 
 
 if __name__ == "__main__":

@@ -1,8 +1,8 @@
-use crate::devices::{Full, NarrowWriter, PieceReader};
 use kmc_count::limits::Limits;
 use kmc_device::counted::Counted;
 use kmc_sum::error::{LineFault, SumError};
 use kmc_sum::merge::{MOST_SOURCES, merge};
+use kmc_testing::devices::{Full, NarrowWriter, PieceReader};
 use std::alloc::Global;
 use std::process::Abort;
 use std::test::Fail;

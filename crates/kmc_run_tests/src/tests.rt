@@ -1,0 +1,9 @@
+//! The tests, by what they call.
+mod counting;
+mod fault;
+mod options;
+mod params;
+mod passes;
+mod runs;
+mod stages;
+mod workers;

@@ -1,0 +1,7 @@
+//! The tests, by what they call.
+mod bins;
+mod codes_and_words;
+mod given;
+mod reads;
+mod records_and_parts;
+mod signatures_and_cuts;
