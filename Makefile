@@ -23,13 +23,13 @@ prove = for library in $(2); do (cd crates/$$library && rt lib --jobs $(1) > /de
 
 $(KMC): crates.txt $(shell find crates -path '*/out' -prune -o -type f -name '*.rt' -print -o -type f -name '*.antt' -print)
 	@echo "make: proving and building the program (some minutes the first time)"
-	@($(call prove,1,kmc_partcore kmc_partqueue kmc_reads kmc_argument)) & $(call prove,3,kmc_base kmc_split kmc_record kmc_count kmc_dump); wait
+	@($(call prove,1,kmc_partcore kmc_partqueue kmc_reads kmc_argument)) & $(call prove,3,kmc_base kmc_split kmc_record kmc_device kmc_count kmc_dump); wait
 	@$(call prove,4,kmc_store kmc_workers kmc_tool kmc_command)
 	@cd crates/kmc && rt run < stdin > /dev/null 2> out.log || { cat out.log; rm -f out.log; exit 1; }
 	@rm -f crates/kmc/out.log
 	@cp crates/kmc/out/kmc $(KMC)
 
-$(KMC_MERGE): crates.txt $(shell find crates/kmc_base crates/kmc_device crates/kmc_count crates/kmc_sum crates/kmc_merge -path '*/out' -prune -o -type f -name '*.rt' -print -o -type f -name '*.antt' -print)
+$(KMC_MERGE): crates.txt $(shell find crates/kmc_argument crates/kmc_base crates/kmc_device crates/kmc_count crates/kmc_record crates/kmc_split crates/kmc_sum crates/kmc_merge -path '*/out' -prune -o -type f -name '*.rt' -print -o -type f -name '*.antt' -print)
 	@echo "make: proving and building the program that sums dumps"
 	@cd crates/kmc_merge && rt run -- data/a.dump > /dev/null 2> out.log || { cat out.log; rm -f out.log; exit 1; }
 	@rm -f crates/kmc_merge/out.log
