@@ -1,16 +1,17 @@
--- Bins that are the bodies of all parts of all chunks hold the reads.
-use Rattle.std.proofs.Common.{◌≡◌, ℕ, ◌*◌, ◌<◌, ◌≤◌, nat_eq, nat_lt, Bool, true, false, cond, List, [], ◌∷◌, ◌++◌, length, map, refl, sym, ap, ◌∙◌, arith}
-use Rattle.std.proofs.lemmas.List.Sums.{sum_by-cons}
+-- Bins to which all parts of all chunks are added hold the reads.
+use Rattle.std.proofs.Common.{◌≡◌, ℕ, ◌+◌, ◌*◌, ◌<◌, ◌≤◌, nat_eq, nat_lt, Bool, true, false, cond, List, [], ◌∷◌, ◌++◌, length, map, refl, sym, ap, ap₂, subst, ◌∙◌, arith}
+use Rattle.std.proofs.lemmas.List.Sums.{sum_by-cons, sum_by-append}
 use Rattle.std.proofs.lemmas.Bool.Decides.{nat_tests}
 use lib.Pointwise.{pointwise_decides}
 use Rattle.std.proofs.lemmas.List.Concat.{flat_map-append}
 use Rattle.std.specs.Prelude.{bytes_eq}
 use Rattle.std.specs.List.{sum_by, flat_map, range_with_len, AllByRecursion}
 use Rattle.kmc_split.specs.Laws.{CutExists, CutIsUnique, CutHasRuns}
-use Rattle.kmc_record.specs.Record.{spelling, IsSpelled}
+use Rattle.kmc_record.specs.Record.{spelling, IsSpelled, IsBodyOf}
 use Rattle.kmc_record.specs.Shapes.{Sizes}
 use Rattle.kmc_record.specs.Parts.{Parcel}
-use Rattle.kmc_store.specs.Bodies.{parts_in, AreBodies}
+use Rattle.kmc_store.specs.Bins.{body_at}
+use Rattle.kmc_store.specs.Bodies.{parts_in, AreAdded}
 use Rattle.kmc_store.specs.Deals.{chunk_at, AreDealt, AreGathered}
 use Rattle.kmc_store.specs.Holds.{HoldsReads}
 use Rattle.kmc_store.proofs.Sums.{sum_same, sum_none, sum_filter, sum_map, sum_flat_map}
@@ -18,7 +19,8 @@ use Rattle.kmc_store.proofs.Ranges.{eq_of, is_eq, only, range_one, below_same, b
 use Rattle.kmc_store.proofs.Cuts.{cut_of, are_cuts, read_records, read_records_are, read_sum, reads_sum}
 use Rattle.kmc_store.proofs.Spelled.{all_flat, all_each, all_filter, records_spelled}
 use Rattle.kmc_store.proofs.Dealt.{chunks_sum, chunk_segments, chunk_part, chunk_parts, gathered_sum}
-use Rattle.kmc_store.proofs.Held.{held_by_sums}
+use Rattle.kmc_store.proofs.Filling.{body_joined}
+use Rattle.kmc_store.proofs.Held.{sums_held, held_by_sums}
 
 -- no term, no sum
 none_each : {A : Type 0} (P : A → Type 0) (f : A → ℕ) → ((x : A) → f x ≡ 0 → P x) → (xs : List A) → sum_by f xs ≡ 0 → AllByRecursion P xs
@@ -43,7 +45,7 @@ no_records : (k : ℕ) (ss : List (List ℕ)) → nat_lt 0 (length (flat_map (sp
 no_records k [] h = refl
 no_records k (s ∷ ss) h = absurd (let z : 0 ≡ length (flat_map (spelling k) (s ∷ ss)) = grind (arith, nat_tests) in omega arith)
 
-module _ (exists : CutExists) (unique : CutIsUnique) (has_runs : CutHasRuns) (shape : Sizes) (batch : ℕ) (reads : List (List ℕ)) where
+module _ (exists : CutExists) (unique : CutIsUnique) (has_runs : CutHasRuns) (shape : Sizes) (batch : ℕ) (held reads : List (List ℕ)) where
   -- the records of a part, by its chunk and its bin
   abbrev records_of : Parcel → List (List ℕ)
   records_of p = read_records exists shape.k shape.m shape.n p.bin (chunk_at batch reads p.chunk)
@@ -112,21 +114,31 @@ module _ (exists : CutExists) (unique : CutIsUnique) (has_runs : CutHasRuns) (sh
       each : (bin : ℕ) → cond (has_bytes (the_part c bin)) (weight G i (the_part c bin)) 0 ≡ only i (bin_sum G c) bin
       each bin = case bin (has_bytes (the_part c bin)) refl
 
-  pub gathered_held : (sp chunks : ℕ) (sent : ℕ → List Parcel) (got : List Parcel) (bodies : List (List ℕ)) → 1 ≤ shape.k → 0 < sp → length reads ≤ chunks * batch
-      → ((w : ℕ) → w < sp → AreDealt shape batch reads sp w chunks (sent w)) → AreGathered sp sent got → AreBodies shape bodies got → HoldsReads shape reads bodies
-  gathered_held sp chunks sent got bodies some writers all dealt gathered are =
+  -- a bin's records of what was got
+  abbrev own : List Parcel → ℕ → List (List ℕ)
+  own got i = flat_map records_of (parts_in i got)
+
+  pub gathered_held : (sp chunks : ℕ) (sent : ℕ → List Parcel) (got : List Parcel) (before bodies : List (List ℕ)) → 1 ≤ shape.k → 0 < sp → length reads ≤ chunks * batch
+      → ((w : ℕ) → w < sp → AreDealt shape batch reads sp w chunks (sent w)) → AreGathered sp sent got → HoldsReads shape held before → AreAdded shape before bodies got → HoldsReads shape (held ++ reads) bodies
+  gathered_held sp chunks sent got before bodies some writers all dealt gathered hold are =
+      let old = sums_held exists unique shape held before hold in
       let sum = λ (F : Parcel → ℕ). gathered_sum exists unique shape batch reads F sp writers chunks sent got dealt gathered in
-      let own : AllByRecursion (λ (p : Parcel). p.body ≡ spelled_of p) got =
+      let as_spelled : AllByRecursion (λ (p : Parcel). p.body ≡ spelled_of p) got =
       none_each (λ (p : Parcel). p.body ≡ spelled_of p) is_other not_other got (sum is_other ∙ below_none (λ c. sum_by is_other (chunk_parts exists unique shape batch reads c)) chunks none_other) in
-      held_by_sums exists unique shape reads bodies (record {
+      let own_sum = λ (i : ℕ) (G : List ℕ → ℕ) (l : i < shape.n).
+      sum_flat_map G records_of (parts_in i got) ∙ sum_filter (λ p. sum_by G (records_of p)) (λ p. nat_eq p.bin i) got ∙ sum (weight G i)
+      ∙ below_same (λ c. sum_by (weight G i) (chunk_parts exists unique shape batch reads c)) (λ c. sum_by (read_sum exists shape.k shape.m shape.n G i) (chunk_at batch reads c)) chunks (λ c. chunk_weight G i c l)
+      ∙ chunks_sum batch reads (read_sum exists shape.k shape.m shape.n G i) chunks all in
+      held_by_sums exists unique shape (held ++ reads) bodies (record {
         wide = are.wide;
-        records = λ i. flat_map records_of (parts_in i got);
-        each = λ i l. record {
-          each = all_flat (IsSpelled shape.k) records_of (parts_in i got) (all_each (λ (p : Parcel). AllByRecursion (IsSpelled shape.k) (records_of p)) (parts_in i got)
-              (λ p. records_spelled exists has_runs shape.k shape.m shape.n some p.bin (chunk_at batch reads p.chunk)));
-          is = are.each i l ∙ flat_through (λ (p : Parcel). p.body) records_of (spelling shape.k) (parts_in i got) (all_filter (λ (p : Parcel). p.body ≡ spelled_of p) (λ p. nat_eq p.bin i) got own);
-        };
-        same = λ i G l. sum_flat_map G records_of (parts_in i got) ∙ sum_filter (λ p. sum_by G (records_of p)) (λ p. nat_eq p.bin i) got ∙ sum (weight G i)
-            ∙ below_same (λ c. sum_by (weight G i) (chunk_parts exists unique shape batch reads c)) (λ c. sum_by (read_sum exists shape.k shape.m shape.n G i) (chunk_at batch reads c)) chunks (λ c. chunk_weight G i c l)
-            ∙ chunks_sum batch reads (read_sum exists shape.k shape.m shape.n G i) chunks all;
+        records = λ i. old.records i ++ own got i;
+        each = λ i l. subst (IsBodyOf shape.k (old.records i ++ own got i)) (sym (are.each i l))
+            (body_joined shape.k (old.records i) (own got i) (body_at before i) (flat_map (λ p. p.body) (parts_in i got)) (old.each i l) (record {
+              each = all_flat (IsSpelled shape.k) records_of (parts_in i got) (all_each (λ (p : Parcel). AllByRecursion (IsSpelled shape.k) (records_of p)) (parts_in i got)
+                  (λ p. records_spelled exists has_runs shape.k shape.m shape.n some p.bin (chunk_at batch reads p.chunk)));
+              is = flat_through (λ (p : Parcel). p.body) records_of (spelling shape.k) (parts_in i got) (all_filter (λ (p : Parcel). p.body ≡ spelled_of p) (λ p. nat_eq p.bin i) got as_spelled);
+            }));
+        same = λ i G l.
+            let g = read_sum exists shape.k shape.m shape.n G i in
+            sum_by-append G (old.records i) (own got i) ∙ ap₂ (λ (m n : ℕ). m + n) (old.same i G l) (own_sum i G l) ∙ sym (sum_by-append g held reads);
       })

@@ -6,7 +6,7 @@ use Rattle.kmc_record.specs.Record.{spelling, IsBodyOf}
 use Rattle.kmc_record.specs.Shapes.{Sizes}
 use Rattle.kmc_record.specs.Parts.{Parcel, AreCuts, bin_super_kmers, all_segments}
 use Rattle.kmc_store.specs.Bins.{BinList, body_at, empty_bins, Absorbed, Merged}
-use Rattle.kmc_store.specs.Bodies.{AreBodies}
+use Rattle.kmc_store.specs.Bodies.{AreAdded}
 use Rattle.kmc_store.specs.Holds.{HoldsReads}
 use Rattle.kmc_store.specs.Deals.{AreDealt, AreGathered}
 
@@ -19,26 +19,27 @@ MergedBinsHoldBoth = (shape : Sizes) (reads more : List (List ℕ)) (old other n
 abbrev pub EmptyBinsHoldNoReads : Type 0
 EmptyBinsHoldNoReads = (shape : Sizes) → HoldsReads shape [] (empty_bins shape).bodies
 
--- each writer has sent the parts of its chunks, and the chunks are all reads: bins that are the bodies of what was got
--- hold the reads
-abbrev pub GatheredBinsHoldReads : Type 0
-GatheredBinsHoldReads = (shape : Sizes) (batch : ℕ) (reads : List (List ℕ)) (sp chunks : ℕ) (sent : ℕ → List Parcel) (got : List Parcel) (bodies : List (List ℕ))
+-- each writer has sent the parts of its chunks, and the chunks are all reads: bins that held other reads, with the bodies
+-- of what was got added, hold these too
+abbrev pub GatheredPartsHoldReads : Type 0
+GatheredPartsHoldReads = (shape : Sizes) (batch : ℕ) (held reads : List (List ℕ)) (sp chunks : ℕ) (sent : ℕ → List Parcel) (got : List Parcel) (before bodies : List (List ℕ))
     → 1 ≤ shape.k → 0 < sp → length reads ≤ chunks * batch → ((w : ℕ) → w < sp → AreDealt shape batch reads sp w chunks (sent w))
-    → AreGathered sp sent got → AreBodies shape bodies got → HoldsReads shape reads bodies
+    → AreGathered sp sent got → HoldsReads shape held before → AreAdded shape before bodies got → HoldsReads shape (held ++ reads) bodies
 
--- empty bins are the bodies of no parts
-abbrev pub EmptyBinsAreNoBodies : Type 0
-EmptyBinsAreNoBodies = (shape : Sizes) → AreBodies shape (empty_bins shape).bodies []
+-- bins are themselves with the bodies of no parts added
+abbrev pub NoPartsAreAdded : Type 0
+NoPartsAreAdded = (shape : Sizes) (bodies : List (List ℕ)) → length bodies ≡ shape.n → AreAdded shape bodies bodies []
 
--- bins that are the bodies of parts are, with one part absorbed, those of the parts and it
-abbrev pub AbsorbedBinsAreBodies : Type 0
-AbsorbedBinsAreBodies = (shape : Sizes) (old new : BinList) (parts : List Parcel) (part : Parcel)
-    → AreBodies shape old.bodies parts → Absorbed old part new → AreBodies shape new.bodies (parts ++ part ∷ [])
+-- where bins to which parts were added absorb a part, that is added too
+abbrev pub AbsorbedPartIsAdded : Type 0
+AbsorbedPartIsAdded = (shape : Sizes) (before : List (List ℕ)) (old new : BinList) (parts : List Parcel) (part : Parcel)
+    → AreAdded shape before old.bodies parts → Absorbed old part new → AreAdded shape before new.bodies (parts ++ part ∷ [])
 
--- and merged with bins that are the bodies of others, those of both
-abbrev pub MergedBinsAreBodies : Type 0
-MergedBinsAreBodies = (shape : Sizes) (old other new : BinList) (parts others : List Parcel)
-    → AreBodies shape old.bodies parts → AreBodies shape other.bodies others → Merged old other new → AreBodies shape new.bodies (parts ++ others)
+-- bins to which parts were added, merged with bins of other parts alone, are those to which both were added
+abbrev pub MergedPartsAreAdded : Type 0
+MergedPartsAreAdded = (shape : Sizes) (before : List (List ℕ)) (old other new : BinList) (parts others : List Parcel)
+    → AreAdded shape before old.bodies parts → AreAdded shape (empty_bins shape).bodies other.bodies others → Merged old other new
+    → AreAdded shape before new.bodies (parts ++ others)
 
 -- however its body is read, a byte list stands among the records of a bin as often as among those of the reads' runs of
 -- that bin

@@ -1,5 +1,5 @@
 //! Laws over the definitions alone. Each call does nothing: its contract is the law, for the proofs of its callers.
-ghost use Rattle.kmc_store.specs.Laws.{MergedBinsHoldBoth, EmptyBinsHoldNoReads, GatheredBinsHoldReads, EmptyBinsAreNoBodies, AbsorbedBinsAreBodies, MergedBinsAreBodies, HeldRecordsAreTheRuns};
+ghost use Rattle.kmc_store.specs.Laws.{MergedBinsHoldBoth, EmptyBinsHoldNoReads, GatheredPartsHoldReads, NoPartsAreAdded, AbsorbedPartIsAdded, MergedPartsAreAdded, HeldRecordsAreTheRuns};
 
 use kmc_record::laws::body_has_one_list;
 use kmc_split::laws::{cut_exists, cut_has_runs, cut_is_unique};
@@ -17,29 +17,29 @@ pub fn empty_bins_hold_no_reads()
     ensures { EmptyBinsHoldNoReads }
 {}
 
-/// Bins that are the bodies of what was got hold the reads, where each writer has sent the parts of its chunks, all of
-/// that was got once and nothing else, and the chunks are all reads.
-pub fn gathered_bins_hold_reads()
-    ensures { GatheredBinsHoldReads }
+/// Bins that held other reads, with the bodies of what was got added, hold these reads too, where each writer has sent the
+/// parts of its chunks, all of that was got once and nothing else, and the chunks are all these reads.
+pub fn gathered_parts_hold_reads()
+    ensures { GatheredPartsHoldReads }
 {
     cut_exists();
     cut_is_unique();
     cut_has_runs();
 }
 
-/// Empty bins are the bodies of no parts.
-pub fn empty_bins_are_no_bodies()
-    ensures { EmptyBinsAreNoBodies }
+/// Bins are themselves with the bodies of no parts added.
+pub fn no_parts_are_added()
+    ensures { NoPartsAreAdded }
 {}
 
-/// Bins that are the bodies of parts are, with one part absorbed, the bodies of those parts and of it.
-pub fn absorbed_bins_are_bodies()
-    ensures { AbsorbedBinsAreBodies }
+/// Where bins to which parts were added absorb one more, it is added behind them.
+pub fn absorbed_part_is_added()
+    ensures { AbsorbedPartIsAdded }
 {}
 
-/// Bins that are the bodies of parts are, merged with bins that are the bodies of others, the bodies of both.
-pub fn merged_bins_are_bodies()
-    ensures { MergedBinsAreBodies }
+/// Bins to which parts were added, merged with bins of other parts alone, are those to which both were added.
+pub fn merged_parts_are_added()
+    ensures { MergedPartsAreAdded }
 {}
 
 /// A byte list stands among the records of a bin as often as among the records of the runs of that bin.

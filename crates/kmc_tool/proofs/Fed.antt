@@ -1,8 +1,5 @@
 -- Bytes that a feeder took, a read after the other.
 use Rattle.std.proofs.Common.{◌≡◌, ◌⊎◌, inl, inr, ℕ, zero, suc, ◌+◌, ◌-◌, ◌<◌, ◌≤◌, Bool, true, false, List, [], ◌++◌, Option, Some, None, Result, Ok, Err, refl, sym, ap, subst, ◌∙◌, append_assoc, append-nil, length-append, arith}
-use Rattle.std.specs.List.{flat_map}
-use Rattle.std.proofs.lemmas.Grind.{flat_map-append}
-use Rattle.kmc_base.specs.Pieces.{pieces}
 use Rattle.std.specs.Io.KnownBytes.{Consumes, IsAtEnd}
 use Rattle.kmc_reads.specs.declared.error.ReadsError.{ReadsError}
 use Rattle.kmc_reads.specs.declared.format.Format.{Format}
@@ -11,9 +8,7 @@ use Rattle.kmc_reads.specs.Reads.{reads_of}
 use Rattle.kmc_reads.specs.Stages.{fault}
 use Rattle.kmc_reads.specs.Standing.{FeederState, StandsCut}
 use Rattle.kmc_record.specs.Shapes.{Sizes}
-use Rattle.kmc_store.specs.Bins.{BinList, Merged}
-use Rattle.kmc_store.specs.Holds.{HoldsReads}
-use Rattle.kmc_store.specs.Laws.{MergedBinsHoldBoth}
+use Rattle.kmc_store.specs.Bins.{BinList}
 use Rattle.kmc_tool.specs.declared.error.RunError.{RunError}
 use Rattle.kmc_tool.specs.declared.error.RunError.TheVariants.{Memory, Read, Write, Input, TooLong}
 use Rattle.kmc_tool.specs.Rounds.{IsFed, IsFedBy, IsRefused, AreCounts, AreCountsOf, HoldsPieces, IsLastError, IsInputError}
@@ -150,10 +145,3 @@ module _ (overlap : ℕ) (format : Format) (most : ℕ) (old new : Option (List 
 -- the reads that were ended were taken
 abbrev pub taken_fed : (overlap : ℕ) (format : Format) (old new : Option (List ℕ)) (a b : ℕ) (taken more : List (List ℕ)) (v w : FeederState) (f : IsFed overlap format old new a b [] taken v) → StandsCut overlap format f.bytes (taken ++ more) w → IsFed overlap format old new a b [] (taken ++ more) w
 taken_fed overlap format old new a b taken more v w f s = record { bytes = f.bytes; given = f.given; many = f.many; stands = s }
-
--- bins that hold the pieces of reads, merged with bins that hold those of more, hold the pieces of both
-pub both_held : MergedBinsHoldBoth → (shape : Sizes) (limit : ℕ) (reads more : List (List ℕ)) (old other new : BinList)
-    → HoldsPieces shape limit reads old.bodies → HoldsPieces shape limit more other.bodies → Merged old other new → HoldsPieces shape limit (reads ++ more) new.bodies
-both_held law shape limit reads more old other new a b m =
-    subst (λ t. HoldsReads shape t new.bodies) (sym (flat_map-append (pieces shape.k limit) reads more))
-    (law shape (flat_map (pieces shape.k limit) reads) (flat_map (pieces shape.k limit) more) old other new a b m)

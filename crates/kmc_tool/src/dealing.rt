@@ -1,24 +1,26 @@
 //! How the reads of a round are dealt to the splitters: long ones as pieces.
-ghost use Rattle.std.specs.Prelude.{◌≡◌, ◌≤◌, map, IfOk};
+ghost use Rattle.std.specs.Prelude.{◌≡◌, ℕ, ◌≤◌, List, ◌++◌, map, IfOk, OnOk};
 ghost use Rattle.std.specs.List.{flat_map};
 ghost use Rattle.kmc_base.specs.Pieces.{pieces};
 ghost use Rattle.kmc_tool.specs.Rounds.{HoldsPieces};
 ghost use Rattle.kmc_tool.specs.Stages.{shape_of};
 
 use crate::params::Params;
-use crate::stage_one::stage_one;
+use crate::stage_one::store_reads;
 use kmc_base::pieces::push_pieces;
 use kmc_partqueue::Gate;
 use kmc_reads::reads::Reads;
 use kmc_store::bins::Bins;
 use std::alloc::{AllocError, Global};
+use std::mem::replace;
 use std::sync::Wait;
 use std::thread::Threads;
 
-/// How reads are dealt: by the settings of a run, and each as its pieces of at most so many symbols. The gate is told of
-/// the points that their parts pass.
+/// How reads are dealt: by the settings of a run, and each as its pieces of at most so many symbols, with the source of the
+/// memory for them. The gate is told of the points that their parts pass.
 #[derive(Drop)]
 pub(crate) struct Dealing<'a, G> {
+    pub(crate) alloc: Global,
     pub(crate) params: Params,
     pub(crate) limit: usize,
     pub(crate) gate: &'a G,
@@ -38,18 +40,25 @@ fn pieces_of(alloc: Global, reads: &Reads, k: usize, limit: usize) -> Result<Vec
     Ok(out)
 }
 
-/// Bins that hold the reads of a round, each as its pieces: a chunk of pieces for each splitter, so that all of them work
-/// on a round of one long read too.
-pub(crate) fn bins_of_round<T: Threads + Wait + Sync, G: Gate + Sync>(
+/// Adds the reads of a round to the bins, each as its pieces: a chunk of pieces for each splitter, so that all of them work
+/// on a round of one long read too. Where memory is refused, what the bins held may be lost.
+pub(crate) fn store_round<T: Threads + Wait + Sync, G: Gate + Sync>(
     rt: &T,
-    alloc: Global,
+    bins: &mut Bins,
     round: &Reads,
     dealing: &Dealing<'_, G>,
-) -> Result<Bins, AllocError>
-    ensures shape { IfOk result (λ b. b.shape ≡ shape_of dealing.now.params) }
-    ensures holds { IfOk result (λ b. HoldsPieces (shape_of dealing.now.params) dealing.now.limit round.now b.bodies) }
+) -> Result<(), AllocError>
+    requires { bins.old.shape ≡ shape_of dealing.now.params }
+    ensures shape { bins.new.shape ≡ shape_of dealing.now.params }
+    ensures holds { (held : List (List ℕ)) → HoldsPieces (shape_of dealing.now.params) dealing.now.limit held bins.old.bodies
+        → OnOk result (HoldsPieces (shape_of dealing.now.params) dealing.now.limit (held ++ round.now) bins.new.bodies) }
 {
+    let alloc = dealing.alloc;
     let params = &dealing.params;
     let pieces = pieces_of(alloc, round, params.k, dealing.limit)?;
-    stage_one(rt, alloc, &pieces, params, dealing.gate)
+    let empty = Bins::new(alloc, params.shape())?;
+    let before = replace(bins, empty);
+    let more = store_reads(rt, alloc, before, &pieces, params, dealing.gate)?;
+    *bins = more;
+    Ok(())
 }

@@ -1,5 +1,5 @@
 //! The reads of a text, a round at a time, into bins: a round is cut in threads while the caller's thread reads on.
-ghost use Rattle.std.specs.Prelude.{◌≡◌, ℕ, ◌+◌, ◌-◌, ◌^◌, ◌<◌, ◌≤◌, List, false, IfOk, IfErr, OnOk, Ok};
+ghost use Rattle.std.specs.Prelude.{◌≡◌, ℕ, ◌+◌, ◌-◌, ◌^◌, ◌<◌, ◌≤◌, List, ◌++◌, false, IfOk, IfErr, OnOk, Ok};
 ghost use Rattle.std.specs.Io.KnownBytes.{IsAtEnd};
 ghost use Rattle.kmc_reads.specs.declared.format.Format.{Format};
 ghost use Rattle.kmc_reads.specs.Cuts.{AreCut};
@@ -8,7 +8,7 @@ ghost use Rattle.kmc_reads.specs.Standing.{StandsCut};
 ghost use Rattle.kmc_tool.specs.Rounds.{IsFedBy, AreCounts, AreCountsOf, HoldsPieces, HoldsInput, IsLastError, IsInputError};
 ghost use Rattle.kmc_tool.specs.Stages.{shape_of};
 
-use crate::dealing::{Dealing, bins_of_round};
+use crate::dealing::{Dealing, store_round};
 use crate::error::RunError;
 use crate::params::Params;
 use crate::round::fill_round;
@@ -18,7 +18,7 @@ use kmc_reads::error::ReadsError;
 use kmc_reads::feeder::Feeder;
 use kmc_reads::reads::Reads;
 use kmc_store::bins::Bins;
-use kmc_store::laws::{empty_bins_hold_no_reads, merged_bins_hold_both};
+use kmc_store::laws::empty_bins_hold_no_reads;
 use std::alloc::{AllocError, Global};
 use std::io::Read;
 use std::sync::Wait;
@@ -29,20 +29,22 @@ fn round_of(params: &Params) -> usize {
     params.sp.saturating_mul(params.batch)
 }
 
-/// A round goes into bins of its own in threads, while this thread reads and feeds the next one.
+/// A round is added to the bins in threads, while this thread reads and feeds the next one.
 fn feed_round<T: Threads + Wait + Sync, R: Read, G: Gate + Sync>(
     rt: &T,
-    alloc: Global,
+    bins: &mut Bins,
     round: &Reads,
     dealing: &Dealing<'_, G>,
     reader: &mut Counted<R>,
     feeder: &mut Feeder,
     most: u64,
-) -> (Result<Bins, AllocError>, Result<bool, RunError>)
+) -> (Result<(), AllocError>, Result<bool, RunError>)
+    requires shape { bins.old.shape ≡ shape_of dealing.now.params }
     requires failures { reader.old.failures < 2 ^ 64 - 1 }
     requires reads { reader.old.reads ≤ most }
-    ensures shape { IfOk result.0 (λ b. b.shape ≡ shape_of dealing.now.params) }
-    ensures holds { IfOk result.0 (λ b. HoldsPieces (shape_of dealing.now.params) dealing.now.limit round.now b.bodies) }
+    ensures shape { bins.new.shape ≡ shape_of dealing.now.params }
+    ensures holds { (held : List (List ℕ)) → HoldsPieces (shape_of dealing.now.params) dealing.now.limit held bins.old.bodies
+        → OnOk result.0 (HoldsPieces (shape_of dealing.now.params) dealing.now.limit (held ++ round.now) bins.new.bodies) }
     ensures counts { AreCounts most reader.old.reads reader.new.reads reader.old.failures reader.new.failures result.1 }
     ensures fed { (overlap : ℕ) (format : Format) (text : List ℕ) (taken : List (List ℕ)) → StandsCut overlap format text taken feeder.old
         → IsFedBy overlap format (R.remaining reader.old.inner) (R.remaining reader.new.inner) reader.old.reads reader.new.reads text taken feeder.new result.1 }
@@ -51,10 +53,12 @@ fn feed_round<T: Threads + Wait + Sync, R: Read, G: Gate + Sync>(
     let reads = round_of(&dealing.params);
     join_mut(
         rt,
-        &mut || -> Result<Bins, AllocError>
-            ensures shape { IfOk result (λ b. b.shape ≡ shape_of dealing.entry.now.params) }
-            ensures holds { IfOk result (λ b. HoldsPieces (shape_of dealing.entry.now.params) dealing.entry.now.limit round.entry.now b.bodies) }
-        { bins_of_round(rt, alloc, round, dealing) },
+        &mut || -> Result<(), AllocError>
+            requires { bins.now.shape ≡ shape_of dealing.now.params }
+            ensures shape { bins.exit.now.shape ≡ shape_of dealing.entry.now.params }
+            ensures holds { (held : List (List ℕ)) → HoldsPieces (shape_of dealing.entry.now.params) dealing.entry.now.limit held bins.entry.now.bodies
+                → OnOk result (HoldsPieces (shape_of dealing.entry.now.params) dealing.entry.now.limit (held ++ round.entry.now) bins.exit.now.bodies) }
+        { store_round(rt, bins, round, dealing) },
         &mut || -> Result<bool, RunError>
             requires failures { reader.now.failures < 2 ^ 64 - 1 }
             requires reads { reader.now.reads ≤ most }
@@ -69,7 +73,6 @@ fn feed_round<T: Threads + Wait + Sync, R: Read, G: Gate + Sync>(
 /// The text ends here: the reads that are left go into the bins.
 fn last_round<T: Threads + Wait + Sync, G: Gate + Sync>(
     rt: &T,
-    alloc: Global,
     bins: Bins,
     feeder: Feeder,
     dealing: &Dealing<'_, G>,
@@ -80,7 +83,6 @@ fn last_round<T: Threads + Wait + Sync, G: Gate + Sync>(
         → IfOk result (λ b. (reads cuts : List (List ℕ)) × (reads_of format text ≡ Ok reads) × AreCut (dealing.now.params.k - 1) reads cuts × HoldsPieces (shape_of dealing.now.params) dealing.now.limit cuts b.bodies) }
     ensures cause { (format : Format) (text : List ℕ) (taken : List (List ℕ)) → StandsCut (dealing.now.params.k - 1) format text taken feeder → IfErr result (IsLastError format text) }
 {
-    merged_bins_hold_both();
     let reads = match feeder.finish() {
         Ok(reads) => reads,
         Err((e, _)) => {
@@ -90,12 +92,9 @@ fn last_round<T: Threads + Wait + Sync, G: Gate + Sync>(
             return Err(RunError::Input(e));
         }
     };
-    let own = bins_of_round(rt, alloc, &reads, dealing)?;
     let mut bins = bins;
-    match bins.merge(own) {
-        Ok(()) => Ok(bins),
-        Err(_) => Err(RunError::Memory),
-    }
+    store_round(rt, &mut bins, &reads, dealing)?;
+    Ok(bins)
 }
 
 /// Bins that hold the reads of all that the reader gives, of which at most `max_reads` reads may give bytes. Of a
@@ -120,8 +119,8 @@ pub fn bins_of_input<T: Threads + Wait + Sync, R: Read, G: Gate + Sync>(
     ensures cause { IfErr result (IsInputError params.now.format max_reads (R.remaining reader.old.inner) (R.remaining reader.new.inner)) }
 {
     empty_bins_hold_no_reads();
-    merged_bins_hold_both();
     let dealing = Dealing {
+        alloc,
         params: *params,
         limit,
         gate,
@@ -135,22 +134,18 @@ pub fn bins_of_input<T: Threads + Wait + Sync, R: Read, G: Gate + Sync>(
     };
     for _ in 0..1u64 << 32 {
         if !more {
-            return match last_round(rt, alloc, bins, feeder, &dealing) {
+            return match last_round(rt, bins, feeder, &dealing) {
                 Ok(bins) => Ok(bins),
                 Err(e) => Err(e),
             };
         }
         let round = feeder.take_open(alloc, params.k - 1)?;
-        let (own, fed) = feed_round(rt, alloc, &round, &dealing, reader, &mut feeder, most);
+        let (stored, fed) = feed_round(rt, &mut bins, &round, &dealing, reader, &mut feeder, most);
         more = match fed {
             Ok(more) => more,
             Err(e) => return Err(e),
         };
-        let own = match own {
-            Ok(own) => own,
-            Err(_) => return Err(RunError::Memory),
-        };
-        match bins.merge(own) {
+        match stored {
             Ok(()) => {}
             Err(_) => return Err(RunError::Memory),
         }

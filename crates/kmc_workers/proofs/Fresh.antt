@@ -1,5 +1,5 @@
 -- The seats of a new queue have put and got nothing.
-use Rattle.std.proofs.Common.{◌≡◌, ◌<◌, List, refl, sym, subst, arith}
+use Rattle.std.proofs.Common.{◌≡◌, ◌<◌, List, [], ◌∷◌, map, refl, sym, subst, arith}
 use Rattle.std.specs.Prelude.{Result, Ok, Err, IfOk}
 use Rattle.atomic_table.specs.Seated.{TableId}
 use Rattle.kmc_record.specs.Parts.{Parcel}
@@ -8,7 +8,9 @@ use Rattle.kmc_partqueue.specs.Counts.{Each}
 use Rattle.kmc_partqueue.specs.Dealing.{row_from}
 use Rattle.kmc_partqueue.specs.Seats.{WriterState, ReaderState, new_writer, new_reader}
 use Rattle.kmc_partqueue.proofs.Dealing.{each_row}
+use Rattle.kmc_store.specs.Bins.{BinList, empty_bins}
 use Rattle.kmc_workers.specs.Workers.{IsFreshWriter, IsFreshReader}
+use Rattle.kmc_workers.specs.Shards.{IsFreshShard, begun}
 
 -- what follows from two facts of an answer
 pub both_ok : {A E : Type 0} (P Q R : A → Type 0) (r : Result A E) → IfOk r P → IfOk r Q → ((q : A) → P q → Q q → R q) → IfOk r R
@@ -23,3 +25,12 @@ module _ (id : TableId) (q r : QueueShape) where
   pub fresh_readers : (l : List (ReaderState Parcel)) → l ≡ row_from (new_reader id r) 0 r.readers → q ≡ r → Each (IsFreshReader id q) l
   fresh_readers l is same = subst (λ (s : QueueShape). Each (IsFreshReader id s) l) (sym same) (subst (Each (IsFreshReader id r)) (sym is)
       (each_row (IsFreshReader id r) (new_reader id r) 0 r.readers (λ j near. ((refl, refl, refl), refl))))
+
+  -- and so are these seats with bins
+  others_fresh : (bins : BinList) (l : List (ReaderState Parcel)) → Each (IsFreshReader id q) l → Each (IsFreshShard id q bins.shape) (map (λ s. record { seat = s; bins = bins }) l)
+  others_fresh bins [] all = tt
+  others_fresh bins (s ∷ l) all = ((all.0, refl), others_fresh bins l all.1)
+
+  pub fresh_shards : (bins : BinList) (l : List (ReaderState Parcel)) → Each (IsFreshReader id q) l → Each (IsFreshShard id q bins.shape) (begun bins l)
+  fresh_shards bins [] all = tt
+  fresh_shards bins (s ∷ l) all = ((all.0, refl), others_fresh (empty_bins bins.shape) l all.1)

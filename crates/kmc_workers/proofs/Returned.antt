@@ -11,7 +11,8 @@ use Rattle.kmc_partqueue.specs.Dealing.{row_from}
 use Rattle.kmc_partqueue.specs.Seats.{WriterState, ReaderState, AllEnded, IsWriterOf, IsReaderOf, new_writer, new_reader}
 use Rattle.kmc_partqueue.proofs.Numbered.{row_length, each_from, once_from}
 use Rattle.kmc_workers.specs.Workers.{IsDone, IsSameReader}
-use Rattle.kmc_workers.specs.Shards.{IsShard}
+use Rattle.kmc_store.specs.Bins.{BinList, empty_bins}
+use Rattle.kmc_workers.specs.Shards.{IsShard, begun}
 use Rattle.kmc_workers.specs.declared.shard.Shard.{Shard}
 
 module _ {A B : Type 0} (R : A → B → Type 0) (f : ℕ → A) where
@@ -50,11 +51,17 @@ module _ (id : TableId) (q : QueueShape) where
   abbrev pub IsBack : ReaderState Parcel → ReaderState Parcel → Type 0
   IsBack s r = IsSameReader s r × AllEnded r.writers r.totals
 
-  seats_back : (shape : Sizes) (ss : List (ReaderState Parcel)) (hs : List Shard) → AllZip (IsShard shape) ss hs → AllZip IsBack ss (map (λ (h : Shard). h.seat) hs)
-  seats_back shape [] [] z = tt
-  seats_back shape [] (h ∷ hs) z = absurd z
-  seats_back shape (s ∷ ss) [] z = absurd z
-  seats_back shape (s ∷ ss) (h ∷ hs) z = ((z.0.seat, z.0.ended), seats_back shape ss hs z.1)
+  others_back : (bins : BinList) (ss : List (ReaderState Parcel)) (hs : List Shard) → AllZip IsShard (map (λ s. record { seat = s; bins = bins }) ss) hs → AllZip IsBack ss (map (λ (h : Shard). h.seat) hs)
+  others_back bins [] [] z = tt
+  others_back bins [] (h ∷ hs) z = absurd z
+  others_back bins (s ∷ ss) [] z = absurd z
+  others_back bins (s ∷ ss) (h ∷ hs) z = ((z.0.seat, z.0.ended), others_back bins ss hs z.1)
+
+  seats_back : (bins : BinList) (ss : List (ReaderState Parcel)) (hs : List Shard) → AllZip IsShard (begun bins ss) hs → AllZip IsBack ss (map (λ (h : Shard). h.seat) hs)
+  seats_back bins [] [] z = tt
+  seats_back bins [] (h ∷ hs) z = absurd z
+  seats_back bins (s ∷ ss) [] z = absurd z
+  seats_back bins (s ∷ ss) (h ∷ hs) z = ((z.0.seat, z.0.ended), others_back (empty_bins bins.shape) ss hs z.1)
 
   first_ended : (n : ℕ) (rs : List (ReaderState Parcel)) → 0 < n → AllZip IsBack (row_from (new_reader id q) 0 n) rs → (s : ReaderState Parcel) × Among s rs × AllEnded s.writers s.totals
   first_ended zero rs lt z = absurd (omega arith)
@@ -62,9 +69,9 @@ module _ (id : TableId) (q : QueueShape) where
   first_ended (suc n) (r ∷ rs) lt z = (r, (0, refl), z.0.1)
 
   -- a reader's seat has the number of its place
-  module _ (shape : Sizes) (hs : List Shard) (rs : List (ReaderState Parcel)) (are : rs ≡ map (λ (h : Shard). h.seat) hs) (back : AllZip (IsShard shape) (row_from (new_reader id q) 0 q.readers) hs) where
+  module _ (bins : BinList) (hs : List Shard) (rs : List (ReaderState Parcel)) (are : rs ≡ map (λ (h : Shard). h.seat) hs) (back : AllZip IsShard (begun bins (row_from (new_reader id q) 0 q.readers)) hs) where
     readers_back : AllZip IsBack (row_from (new_reader id q) 0 q.readers) rs
-    readers_back = subst (AllZip IsBack (row_from (new_reader id q) 0 q.readers)) (sym are) (seats_back shape (row_from (new_reader id q) 0 q.readers) hs back)
+    readers_back = subst (AllZip IsBack (row_from (new_reader id q) 0 q.readers)) (sym are) (seats_back bins (row_from (new_reader id q) 0 q.readers) hs back)
 
     its_reader : (j : ℕ) (d : ReaderState Parcel) → j < length rs → IsBack (new_reader id q j) (get_or rs j d)
     its_reader j d lt = row_back IsBack (new_reader id q) 0 q.readers rs readers_back j j d lt (omega arith)

@@ -1,5 +1,5 @@
 -- From the seats that the workers hand back to bins that hold the reads.
-use Rattle.std.proofs.Common.{◌≡◌, ℕ, ◌*◌, ◌<◌, ◌≤◌, List, length, get_or, ap, sym, subst, ◌∙◌, arith}
+use Rattle.std.proofs.Common.{◌≡◌, ℕ, zero, suc, ◌*◌, ◌<◌, ◌≤◌, List, [], ◌∷◌, ◌++◌, length, map, get_or, ap, sym, subst, ◌∙◌, arith}
 use Rattle.std.specs.List.{AllZip, sum_by, range_with_len}
 use Rattle.kmc_record.specs.Shapes.{Sizes}
 use Rattle.kmc_record.specs.Parts.{Parcel}
@@ -13,15 +13,16 @@ use Rattle.kmc_partqueue.specs.Gathered.{IsGathered}
 use Rattle.kmc_partqueue.specs.Laws.{GatheredLaw}
 use Rattle.kmc_partqueue.proofs.Sums.{each_map}
 use Rattle.kmc_partqueue.proofs.Numbered.{each_from}
-use Rattle.kmc_store.specs.Bodies.{AreBodies}
+use Rattle.kmc_store.specs.Bins.{BinList, empty_bins}
+use Rattle.kmc_store.specs.Bodies.{AreAdded}
 use Rattle.kmc_store.specs.Holds.{HoldsReads}
 use Rattle.kmc_store.specs.Deals.{AreDealt, AreGathered}
-use Rattle.kmc_store.specs.Laws.{GatheredBinsHoldReads}
+use Rattle.kmc_store.specs.Laws.{GatheredPartsHoldReads}
 use Rattle.kmc_store.proofs.Sums.{sum_same, sum_map, sum_flat_map}
 use Rattle.kmc_workers.specs.declared.shard.Shard.{Shard}
 use Rattle.kmc_workers.specs.Workers.{items_of, chunks_of, IsDone}
-use Rattle.kmc_workers.specs.Shards.{IsShard}
-use Rattle.kmc_workers.proofs.Returned.{row_back, its_writer, all_writers, writers_of, writers_once}
+use Rattle.kmc_workers.specs.Shards.{IsShard, AreGrown, begun}
+use Rattle.kmc_workers.proofs.Returned.{its_writer, all_writers, writers_of, writers_once}
 use Rattle.kmc_workers.proofs.Places.{sum_places}
 use Rattle.kmc_workers.proofs.Merging.{all_got}
 
@@ -71,17 +72,34 @@ module _ (shape : Sizes) (batch : ℕ) (reads : List (List ℕ)) (id : TableId) 
         ∙ sum_places (λ (s : WriterState Parcel). sum_by F s.sent) (new_writer id q 0) done
         ∙ ap (λ n. sum_by (λ w. sum_by F (sent w)) (range_with_len 0 n)) many
 
-    pub held : GatheredLaw Parcel → GatheredBinsHoldReads → (seats : List (ReaderState Parcel)) (bodies : List (List ℕ))
+    pub held : GatheredLaw Parcel → GatheredPartsHoldReads → (seats : List (ReaderState Parcel)) (others before bodies : List (List ℕ))
         → 1 ≤ shape.k → 0 < q.writers → 0 < batch → IsGathered done seats
-        → AreBodies shape bodies (all_got seats) → HoldsReads shape reads bodies
-    held law hold seats bodies some_k some_w some gathered are =
-        hold shape batch reads q.writers (chunks_of batch (length reads)) sent (all_got seats) bodies
-        some_k some_w (chunks_cover batch (length reads) some) dealt (got_as_sent law seats gathered) are
+        → HoldsReads shape others before → AreAdded shape before bodies (all_got seats) → HoldsReads shape (others ++ reads) bodies
+    held law hold seats others before bodies some_k some_w some gathered were are =
+        hold shape batch others reads q.writers (chunks_of batch (length reads)) sent (all_got seats) before bodies
+        some_k some_w (chunks_cover batch (length reads) some) dealt (got_as_sent law seats gathered) were are
 
 -- ---- readers
 
-pub shards_shaped : (shape : Sizes) (id : TableId) (q : QueueShape) (shards : List Shard)
-    → AllZip (IsShard shape) (row_from (new_reader id q) 0 q.readers) shards → Each (λ (h : Shard). h.bins.shape ≡ shape) shards
-shards_shaped shape id q shards all =
-    each_from (λ (h : Shard). h.bins.shape ≡ shape) shards
-    (λ j h lt. (row_back (IsShard shape) (new_reader id q) 0 q.readers shards all j j h lt (omega arith)).shaped)
+others_grown : (shape : Sizes) (seats : List (ReaderState Parcel)) (shards : List Shard)
+    → AllZip IsShard (map (λ s. record { seat = s; bins = empty_bins shape }) seats) shards → AreGrown (empty_bins shape) shards
+others_grown shape [] [] all = tt
+others_grown shape [] (h ∷ shards) all = absurd all
+others_grown shape (s ∷ seats) [] all = absurd all
+others_grown shape (s ∷ seats) (h ∷ shards) all = (all.0.shaped, all.0.added, others_grown shape seats shards all.1)
+
+pub shards_grown : (bins : BinList) (seats : List (ReaderState Parcel)) (shards : List Shard) → AllZip IsShard (begun bins seats) shards → AreGrown bins shards
+shards_grown bins [] [] all = tt
+shards_grown bins [] (h ∷ shards) all = absurd all
+shards_grown bins (s ∷ seats) [] all = absurd all
+shards_grown bins (s ∷ seats) (h ∷ shards) all = (all.0.shaped, all.0.added, others_grown bins.shape seats shards all.1)
+
+pub grown_shaped : (bins : BinList) (shards : List Shard) → AreGrown bins shards → Each (λ (h : Shard). h.bins.shape ≡ bins.shape) shards
+grown_shaped bins [] grown = tt
+grown_shaped bins (h ∷ shards) grown = (grown.0, grown_shaped (empty_bins bins.shape) shards grown.2)
+
+-- a storer for each reader, of which there are some
+pub some_shards : (id : TableId) (q : QueueShape) (bins : BinList) (n : ℕ) (shards : List Shard) → 0 < n → AllZip IsShard (begun bins (row_from (new_reader id q) 0 n)) shards → 0 < length shards
+some_shards id q bins zero shards some all = absurd (omega arith)
+some_shards id q bins (suc n) [] some all = absurd all
+some_shards id q bins (suc n) (h ∷ shards) some all = omega arith

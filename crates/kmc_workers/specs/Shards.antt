@@ -1,31 +1,48 @@
--- What storers hand back.
-use Rattle.std.specs.Prelude.{◌≡◌, ℕ, ◌<◌, List, length}
+-- What storers are given, and what they hand back.
+use Rattle.std.specs.Prelude.{◌≡◌, ℕ, ◌<◌, List, [], ◌∷◌, length, map}
 use Rattle.std.specs.List.{flat_map}
 use Rattle.kmc_record.specs.Shapes.{Sizes}
 use Rattle.kmc_record.specs.Parts.{Parcel}
+use Rattle.atomic_table.specs.Seated.{TableId}
 use Rattle.kmc_partcore.specs.History.{History}
 use Rattle.kmc_partcore.specs.declared.shape.QueueShape.{QueueShape}
 use Rattle.kmc_partqueue.specs.Counts.{Each, total_of, same}
 use Rattle.kmc_partqueue.specs.Seats.{WriterState, ReaderState, AllEnded}
 use Rattle.kmc_partqueue.specs.Told.{IsHistoryOf}
-use Rattle.kmc_store.specs.Bodies.{AreBodies}
+use Rattle.kmc_store.specs.Bins.{BinList, empty_bins}
+use Rattle.kmc_store.specs.Bodies.{AreAdded}
 use Rattle.kmc_store.specs.Deals.{AreDealt}
-use Rattle.kmc_workers.specs.Workers.{items_of, chunks_of, IsSameReader}
+use Rattle.kmc_workers.specs.Workers.{items_of, chunks_of, IsSameReader, IsFreshReader}
 use Rattle.kmc_workers.specs.declared.shard.Shard.{Shard}
 
--- the seat is back, told that the queue is finished, with bins of this shape
-pub record IsShard (shape : Sizes) (s : ReaderState Parcel) (h : Shard) : Type 0 where
-  pub seat : IsSameReader s h.seat
+-- the seats with bins: the first goes on with those that there are, each other has empty ones
+abbrev pub begun : BinList → List (ReaderState Parcel) → List Shard
+begun bins [] = []
+begun bins (s ∷ seats) = record { seat = s; bins = bins } ∷ map (λ t. record { seat = t; bins = empty_bins bins.shape }) seats
+
+-- a storer's seat has got nothing, and its bins have this shape
+abbrev pub IsFreshShard : TableId → QueueShape → Sizes → Shard → Type 0
+IsFreshShard id q shape h = IsFreshReader id q h.seat × (h.bins.shape ≡ shape)
+
+-- the seat is back, told that the queue is finished, and to its bins the parts that it got are added, in their order
+pub record IsShard (s h : Shard) : Type 0 where
+  pub seat : IsSameReader s.seat h.seat
   pub ended : AllEnded h.seat.writers h.seat.totals
-  pub shaped : h.bins.shape ≡ shape
+  pub shaped : h.bins.shape ≡ s.bins.shape
+  pub added : AreAdded s.bins.shape s.bins.bodies h.bins.bodies (items_of h.seat.got)
+
+-- the bins of the first storer are these with what it got added, those of each other what it got alone
+abbrev pub AreGrown : BinList → List Shard → Type 0
+AreGrown bins [] = Unit {0}
+AreGrown bins (h ∷ shards) = (h.bins.shape ≡ bins.shape) × AreAdded bins.shape bins.bodies h.bins.bodies (items_of h.seat.got) × AreGrown (empty_bins bins.shape) shards
 
 -- a legal history of the queue tells how the parts came to the bins: each writer put the parts of its chunks, which all
--- left, and the bins are the bodies of what the readers took
-pub record IsPassage (shape : Sizes) (batch : ℕ) (reads : List (List ℕ)) (q : QueueShape) (bodies : List (List ℕ)) : Type 0 where
+-- left, and what the readers took is added to the bins as they were before
+pub record IsPassage (shape : Sizes) (batch : ℕ) (reads : List (List ℕ)) (q : QueueShape) (before bodies : List (List ℕ)) : Type 0 where
   pub writers : List (WriterState Parcel)
   pub readers : List (ReaderState Parcel)
   pub history : History Parcel
   pub told : IsHistoryOf q writers readers history
   pub dealt : Each (λ (s : WriterState Parcel). AreDealt shape batch reads q.writers s.number (chunks_of batch (length reads)) s.sent) writers
   pub every_writer : (w : ℕ) → w < q.writers → total_of (λ (s : WriterState Parcel). same s.number w) writers ≡ 1
-  pub stored : AreBodies shape bodies (flat_map (λ (s : ReaderState Parcel). items_of s.got) readers)
+  pub stored : AreAdded shape before bodies (flat_map (λ (s : ReaderState Parcel). items_of s.got) readers)

@@ -8,30 +8,27 @@ use crate::pause::Pause;
 use crate::refusal::Refusal;
 use crate::shard::Shard;
 use crate::way::Way;
-use kmc_partqueue::{Gate, Point, ReaderSeat, TryTaken};
-use kmc_record::part::Part;
-use kmc_record::shape::Shape;
-use kmc_store::bins::Bins;
-use kmc_store::laws::{absorbed_bins_are_bodies, empty_bins_are_no_bodies};
+use kmc_partqueue::{Gate, Point, TryTaken};
+use kmc_store::laws::{absorbed_part_is_added, no_parts_are_added};
 use std::sync::Wait;
 
-/// Takes parts until the queue is finished, and absorbs them. The stop word is read before each try. A part of another
+/// Takes parts until the queue is finished, and absorbs them into its bins. The stop word is read before each try. A part of another
 /// shape, which no splitter sends, ends it.
 pub(crate) fn store<R: Wait, G: Gate>(
     rt: &R,
     way: &Way,
-    mut seat: ReaderSeat<Part>,
-    shape: Shape,
+    shard: Shard,
     gate: &G,
 ) -> Result<Shard, Refusal>
-    requires { IsFreshReader way.now.lanes.table.shared.table_id way.now.lanes.shape seat }
-    ensures done { IfOk result (λ h. IsShard shape seat h) }
+    requires { IsFreshReader way.now.lanes.table.shared.table_id way.now.lanes.shape shard.seat }
+    ensures done { IfOk result (λ h. IsShard shard h) }
     ensures cause { IfErr result IsStorersCause }
 {
-    // bins that are the bodies of what was got stay so with each part
-    empty_bins_are_no_bodies();
-    absorbed_bins_are_bodies();
-    let mut bins = Bins::new(way.alloc, shape)?;
+    // what was got stays added with each part
+    no_parts_are_added();
+    absorbed_part_is_added();
+    let Shard { mut seat, mut bins } = shard;
+    let shape = bins.shape();
     let mut pause = Pause::new();
     for _ in rt.forever() {
         if way.is_stopped() {
@@ -51,7 +48,7 @@ pub(crate) fn store<R: Wait, G: Gate>(
                 }
             }
             TryTaken::NotNow => pause.wait(rt, way),
-            TryTaken::Finished(_) => return Ok(Shard::new(seat, bins)),
+            TryTaken::Finished(_) => return Ok(Shard { seat, bins }),
         }
     }
     unreachable!()

@@ -4,7 +4,7 @@ ghost use Rattle.std.specs.List.{AllZip};
 ghost use Rattle.kmc_partqueue.specs.Counts.{Each};
 ghost use Rattle.kmc_workers.specs.Workers.{IsDone, IsFreshWriter, IsFreshReader};
 ghost use Rattle.kmc_workers.specs.Causes.{IsCause, IsStorersCause};
-ghost use Rattle.kmc_workers.specs.Shards.{IsShard};
+ghost use Rattle.kmc_workers.specs.Shards.{IsShard, IsFreshShard};
 
 use crate::plan::Plan;
 use crate::refusal::{Refusal, both};
@@ -12,7 +12,7 @@ use crate::shard::Shard;
 use crate::splitter::split;
 use crate::storer::store;
 use crate::way::Way;
-use kmc_partqueue::{DoneSeat, Gate, ReaderSeat, WriterSeat};
+use kmc_partqueue::{DoneSeat, Gate, WriterSeat};
 use kmc_record::part::Part;
 use kmc_record::shape::Shape;
 use std::alloc::AllocError;
@@ -39,12 +39,11 @@ impl<'a> Promise<Result<DoneSeat<Part>, Refusal>> for Puts<'a> {
 /// A storer hands its seat back, told that the queue is finished, with its bins, or ends with a cause.
 #[derive(Drop)]
 struct Takes {
-    seat: Snapshot<ReaderSeat<Part>>,
-    shape: Shape,
+    shard: Snapshot<Shard>,
 }
 
 impl Promise<Result<Shard, Refusal>> for Takes {
-    ghost kept_by = { λ p r. MatchResult r (λ h. IsShard p.shape p.seat.value h) IsStorersCause };
+    ghost kept_by = { λ p r. MatchResult r (λ h. IsShard p.shard.value h) IsStorersCause };
 }
 
 /// One splitter. Where it has a cause, the others stop.
@@ -127,28 +126,22 @@ fn split_all<'s, E, R: Threads + Wait + Sync, G: Gate + Sync>(
 }
 
 /// One storer. Where it has a cause, the others stop.
-fn store_one<R: Wait, G: Gate>(
-    rt: &R,
-    way: &Way,
-    seat: ReaderSeat<Part>,
-    shape: Shape,
-    gate: &G,
-) -> Result<Shard, Refusal>
-    requires { IsFreshReader way.now.lanes.table.shared.table_id way.now.lanes.shape seat }
-    ensures { MatchResult result (λ h. IsShard shape seat h) IsStorersCause }
+fn store_one<R: Wait, G: Gate>(rt: &R, way: &Way, shard: Shard, gate: &G) -> Result<Shard, Refusal>
+    requires { IsFreshReader way.now.lanes.table.shared.table_id way.now.lanes.shape shard.seat }
+    ensures { MatchResult result (λ h. IsShard shard h) IsStorersCause }
 {
-    let shard = store(rt, way, seat, shape, gate);
-    if shard.is_err() {
+    let stored = store(rt, way, shard, gate);
+    if stored.is_err() {
         way.stop();
     }
-    shard
+    stored
 }
 
-/// The seats of a new queue.
+/// The seats of a new queue, those of its readers with bins.
 #[derive(Drop)]
 pub(crate) struct Seats {
     pub(crate) writers: Vec<WriterSeat<Part>>,
-    pub(crate) readers: Vec<ReaderSeat<Part>>,
+    pub(crate) shards: Vec<Shard>,
 }
 
 /// Starts one storer, then the others and the splitters, and joins it.
@@ -161,31 +154,29 @@ pub(crate) fn store_all<'s, E, R: Threads + Wait + Sync, G: Gate + Sync>(
     plan: Plan,
     gate: &'s G,
 ) -> Result<(Vec<DoneSeat<Part>>, Vec<Shard>), Refusal>
-    requires readers { Each (IsFreshReader way.now.lanes.table.shared.table_id way.now.lanes.shape) seats.readers.items }
+    requires shards { Each (IsFreshShard way.now.lanes.table.shared.table_id way.now.lanes.shape plan.shape) seats.shards.items }
     requires writers { Each (IsFreshWriter way.now.lanes.table.shared.table_id way.now.lanes.shape) seats.writers.items }
     ensures done { IfOk result (λ q. AllZip (IsDone plan.shape plan.batch (map (λ v. v.now) reads.now) way.now.writers) seats.writers.items q.0.items) }
-    ensures shards { IfOk result (λ q. AllZip (IsShard plan.shape) seats.readers.items q.1.items) }
+    ensures shards { IfOk result (λ q. AllZip IsShard seats.shards.items q.1.items) }
     ensures cause { IfErr result (IsCause plan.shape plan.batch (map (λ v. v.now) reads.now) way.now.writers) }
 {
     let Seats {
         writers,
-        mut readers,
+        mut shards,
     } = seats;
-    let Some(seat) = readers.pop() else {
+    let Some(shard) = shards.pop() else {
         let done = split_all(rt, scope, way, writers, reads, plan, gate)?;
         return Ok((done, Vec::new(way.alloc)));
     };
-    let shape = plan.shape;
     let promise = Takes {
-        seat: Snapshot::of(&seat),
-        shape,
+        shard: Snapshot::of(&shard),
     };
     let started = scope.spawn_with(
         promise,
         move || -> Result<Shard, Refusal>
-            requires { IsFreshReader way.now.lanes.table.shared.table_id way.now.lanes.shape seat }
-            ensures { MatchResult result (λ h. IsShard shape seat h) IsStorersCause }
-        { store_one(rt, way, seat, shape, gate) },
+            requires { IsFreshReader way.now.lanes.table.shared.table_id way.now.lanes.shape shard.seat }
+            ensures { MatchResult result (λ h. IsShard shard h) IsStorersCause }
+        { store_one(rt, way, shard, gate) },
     );
     let child = match started {
         Ok(child) => child,
@@ -194,9 +185,9 @@ pub(crate) fn store_all<'s, E, R: Threads + Wait + Sync, G: Gate + Sync>(
             return Err(Refusal::Memory);
         }
     };
-    let seats = Seats { writers, readers };
+    let seats = Seats { writers, shards };
     let rest = store_all(rt, scope, way, seats, reads, plan, gate);
     let (others, own) = both(rest, child.join(rt))?;
-    let (done, shards) = others;
-    Ok((done, with_one(shards, own)?))
+    let (done, stored) = others;
+    Ok((done, with_one(stored, own)?))
 }

@@ -165,10 +165,10 @@ fn merges_bin_by_bin(rt: HostRuntime) -> Result<(), Fail> {
 fn laws_can_be_called() {
     laws::merged_bins_hold_both();
     laws::empty_bins_hold_no_reads();
-    laws::gathered_bins_hold_reads();
-    laws::empty_bins_are_no_bodies();
-    laws::absorbed_bins_are_bodies();
-    laws::merged_bins_are_bodies();
+    laws::gathered_parts_hold_reads();
+    laws::no_parts_are_added();
+    laws::absorbed_part_is_added();
+    laws::merged_parts_are_added();
     laws::held_records_are_the_runs();
 }
 

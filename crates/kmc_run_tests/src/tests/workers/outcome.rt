@@ -30,7 +30,8 @@ pub(super) fn passed<R: Abort + Threads + Wait + Sync, G: Gate + Sync>(
     gate: &G,
 ) -> Result<Outcome, Fail> {
     let slices = slices_of(alloc, reads)?;
-    match fill_bins(rt, alloc, &slices, plan, queue, gate) {
+    let bins = Bins::new(alloc, plan.shape)?;
+    match fill_bins(rt, alloc, bins, &slices, plan, queue, gate) {
         Ok((bins, totals)) => Ok(Outcome { totals, bins }),
         Err(_) => Err(Fail::from("a worker was refused")),
     }

@@ -4,6 +4,7 @@ use super::{TWICE, one_read_a_chunk, reads_of, two_writers};
 use kmc_partcore::QueueShape;
 use kmc_partqueue::NoGate;
 use kmc_reads::reads::slices_of;
+use kmc_store::bins::Bins;
 use kmc_workers::fill_bins::fill_bins;
 use kmc_workers::pass_parts::pass_parts;
 use kmc_workers::refusal::Refusal;
@@ -23,7 +24,10 @@ fn fill_or_refuse<R: Abort + Threads + Wait + Sync>(rt: &R, alloc: Global, per_w
     };
     let plan = one_read_a_chunk().expect(rt, "a plan");
     let queue = QueueShape::new(2, per_writer, 2).expect(rt, "a queue");
-    match fill_bins(rt, alloc, &slices, plan, queue, &NoGate) {
+    let Ok(bins) = Bins::new(alloc, plan.shape) else {
+        return;
+    };
+    match fill_bins(rt, alloc, bins, &slices, plan, queue, &NoGate) {
         Ok((bins, _)) => {
             // where the one refusal comes here, nothing is looked at
             let _looked = assert_twice_in(rt, alloc, &bins);
@@ -52,7 +56,8 @@ fn all_seats_come_back(rt: HostRuntime) -> Result<(), Fail> {
     for readers in [1, 8] {
         let plan = one_read_a_chunk().expect(&rt, "a plan");
         let queue = two_writers(readers).expect(&rt, "a queue");
-        match pass_parts(&rt, alloc, &slices, plan, queue, &NoGate) {
+        let bins = Bins::new(alloc, plan.shape)?;
+        match pass_parts(&rt, alloc, bins, &slices, plan, queue, &NoGate) {
             Ok((_, done, shards)) => {
                 assert_eq!(rt; done.len(), 2);
                 assert_eq!(rt; shards.len(), readers);

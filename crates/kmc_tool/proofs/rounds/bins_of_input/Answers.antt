@@ -1,9 +1,9 @@
-use Rattle.std.proofs.Common.{◌≡◌, ◌+◌, ◌-◌, [], ◌++◌, Ok, IfOk, sym, ap, subst, ◌∙◌, arith}
+use Rattle.std.proofs.Common.{◌≡◌, ◌+◌, ◌-◌, [], ◌++◌, Ok, OnOk, sym, ap, subst, ◌∙◌, arith}
 use Rattle.kmc_store.specs.Bins.{BinList, empty_bins}
 use Rattle.kmc_store.specs.Holds.{HoldsReads}
 use Rattle.kmc_tool.specs.Rounds.{AreCounts, AreCountsOf, HoldsPieces, IsFedBy}
 use Rattle.kmc_tool.specs.Stages.{shape_of}
-use Rattle.kmc_tool.proofs.Fed.{risen, counts_on, fed_on, fed_by, fed_cause, last_counts, last_input, memory_on, taken_fed, both_held}
+use Rattle.kmc_tool.proofs.Fed.{risen, counts_on, fed_on, fed_by, fed_cause, last_counts, last_input, memory_on, taken_fed}
 use Rattle.kmc_tool.proofs.rounds.bins_of_input.Goals as goal
 
 pub returns-in-Err-clause-cause : goal.returns-in-Err-clause-cause
@@ -57,58 +57,53 @@ returns-in-Err-last_round-clause-cause g c =
 pub returns-in-Err-fed-clause-counts : goal.returns-in-Err-fed-clause-counts
 returns-in-Err-fed-clause-counts g c =
     let inv = c.loop.invariant in let e = c.in-Err-fed.e in
-    let old = c.args.reader.now in let mid = c.loop.reader in let new = c.feed_round-own.new.reader in
-    let here = subst (λ r. AreCounts (c.reads.result + c.args.max_reads) mid.reads new.reads mid.failures new.failures r) c.in-Err-fed.is c.feed_round-own.ensures.counts in
+    let old = c.args.reader.now in let mid = c.loop.reader in let new = c.feed_round-stored.new.reader in
+    let here = subst (λ r. AreCounts (c.reads.result + c.args.max_reads) mid.reads new.reads mid.failures new.failures r) c.in-Err-fed.is c.feed_round-stored.ensures.counts in
     let counts = subst (λ n. AreCountsOf (n + c.args.max_reads) mid.reads new.reads mid.failures new.failures e) c.reads.ensures here in
     counts_on e (old.reads + c.args.max_reads) old.reads mid.reads new.reads old.failures mid.failures new.failures (omega (arith, inv.many)) inv.kept counts
 
 pub returns-in-Err-fed-clause-cause : goal.returns-in-Err-fed-clause-cause
 returns-in-Err-fed-clause-cause g c =
     let inv = c.loop.invariant in let st = inv.stored in let e = c.in-Err-fed.e in let format = c.args.params.now.format in
-    let old = c.args.reader.now in let mid = c.loop.reader in let new = c.feed_round-own.new.reader in
-    let here = subst (λ r. AreCounts (c.reads.result + c.args.max_reads) mid.reads new.reads mid.failures new.failures r) c.in-Err-fed.is c.feed_round-own.ensures.counts in
+    let old = c.args.reader.now in let mid = c.loop.reader in let new = c.feed_round-stored.new.reader in
+    let here = subst (λ r. AreCounts (c.reads.result + c.args.max_reads) mid.reads new.reads mid.failures new.failures r) c.in-Err-fed.is c.feed_round-stored.ensures.counts in
     let counts = subst (λ n. AreCountsOf (n + c.args.max_reads) mid.reads new.reads mid.failures new.failures e) c.reads.ensures here in
     let round = c.in_ok-round.round in
     let stands = c.in_ok-round.ensures.stands format st.fed.bytes st.taken st.fed.stands in
     let f = taken_fed (c.args.params.now.k - 1) format _ _ old.reads mid.reads st.taken round c.loop.feeder c.take_open.new.self st.fed stands in
-    let more = c.feed_round-own.ensures.fed (c.args.params.now.k - 1) format st.fed.bytes (st.taken ++ round) stands in
-    let fed = fed_by (c.args.params.now.k - 1) format _ _ _ old.reads mid.reads new.reads [] (st.taken ++ round) c.take_open.new.self c.feed_round-own.new.feeder c.feed_round-own.result.1 f more in
-    fed_cause (c.args.params.now.k - 1) format c.args.max_reads _ _ old.reads new.reads old.failures new.failures (st.taken ++ round) c.feed_round-own.new.feeder e
-    (subst (λ r. IsFedBy (c.args.params.now.k - 1) format (g.R.Read.remaining old.inner) (g.R.Read.remaining new.inner) old.reads new.reads [] (st.taken ++ round) c.feed_round-own.new.feeder r) c.in-Err-fed.is fed)
+    let more = c.feed_round-stored.ensures.fed (c.args.params.now.k - 1) format st.fed.bytes (st.taken ++ round) stands in
+    let fed = fed_by (c.args.params.now.k - 1) format _ _ _ old.reads mid.reads new.reads [] (st.taken ++ round) c.take_open.new.self c.feed_round-stored.new.feeder c.feed_round-stored.result.1 f more in
+    fed_cause (c.args.params.now.k - 1) format c.args.max_reads _ _ old.reads new.reads old.failures new.failures (st.taken ++ round) c.feed_round-stored.new.feeder e
+    (subst (λ r. IsFedBy (c.args.params.now.k - 1) format (g.R.Read.remaining old.inner) (g.R.Read.remaining new.inner) old.reads new.reads [] (st.taken ++ round) c.feed_round-stored.new.feeder r) c.in-Err-fed.is fed)
     (counts_on e (old.reads + c.args.max_reads) old.reads mid.reads new.reads old.failures mid.failures new.failures (omega (arith, inv.many)) inv.kept counts)
 
-pub returns-in-Err-own-clause-counts : goal.returns-in-Err-own-clause-counts
-returns-in-Err-own-clause-counts g c =
-    let inv = c.loop.invariant in memory_on _ _ _ _ _ c.in-Ok-fed.more _ _ _ (subst (AreCounts _ _ _ _ _) c.in-Ok-fed.is c.feed_round-own.ensures.counts) (omega (arith, inv.many)) inv.kept (ap (λ n. n + c.args.max_reads) c.reads.ensures)
-
-pub returns-in-Err-merge-clause-counts : goal.returns-in-Err-merge-clause-counts
-returns-in-Err-merge-clause-counts g c =
-    let inv = c.loop.invariant in memory_on _ _ _ _ _ c.in-Ok-fed.more _ _ _ (subst (AreCounts _ _ _ _ _) c.in-Ok-fed.is c.feed_round-own.ensures.counts) (omega (arith, inv.many)) inv.kept (ap (λ n. n + c.args.max_reads) c.reads.ensures)
+pub returns-in-Err-stored-clause-counts : goal.returns-in-Err-stored-clause-counts
+returns-in-Err-stored-clause-counts g c =
+    let inv = c.loop.invariant in memory_on _ _ _ _ _ c.in-Ok-fed.more _ _ _ (subst (AreCounts _ _ _ _ _) c.in-Ok-fed.is c.feed_round-stored.ensures.counts) (omega (arith, inv.many)) inv.kept (ap (λ n. n + c.args.max_reads) c.reads.ensures)
 
 pub loop-preserved : goal.loop-preserved
 loop-preserved g c =
     let inv = c.loop.invariant in let st = inv.stored in let p = c.args.params.now in let shape = shape_of p in
-    let old = c.args.reader.now in let mid = c.loop.reader in let new = c.feed_round-own.new.reader in
-    let here = subst (λ r. AreCounts (c.reads.result + c.args.max_reads) mid.reads new.reads mid.failures new.failures r) c.in-Ok-fed.is c.feed_round-own.ensures.counts in
+    let old = c.args.reader.now in let mid = c.loop.reader in let new = c.feed_round-stored.new.reader in
+    let here = subst (λ r. AreCounts (c.reads.result + c.args.max_reads) mid.reads new.reads mid.failures new.failures r) c.in-Ok-fed.is c.feed_round-stored.ensures.counts in
     let r = risen (c.reads.result + c.args.max_reads) mid.reads new.reads mid.failures new.failures c.in-Ok-fed.more here in
     let begun = inv.some c.if-not-more.false in
     let round = c.in_ok-round.round in
     let stands = c.in_ok-round.ensures.stands p.format st.fed.bytes st.taken st.fed.stands in
     let f = taken_fed (c.args.params.now.k - 1) p.format _ _ old.reads mid.reads st.taken round c.loop.feeder c.take_open.new.self st.fed stands in
-    let more = subst (λ o. IsFedBy (c.args.params.now.k - 1) p.format (g.R.Read.remaining mid.inner) (g.R.Read.remaining new.inner) mid.reads new.reads st.fed.bytes (st.taken ++ round) c.feed_round-own.new.feeder o) c.in-Ok-fed.is
-    (c.feed_round-own.ensures.fed (c.args.params.now.k - 1) p.format st.fed.bytes (st.taken ++ round) stands) in
-    let own = subst (λ o. IfOk o (λ b. HoldsPieces shape c.args.limit round b.bodies)) c.in-Ok-own.is c.feed_round-own.ensures.holds in
+    let more = subst (λ o. IsFedBy (c.args.params.now.k - 1) p.format (g.R.Read.remaining mid.inner) (g.R.Read.remaining new.inner) mid.reads new.reads st.fed.bytes (st.taken ++ round) c.feed_round-stored.new.feeder o) c.in-Ok-fed.is
+    (c.feed_round-stored.ensures.fed (c.args.params.now.k - 1) p.format st.fed.bytes (st.taken ++ round) stands) in
     record {
-      shaped = c.in-Ok-merge.ensures.ok.shape ∙ inv.shaped;
+      shaped = c.feed_round-stored.ensures.shape;
       kept = r.kept ∙ inv.kept;
       many = omega (arith, begun, r.least);
       some = λ e. (let k = r.some e in omega (arith, k, begun));
       below = r.below;
       under = r.under;
-      ended = λ e. c.feed_round-own.ensures.at_end (c.in-Ok-fed.is ∙ ap Ok e);
+      ended = λ e. c.feed_round-stored.ensures.at_end (c.in-Ok-fed.is ∙ ap Ok e);
       stored = record {
         taken = st.taken ++ round;
-        fed = fed_on (c.args.params.now.k - 1) p.format _ _ _ old.reads mid.reads new.reads [] (st.taken ++ round) c.take_open.new.self c.feed_round-own.new.feeder f more;
-        holds = both_held c.merged_bins_hold_both.ensures shape c.args.limit st.taken round c.loop.bins c.in-Ok-own.own c.merge.new.self st.holds own c.in-Ok-merge.ensures.ok;
+        fed = fed_on (c.args.params.now.k - 1) p.format _ _ _ old.reads mid.reads new.reads [] (st.taken ++ round) c.take_open.new.self c.feed_round-stored.new.feeder f more;
+        holds = subst (λ o. OnOk o (HoldsPieces shape c.args.limit (st.taken ++ round) c.feed_round-stored.new.bins.bodies)) c.in-Ok-stored.is (c.feed_round-stored.ensures.holds st.taken st.holds);
       };
     }

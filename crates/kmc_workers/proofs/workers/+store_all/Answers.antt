@@ -9,10 +9,10 @@ use Rattle.kmc_workers.proofs.workers.+store_all.Goals as goal
 pub returns-clause-shards : goal.returns-clause-shards
 returns-clause-shards g t c =
     let a = c.args in let both = c.in_ok-others.others in let shards = both.1.items in let own = c.in_ok-others.own in
-    let P = IsShard a.plan.shape in
+    let P = IsShard in
     let gave = both_gave c.store_all-rest.result c.join.result both own c.in_ok-others.ensures in
     let rest = subst (λ r. IfOk r (λ q. AllZip P c.pop.new.self.items q.1.items)) gave.0 c.store_all-rest.ensures.shards in
-    let kept = subst (λ p. IsShard p.shape p.seat.value own) c.in-Ok.ensures.ok (of_ok _ _ c.join.result own gave.1 c.join.ensures) in
+    let kept = subst (λ p. IsShard p.shard.value own) c.in-Ok.ensures.ok (of_ok _ _ c.join.result own gave.1 c.join.ensures) in
     let told = subst (λ z. P z own) c.of.ensures kept in
-    subst (AllZip P a.seats.readers.items) (sym c.in_ok-with_one.ensures) (subst (λ z. AllZip P z (shards ++ own ∷ [])) (sym c.in-Some.ensures.items)
-    (zip_more P c.pop.new.self.items shards c.in-Some.seat own rest told))
+    subst (AllZip P a.seats.shards.items) (sym c.in_ok-with_one.ensures) (subst (λ z. AllZip P z (shards ++ own ∷ [])) (sym c.in-Some.ensures.items)
+    (zip_more P c.pop.new.self.items shards c.in-Some.shard own rest told))

@@ -1,6 +1,0 @@
-use Rattle.kmc_store.proofs.Gathered.{gathered_held}
-use Rattle.kmc_store.proofs.laws.gathered_bins_hold_reads.Goals as goal
-
-pub returns : goal.returns
-returns c = λ shape batch reads sp chunks sent got bodies some writers all dealt gathered are.
-    gathered_held c.cut_exists.ensures c.cut_is_unique.ensures c.cut_has_runs.ensures shape batch reads sp chunks sent got bodies some writers all dealt gathered are
