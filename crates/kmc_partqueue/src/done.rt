@@ -1,5 +1,8 @@
 //! What is left of a writer's seat once the writer has completed.
-ghost use Rattle.std.specs.Prelude.{◌≡◌};
+ghost use Rattle.std.specs.Prelude.{◌≡◌, []};
+ghost use Rattle.kmc_partqueue.specs.declared.views.Writing.{Writing};
+ghost use Rattle.kmc_partqueue.specs.Dealing.{one_of_writers};
+ghost use Rattle.kmc_partqueue.specs.Gathered.{WriterTells};
 
 use crate::views::View;
 use atomic_table::Seat;
@@ -31,5 +34,14 @@ impl<T> DoneSeat<T> {
         ensures { result ≡ self.now.number }
     {
         self.number
+    }
+
+    /// The table's seat alone.
+    pub(crate) fn into_seat(self) -> Seat<Option<T>, View<T>>
+        ensures table { result.table_id ≡ self.table }
+        ensures view { (a : Writing T) × (result.me ≡ (one_of_writers a, [])) × WriterTells a self }
+    {
+        let DoneSeat { seat, .. } = self;
+        seat
     }
 }

@@ -1,6 +1,9 @@
 //! What a reader does with its seat.
 ghost use Rattle.std.specs.Prelude.{◌≡◌, ℕ, ◌+◌, ◌*◌, ◌-◌, ◌/◌, ◌%◌, ◌<◌, ◌↔◌, [], ◌∷◌, ◌++◌, MatchOption, Option, Some, None, slice_get, true, false};
 ghost use Rattle.kmc_partqueue.specs.Seats.{IsReaderOf, KeepsNotes, AllEnded, AreKeptTotals};
+ghost use Rattle.kmc_partqueue.specs.declared.views.Reading.{Reading};
+ghost use Rattle.kmc_partqueue.specs.Dealing.{one_of_readers};
+ghost use Rattle.kmc_partqueue.specs.Gathered.{Tells};
 ghost use Rattle.kmc_partqueue.specs.Answers.{Answers, IsFinished, TakeAnswers, IsLast};
 
 use crate::gate::{Gate, Point};
@@ -97,6 +100,15 @@ impl<T> ReaderSeat<T> {
             }
         }
         Totals::new(&counts[..self.writers])
+    }
+
+    /// The table's seat alone.
+    pub(crate) fn into_seat(self) -> Seat<Option<T>, View<T>>
+        ensures table { result.table_id ≡ self.table }
+        ensures view { (b : Reading T) × (result.me ≡ (one_of_readers b, [])) × Tells b self }
+    {
+        let ReaderSeat { seat, .. } = self;
+        seat
     }
 }
 
