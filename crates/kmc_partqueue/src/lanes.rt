@@ -7,7 +7,7 @@ use crate::steps::{SplitReader, SplitWriter};
 use crate::views::View;
 use crate::writer::WriterSeat;
 use atomic_table::{Seat, Table};
-use kmc_partcore::{MAX_WRITERS, QueueShape};
+use kmc_partcore::QueueShape;
 use std::alloc::{AllocError, Global};
 
 /// A queue of parts without a lock: one lane of slots for each writer, read by any reader, in single atomic steps.
@@ -40,12 +40,7 @@ impl<T: Drop> Lanes<T> {
         let mut seats = Vec::new(alloc);
         for number in 0..self.shape.writers {
             let own = self.table.shared.split_seat::<SplitWriter>(seat);
-            seats.push(WriterSeat {
-                seat: own,
-                number,
-                per_writer: self.shape.per_writer,
-                count: 0,
-            })?;
+            seats.push(WriterSeat::fresh(own, number, self.shape.per_writer))?;
         }
         Ok(seats)
     }
@@ -63,14 +58,7 @@ impl<T: Drop> Lanes<T> {
         let mut seats = Vec::new(alloc);
         for number in 0..self.shape.readers {
             let own = self.table.shared.split_seat::<SplitReader>(seat);
-            seats.push(ReaderSeat {
-                seat: own,
-                number,
-                per_writer: self.shape.per_writer,
-                writers: self.shape.writers,
-                next: 0,
-                totals: [None; MAX_WRITERS],
-            })?;
+            seats.push(ReaderSeat::fresh(own, number, &self.shape))?;
         }
         Ok(seats)
     }
