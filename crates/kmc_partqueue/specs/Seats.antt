@@ -87,8 +87,8 @@ module _ {T : Type 0} where
   got_of v = got_first v.readers
 
   -- the seat of a writer between two calls
-  abbrev pub AtRest : Seated T → ℕ → ℕ → ℕ → Bool → Type 0
-  AtRest me number per_writer count done = (me ≡ (one_of_writers (open_writer number per_writer (sent_of me.0) done), [])) × (length (sent_of me.0) ≡ count) × (count ≤ MAX_ITEMS)
+  abbrev pub AtRest : Seated T → ℕ → ℕ → ℕ → Type 0
+  AtRest me number per_writer count = (me ≡ (one_of_writers (open_writer number per_writer (sent_of me.0) false), [])) × (length (sent_of me.0) ≡ count) × (count ≤ MAX_ITEMS)
 
   -- the seat of a writer that has completed
   abbrev pub AtEnd : Seated T → ℕ → Type 0

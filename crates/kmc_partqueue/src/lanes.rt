@@ -31,8 +31,8 @@ impl<T: Drop> Lanes<T> {
         alloc: Global,
         seat: &mut Seat<Option<T>, View<T>>,
     ) -> Result<Vec<WriterSeat<T>>, AllocError>
-        requires queue { seat.old.table_id ≡ self.now.table.shared.table_id }
         requires fresh { seat.old.me ≡ (record { writers = row_from (fresh_writer self.now.table.shared.key) 0 self.now.shape.writers; readers = row_from (fresh_reader self.now.table.shared.key) 0 self.now.shape.readers }, []) }
+        requires queue { seat.old.table_id ≡ self.now.table.shared.table_id }
         ensures queue { IfOk result (λ _. seat.new.table_id ≡ seat.old.table_id) }
         ensures left { IfOk result (λ _. seat.new.me ≡ (record { writers = []; readers = row_from (fresh_reader self.now.table.shared.key) 0 self.now.shape.readers }, [])) }
         ensures seats { IfOk result (λ v. v.items ≡ row_from (new_writer self.now.table.shared.table_id self.now.shape) 0 self.now.shape.writers) }
@@ -51,8 +51,8 @@ impl<T: Drop> Lanes<T> {
         alloc: Global,
         seat: &mut Seat<Option<T>, View<T>>,
     ) -> Result<Vec<ReaderSeat<T>>, AllocError>
-        requires queue { seat.old.table_id ≡ self.now.table.shared.table_id }
         requires fresh { seat.old.me ≡ (record { writers = []; readers = row_from (fresh_reader self.now.table.shared.key) 0 self.now.shape.readers }, []) }
+        requires queue { seat.old.table_id ≡ self.now.table.shared.table_id }
         ensures seats { IfOk result (λ v. v.items ≡ row_from (new_reader self.now.table.shared.table_id self.now.shape) 0 self.now.shape.readers) }
     {
         let mut seats = Vec::new(alloc);

@@ -20,11 +20,11 @@ use std::thread;
 #[derive(Drop)]
 pub struct ReaderSeat<T> {
     pub(crate) seat: Seat<Option<T>, View<T>>,
+    pub(crate) totals: [Option<u64>; MAX_WRITERS],
     pub(crate) number: usize,
     pub(crate) per_writer: usize,
     pub(crate) writers: usize,
     pub(crate) next: usize,
-    pub(crate) totals: [Option<u64>; MAX_WRITERS],
 }
 
 impl<T> Model for ReaderSeat<T> {

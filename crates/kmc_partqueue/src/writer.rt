@@ -26,14 +26,13 @@ pub struct WriterSeat<T> {
 }
 
 impl<T> Model for WriterSeat<T> {
-    ghost use Rattle.std.specs.Prelude.{false};
     ghost use Rattle.kmc_partqueue.specs.Seats.{WriterState, sent_of, AtRest};
 
     ghost Value = { WriterState T };
 
     ghost view = { λ s. record { table = s.seat.table_id; number = s.number; per_writer = s.per_writer; sent = sent_of s.seat.me.0 } };
 
-    ghost invariant = { λ s. AtRest s.seat.me s.number s.per_writer s.count false };
+    ghost invariant = { λ s. AtRest s.seat.me s.number s.per_writer s.count };
 }
 
 impl<T> WriterSeat<T> {

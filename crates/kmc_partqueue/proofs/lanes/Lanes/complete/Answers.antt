@@ -14,7 +14,7 @@ store-requires g c = let me = c.args.self.now in let vi = c.s.view_is in let n :
     )
 
 ended : (g : Over) (c : After-store g) → c.store.new.seat.me ≡ resting c.s.inside.number c.s.inside.per_writer (sent_of c.s.inside.seat.me.0) true
-ended g c = ended_after c.s.inside.seat.me c.store.new.seat.me c.s.inside.number c.s.inside.per_writer c.s.inside.count false c.s.invariant 0 c.store.ensures.2
+ended g c = ended_after c.s.inside.seat.me c.store.new.seat.me c.s.inside.number c.s.inside.per_writer c.s.inside.count c.s.invariant 0 c.store.ensures.2
 
 pub invariant_of-result : goal.invariant_of-result
 invariant_of-result g c = let now = ended g (goal.at.invariant_of-result g c).After-store in
