@@ -81,11 +81,11 @@ impl Word for u64 {
     }
 
     fn ones(k: usize) -> u64 {
-        4 * (Self::top(k) - 1) + 3
+        u64::MAX >> (64 - 2 * k)
     }
 
     fn ahead(self, code: u8, top: u64) -> u64 {
-        (self & (top - 1)) * 4 + u64::from(code)
+        ((self & (top - 1)) << 2) | u64::from(code)
     }
 
     fn behind(self, code: u8, top: u64) -> u64 {
@@ -93,11 +93,11 @@ impl Word for u64 {
     }
 
     fn ahead_byte(self, byte: u8, top: u64) -> u64 {
-        (self & (top / 64 - 1)) * 256 + u64::from(byte)
+        ((self & (top / 64 - 1)) << 8) | u64::from(byte)
     }
 
     fn behind_byte(self, byte: u8, top: u64) -> u64 {
-        self / 256 + u64::from(turned(byte)) * (top / 64)
+        (self / 256) | (u64::from(turned(byte)) * (top / 64))
     }
 
     fn lesser(self, other: u64) -> u64 {
@@ -131,11 +131,11 @@ impl Word for u128 {
     }
 
     fn ones(k: usize) -> u128 {
-        4 * (Self::top(k) - 1) + 3
+        u128::MAX >> (128 - 2 * k)
     }
 
     fn ahead(self, code: u8, top: u128) -> u128 {
-        (self & (top - 1)) * 4 + u128::from(code)
+        ((self & (top - 1)) << 2) | u128::from(code)
     }
 
     fn behind(self, code: u8, top: u128) -> u128 {
@@ -143,11 +143,11 @@ impl Word for u128 {
     }
 
     fn ahead_byte(self, byte: u8, top: u128) -> u128 {
-        (self & (top / 64 - 1)) * 256 + u128::from(byte)
+        ((self & (top / 64 - 1)) << 8) | u128::from(byte)
     }
 
     fn behind_byte(self, byte: u8, top: u128) -> u128 {
-        self / 256 + u128::from(turned(byte)) * (top / 64)
+        (self / 256) | (u128::from(turned(byte)) * (top / 64))
     }
 
     fn lesser(self, other: u128) -> u128 {

@@ -98,15 +98,15 @@ module _ {T : Type 0} (k : QueueShape) where
       → ((w n : ℕ) → total_of (entries w n) vs ≡ total_of (entries w n) s.views) → LanesRule k record { words = s.words; homes = s.homes; views = vs }
   reseated s r vs seats ws rs es = record {
     lanes = r.lanes;
+    each_seat = seats;
+    one_writer = λ w near. ws w ∙ r.one_writer w near;
+    one_reader = λ w near. rs w ∙ r.one_reader w near;
+    taken_once = λ w n near. es w n ∙ r.taken_once w n near;
     some_room = r.some_room;
     some_writer = r.some_writer;
     wide = r.wide;
     slots = r.slots;
     each_lane = r.each_lane;
-    each_seat = seats;
-    one_writer = λ w near. ws w ∙ r.one_writer w near;
-    one_reader = λ w near. rs w ∙ r.one_reader w near;
-    taken_once = λ w n near. es w n ∙ r.taken_once w n near;
   }
 
   -- a step by the seat id that changes its view alone

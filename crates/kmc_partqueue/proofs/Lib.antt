@@ -16,6 +16,7 @@ pub mod DealCalls
 pub mod ReaderCalls
 pub mod Counted
 pub mod Final
+pub mod Joining
 pub mod Moving
 pub mod DoubleSums
 pub mod SentAndGot

@@ -17,7 +17,7 @@ use Rattle.kmc_partqueue.specs.Lane.{Phase, free, full, reading, Cell, Lane, Lan
 use Rattle.kmc_partqueue.specs.Rule.{head_at, end_at, slot_at, mark_at, is_entry, got_once, entries, readers_of, Rises, GotOk, EndOk, WriterOk, ReaderOk, LanesRule}
 use Rattle.kmc_partqueue.specs.Dealing.{one_of_readers}
 use Rattle.kmc_partqueue.specs.Plays.{seen_slot_of, looking, seeing, taking, freeing, ending}
-use Rattle.kmc_partqueue.proofs.Sums.{put, at_put, put_here, same_refl, same_ne, total_set, total_append, each_map, each_absent, each_append, once_next}
+use Rattle.kmc_partqueue.proofs.Sums.{put, at_put, put_here, one_of_itself, same_refl, same_ne, total_set, total_append, each_map, each_absent, each_append, once_next}
 use Rattle.kmc_partqueue.proofs.OneLane.{lane_of, ready_found, full_found, lane_stays, lane_takes, lane_frees}
 use Rattle.kmc_partqueue.proofs.Frame.{St, heads_of, Grows, Hands, alone_with, reader_stays, hands_put, rule_moves, reviewed}
 use Rattle.kmc_partqueue.proofs.Places.{slot_within, mark_within, mark_head, mark_end, mark_mark, head_head, head_end, head_mark, home_else}
@@ -34,8 +34,7 @@ module _ {T : Type 0} (k : QueueShape) where
 
     -- no other seat has the reader
     pub alone : (j : ℕ) (u : View T) → j ≢ id → get_elem? s.views j ≡ some u → readers_of b.number u ≡ 0
-    alone = let m : ℕ = same b.number b.number in let one : m ≡ 1 = same_refl b.number b.number refl in let once : m + 0 ≡ 1 = omega arith in
-        alone_with (readers_of b.number) s id (one_of_readers b) at once (r.one_reader b.number own.known)
+    alone = alone_with (readers_of b.number) s id (one_of_readers b) at (one_of_itself b.number) (r.one_reader b.number own.known)
 
   rises_more : (es : List (Received T)) (x : Received T) → Rises es → Each (λ (f : Received T). f.writer ≡ x.writer → f.number < x.number) es → Rises (es ++ x ∷ [])
   rises_more [] x p q = (tt, tt)

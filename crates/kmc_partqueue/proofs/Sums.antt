@@ -10,6 +10,9 @@ use Rattle.kmc_partqueue.specs.Counts.{Each, total_of, same, once_below}
 pub same_refl : (x y : ℕ) → x ≡ y → same x y ≡ 1
 same_refl x y e = ap (λ b. cond b 1 0) (eq-eqb x y e)
 
+pub one_of_itself : (x : ℕ) → same x x + 0 ≡ 1
+one_of_itself x = omega (arith, same_refl x x refl)
+
 pub same_ne : (x y : ℕ) → x ≢ y → same x y ≡ 0
 same_ne x y n = ap (λ b. cond b 1 0) (ne_eqb x y n)
 

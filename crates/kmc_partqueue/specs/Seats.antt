@@ -1,5 +1,5 @@
 -- What clauses see of a seat, and what its type keeps between two calls.
-use Rattle.std.specs.Prelude.{◌≡◌, ℕ, ◌<◌, ◌≤◌, Bool, false, List, [], ◌∷◌, length, replicate, Option, Some, None, slice_get}
+use Rattle.std.specs.Prelude.{◌≡◌, ℕ, ◌<◌, ◌≤◌, Bool, true, false, List, [], ◌∷◌, length, replicate, Option, Some, None, slice_get}
 use Rattle.atomic_table.specs.Seated.{TableId}
 use Rattle.kmc_partcore.specs.declared.shape.TheConstants.{MAX_WRITERS, MAX_ITEMS}
 use Rattle.kmc_partcore.specs.declared.shape.QueueShape.{QueueShape}
@@ -72,6 +72,13 @@ module _ {T : Type 0} where
   abbrev pub sent_of : View T → List T
   sent_of v = sent_first v.writers
 
+  abbrev pub slots_first : List (Writing T) → ℕ
+  slots_first [] = 0
+  slots_first (a ∷ more) = a.per_writer
+
+  abbrev pub per_writer_of : View T → ℕ
+  per_writer_of v = slots_first v.writers
+
   abbrev pub got_first : List (Reading T) → List (Received T)
   got_first [] = []
   got_first (b ∷ more) = b.got
@@ -80,8 +87,12 @@ module _ {T : Type 0} where
   got_of v = got_first v.readers
 
   -- the seat of a writer between two calls
-  abbrev pub AtRest : Seated T → ℕ → ℕ → ℕ → Bool → Type 0
-  AtRest me number per_writer count done = (me ≡ (one_of_writers (open_writer number per_writer (sent_of me.0) done), [])) × (length (sent_of me.0) ≡ count) × (count ≤ MAX_ITEMS)
+  abbrev pub AtRest : Seated T → ℕ → ℕ → ℕ → Type 0
+  AtRest me number per_writer count = (me ≡ (one_of_writers (open_writer number per_writer (sent_of me.0) false), [])) × (length (sent_of me.0) ≡ count) × (count ≤ MAX_ITEMS)
+
+  -- the seat of a writer that has completed
+  abbrev pub AtEnd : Seated T → ℕ → Type 0
+  AtEnd me number = me ≡ (one_of_writers (open_writer number (per_writer_of me.0) (sent_of me.0) true), [])
 
   -- the seat of a reader between two calls: its hand is empty
   pub record Between (me : Seated T) (number per_writer next writers : ℕ) (totals : List (Option ℕ)) : Type 0 where

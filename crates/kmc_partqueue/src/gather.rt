@@ -54,37 +54,29 @@ impl<T: Drop> Lanes<T> {
         drain(table.close_with(seat));
     }
 
-    fn join_readers(&self, seat: &mut Seat<Option<T>, View<T>>, mut readers: Vec<ReaderSeat<T>>)
-        requires queue { (seat.old.table_id ≡ self.now.table.shared.table_id) × Each (IsReaderOf self.now.table.shared.table_id self.now.shape) readers.items }
-        ensures queue { (seat.new.table_id ≡ seat.old.table_id) × (seat.new.id ≡ seat.old.id) × (seat.new.me.1 ≡ seat.old.me.1) }
-        ensures joined { (seat.new.me.0.writers ≡ seat.old.me.0.writers) × ((bs : List _) × (seat.new.me.0.readers ≡ bs ++ seat.old.me.0.readers) × Pairs bs readers.items) }
+    /// All that the seats have goes to one of them.
+    fn join_all(
+        &self,
+        seat: &mut Seat<Option<T>, View<T>>,
+        mut readers: Vec<ReaderSeat<T>>,
+        mut writers: Vec<DoneSeat<T>>,
+    )
+        requires queue { seat.old.table_id ≡ self.now.table.shared.table_id }
+        requires readers { Each (IsReaderOf self.now.table.shared.table_id self.now.shape) readers.items }
+        requires writers { Each (IsWriterOf self.now.table.shared.table_id self.now.shape) writers.items }
+        ensures queue { (seat.new.table_id ≡ seat.old.table_id) × (seat.new.id ≡ seat.old.id) }
+        ensures readers { (bs : List _) × (seat.new.me.0.readers ≡ bs ++ seat.old.me.0.readers) × Pairs bs readers.items }
+        ensures writers { (ws : List _) × (seat.new.me.0.writers ≡ ws ++ seat.old.me.0.writers) × WriterPairs ws writers.items }
     {
-        while let Some(s) = readers.pop() {
-            let ReaderSeat {
-                seat: own,
-                number: _,
-                per_writer: _,
-                writers: _,
-                next: _,
-                totals: _,
-            } = s;
-            self.table.shared.join_seat::<JoinSeats>(seat, own);
+        while let Some(reader) = readers.pop() {
+            self.table
+                .shared
+                .join_seat::<JoinSeats>(seat, reader.into_seat());
         }
-    }
-
-    fn join_writers(&self, seat: &mut Seat<Option<T>, View<T>>, mut writers: Vec<DoneSeat<T>>)
-        requires queue { (seat.old.table_id ≡ self.now.table.shared.table_id) × Each (IsWriterOf self.now.table.shared.table_id self.now.shape) writers.items }
-        ensures queue { (seat.new.table_id ≡ seat.old.table_id) × (seat.new.id ≡ seat.old.id) × (seat.new.me.1 ≡ seat.old.me.1) }
-        ensures joined { (seat.new.me.0.readers ≡ seat.old.me.0.readers) × ((ws : List _) × (seat.new.me.0.writers ≡ ws ++ seat.old.me.0.writers) × WriterPairs ws writers.items) }
-    {
-        while let Some(s) = writers.pop() {
-            let DoneSeat {
-                seat: own,
-                number: _,
-                per_writer: _,
-                count: _,
-            } = s;
-            self.table.shared.join_seat::<JoinSeats>(seat, own);
+        while let Some(writer) = writers.pop() {
+            self.table
+                .shared
+                .join_seat::<JoinSeats>(seat, writer.into_seat());
         }
     }
 
@@ -102,16 +94,8 @@ impl<T: Drop> Lanes<T> {
         let Some(first) = readers.pop() else {
             unreachable!()
         };
-        let ReaderSeat {
-            seat: mut base,
-            number: _,
-            per_writer: _,
-            writers: _,
-            next: _,
-            totals: _,
-        } = first;
-        self.join_readers(&mut base, readers);
-        self.join_writers(&mut base, writers);
+        let mut base = first.into_seat();
+        self.join_all(&mut base, readers, writers);
         self.close(base);
         totals
     }

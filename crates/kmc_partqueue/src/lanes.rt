@@ -7,7 +7,7 @@ use crate::steps::{SplitReader, SplitWriter};
 use crate::views::View;
 use crate::writer::WriterSeat;
 use atomic_table::{Seat, Table};
-use kmc_partcore::{MAX_WRITERS, QueueShape};
+use kmc_partcore::QueueShape;
 use std::alloc::{AllocError, Global};
 
 /// A queue of parts without a lock: one lane of slots for each writer, read by any reader, in single atomic steps.
@@ -31,8 +31,8 @@ impl<T: Drop> Lanes<T> {
         alloc: Global,
         seat: &mut Seat<Option<T>, View<T>>,
     ) -> Result<Vec<WriterSeat<T>>, AllocError>
-        requires queue { seat.old.table_id ≡ self.now.table.shared.table_id }
         requires fresh { seat.old.me ≡ (record { writers = row_from (fresh_writer self.now.table.shared.key) 0 self.now.shape.writers; readers = row_from (fresh_reader self.now.table.shared.key) 0 self.now.shape.readers }, []) }
+        requires queue { seat.old.table_id ≡ self.now.table.shared.table_id }
         ensures queue { IfOk result (λ _. seat.new.table_id ≡ seat.old.table_id) }
         ensures left { IfOk result (λ _. seat.new.me ≡ (record { writers = []; readers = row_from (fresh_reader self.now.table.shared.key) 0 self.now.shape.readers }, [])) }
         ensures seats { IfOk result (λ v. v.items ≡ row_from (new_writer self.now.table.shared.table_id self.now.shape) 0 self.now.shape.writers) }
@@ -40,12 +40,7 @@ impl<T: Drop> Lanes<T> {
         let mut seats = Vec::new(alloc);
         for number in 0..self.shape.writers {
             let own = self.table.shared.split_seat::<SplitWriter>(seat);
-            seats.push(WriterSeat {
-                seat: own,
-                number,
-                per_writer: self.shape.per_writer,
-                count: 0,
-            })?;
+            seats.push(WriterSeat::fresh(own, number, self.shape.per_writer))?;
         }
         Ok(seats)
     }
@@ -56,21 +51,14 @@ impl<T: Drop> Lanes<T> {
         alloc: Global,
         seat: &mut Seat<Option<T>, View<T>>,
     ) -> Result<Vec<ReaderSeat<T>>, AllocError>
-        requires queue { seat.old.table_id ≡ self.now.table.shared.table_id }
         requires fresh { seat.old.me ≡ (record { writers = []; readers = row_from (fresh_reader self.now.table.shared.key) 0 self.now.shape.readers }, []) }
+        requires queue { seat.old.table_id ≡ self.now.table.shared.table_id }
         ensures seats { IfOk result (λ v. v.items ≡ row_from (new_reader self.now.table.shared.table_id self.now.shape) 0 self.now.shape.readers) }
     {
         let mut seats = Vec::new(alloc);
         for number in 0..self.shape.readers {
             let own = self.table.shared.split_seat::<SplitReader>(seat);
-            seats.push(ReaderSeat {
-                seat: own,
-                number,
-                per_writer: self.shape.per_writer,
-                writers: self.shape.writers,
-                next: 0,
-                totals: [None; MAX_WRITERS],
-            })?;
+            seats.push(ReaderSeat::fresh(own, number, &self.shape))?;
         }
         Ok(seats)
     }

@@ -22,4 +22,4 @@ pub use gate::{Gate, NoGate, Point};
 pub use lanes::Lanes;
 pub use reader::{ReaderSeat, TryTaken};
 pub use views::{Ending, Reading, View, Writing};
-pub use writer::{TryPutError, WriterSeat};
+pub use writer::{PutResult, TryPutError, WriterSeat};

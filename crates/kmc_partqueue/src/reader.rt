@@ -1,6 +1,9 @@
 //! What a reader does with its seat.
 ghost use Rattle.std.specs.Prelude.{◌≡◌, ℕ, ◌+◌, ◌*◌, ◌-◌, ◌/◌, ◌%◌, ◌<◌, ◌↔◌, [], ◌∷◌, ◌++◌, MatchOption, Option, Some, None, slice_get, true, false};
-ghost use Rattle.kmc_partqueue.specs.Seats.{IsReaderOf, KeepsNotes, AllEnded, AreKeptTotals};
+ghost use Rattle.kmc_partqueue.specs.Seats.{IsReaderOf, new_reader, KeepsNotes, AllEnded, AreKeptTotals};
+ghost use Rattle.kmc_partqueue.specs.declared.views.Reading.{Reading};
+ghost use Rattle.kmc_partqueue.specs.Dealing.{one_of_readers, fresh_reader};
+ghost use Rattle.kmc_partqueue.specs.Gathered.{Tells};
 ghost use Rattle.kmc_partqueue.specs.Answers.{Answers, IsFinished, TakeAnswers, IsLast};
 
 use crate::gate::{Gate, Point};
@@ -8,7 +11,7 @@ use crate::lanes::Lanes;
 use crate::steps::{ClaimPart, ReadEnd, ReadHead, ReleaseSlot, SeePublishedPart};
 use crate::views::View;
 use atomic_table::Seat;
-use kmc_partcore::{MAX_WRITERS, Received, Taken, Totals};
+use kmc_partcore::{MAX_WRITERS, QueueShape, Received, Taken, Totals};
 use std::marker::Model;
 use std::sync::Wait;
 use std::thread;
@@ -17,11 +20,11 @@ use std::thread;
 #[derive(Drop)]
 pub struct ReaderSeat<T> {
     pub(crate) seat: Seat<Option<T>, View<T>>,
+    pub(crate) totals: [Option<u64>; MAX_WRITERS],
     pub(crate) number: usize,
     pub(crate) per_writer: usize,
     pub(crate) writers: usize,
     pub(crate) next: usize,
-    pub(crate) totals: [Option<u64>; MAX_WRITERS],
 }
 
 impl<T> Model for ReaderSeat<T> {
@@ -46,6 +49,25 @@ pub enum TryTaken<T> {
 }
 
 impl<T> ReaderSeat<T> {
+    /// The seat of a reader of a new queue.
+    pub(crate) fn fresh(
+        seat: Seat<Option<T>, View<T>>,
+        number: usize,
+        shape: &QueueShape,
+    ) -> ReaderSeat<T>
+        requires { seat.me ≡ (one_of_readers (fresh_reader shape.now number), []) }
+        ensures { result ≡ new_reader seat.table_id shape.now number }
+    {
+        ReaderSeat {
+            seat,
+            number,
+            per_writer: shape.per_writer,
+            writers: shape.writers,
+            next: 0,
+            totals: [None; MAX_WRITERS],
+        }
+    }
+
     /// The number of the reader, from 0.
     pub fn number(&self) -> usize
         ensures { result ≡ self.now.number }
@@ -97,6 +119,15 @@ impl<T> ReaderSeat<T> {
             }
         }
         Totals::new(&counts[..self.writers])
+    }
+
+    /// The table's seat alone.
+    pub(crate) fn into_seat(self) -> Seat<Option<T>, View<T>>
+        ensures table { result.table_id ≡ self.table }
+        ensures view { (b : Reading T) × (result.me ≡ (one_of_readers b, [])) × Tells b self }
+    {
+        let ReaderSeat { seat, .. } = self;
+        seat
     }
 }
 

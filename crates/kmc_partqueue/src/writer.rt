@@ -1,6 +1,7 @@
 //! What a writer does with its seat.
 ghost use Rattle.std.specs.Prelude.{◌≡◌, ◌+◌, ◌*◌, ◌-◌, ◌/◌, ◌%◌, ◌<◌, ◌↔◌, [], ◌∷◌, ◌++◌, length, MatchResult, IfErr, false, Option, Some, None, Err};
-ghost use Rattle.kmc_partqueue.specs.Seats.{IsWriterOf};
+ghost use Rattle.kmc_partqueue.specs.Dealing.{one_of_writers};
+ghost use Rattle.kmc_partqueue.specs.Seats.{IsWriterOf, open_writer};
 ghost use Rattle.kmc_partqueue.specs.Refusals.{Refused};
 ghost use Rattle.kmc_partqueue.specs.declared.writer.TryPutError.TheVariants.{NumbersSpent};
 
@@ -25,17 +26,33 @@ pub struct WriterSeat<T> {
 }
 
 impl<T> Model for WriterSeat<T> {
-    ghost use Rattle.std.specs.Prelude.{false};
     ghost use Rattle.kmc_partqueue.specs.Seats.{WriterState, sent_of, AtRest};
 
     ghost Value = { WriterState T };
 
     ghost view = { λ s. record { table = s.seat.table_id; number = s.number; per_writer = s.per_writer; sent = sent_of s.seat.me.0 } };
 
-    ghost invariant = { λ s. AtRest s.seat.me s.number s.per_writer s.count false };
+    ghost invariant = { λ s. AtRest s.seat.me s.number s.per_writer s.count };
 }
 
 impl<T> WriterSeat<T> {
+    /// The seat of a writer of a new queue.
+    pub(crate) fn fresh(
+        seat: Seat<Option<T>, View<T>>,
+        number: usize,
+        per_writer: usize,
+    ) -> WriterSeat<T>
+        requires { seat.me ≡ (one_of_writers (open_writer number per_writer [] false), []) }
+        ensures { result ≡ record { table = seat.table_id; number = number; per_writer = per_writer; sent = [] } }
+    {
+        WriterSeat {
+            seat,
+            number,
+            per_writer,
+            count: 0,
+        }
+    }
+
     /// The number of the writer, from 0.
     pub fn number(&self) -> usize
         ensures { result ≡ self.now.number }
@@ -60,6 +77,9 @@ pub enum TryPutError {
     NumbersSpent,
 }
 
+/// The number that the part got among the writer's, or why it was not put, and the part.
+pub type PutResult<T> = Result<u64, (TryPutError, T)>;
+
 impl<T> Lanes<T> {
     /// Moves a part into the slot that the seat holds.
     fn move_in(&self, seat: &mut Seat<Option<T>, View<T>>, slot: usize, part: T)
@@ -74,12 +94,7 @@ impl<T> Lanes<T> {
 
     /// Puts a part, or hands it back, at once: it answers the number that the part got among the writer's.
     /// The first `per_writer` puts of a seat are never refused as Full.
-    pub fn try_put<G: Gate>(
-        &self,
-        s: &mut WriterSeat<T>,
-        part: T,
-        gate: &G,
-    ) -> Result<u64, (TryPutError, T)>
+    pub fn try_put<G: Gate>(&self, s: &mut WriterSeat<T>, part: T, gate: &G) -> PutResult<T>
         requires { IsWriterOf self.now.table.shared.table_id self.now.shape s.old }
         ensures seat { (s.new.table ≡ s.old.table) × (s.new.number ≡ s.old.number) × (s.new.per_writer ≡ s.old.per_writer) }
         ensures put { MatchResult result (λ n. (n ≡ length s.old.sent) × (s.new.sent ≡ s.old.sent ++ part ∷ [])) (λ e. (e.1 ≡ part) × (s.new.sent ≡ s.old.sent)) }
@@ -115,18 +130,8 @@ impl<T> Lanes<T> {
         self.table
             .shared
             .store::<CloseLane>(&mut s.seat, s.number, s.count + 1);
-        let WriterSeat {
-            seat,
-            number,
-            per_writer,
-            count,
-        } = s;
-        DoneSeat {
-            seat,
-            number,
-            per_writer,
-            count,
-        }
+        let WriterSeat { seat, number, .. } = s;
+        DoneSeat { seat, number }
     }
 
     /// Puts a part. It tries again, and yields between two tries, for as long as the next slot is not free.
@@ -136,7 +141,7 @@ impl<T> Lanes<T> {
         s: &mut WriterSeat<T>,
         part: T,
         gate: &G,
-    ) -> Result<u64, (TryPutError, T)>
+    ) -> PutResult<T>
         requires { IsWriterOf self.now.table.shared.table_id self.now.shape s.old }
         ensures seat { (s.new.table ≡ s.old.table) × (s.new.number ≡ s.old.number) × (s.new.per_writer ≡ s.old.per_writer) }
         ensures put { MatchResult result (λ n. (n ≡ length s.old.sent) × (s.new.sent ≡ s.old.sent ++ part ∷ [])) (λ e. (e ≡ (NumbersSpent, part)) × (s.new.sent ≡ s.old.sent)) }

@@ -1,8 +1,10 @@
 -- Powers of four: as masks, and as the room of a number that holds so many codes.
-use Rattle.std.proofs.Common.{◌≡◌, ℕ, zero, suc, ◌+◌, ◌*◌, ◌-◌, ◌/◌, ◌%◌, ◌^◌, ◌<◌, ◌≤◌, bit_and, le_refl, zero-add, suc-add, sym, ap, ◌∙◌, arith}
-use Rattle.std.proofs.lemmas.Nat.{and_mask, pow-add, mul-pow, mod_below, mul-le}
+use Rattle.std.proofs.Common.{◌≡◌, ℕ, zero, suc, ◌+◌, ◌*◌, ◌-◌, ◌/◌, ◌%◌, ◌^◌, ◌<◌, ◌≤◌, bit_and, bit_or, mod-eq_of_lt, le_refl, zero-add, suc-add, sym, ap, ◌∙◌, arith}
+use Rattle.std.proofs.lemmas.Nat.{and_mask, or_shifted, pow-add, mul-pow, mod_below, mul-le}
+use Rattle.std.proofs.lemmas.Nat.Bits.{ones_shr}
+use Rattle.std.specs.Int.Bits.{or_shifted_r}
 use Rattle.std.proofs.Math.Nat.{pow-succ'}
-use Rattle.kmc_base.specs.Bytes.{turned}
+use Rattle.kmc_base.specs.Bytes.{turned, ahead_byte, behind_byte}
 
 pub pow_up : (n d : ℕ) → 4 ^ n ≤ 4 ^ (d + n)
 pow_up n zero = rw zero-add (le_refl _)
@@ -78,3 +80,50 @@ room_back_byte m b t j r least e less below small =
 
 pub turned_most : (b r : ℕ) → r ≡ turned b → r ≤ 255
 turned_most b r e = omega arith
+
+-- ---- what a number that holds m codes gives at each step of a window
+
+pub ones_of : (m k : ℕ) → k ≤ m → (2 ^ (2 * m) - 1) / 2 ^ (2 * m - 2 * k) + 1 ≡ 4 ^ k
+ones_of m k within =
+    let left : 2 * m - (2 * m - 2 * k) ≡ 2 * k = omega arith in
+    let e = rw left at (ones_shr (2 * m) (2 * m - 2 * k) (omega arith)) in
+    omega (arith, e, pow_quad k, pow_some k)
+
+module _ (m n t : ℕ) (top : (j : ℕ) × (j < m) × (t ≡ 4 ^ j)) where
+  pub top_some : 1 ≤ t
+  top_some = omega (arith, pow_some top.0, top.2)
+
+  pub ahead_is : (c r : ℕ) → c < 4 → r ≡ c → bit_or (bit_and n (t - 1) * 2 ^ 2 % 4 ^ m) r ≡ n % t * 4 + c
+  ahead_is c r small e =
+      let room = room_low m n t top.0 0 top.2 top.1 (omega arith) in
+      let fits : n % t * 4 < 4 ^ m = omega arith in
+      let whole : n % t * 4 % 4 ^ m ≡ n % t * 4 = mod-eq_of_lt fits in
+      let few : r < 4 = omega arith in
+      rw (masked n t top.0 top.2, whole, or_shifted (n % t) 2 r few, e)
+
+  pub behind_fits : (c r : ℕ) → n / 4 < t → r ≡ 3 - c → n / 4 + r * t < 4 ^ m
+  behind_fits c r back e = rw e (room_back m (n / 4) t top.0 c top.2 top.1 back)
+
+module _ (m n t : ℕ) (top : (j : ℕ) × (3 ≤ j) × (j < m) × (t ≡ 4 ^ j)) where
+  pub top_byte_some : 1 ≤ t / 64
+  top_byte_some = part_some t top.0 top.1 top.3
+
+  pub ahead_byte_is : (b r : ℕ) → b ≤ 255 → r ≡ b → bit_or (bit_and n (t / 64 - 1) * 2 ^ 8 % 4 ^ m) r ≡ ahead_byte t n b
+  ahead_byte_is b r small e =
+      let room = room_low_byte m n t top.0 0 top.1 top.3 top.2 (omega arith) in
+      let fits : n % (t / 64) * 256 < 4 ^ m = omega arith in
+      let whole : n % (t / 64) * 256 % 4 ^ m ≡ n % (t / 64) * 256 = mod-eq_of_lt fits in
+      let few : r < 256 = omega arith in
+      rw (masked_part n t top.0 top.1 top.3, whole, or_shifted (n % (t / 64)) 8 r few, e)
+
+  module _ (b r : ℕ) (back : n / 4 < t) (e : r ≡ turned b) where
+    pub behind_byte_fits : r * (t / 64) < 4 ^ m
+    behind_byte_fits = omega (arith, room_back_byte m n t top.0 r top.1 top.3 top.2 back (turned_most b r e))
+
+    pub behind_byte_is : bit_or (n / 256) (r * (t / 64)) ≡ behind_byte t n b
+    behind_byte_is =
+        let part : t / 64 ≡ 2 ^ (2 * (top.0 - 3)) = part_of_top t top.0 top.1 top.3 ∙ pow_quad (top.0 - 3) in
+        let low : n / 256 < t / 64 = omega (arith, parts_of_top t top.0 top.1 top.3) in
+        let joined : bit_or (n / 256) (r * (t / 64)) ≡ r * (t / 64) + n / 256 = rw part (or_shifted_r r (2 * (top.0 - 3)) (n / 256) (rw part at low)) in
+        let same : r * (t / 64) ≡ turned b * (t / 64) = ap (λ z. z * (t / 64)) e in
+        joined ∙ omega (arith, same)

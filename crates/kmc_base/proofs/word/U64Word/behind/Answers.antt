@@ -1,13 +1,9 @@
-use Rattle.std.proofs.Common.{◌*◌, ◌/◌, arith, ap, ℕ}
-use Rattle.kmc_base.specs.Lemmas.Powers.{room_back}
+use Rattle.std.proofs.Common.{arith}
+use Rattle.kmc_base.specs.Lemmas.Powers.{behind_fits}
 use Rattle.kmc_base.proofs.word.U64Word.behind.Goals as goal
 
 pub overflow_mul-result : goal.overflow_mul-result
-overflow_mul-result c =
-    let room = room_back 32 (c.args.self / 4) c.args.top c.requires.top.0 c.args.code c.requires.top.2 c.requires.top.1 c.requires.back in
-    omega (arith, room, ap (λ (n : ℕ). n * c.args.top) c.from.ensures)
+overflow_mul-result c = omega (arith, behind_fits 32 c.args.self c.args.top c.requires.top c.args.code c.from.result c.requires.back c.from.ensures)
 
 pub overflow_add-result : goal.overflow_add-result
-overflow_add-result c =
-    let room = room_back 32 (c.args.self / 4) c.args.top c.requires.top.0 c.args.code c.requires.top.2 c.requires.top.1 c.requires.back in
-    omega (arith, room, ap (λ (n : ℕ). n * c.args.top) c.from.ensures)
+overflow_add-result c = omega (arith, behind_fits 32 c.args.self c.args.top c.requires.top c.args.code c.from.result c.requires.back c.from.ensures)

@@ -1,16 +1,9 @@
-use Rattle.std.proofs.Common.{◌+◌, ◌*◌, ◌/◌, ◌∙◌, arith, ap, ℕ}
-use Rattle.kmc_base.specs.Lemmas.Powers.{room_back_byte, turned_most}
+use Rattle.std.proofs.Common.{◌∙◌, arith}
+use Rattle.kmc_base.specs.Lemmas.Powers.{behind_byte_fits, behind_byte_is}
 use Rattle.kmc_base.proofs.word.U64Word.behind_byte.Goals as goal
 
 pub overflow_mul-result : goal.overflow_mul-result
-overflow_mul-result c =
-    let small = turned_most c.args.byte c.from.result (c.from.ensures ∙ c.turned.ensures) in
-    omega (arith, room_back_byte 32 c.args.self c.args.top c.requires.top.0 c.from.result c.requires.top.1 c.requires.top.3 c.requires.top.2 c.requires.back small)
-
-pub overflow_add-result : goal.overflow_add-result
-overflow_add-result c =
-    let small = turned_most c.args.byte c.from.result (c.from.ensures ∙ c.turned.ensures) in
-    omega (arith, room_back_byte 32 c.args.self c.args.top c.requires.top.0 c.from.result c.requires.top.1 c.requires.top.3 c.requires.top.2 c.requires.back small)
+overflow_mul-result c = omega (arith, behind_byte_fits 32 c.args.self c.args.top c.requires.top c.args.byte c.from.result c.requires.back (c.from.ensures ∙ c.turned.ensures))
 
 pub returns : goal.returns
-returns c = ap (λ (n : ℕ). c.args.self / 256 + n * (c.args.top / 64)) (c.from.ensures ∙ c.turned.ensures)
+returns c = behind_byte_is 32 c.args.self c.args.top c.requires.top c.args.byte c.from.result c.requires.back (c.from.ensures ∙ c.turned.ensures)
