@@ -13,6 +13,7 @@ ghost use Rattle.kmc_dump.specs.Ranges.{CanBeMerged, whole};
 use crate::bins::list_bodies;
 use crate::counts::Counts;
 use crate::write::{DumpError, write_lists};
+use kmc_base::key_rule::KeyRule;
 use kmc_base::kmer::MAX_K;
 use kmc_base::strands::Strands;
 use kmc_base::word::Word;
@@ -46,34 +47,22 @@ fn list_sized<R: Threads + Sync, W: Word + Drop + Send>(
     rt: &R,
     alloc: Global,
     bodies: Vec<Vec<u8>>,
-    k: usize,
-    strands: Strands,
+    rule: KeyRule,
     limits: &Limits,
     threads: usize,
 ) -> Result<SizedLists<W>, CountError>
-    requires some { 1 ≤ k }
-    requires most { k ≤ W.most }
-    requires limit { k ≤ MAX_K }
+    requires most { rule.k ≤ W.most }
     requires threads { 1 ≤ threads }
-    ensures ok { IfOk result (λ lists. AreListsOfBodies strands k limits.now (map (λ b. b.items) bodies.items) (sized_lists lists)) }
-    ensures damaged { (fault : RecordFault) (offset : ℕ) → IsErrOf result (CountError.Damaged fault offset) → IsFirstDamaged k fault offset (map (λ b. b.items) bodies.items) }
+    ensures ok { IfOk result (λ lists. AreListsOfBodies rule.strands rule.k limits.now (map (λ b. b.items) bodies.items) (sized_lists lists)) }
+    ensures damaged { (fault : RecordFault) (offset : ℕ) → IsErrOf result (CountError.Damaged fault offset) → IsFirstDamaged rule.k fault offset (map (λ b. b.items) bodies.items) }
 {
-    if limits.cs <= u64::from(u8::MAX) {
-        match list_bodies(rt, alloc, bodies, k, strands, limits, threads) {
-            Ok(lists) => Ok(SizedLists::Byte(lists)),
-            Err(error) => Err(error),
-        }
+    Ok(if limits.cs <= u64::from(u8::MAX) {
+        SizedLists::Byte(list_bodies(rt, alloc, bodies, rule, *limits, threads)?)
     } else if limits.cs <= u64::from(u32::MAX) {
-        match list_bodies(rt, alloc, bodies, k, strands, limits, threads) {
-            Ok(lists) => Ok(SizedLists::Half(lists)),
-            Err(error) => Err(error),
-        }
+        SizedLists::Half(list_bodies(rt, alloc, bodies, rule, *limits, threads)?)
     } else {
-        match list_bodies(rt, alloc, bodies, k, strands, limits, threads) {
-            Ok(lists) => Ok(SizedLists::Full(lists)),
-            Err(error) => Err(error),
-        }
-    }
+        SizedLists::Full(list_bodies(rt, alloc, bodies, rule, *limits, threads)?)
+    })
 }
 
 /// The list of each bin's records, in the order of the bins, by at most so many threads. A pair takes 9 bytes up to k = 32
@@ -94,17 +83,12 @@ pub fn list_bins<R: Threads + Sync>(
     ensures ok { IfOk result (λ lists. AreListsOfBodies strands k limits.now (map (λ b. b.items) bodies.items) (lists_of lists)) }
     ensures damaged { (fault : RecordFault) (offset : ℕ) → IsErrOf result (CountError.Damaged fault offset) → IsFirstDamaged k fault offset (map (λ b. b.items) bodies.items) }
 {
-    if k <= NARROW_K {
-        match list_sized(rt, alloc, bodies, k, strands, limits, threads) {
-            Ok(lists) => Ok(BinLists::Narrow(lists)),
-            Err(error) => Err(error),
-        }
+    let rule = KeyRule { k, strands };
+    Ok(if k <= NARROW_K {
+        BinLists::Narrow(list_sized(rt, alloc, bodies, rule, limits, threads)?)
     } else {
-        match list_sized(rt, alloc, bodies, k, strands, limits, threads) {
-            Ok(lists) => Ok(BinLists::Wide(lists)),
-            Err(error) => Err(error),
-        }
-    }
+        BinLists::Wide(list_sized(rt, alloc, bodies, rule, limits, threads)?)
+    })
 }
 
 /// Writes the dump of the lists of bins that share no word: the lines of all their pairs in the order of the words, and

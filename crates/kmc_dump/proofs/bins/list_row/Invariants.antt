@@ -7,5 +7,5 @@ use Rattle.kmc_dump.proofs.bins.list_row.Given as goal
 abbrev pub invariant-loop-body : goal.invariant-loop-body
 invariant-loop-body g l = record {
   seen : l.fn.bodies.items ≡ l.yielded ++ into_iter_items l.body-iterator;
-  counted : AreListsOfBodies l.strands l.k l.limits (map (λ b. b.items) l.yielded) l.lists.items;
+  counted : AreListsOfBodies l.rule.strands l.rule.k l.limits (map (λ b. b.items) l.yielded) l.lists.items;
 }
