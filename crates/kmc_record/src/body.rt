@@ -39,7 +39,7 @@ pub fn push_body<W: Word + Drop>(
         };
         let size = (symbols + 3) / 4;
         let rule = KeyRule { k, strands };
-        push_record(words, &rest[1..1 + size], symbols, rule)?;
+        push_record(words, rule, &rest[1..1 + size], symbols)?;
         offset += 1 + size;
     }
     Ok(())

@@ -96,9 +96,9 @@ fn push_code<W: Word + Drop>(
 /// first; the symbols in front of the first word's last one enter the window a byte at a time.
 pub fn push_record<W: Word + Drop>(
     words: &mut Vec<W>,
+    rule: KeyRule,
     bytes: &[u8],
     symbols: usize,
-    rule: KeyRule,
 ) -> Result<(), AllocError>
     requires most { rule.k ≤ W.most }
     requires long { rule.k ≤ symbols }
