@@ -16,7 +16,7 @@ use kmc_base::strands::Strands;
 use kmc_base::word::Word;
 use kmc_record::body::push_body;
 use kmc_record::fault::{BodyError, RecordFault};
-use std::alloc::{AllocError, AllocFailed, Global};
+use std::alloc::{AllocError, Global};
 
 /// Why a count of bodies was given up.
 #[derive(Clone, Copy, Debug, PartialEq, Eq)]
@@ -31,14 +31,6 @@ impl From<AllocError> for CountError {
     ghost from_gives = { λ _ e. e ≡ Memory };
 
     fn from(_: AllocError) -> CountError {
-        CountError::Memory
-    }
-}
-
-impl<T: Drop> From<AllocFailed<T>> for CountError {
-    ghost from_gives = { λ _ e. e ≡ Memory };
-
-    fn from(_: AllocFailed<T>) -> CountError {
         CountError::Memory
     }
 }

@@ -17,7 +17,7 @@ use std::alloc::Global;
 use std::thread;
 use std::thread::Threads;
 
-/// The lists of bodies, one after the other, with their words in one vector.
+/// The lists of bodies, one after the other, with their words in one vector. Room for all lists is had first.
 fn list_row<W: Word + Drop, C: Shown + Drop>(
     alloc: Global,
     bodies: Vec<Vec<u8>>,
@@ -33,7 +33,7 @@ fn list_row<W: Word + Drop, C: Shown + Drop>(
     let mut words: Vec<W> = Vec::new(alloc);
     for body in bodies {
         let list = list_body(&mut words, alloc, &body, rule, limits)?;
-        lists.push(list)?;
+        lists.push_reserved(list);
     }
     Ok(lists)
 }
