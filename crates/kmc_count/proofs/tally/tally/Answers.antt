@@ -53,12 +53,10 @@ pub returns-clause-dump : goal.returns-clause-dump
 returns-clause-dump g c =
     let num = g.W.Word.number in
     let k = c.args.rule.k in
-    let l = c.args.limits.now in
-    let ns = map num c.in-Some.rest.now in
-    let rest = map (unpack k) ns in
+    let rest = map (unpack k) (map num c.in-Some.rest.now) in
     let first = unpack k (num c.in-Some.first.now) in
-    let whole = kept_pairs l (runs_from first 1 rest) in
-    let end : drop c.loop-next.next-index rest ≡ [] = drop_of_length-le rest (omega (arith, c.loop-next-test.false, length-map ns (unpack k), length-map c.in-Some.rest.now num)) in
-    all_runs l (unpack k (num c.loop-next.word)) first c.loop-next.count c.loop-next.next-index (map (unpack k) (map num c.args.words.now)) rest _ _
+    let whole = kept_pairs c.args.limits.now (runs_from first 1 rest) in
+    let end : drop c.loop-next.next-index rest ≡ [] = drop_of_length-le rest (omega (arith, c.loop-next-test.false, length-map (map num c.in-Some.rest.now) (unpack k), length-map c.in-Some.rest.now num)) in
+    all_runs c.args.limits.now (unpack k (num c.loop-next.word)) first c.loop-next.count c.loop-next.next-index (map (unpack k) (map num c.args.words.now)) rest _ _
     end (ap (λ v. map (unpack k) (map num v)) c.in-Some.ensures.cases.0) (sorted_words k (map num c.args.words.now) c.requires.fit c.requires.sorted) c.in_ok-push_kept-2.ensures.pairs
     (c.loop-next.invariant.whole ∙ ap (λ (t : List (List ℕ × ℕ)). t ++ whole) c.requires.empty)
