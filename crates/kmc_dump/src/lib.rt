@@ -17,4 +17,5 @@ pub mod shown;
 mod slots;
 pub mod wave;
 pub mod waves;
+pub mod word_size;
 pub mod write;

@@ -10,8 +10,11 @@ ghost use Rattle.kmc_dump.specs.Lists.{sized_lists, lists_of};
 ghost use Rattle.kmc_dump.specs.Listed.{spelled};
 ghost use Rattle.kmc_dump.specs.Ranges.{CanBeMerged, whole};
 
+use self::BinLists::{Narrow, Wide};
+use self::SizedLists::{Byte, Full, Half};
 use crate::bins::list_bodies;
 use crate::counts::Counts;
+use crate::word_size::WordSize;
 use crate::write::{DumpError, write_lists};
 use kmc_base::key_rule::KeyRule;
 use kmc_base::kmer::MAX_K;
@@ -57,11 +60,11 @@ fn list_sized<R: Threads + Sync, W: Word + Drop + Send>(
     ensures damaged { (fault : RecordFault) (offset : ℕ) → IsErrOf result (CountError.Damaged fault offset) → IsFirstDamaged rule.k fault offset (map (λ b. b.items) bodies.items) }
 {
     Ok(if limits.cs <= u64::from(u8::MAX) {
-        SizedLists::Byte(list_bodies(rt, alloc, bodies, rule, *limits, threads)?)
+        Byte(list_bodies(rt, alloc, bodies, rule, *limits, threads)?)
     } else if limits.cs <= u64::from(u32::MAX) {
-        SizedLists::Half(list_bodies(rt, alloc, bodies, rule, *limits, threads)?)
+        Half(list_bodies(rt, alloc, bodies, rule, *limits, threads)?)
     } else {
-        SizedLists::Full(list_bodies(rt, alloc, bodies, rule, *limits, threads)?)
+        Full(list_bodies(rt, alloc, bodies, rule, *limits, threads)?)
     })
 }
 
@@ -85,9 +88,9 @@ pub fn list_bins<R: Threads + Sync>(
 {
     let rule = KeyRule { k, strands };
     Ok(if k <= NARROW_K {
-        BinLists::Narrow(list_sized(rt, alloc, bodies, rule, limits, threads)?)
+        Narrow(list_sized(rt, alloc, bodies, rule, limits, threads)?)
     } else {
-        BinLists::Wide(list_sized(rt, alloc, bodies, rule, limits, threads)?)
+        Wide(list_sized(rt, alloc, bodies, rule, limits, threads)?)
     })
 }
 
@@ -115,24 +118,13 @@ pub fn write_bins<R: Threads + Sync, D: Write>(
     ensures front { IsErrOf result DumpError.Write → AppendsFront (D.contents writer.old.inner) (D.contents writer.new.inner) (text_of (spelled k (whole (lists_of lists.now)))) }
     ensures silent { IsErrOf result DumpError.Memory → writer.new ≡ writer.old }
 {
+    let size = WordSize { k };
     match lists {
-        BinLists::Narrow(SizedLists::Byte(lists)) => {
-            write_lists(rt, alloc, writer, lists, k, threads)
-        }
-        BinLists::Narrow(SizedLists::Half(lists)) => {
-            write_lists(rt, alloc, writer, lists, k, threads)
-        }
-        BinLists::Narrow(SizedLists::Full(lists)) => {
-            write_lists(rt, alloc, writer, lists, k, threads)
-        }
-        BinLists::Wide(SizedLists::Byte(lists)) => {
-            write_lists(rt, alloc, writer, lists, k, threads)
-        }
-        BinLists::Wide(SizedLists::Half(lists)) => {
-            write_lists(rt, alloc, writer, lists, k, threads)
-        }
-        BinLists::Wide(SizedLists::Full(lists)) => {
-            write_lists(rt, alloc, writer, lists, k, threads)
-        }
+        Narrow(Byte(lists)) => write_lists(rt, alloc, writer, lists, size, threads),
+        Narrow(Half(lists)) => write_lists(rt, alloc, writer, lists, size, threads),
+        Narrow(Full(lists)) => write_lists(rt, alloc, writer, lists, size, threads),
+        Wide(Byte(lists)) => write_lists(rt, alloc, writer, lists, size, threads),
+        Wide(Half(lists)) => write_lists(rt, alloc, writer, lists, size, threads),
+        Wide(Full(lists)) => write_lists(rt, alloc, writer, lists, size, threads),
     }
 }
