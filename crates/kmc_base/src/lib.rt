@@ -4,6 +4,7 @@
 #![tactic(auto)]
 
 pub mod base;
+pub mod key_rule;
 pub mod keys;
 pub mod kmer;
 pub mod laws;

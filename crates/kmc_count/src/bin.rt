@@ -1,5 +1,5 @@
 //! The count of a bin: the packed words of its body in one list, sorted.
-ghost use Rattle.std.specs.Prelude.{◌≡◌, ℕ, ◌<◌, ◌≤◌, map, OnOk, IfOk, IsErrOf};
+ghost use Rattle.std.specs.Prelude.{◌≡◌, ℕ, ◌<◌, ◌≤◌, [], map, OnOk, IfOk, IsErrOf};
 ghost use Rattle.kmc_record.specs.Faults.{IsFirstFault};
 ghost use Rattle.kmc_record.specs.Refusals.{StopsAtRecord};
 ghost use Rattle.kmc_record.specs.declared.fault.RecordFault.{RecordFault};
@@ -8,7 +8,9 @@ ghost use Rattle.kmc_count.specs.declared.bin.CountError.TheVariants.{Memory};
 
 use crate::direct::NARROW_K;
 use crate::limits::Limits;
+use crate::pair_list::PairList;
 use crate::tally::tally;
+use kmc_base::key_rule::KeyRule;
 use kmc_base::kmer::{Kmer, MAX_K};
 use kmc_base::strands::Strands;
 use kmc_base::word::Word;
@@ -34,21 +36,18 @@ impl From<AllocError> for CountError {
 }
 
 /// The packed keys of the words of a body, sorted, in a vector that may be used again for the next body.
-pub fn sorted_keys<W: Word + Drop>(
+fn sorted_keys<W: Word + Drop>(
     words: &mut Vec<W>,
     body: &[u8],
-    k: usize,
-    strands: Strands,
+    rule: KeyRule,
 ) -> Result<(), CountError>
-    requires some { 1 ≤ k }
-    requires most { k ≤ W.most }
-    requires limit { k ≤ MAX_K }
-    ensures ok { OnOk result (AreSortedKeys strands k body.now (map W.number words.new.items)) }
-    ensures damaged { (fault : RecordFault) (offset : ℕ) → IsErrOf result (CountError.Damaged fault offset) → IsFirstFault k fault offset body.now }
-    ensures memory { IsErrOf result CountError.Memory → StopsAtRecord k body.now }
+    requires { rule.k ≤ W.most }
+    ensures ok { OnOk result (AreSortedKeys rule.strands rule.k body.now (map W.number words.new.items)) }
+    ensures damaged { (fault : RecordFault) (offset : ℕ) → IsErrOf result (CountError.Damaged fault offset) → IsFirstFault rule.k fault offset body.now }
+    ensures memory { IsErrOf result CountError.Memory → StopsAtRecord rule.k body.now }
 {
     words.clear();
-    match push_body(words, body, k, strands) {
+    match push_body(words, body, rule.k, rule.strands) {
         Ok(()) => {
             W::sort(words);
             Ok(())
@@ -58,27 +57,26 @@ pub fn sorted_keys<W: Word + Drop>(
     }
 }
 
-/// The dump of a body. The vector for its packed words may be used again for the next body.
-pub(crate) fn count_into<W: Word + Drop>(
+/// Puts the dump of a body into an empty list of pairs. The vector for its packed words may be used again for the next body.
+pub fn count_into<W: Word + Drop, L: PairList<W>>(
     words: &mut Vec<W>,
-    alloc: Global,
+    pairs: &mut L,
     body: &[u8],
-    k: usize,
-    strands: Strands,
+    rule: KeyRule,
     limits: &Limits,
-) -> Result<Vec<(Kmer, u64)>, CountError>
-    requires some { 1 ≤ k }
-    requires most { k ≤ W.most }
-    requires limit { k ≤ MAX_K }
-    ensures ok { IfOk result (λ pairs. IsDumpOfBody strands k limits.now body.now pairs.items) }
-    ensures damaged { (fault : RecordFault) (offset : ℕ) → IsErrOf result (CountError.Damaged fault offset) → IsFirstFault k fault offset body.now }
-    ensures memory { IsErrOf result CountError.Memory → WantsMemory k body.now }
+) -> Result<(), CountError>
+    requires most { rule.k ≤ W.most }
+    requires takes { L.takes rule.k pairs.old }
+    requires empty { L.pairs pairs.old ≡ [] }
+    requires wide { limits.now.cs ≤ L.greatest }
+    ensures takes { OnOk result (L.takes rule.k pairs.new) }
+    ensures ok { OnOk result (IsDumpOfBody rule.strands rule.k limits.now body.now (L.pairs pairs.new)) }
+    ensures damaged { (fault : RecordFault) (offset : ℕ) → IsErrOf result (CountError.Damaged fault offset) → IsFirstFault rule.k fault offset body.now }
+    ensures memory { IsErrOf result CountError.Memory → WantsMemory rule.k body.now }
 {
-    match sorted_keys(words, body, k, strands) {
-        Ok(()) => {}
-        Err(error) => return Err(error),
-    }
-    Ok(tally(alloc, words, k, limits)?)
+    sorted_keys(words, body, rule)?;
+    tally(pairs, words, rule, limits)?;
+    Ok(())
 }
 
 /// The dump of the records of a body: each key of their words, rising, with the number of words that have it
@@ -97,11 +95,14 @@ pub fn count_bin(
     ensures damaged { (fault : RecordFault) (offset : ℕ) → IsErrOf result (CountError.Damaged fault offset) → IsFirstFault k fault offset body.now }
     ensures memory { IsErrOf result CountError.Memory → WantsMemory k body.now }
 {
+    let rule = KeyRule { k, strands };
+    let mut pairs = Vec::new(alloc);
     if k <= NARROW_K {
         let mut words: Vec<u64> = Vec::new(alloc);
-        count_into(&mut words, alloc, body, k, strands, limits)
+        count_into(&mut words, &mut pairs, body, rule, limits)?;
     } else {
         let mut words: Vec<u128> = Vec::new(alloc);
-        count_into(&mut words, alloc, body, k, strands, limits)
+        count_into(&mut words, &mut pairs, body, rule, limits)?;
     }
+    Ok(pairs)
 }

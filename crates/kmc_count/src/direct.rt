@@ -8,6 +8,7 @@ ghost use Rattle.kmc_count.specs.Dump.{IsDump};
 
 use crate::limits::Limits;
 use crate::tally::tally;
+use kmc_base::key_rule::KeyRule;
 use kmc_base::keys::push_keys;
 use kmc_base::kmer::{Kmer, MAX_K};
 use kmc_base::strands::Strands;
@@ -23,16 +24,14 @@ fn push_read<W: Word + Drop>(
     alloc: Global,
     words: &mut Vec<W>,
     read: &[u8],
-    k: usize,
-    strands: Strands,
+    rule: KeyRule,
 ) -> Result<(), AllocError>
-    requires some { 1 ≤ k }
-    requires most { k ≤ W.most }
-    ensures { OnOk result (map W.number words.new.items ≡ map W.number words.old.items ++ map pack (map (placed_key strands) (counted_words k read.now))) }
+    requires { rule.k ≤ W.most }
+    ensures { OnOk result (map W.number words.new.items ≡ map W.number words.old.items ++ map pack (map (placed_key rule.strands) (counted_words rule.k read.now))) }
 {
-    let stretches = segments(alloc, read, k)?;
+    let stretches = segments(alloc, read, rule.k)?;
     for segment in &stretches {
-        push_keys(words, &segment.codes, k, strands)?;
+        push_keys(words, &segment.codes, rule.k, rule.strands)?;
     }
     Ok(())
 }
@@ -41,21 +40,19 @@ fn push_read<W: Word + Drop>(
 fn count_at<W: Word + Drop>(
     alloc: Global,
     reads: &[Vec<u8>],
-    k: usize,
-    strands: Strands,
+    rule: KeyRule,
     limits: &Limits,
 ) -> Result<Vec<(Kmer, u64)>, AllocError>
-    requires some { 1 ≤ k }
-    requires most { k ≤ W.most }
-    requires limit { k ≤ MAX_K }
-    ensures { IfOk result (λ pairs. IsDump (count_of strands k (map (λ r. r.items) reads.now)) limits.now pairs.items) }
+    requires { rule.k ≤ W.most }
+    ensures { IfOk result (λ pairs. IsDump (count_of rule.strands rule.k (map (λ r. r.items) reads.now)) limits.now pairs.items) }
 {
     let mut words: Vec<W> = Vec::new(alloc);
     for read in reads {
-        push_read(alloc, &mut words, read, k, strands)?;
+        push_read(alloc, &mut words, read, rule)?;
     }
     W::sort(&mut words);
-    let pairs = tally(alloc, &words, k, limits)?;
+    let mut pairs = Vec::new(alloc);
+    tally(&mut pairs, &words, rule, limits)?;
     Ok(pairs)
 }
 
@@ -72,9 +69,10 @@ pub fn count_direct(
     requires most { k ≤ MAX_K }
     ensures { IfOk result (λ pairs. IsDump (count_of strands k (map (λ r. r.items) reads.now)) limits.now pairs.items) }
 {
+    let rule = KeyRule { k, strands };
     if k <= NARROW_K {
-        count_at::<u64>(alloc, reads, k, strands, limits)
+        count_at::<u64>(alloc, reads, rule, limits)
     } else {
-        count_at::<u128>(alloc, reads, k, strands, limits)
+        count_at::<u128>(alloc, reads, rule, limits)
     }
 }

@@ -1,5 +1,5 @@
 //! From sorted words to the pairs of a dump.
-ghost use Rattle.std.specs.Prelude.{◌≡◌, ◌^◌, ◌<◌, ◌≤◌, ◌++◌, [], All, map, OnOk, IfOk};
+ghost use Rattle.std.specs.Prelude.{◌≡◌, ◌^◌, ◌<◌, ◌≤◌, ◌++◌, [], All, map, OnOk};
 ghost use Rattle.std.specs.List.{cons_option};
 ghost use Rattle.std.specs.List.Sorted.{IsSorted};
 ghost use Rattle.std.specs.Ordering.{nat_cmp};
@@ -8,45 +8,48 @@ ghost use Rattle.kmc_count.specs.Occurrences.{occurrences};
 ghost use Rattle.kmc_count.specs.Dump.{IsDump, keep_pair};
 
 use crate::limits::Limits;
-use kmc_base::kmer::{Kmer, MAX_K};
+use crate::pair_list::PairList;
+use kmc_base::key_rule::KeyRule;
 use kmc_base::word::Word;
-use std::alloc::{AllocError, Global};
+use std::alloc::AllocError;
 
-/// Adds a packed word with its count, where the count is listed.
-fn push_kept<W: Word + Drop>(
-    pairs: &mut Vec<(Kmer, u64)>,
+/// Appends a packed word with what is shown of its count, where the limits list it.
+fn push_kept<W: Word + Drop, L: PairList<W>>(
+    pairs: &mut L,
     word: W,
     count: u64,
-    k: usize,
+    rule: KeyRule,
     limits: &Limits,
 ) -> Result<(), AllocError>
-    requires some { 1 ≤ k }
-    requires most { k ≤ MAX_K }
-    requires fits { W.number word < 4 ^ k }
-    ensures { OnOk result (pairs.new.items ≡ pairs.old.items ++ cons_option (keep_pair limits.now (unpack k (W.number word), count)) []) }
+    requires takes { L.takes rule.k pairs.old }
+    requires fits { W.number word < 4 ^ rule.k }
+    requires wide { limits.now.cs ≤ L.greatest }
+    ensures takes { OnOk result (L.takes rule.k pairs.new) }
+    ensures pairs { OnOk result (L.pairs pairs.new ≡ L.pairs pairs.old ++ cons_option (keep_pair limits.now (unpack rule.k (W.number word), count)) []) }
 {
     if let Some(shown) = limits.keep(count) {
-        pairs.push((Kmer::of_packed(word.widen(), k), shown))?;
+        pairs.push_pair(word, rule, shown)?;
     }
     Ok(())
 }
 
-/// The dump of a sorted list of packed words, in one pass.
-pub fn tally<W: Word + Drop>(
-    alloc: Global,
+/// Puts the dump of a sorted list of packed words into an empty list of pairs, in one pass.
+pub fn tally<W: Word + Drop, L: PairList<W>>(
+    pairs: &mut L,
     words: &[W],
-    k: usize,
+    rule: KeyRule,
     limits: &Limits,
-) -> Result<Vec<(Kmer, u64)>, AllocError>
-    requires some { 1 ≤ k }
-    requires most { k ≤ MAX_K }
-    requires fit { All (λ n. n < 4 ^ k) (map W.number words.now) }
+) -> Result<(), AllocError>
+    requires takes { L.takes rule.k pairs.old }
+    requires empty { L.pairs pairs.old ≡ [] }
+    requires wide { limits.now.cs ≤ L.greatest }
+    requires fit { All (λ n. n < 4 ^ rule.k) (map W.number words.now) }
     requires sorted { IsSorted nat_cmp (map W.number words.now) }
-    ensures { IfOk result (λ pairs. IsDump (occurrences (map (unpack k) (map W.number words.now))) limits.now pairs.items) }
+    ensures takes { OnOk result (L.takes rule.k pairs.new) }
+    ensures dump { OnOk result (IsDump (occurrences (map (unpack rule.k) (map W.number words.now))) limits.now (L.pairs pairs.new)) }
 {
-    let mut pairs = Vec::new(alloc);
     let Some((first, rest)) = words.split_first() else {
-        return Ok(pairs);
+        return Ok(());
     };
     let mut word = *first;
     let mut count: u64 = 1;
@@ -54,11 +57,11 @@ pub fn tally<W: Word + Drop>(
         if next.is_same(word) {
             count += 1;
         } else {
-            push_kept(&mut pairs, word, count, k, limits)?;
+            push_kept(pairs, word, count, rule, limits)?;
             word = *next;
             count = 1;
         }
     }
-    push_kept(&mut pairs, word, count, k, limits)?;
-    Ok(pairs)
+    push_kept(pairs, word, count, rule, limits)?;
+    Ok(())
 }

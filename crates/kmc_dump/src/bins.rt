@@ -9,8 +9,7 @@ ghost use Rattle.kmc_dump.specs.Bodies.{AreListsOfBodies, IsListingOfBodies};
 use crate::bin::list_body;
 use crate::counts::Counts;
 use crate::shown::Shown;
-use kmc_base::kmer::MAX_K;
-use kmc_base::strands::Strands;
+use kmc_base::key_rule::KeyRule;
 use kmc_base::word::Word;
 use kmc_count::bin::CountError;
 use kmc_count::limits::Limits;
@@ -18,35 +17,23 @@ use std::alloc::Global;
 use std::thread;
 use std::thread::Threads;
 
-/// The lists of bodies, one after the other, with their words in one vector.
+/// The lists of bodies, one after the other, with their words in one vector. Room for all lists is had first.
 fn list_row<W: Word + Drop, C: Shown + Drop>(
     alloc: Global,
     bodies: Vec<Vec<u8>>,
-    k: usize,
-    strands: Strands,
+    rule: KeyRule,
     limits: &Limits,
 ) -> Result<Vec<Counts<W, C>>, CountError>
-    requires some { 1 ≤ k }
-    requires most { k ≤ W.most }
-    requires limit { k ≤ MAX_K }
+    requires most { rule.k ≤ W.most }
     requires wide { limits.now.cs ≤ C.greatest }
-    ensures ok { IfOk result (λ lists. AreListsOfBodies strands k limits.now (map (λ b. b.items) bodies.items) lists.items) }
-    ensures damaged { (fault : RecordFault) (offset : ℕ) → IsErrOf result (CountError.Damaged fault offset) → IsFirstDamaged k fault offset (map (λ b. b.items) bodies.items) }
+    ensures ok { IfOk result (λ lists. AreListsOfBodies rule.strands rule.k limits.now (map (λ b. b.items) bodies.items) lists.items) }
+    ensures damaged { (fault : RecordFault) (offset : ℕ) → IsErrOf result (CountError.Damaged fault offset) → IsFirstDamaged rule.k fault offset (map (λ b. b.items) bodies.items) }
 {
-    let mut lists = match Vec::with_capacity(alloc, bodies.len()) {
-        Ok(lists) => lists,
-        Err(_) => return Err(CountError::Memory),
-    };
+    let mut lists = Vec::with_capacity(alloc, bodies.len())?;
     let mut words: Vec<W> = Vec::new(alloc);
     for body in bodies {
-        let list = match list_body(&mut words, alloc, &body, k, strands, limits) {
-            Ok(list) => list,
-            Err(error) => return Err(error),
-        };
-        match lists.push(list) {
-            Ok(()) => {}
-            Err(_) => return Err(CountError::Memory),
-        }
+        let list = list_body(&mut words, alloc, &body, rule, limits)?;
+        lists.push_reserved(list);
     }
     Ok(lists)
 }
@@ -83,49 +70,35 @@ pub fn list_bodies<R: Threads + Sync, W: Word + Drop + Send, C: Shown + Drop + S
     rt: &R,
     alloc: Global,
     bodies: Vec<Vec<u8>>,
-    k: usize,
-    strands: Strands,
-    limits: &Limits,
+    rule: KeyRule,
+    limits: Limits,
     threads: usize,
 ) -> Result<Vec<Counts<W, C>>, CountError>
-    requires some { 1 ≤ k }
-    requires most { k ≤ W.most }
-    requires limit { k ≤ MAX_K }
-    requires wide { limits.now.cs ≤ C.greatest }
+    requires most { rule.k ≤ W.most }
+    requires wide { limits.cs ≤ C.greatest }
     requires threads { 1 ≤ threads }
-    ensures ok { IfOk result (λ lists. AreListsOfBodies strands k limits.now (map (λ b. b.items) bodies.items) lists.items) }
-    ensures damaged { (fault : RecordFault) (offset : ℕ) → IsErrOf result (CountError.Damaged fault offset) → IsFirstDamaged k fault offset (map (λ b. b.items) bodies.items) }
+    ensures ok { IfOk result (λ lists. AreListsOfBodies rule.strands rule.k limits (map (λ b. b.items) bodies.items) lists.items) }
+    ensures damaged { (fault : RecordFault) (offset : ℕ) → IsErrOf result (CountError.Damaged fault offset) → IsFirstDamaged rule.k fault offset (map (λ b. b.items) bodies.items) }
 {
     if threads == 1 {
-        return list_row(alloc, bodies, k, strands, limits);
+        return list_row(alloc, bodies, rule, &limits);
     }
     let few = threads / 2;
     let others = threads - few;
     let at = share(&bodies, few, threads);
     let mut low = bodies;
-    let high = match low.split_off(at) {
-        Ok(high) => high,
-        Err(_) => return Err(CountError::Memory),
-    };
+    let high = low.split_off(at)?;
     let front = move || -> Result<Vec<Counts<W, C>>, CountError>
-        requires { IsSync R.row × (1 ≤ k) × (k ≤ W.most) × (k ≤ MAX_K) × (limits.now.cs ≤ C.greatest) × (1 ≤ few) }
-        ensures { IsListingOfBodies strands k limits.entry.now low.items result }
-    { list_bodies(rt, alloc, low, k, strands, limits, few) };
+        requires { IsSync R.row × (rule.k ≤ W.most) × (limits.cs ≤ C.greatest) × (1 ≤ few) }
+        ensures { IsListingOfBodies rule.strands rule.k limits low.items result }
+    { list_bodies(rt, alloc, low, rule, limits, few) };
     let back = move || -> Result<Vec<Counts<W, C>>, CountError>
-        requires { IsSync R.row × (1 ≤ k) × (k ≤ W.most) × (k ≤ MAX_K) × (limits.now.cs ≤ C.greatest) × (1 ≤ others) }
-        ensures { IsListingOfBodies strands k limits.entry.now high.items result }
-    { list_bodies(rt, alloc, high, k, strands, limits, others) };
+        requires { IsSync R.row × (rule.k ≤ W.most) × (limits.cs ≤ C.greatest) × (1 ≤ others) }
+        ensures { IsListingOfBodies rule.strands rule.k limits high.items result }
+    { list_bodies(rt, alloc, high, rule, limits, others) };
     let (first, second) = thread::join(rt, front, back);
-    let mut lists = match first {
-        Ok(lists) => lists,
-        Err(error) => return Err(error),
-    };
-    let mut more = match second {
-        Ok(more) => more,
-        Err(error) => return Err(error),
-    };
-    match lists.append(&mut more) {
-        Ok(()) => Ok(lists),
-        Err(_) => Err(CountError::Memory),
-    }
+    let mut lists = first?;
+    let mut more = second?;
+    lists.append(&mut more)?;
+    Ok(lists)
 }

@@ -3,7 +3,7 @@ ghost use Rattle.std.specs.Prelude.{◌≡◌, ℕ, ◌*◌, ◌≤◌, List, le
 ghost use Rattle.kmc_device.specs.Line.{line_room};
 
 use crate::shown::Shown;
-use kmc_base::kmer::MAX_K;
+use crate::word_size::WordSize;
 use kmc_base::word::Word;
 use kmc_device::line::line_room;
 use std::alloc::{AllocError, Global};
@@ -33,19 +33,18 @@ fn make_buffer<W: Word + Drop, C: Shown + Drop>(
     })
 }
 
-/// So many buffers, each with room for `widest` pairs of words of `k` symbols, and for their lines.
+/// So many buffers, each with room for `widest` pairs of words of this size, and for their lines.
 pub fn make_buffers<W: Word + Drop, C: Shown + Drop>(
     alloc: Global,
     count: usize,
     widest: usize,
-    k: usize,
+    size: WordSize,
 ) -> Result<Vec<Buffer<W, C>>, AllocError>
-    requires { k ≤ MAX_K }
     ensures count { IfOk result (λ v. vec_len v ≡ count) }
     ensures pairs { IfOk result (λ v. All (λ b. widest ≤ vec_capacity b.pairs) v.items) }
-    ensures text { IfOk result (λ v. All (λ b. widest * line_room k C.most_digits ≤ length b.text.items) v.items) }
+    ensures text { IfOk result (λ v. All (λ b. widest * line_room size.k C.most_digits ≤ length b.text.items) v.items) }
 {
-    let Some(bytes) = widest.checked_mul(line_room(k, C::digits())) else {
+    let Some(bytes) = widest.checked_mul(line_room(size.k, C::digits())) else {
         return Err(AllocError);
     };
     let mut buffers = Vec::with_capacity(alloc, count)?;

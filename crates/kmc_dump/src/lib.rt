@@ -15,7 +15,7 @@ pub mod range;
 pub mod ranges;
 pub mod shown;
 mod slots;
-pub mod tally;
 pub mod wave;
 pub mod waves;
+pub mod word_size;
 pub mod write;

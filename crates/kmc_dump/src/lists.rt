@@ -10,9 +10,13 @@ ghost use Rattle.kmc_dump.specs.Lists.{sized_lists, lists_of};
 ghost use Rattle.kmc_dump.specs.Listed.{spelled};
 ghost use Rattle.kmc_dump.specs.Ranges.{CanBeMerged, whole};
 
+use self::BinLists::{Narrow, Wide};
+use self::SizedLists::{Byte, Full, Half};
 use crate::bins::list_bodies;
 use crate::counts::Counts;
+use crate::word_size::WordSize;
 use crate::write::{DumpError, write_lists};
+use kmc_base::key_rule::KeyRule;
 use kmc_base::kmer::MAX_K;
 use kmc_base::strands::Strands;
 use kmc_base::word::Word;
@@ -46,34 +50,22 @@ fn list_sized<R: Threads + Sync, W: Word + Drop + Send>(
     rt: &R,
     alloc: Global,
     bodies: Vec<Vec<u8>>,
-    k: usize,
-    strands: Strands,
+    rule: KeyRule,
     limits: &Limits,
     threads: usize,
 ) -> Result<SizedLists<W>, CountError>
-    requires some { 1 ≤ k }
-    requires most { k ≤ W.most }
-    requires limit { k ≤ MAX_K }
+    requires most { rule.k ≤ W.most }
     requires threads { 1 ≤ threads }
-    ensures ok { IfOk result (λ lists. AreListsOfBodies strands k limits.now (map (λ b. b.items) bodies.items) (sized_lists lists)) }
-    ensures damaged { (fault : RecordFault) (offset : ℕ) → IsErrOf result (CountError.Damaged fault offset) → IsFirstDamaged k fault offset (map (λ b. b.items) bodies.items) }
+    ensures ok { IfOk result (λ lists. AreListsOfBodies rule.strands rule.k limits.now (map (λ b. b.items) bodies.items) (sized_lists lists)) }
+    ensures damaged { (fault : RecordFault) (offset : ℕ) → IsErrOf result (CountError.Damaged fault offset) → IsFirstDamaged rule.k fault offset (map (λ b. b.items) bodies.items) }
 {
-    if limits.cs <= u64::from(u8::MAX) {
-        match list_bodies(rt, alloc, bodies, k, strands, limits, threads) {
-            Ok(lists) => Ok(SizedLists::Byte(lists)),
-            Err(error) => Err(error),
-        }
+    Ok(if limits.cs <= u64::from(u8::MAX) {
+        Byte(list_bodies(rt, alloc, bodies, rule, *limits, threads)?)
     } else if limits.cs <= u64::from(u32::MAX) {
-        match list_bodies(rt, alloc, bodies, k, strands, limits, threads) {
-            Ok(lists) => Ok(SizedLists::Half(lists)),
-            Err(error) => Err(error),
-        }
+        Half(list_bodies(rt, alloc, bodies, rule, *limits, threads)?)
     } else {
-        match list_bodies(rt, alloc, bodies, k, strands, limits, threads) {
-            Ok(lists) => Ok(SizedLists::Full(lists)),
-            Err(error) => Err(error),
-        }
-    }
+        Full(list_bodies(rt, alloc, bodies, rule, *limits, threads)?)
+    })
 }
 
 /// The list of each bin's records, in the order of the bins, by at most so many threads. A pair takes 9 bytes up to k = 32
@@ -94,17 +86,12 @@ pub fn list_bins<R: Threads + Sync>(
     ensures ok { IfOk result (λ lists. AreListsOfBodies strands k limits.now (map (λ b. b.items) bodies.items) (lists_of lists)) }
     ensures damaged { (fault : RecordFault) (offset : ℕ) → IsErrOf result (CountError.Damaged fault offset) → IsFirstDamaged k fault offset (map (λ b. b.items) bodies.items) }
 {
-    if k <= NARROW_K {
-        match list_sized(rt, alloc, bodies, k, strands, limits, threads) {
-            Ok(lists) => Ok(BinLists::Narrow(lists)),
-            Err(error) => Err(error),
-        }
+    let rule = KeyRule { k, strands };
+    Ok(if k <= NARROW_K {
+        Narrow(list_sized(rt, alloc, bodies, rule, limits, threads)?)
     } else {
-        match list_sized(rt, alloc, bodies, k, strands, limits, threads) {
-            Ok(lists) => Ok(BinLists::Wide(lists)),
-            Err(error) => Err(error),
-        }
-    }
+        Wide(list_sized(rt, alloc, bodies, rule, limits, threads)?)
+    })
 }
 
 /// Writes the dump of the lists of bins that share no word: the lines of all their pairs in the order of the words, and
@@ -131,24 +118,13 @@ pub fn write_bins<R: Threads + Sync, D: Write>(
     ensures front { IsErrOf result DumpError.Write → AppendsFront (D.contents writer.old.inner) (D.contents writer.new.inner) (text_of (spelled k (whole (lists_of lists.now)))) }
     ensures silent { IsErrOf result DumpError.Memory → writer.new ≡ writer.old }
 {
+    let size = WordSize { k };
     match lists {
-        BinLists::Narrow(SizedLists::Byte(lists)) => {
-            write_lists(rt, alloc, writer, lists, k, threads)
-        }
-        BinLists::Narrow(SizedLists::Half(lists)) => {
-            write_lists(rt, alloc, writer, lists, k, threads)
-        }
-        BinLists::Narrow(SizedLists::Full(lists)) => {
-            write_lists(rt, alloc, writer, lists, k, threads)
-        }
-        BinLists::Wide(SizedLists::Byte(lists)) => {
-            write_lists(rt, alloc, writer, lists, k, threads)
-        }
-        BinLists::Wide(SizedLists::Half(lists)) => {
-            write_lists(rt, alloc, writer, lists, k, threads)
-        }
-        BinLists::Wide(SizedLists::Full(lists)) => {
-            write_lists(rt, alloc, writer, lists, k, threads)
-        }
+        Narrow(Byte(lists)) => write_lists(rt, alloc, writer, lists, size, threads),
+        Narrow(Half(lists)) => write_lists(rt, alloc, writer, lists, size, threads),
+        Narrow(Full(lists)) => write_lists(rt, alloc, writer, lists, size, threads),
+        Wide(Byte(lists)) => write_lists(rt, alloc, writer, lists, size, threads),
+        Wide(Half(lists)) => write_lists(rt, alloc, writer, lists, size, threads),
+        Wide(Full(lists)) => write_lists(rt, alloc, writer, lists, size, threads),
     }
 }

@@ -6,7 +6,7 @@ use crate::counts::Counts;
 use crate::ranges::Ranges;
 use crate::shown::Shown;
 use crate::slots::slot_sizes;
-use kmc_base::kmer::MAX_K;
+use crate::word_size::WordSize;
 use kmc_base::word::Word;
 use std::alloc::{AllocError, Global};
 
@@ -25,16 +25,14 @@ const SLOT: usize = 16384;
 fn join_slots<W: Word + Drop, C: Shown + Drop>(
     alloc: Global,
     lists: &[Counts<W, C>],
-    k: usize,
+    size: WordSize,
     shift: u32,
     slots: usize,
 ) -> Result<Ranges, AllocError>
-    requires some { 1 ≤ k }
-    requires most { k ≤ MAX_K }
-    requires merge { CanBeMerged k lists.now }
+    requires merge { CanBeMerged size.k lists.now }
     requires shift { shift < 128 }
     requires inside { All (λ p. p.0 / 2 ^ shift < slots) (joined (packs lists.now)) }
-    ensures k { IfOk result (λ r. r.k ≡ k) }
+    ensures k { IfOk result (λ r. r.k ≡ size.k) }
     ensures are { IfOk result (λ r. AreRanges r lists.now) }
 {
     let sizes = slot_sizes(alloc, lists, shift, slots)?;
@@ -53,7 +51,7 @@ fn join_slots<W: Word + Drop, C: Shown + Drop>(
     }
     bounds.push(slots as u128)?;
     Ok(Ranges {
-        k,
+        k: size.k,
         shift,
         bounds,
         widest: widest.max(pending),
@@ -61,17 +59,16 @@ fn join_slots<W: Word + Drop, C: Shown + Drop>(
 }
 
 /// How many leading symbols tell the slot of a word: six, and up to ten where slots would have more than some 16 Ki pairs.
-fn leading(total: usize, k: usize) -> usize
-    requires { 1 ≤ k }
+fn leading(total: usize, size: WordSize) -> usize
     ensures some { 1 ≤ result }
     ensures few { result ≤ 10 }
-    ensures within { result ≤ k }
+    ensures within { result ≤ size.k }
 {
     let mut symbols = LEAST;
     while symbols < MOST && total >> (2 * symbols) > SLOT {
         symbols += 1;
     }
-    symbols.min(k)
+    symbols.min(size.k)
 }
 
 /// Ranges of about 64 Ki pairs for lists that have so many pairs in all. The leading symbols of a word tell its slot. It takes
@@ -79,16 +76,14 @@ fn leading(total: usize, k: usize) -> usize
 pub fn part_words<W: Word + Drop, C: Shown + Drop>(
     alloc: Global,
     lists: &[Counts<W, C>],
-    k: usize,
+    size: WordSize,
     total: usize,
 ) -> Result<Ranges, AllocError>
-    requires some { 1 ≤ k }
-    requires most { k ≤ MAX_K }
-    requires merge { CanBeMerged k lists.now }
-    ensures k { IfOk result (λ r. r.k ≡ k) }
+    requires { CanBeMerged size.k lists.now }
+    ensures k { IfOk result (λ r. r.k ≡ size.k) }
     ensures are { IfOk result (λ r. AreRanges r lists.now) }
 {
-    let symbols = leading(total, k);
-    let shift = 2 * (k - symbols) as u32;
-    join_slots(alloc, lists, k, shift, 1 << (2 * symbols))
+    let symbols = leading(total, size);
+    let shift = 2 * (size.k - symbols) as u32;
+    join_slots(alloc, lists, size, shift, 1 << (2 * symbols))
 }

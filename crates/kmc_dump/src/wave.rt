@@ -8,6 +8,7 @@ use crate::counts::Counts;
 use crate::range::put_range;
 use crate::ranges::Ranges;
 use crate::shown::Shown;
+use crate::word_size::WordSize;
 use kmc_base::word::Word;
 use std::thread;
 use std::thread::Threads;
@@ -33,7 +34,7 @@ fn fill<W: Word + Drop, C: Shown + Drop>(
     let to = ranges.bounds[range + 1];
     buffer.filled = put_range(
         lists,
-        ranges.k,
+        WordSize { k: ranges.k },
         ranges.shift,
         from,
         to,

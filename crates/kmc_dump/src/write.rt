@@ -5,13 +5,14 @@ ghost use Rattle.kmc_device.specs.Device.{AppendsFront, RisesByOne};
 ghost use Rattle.kmc_device.specs.Line.{text_of};
 ghost use Rattle.kmc_dump.specs.Listed.{spelled};
 ghost use Rattle.kmc_dump.specs.Ranges.{CanBeMerged, joined, packs, whole};
+ghost use Rattle.kmc_dump.specs.declared.write.DumpError.TheVariants.{Memory};
 
 use crate::buffers::make_buffers;
 use crate::counts::Counts;
 use crate::parting::part_words;
 use crate::shown::Shown;
 use crate::waves::write_ranges;
-use kmc_base::kmer::MAX_K;
+use crate::word_size::WordSize;
 use kmc_base::word::Word;
 use kmc_device::counted::Counted;
 use std::alloc::{AllocError, Global};
@@ -25,6 +26,14 @@ pub enum DumpError {
     Memory,
     /// A write or the flush failed, or a write took nothing of what was left.
     Write,
+}
+
+impl From<AllocError> for DumpError {
+    ghost from_gives = { λ _ e. e ≡ Memory };
+
+    fn from(_: AllocError) -> DumpError {
+        DumpError::Memory
+    }
 }
 
 /// How many pairs the lists have. It fails where there are more than a number tells, which no memory could hold.
@@ -55,36 +64,25 @@ pub fn write_lists<
     alloc: Global,
     writer: &mut Counted<D>,
     lists: &[Counts<W, C>],
-    k: usize,
+    size: WordSize,
     threads: usize,
 ) -> Result<u64, DumpError>
-    requires some { 1 ≤ k }
-    requires most { k ≤ MAX_K }
-    requires merge { CanBeMerged k lists.now }
+    requires merge { CanBeMerged size.k lists.now }
     requires threads { 1 ≤ threads }
     requires failures { writer.old.failures < 2 ^ 64 - 1 }
-    ensures ok { OnOk result (Appends (D.contents writer.old.inner) (D.contents writer.new.inner) (text_of (spelled k (whole lists.now)))) }
+    ensures ok { OnOk result (Appends (D.contents writer.old.inner) (D.contents writer.new.inner) (text_of (spelled size.k (whole lists.now)))) }
     ensures lines { IfOk result (λ lines. lines ≡ length (whole lists.now)) }
     ensures kept { OnOk result (writer.new.failures ≡ writer.old.failures) }
     ensures failed { IsErrOf result DumpError.Write → RisesByOne writer.old.failures writer.new.failures }
-    ensures front { IsErrOf result DumpError.Write → AppendsFront (D.contents writer.old.inner) (D.contents writer.new.inner) (text_of (spelled k (whole lists.now))) }
+    ensures front { IsErrOf result DumpError.Write → AppendsFront (D.contents writer.old.inner) (D.contents writer.new.inner) (text_of (spelled size.k (whole lists.now))) }
     ensures silent { IsErrOf result DumpError.Memory → writer.new ≡ writer.old }
 {
-    let total = match count_pairs(lists) {
-        Ok(total) => total,
-        Err(_) => return Err(DumpError::Memory),
-    };
-    let ranges = match part_words(alloc, lists, k, total) {
-        Ok(ranges) => ranges,
-        Err(_) => return Err(DumpError::Memory),
-    };
+    let total = count_pairs(lists)?;
+    let ranges = part_words(alloc, lists, size, total)?;
     // No more than hold all pairs once and the widest range once more.
     let wanted = (total / ranges.widest.max(1)).saturating_add(1);
     let count = threads.min(wanted);
-    let mut buffers = match make_buffers(alloc, count, ranges.widest, k) {
-        Ok(buffers) => buffers,
-        Err(_) => return Err(DumpError::Memory),
-    };
+    let mut buffers = make_buffers(alloc, count, ranges.widest, size)?;
     match write_ranges(rt, writer, lists, &ranges, &mut buffers) {
         Ok(()) => Ok(total as u64),
         Err(_) => Err(DumpError::Write),

@@ -9,6 +9,7 @@ ghost use Rattle.kmc_record.specs.declared.fault.RecordFault.{RecordFault};
 
 use crate::fault::BodyError;
 use crate::record::{first_symbols, push_record};
+use kmc_base::key_rule::KeyRule;
 use kmc_base::kmer::MAX_K;
 use kmc_base::strands::Strands;
 use kmc_base::word::Word;
@@ -37,7 +38,8 @@ pub fn push_body<W: Word + Drop>(
             Err(fault) => return Err(BodyError::Damaged(fault, offset)),
         };
         let size = (symbols + 3) / 4;
-        push_record(words, &rest[1..1 + size], symbols, k, strands)?;
+        let rule = KeyRule { k, strands };
+        push_record(words, rule, &rest[1..1 + size], symbols)?;
         offset += 1 + size;
     }
     Ok(())

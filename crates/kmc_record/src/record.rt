@@ -7,6 +7,7 @@ ghost use Rattle.kmc_base.specs.Lemmas.Rolling.{ahead, ahead_quarters, behind, b
 ghost use Rattle.kmc_record.specs.Faults.{HasFault};
 
 use crate::fault::RecordFault;
+use kmc_base::key_rule::KeyRule;
 use kmc_base::keys::packed_key;
 use kmc_base::kmer::MAX_K;
 use kmc_base::strands::Strands;
@@ -95,19 +96,18 @@ fn push_code<W: Word + Drop>(
 /// first; the symbols in front of the first word's last one enter the window a byte at a time.
 pub fn push_record<W: Word + Drop>(
     words: &mut Vec<W>,
+    rule: KeyRule,
     bytes: &[u8],
     symbols: usize,
-    k: usize,
-    strands: Strands,
 ) -> Result<(), AllocError>
-    requires some { 1 ≤ k }
-    requires most { k ≤ W.most }
-    requires long { k ≤ symbols }
+    requires most { rule.k ≤ W.most }
+    requires long { rule.k ≤ symbols }
     requires inside { symbols ≤ 4 * length bytes.now }
     requires few { length bytes.now < 1000 }
     ensures { OnOk result (map W.number words.new.items
-        ≡ map W.number words.old.items ++ map pack (keys strands k (take symbols (codes_in bytes.now)))) }
+        ≡ map W.number words.old.items ++ map pack (keys rule.strands rule.k (take symbols (codes_in bytes.now)))) }
 {
+    let k = rule.k;
     words.reserve(symbols + 1 - k)?;
     let top = W::top(k);
     let mut forward = W::zero();
@@ -126,18 +126,18 @@ pub fn push_record<W: Word + Drop>(
     }
     'near: for i in k - 1..near {
         let code = code_at(bytes, i);
-        (forward, back) = push_code(words, forward, back, code, top, strands);
+        (forward, back) = push_code(words, forward, back, code, top, rule.strands);
     }
     'bytes: for j in begun..symbols / 4 {
         let byte = bytes[j];
         'codes: for r in 0..4_usize {
             let code = (byte >> (6 - 2 * r)) % 4;
-            (forward, back) = push_code(words, forward, back, code, top, strands);
+            (forward, back) = push_code(words, forward, back, code, top, rule.strands);
         }
     }
     'rest: for i in last..symbols {
         let code = code_at(bytes, i);
-        (forward, back) = push_code(words, forward, back, code, top, strands);
+        (forward, back) = push_code(words, forward, back, code, top, rule.strands);
     }
     Ok(())
 }

@@ -1,22 +1,23 @@
-use Rattle.std.proofs.Common.{◌≡◌, ◌^◌, ◌<◌, map, All, Err, subst, sym, ap}
+use Rattle.std.proofs.Common.{◌≡◌, ◌^◌, ◌<◌, map, All, subst, sym}
 use Rattle.std.specs.List.Sorted.{IsSorted}
 use Rattle.std.specs.Ordering.{nat_cmp}
 use Rattle.kmc_base.specs.Packed.{unpack}
-use Rattle.kmc_count.specs.declared.bin.CountError.TheVariants.{Damaged}
 use Rattle.kmc_count.specs.Occurrences.{occurrences}
 use Rattle.kmc_count.specs.Dump.{IsDump}
+use Rattle.kmc_count.proofs.PassedOn.{passed_on}
 use Rattle.kmc_count.proofs.Counting.{body_fits, body_dump}
 use Rattle.kmc_count.proofs.bin.count_into.Goals as goal
 
 pub tally-requires-clause-fit : goal.tally-requires-clause-fit
-tally-requires-clause-fit g c = subst (λ ns. All (λ n. n < 4 ^ c.args.k) (map g.W.Word.number ns)) (sym c.deref.ensures.value) (body_fits _ _ _ _ c.in-Ok.ensures.ok)
+tally-requires-clause-fit g c = subst (λ ns. All (λ n. n < 4 ^ c.args.rule.k) (map g.W.Word.number ns)) (sym c.deref.ensures.value) (body_fits _ _ _ _ c.in_ok-sorted_keys.ensures.ok)
 
 pub tally-requires-clause-sorted : goal.tally-requires-clause-sorted
-tally-requires-clause-sorted g c = subst (λ ns. IsSorted nat_cmp (map g.W.Word.number ns)) (sym c.deref.ensures.value) c.in-Ok.ensures.ok.sorted
+tally-requires-clause-sorted g c = subst (λ ns. IsSorted nat_cmp (map g.W.Word.number ns)) (sym c.deref.ensures.value) c.in_ok-sorted_keys.ensures.ok.sorted
 
 pub returns-clause-ok : goal.returns-clause-ok
 returns-clause-ok g c =
-    body_dump _ _ _ _ c.in-Ok.ensures.ok c.args.limits.now _ (subst (λ ns. IsDump (occurrences (map (unpack c.args.k) (map g.W.Word.number ns))) c.args.limits.now (c.in_ok-tally.field-0.items)) c.deref.ensures.value c.in_ok-tally.ensures)
+    body_dump _ _ _ _ c.in_ok-sorted_keys.ensures.ok c.args.limits.now _ (subst (λ ns. IsDump (occurrences (map (unpack c.args.rule.k) (map g.W.Word.number ns))) c.args.limits.now (g.L.PairList.pairs c.tally.new.pairs)) c.deref.ensures.value c.in_ok-tally.ensures.dump)
 
-pub returns-in-Err-clause-damaged : goal.returns-in-Err-clause-damaged
-returns-in-Err-clause-damaged g c = λ fault offset is. let e : c.in-Err.error ≡ Damaged fault offset = cc is in c.in-Err.ensures.damaged fault offset (ap Err e)
+pub returns-in_err-sorted_keys-clause-damaged : goal.returns-in_err-sorted_keys-clause-damaged
+returns-in_err-sorted_keys-clause-damaged g c = λ fault offset is.
+    c.sorted_keys.ensures.damaged fault offset (passed_on c.sorted_keys.result c.from_residual.result _ _ c.in_err-sorted_keys.was c.from_residual.ensures.1 is)

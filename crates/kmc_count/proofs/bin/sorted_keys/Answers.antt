@@ -15,7 +15,7 @@ pub returns-in-Ok-clause-ok : goal.returns-in-Ok-clause-ok
 returns-in-Ok-clause-ok g c =
     let num = g.W.Word.number in
     let made = c.in-Ok.ensures.ok in
-    let is = made.2 ∙ ap (λ ns. map num ns ++ map pack (record_keys c.args.strands c.args.k made.0)) c.clear.ensures.items in
+    let is = made.2 ∙ ap (λ ns. map num ns ++ map pack (record_keys c.args.rule.strands c.args.rule.k made.0)) c.clear.ensures.items in
     record {
       super_kmers = made.0;
       records = made.1;

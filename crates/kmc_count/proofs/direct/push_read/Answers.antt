@@ -27,17 +27,17 @@ one_more f items i s old before after inside is was now =
 
 pub loop-segment-preserved : goal.loop-segment-preserved
 loop-segment-preserved g c =
-    one_more (λ s. keys c.args.strands c.args.k s.codes) c.deref-segment-items.result.now c.loop-segment.segment-index c.segment-item.result
+    one_more (λ s. keys c.args.rule.strands c.args.rule.k s.codes) c.deref-segment-items.result.now c.loop-segment.segment-index c.segment-item.result
     (map g.W.Word.number c.args.words.now.items) _ _ c.loop-segment-test.true c.segment-item.is c.loop-segment.invariant
-    (c.in_ok-push_keys.ensures ∙ ap (λ t. map g.W.Word.number c.loop-segment.words.items ++ map pack (keys c.args.strands c.args.k t)) c.deref.ensures.value)
+    (c.in_ok-push_keys.ensures ∙ ap (λ t. map g.W.Word.number c.loop-segment.words.items ++ map pack (keys c.args.rule.strands c.args.rule.k t)) c.deref.ensures.value)
 
 pub returns : goal.returns
 returns g c =
     let items = c.deref-segment-items.result.now in
     let ss = map stretch items in
-    let f : Stretch → List (List ℕ) = λ s. keys c.args.strands c.args.k s.codes in
+    let f : Stretch → List (List ℕ) = λ s. keys c.args.rule.strands c.args.rule.k s.codes in
     let all : take c.loop-segment.segment-index ss ≡ ss = take_all c.loop-segment.segment-index ss (omega (arith, c.loop-segment-test.false, length-map items stretch)) in
-    let are : ss ≡ segments_of c.args.k c.args.read.now = ap (map stretch) c.deref-segment-items.ensures.value ∙ c.in_ok-stretches.ensures in
+    let are : ss ≡ segments_of c.args.rule.k c.args.read.now = ap (map stretch) c.deref-segment-items.ensures.value ∙ c.in_ok-stretches.ensures in
     c.loop-segment.invariant
     ∙ ap (λ (t : List (List ℕ)). map g.W.Word.number c.args.words.now.items ++ map pack t)
-    (ap (flat_map f) (all ∙ are) ∙ keys_of_segments c.args.strands c.args.k c.args.read.now c.requires.some)
+    (ap (flat_map f) (all ∙ are) ∙ keys_of_segments c.args.rule.strands c.args.rule.k c.args.read.now c.args.rule.within.0)

@@ -9,17 +9,18 @@ use Rattle.kmc_count.proofs.SortedRuns.{all_runs, empty_dump}
 use Rattle.kmc_count.proofs.tally.tally.Goals as goal
 use Rattle.kmc_count.proofs.tally.tally.Goals.{then-is_same, else-is_same+in_ok-push_kept}
 
-pub returns-in_default : goal.returns-in_default
-returns-in_default g c =
+pub returns-in_default-clause-dump : goal.returns-in_default-clause-dump
+returns-in_default-clause-dump g c =
     let num = g.W.Word.number in
     let ns = map num c.args.words.now in
-    empty_dump c.args.limits.now (map (unpack c.args.k) ns) _ (length-map ns (unpack c.args.k) ∙ length-map c.args.words.now num ∙ c.in_default.ensures.cases) c.new-pairs.ensures.items
-    (sorted_words c.args.k ns c.requires.fit c.requires.sorted)
+    empty_dump c.args.limits.now (map (unpack c.args.rule.k) ns) _ (length-map ns (unpack c.args.rule.k) ∙ length-map c.args.words.now num ∙ c.in_default.ensures.cases) c.requires.empty
+    (sorted_words c.args.rule.k ns c.requires.fit c.requires.sorted)
 
 pub loop-next-preserved : goal.loop-next-preserved
 loop-next-preserved g c =
     let num = g.W.Word.number in
-    let k = c.args.k in
+    let list = g.L.PairList.pairs in
+    let k = c.args.rule.k in
     let rest = map num c.in-Some.rest.now in
     let i = c.loop-next.next-index in
     let q = num c.next-item.result in
@@ -30,32 +31,32 @@ loop-next-preserved g c =
     let hq : q < 4 ^ k = subst (λ n. n < 4 ^ k) (sym at) (fit i 0 inside) in
     elim c.if-is_same.branch [
       | then-is_same w ↦ record {
+        takes = subst (g.L.PairList.takes k) (sym w.pairs-is) c.loop-next.invariant.takes;
         few = omega (arith, w.count-is, c.loop-next.invariant.few);
         fits = omega (arith, ap num w.word-is, c.loop-next.invariant.fits);
-        whole = (λ j. (w.pairs-is j).items ++ kept_pairs c.args.limits.now (runs_from (unpack k (num (w.word-is j))) (w.count-is j) more))
+        whole = (λ j. list (w.pairs-is j) ++ kept_pairs c.args.limits.now (runs_from (unpack k (num (w.word-is j))) (w.count-is j) more))
             ∙ goes_on k c.args.limits.now (num c.loop-next.word) q c.loop-next.count i rest _ _ inside at c.loop-next.invariant.fits (c.is_same.ensures.0 w.if-is_same.true) c.loop-next.invariant.whole;
       }
       | else-is_same+in_ok-push_kept w ↦
           let differ : q ≡ num c.loop-next.word → ⊥ = λ e. let yes = c.is_same.ensures.1 e in cc in
           record {
+            takes = subst (g.L.PairList.takes k) (sym w.pairs-is) w.in_ok-push_kept.ensures.takes;
             few = omega (arith, w.count-is);
             fits = omega (arith, ap num w.word-is, hq);
-            whole = (λ j. (w.pairs-is j).items ++ kept_pairs c.args.limits.now (runs_from (unpack k (num (w.word-is j))) (w.count-is j) more))
+            whole = (λ j. list (w.pairs-is j) ++ kept_pairs c.args.limits.now (runs_from (unpack k (num (w.word-is j))) (w.count-is j) more))
                 ∙ ends k c.args.limits.now (num c.loop-next.word) q c.loop-next.count i rest _ _ _ inside at c.loop-next.invariant.fits hq differ
-                w.in_ok-push_kept.ensures c.loop-next.invariant.whole;
+                w.in_ok-push_kept.ensures.pairs c.loop-next.invariant.whole;
           }
     ]
 
-pub returns : goal.returns
-returns g c =
+pub returns-clause-dump : goal.returns-clause-dump
+returns-clause-dump g c =
     let num = g.W.Word.number in
-    let k = c.args.k in
-    let l = c.args.limits.now in
-    let ns = map num c.in-Some.rest.now in
-    let rest = map (unpack k) ns in
+    let k = c.args.rule.k in
+    let rest = map (unpack k) (map num c.in-Some.rest.now) in
     let first = unpack k (num c.in-Some.first.now) in
-    let whole = kept_pairs l (runs_from first 1 rest) in
-    let end : drop c.loop-next.next-index rest ≡ [] = drop_of_length-le rest (omega (arith, c.loop-next-test.false, length-map ns (unpack k), length-map c.in-Some.rest.now num)) in
-    all_runs l (unpack k (num c.loop-next.word)) first c.loop-next.count c.loop-next.next-index (map (unpack k) (map num c.args.words.now)) rest _ _
-    end (ap (λ v. map (unpack k) (map num v)) c.in-Some.ensures.cases.0) (sorted_words k (map num c.args.words.now) c.requires.fit c.requires.sorted) c.in_ok-push_kept-2.ensures
-    (c.loop-next.invariant.whole ∙ ap (λ (t : List (List ℕ × ℕ)). t ++ whole) c.new-pairs.ensures.items)
+    let whole = kept_pairs c.args.limits.now (runs_from first 1 rest) in
+    let end : drop c.loop-next.next-index rest ≡ [] = drop_of_length-le rest (omega (arith, c.loop-next-test.false, length-map (map num c.in-Some.rest.now) (unpack k), length-map c.in-Some.rest.now num)) in
+    all_runs c.args.limits.now (unpack k (num c.loop-next.word)) first c.loop-next.count c.loop-next.next-index (map (unpack k) (map num c.args.words.now)) rest _ _
+    end (ap (λ v. map (unpack k) (map num v)) c.in-Some.ensures.cases.0) (sorted_words k (map num c.args.words.now) c.requires.fit c.requires.sorted) c.in_ok-push_kept-2.ensures.pairs
+    (c.loop-next.invariant.whole ∙ ap (λ (t : List (List ℕ × ℕ)). t ++ whole) c.requires.empty)

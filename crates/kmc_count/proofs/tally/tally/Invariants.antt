@@ -7,8 +7,9 @@ use Rattle.kmc_count.proofs.tally.tally.Given as goal
 -- the dump is the pairs so far, the run that is open, and the runs of the rest
 abbrev pub invariant-loop-next : goal.invariant-loop-next
 invariant-loop-next g l = record {
+  takes : g.L.PairList.takes l.rule.k l.pairs;
   few : l.count ≤ l.next-index + 1;
-  fits : g.W.Word.number l.word < 4 ^ l.k;
-  whole : l.pairs.items ++ kept_pairs l.limits (runs_from (unpack l.k (g.W.Word.number l.word)) l.count (drop l.next-index (map (unpack l.k) (map g.W.Word.number l.rest))))
-      ≡ l.initial.pairs.items ++ kept_pairs l.limits (runs_from (unpack l.k (g.W.Word.number l.initial.word)) 1 (map (unpack l.k) (map g.W.Word.number l.rest)));
+  fits : g.W.Word.number l.word < 4 ^ l.rule.k;
+  whole : g.L.PairList.pairs l.pairs ++ kept_pairs l.limits (runs_from (unpack l.rule.k (g.W.Word.number l.word)) l.count (drop l.next-index (map (unpack l.rule.k) (map g.W.Word.number l.rest))))
+      ≡ g.L.PairList.pairs l.initial.pairs ++ kept_pairs l.limits (runs_from (unpack l.rule.k (g.W.Word.number l.initial.word)) 1 (map (unpack l.rule.k) (map g.W.Word.number l.rest)));
 }

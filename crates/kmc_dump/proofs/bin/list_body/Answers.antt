@@ -1,23 +1,23 @@
-use Rattle.std.proofs.Common.{◌≡◌, ◌^◌, ◌<◌, map, All, Err, subst, sym, ap}
-use Rattle.std.specs.List.Sorted.{IsSorted}
-use Rattle.std.specs.Ordering.{nat_cmp}
-use Rattle.kmc_base.specs.Packed.{unpack}
-use Rattle.kmc_count.specs.declared.bin.CountError.TheVariants.{Damaged}
-use Rattle.kmc_count.specs.Occurrences.{occurrences}
-use Rattle.kmc_count.specs.Dump.{IsDump}
-use Rattle.kmc_count.proofs.Counting.{body_fits, body_dump}
-use Rattle.kmc_dump.specs.Listed.{pairs_of}
+use Rattle.std.proofs.Common.{ap, refl, subst, sym}
+use Rattle.std.proofs.lemmas.List.Elements.{All-nil}
+use Rattle.kmc_count.proofs.PassedOn.{passed_on}
+use Rattle.kmc_count.specs.Bodies.{IsDumpOfBody}
+use Rattle.kmc_dump.specs.Listed.{Listed, pairs_of, IsListOf}
 use Rattle.kmc_dump.proofs.bin.list_body.Goals as goal
 
-pub tally-requires-clause-fit : goal.tally-requires-clause-fit
-tally-requires-clause-fit g c = subst (λ ns. All (λ n. n < 4 ^ c.args.k) (map g.W.Word.number ns)) (sym c.deref.ensures.value) (body_fits _ _ _ _ c.in-Ok.ensures.ok)
+pub count_into-requires-clause-takes : goal.count_into-requires-clause-takes
+count_into-requires-clause-takes g c = subst (IsListOf c.args.rule.k) (sym c.new-pairs.ensures) record { same = refl; fit = All-nil _ }
 
-pub tally-requires-clause-sorted : goal.tally-requires-clause-sorted
-tally-requires-clause-sorted g c = subst (λ ns. IsSorted nat_cmp (map g.W.Word.number ns)) (sym c.deref.ensures.value) c.in-Ok.ensures.ok.sorted
+pub count_into-requires-clause-empty : goal.count_into-requires-clause-empty
+count_into-requires-clause-empty g c = ap pairs_of c.new-pairs.ensures
+
+pub returns-clause-list : goal.returns-clause-list
+returns-clause-list g c = subst (IsListOf c.args.rule.k) (sym c.shrink.ensures) c.in_ok-count_into.ensures.takes
 
 pub returns-clause-ok : goal.returns-clause-ok
 returns-clause-ok g c =
-    body_dump _ _ _ _ c.in-Ok.ensures.ok c.args.limits.now _ (subst (λ ns. IsDump (occurrences (map (unpack c.args.k) (map g.W.Word.number ns))) c.args.limits.now (pairs_of c.in_ok-tally.field-0)) c.deref.ensures.value c.in_ok-tally.ensures.dump)
+    subst (λ (v : Listed). IsDumpOfBody c.args.rule.strands c.args.rule.k c.args.limits.now c.args.body.now (pairs_of v)) (sym c.shrink.ensures) c.in_ok-count_into.ensures.ok
 
-pub returns-in-Err-clause-damaged : goal.returns-in-Err-clause-damaged
-returns-in-Err-clause-damaged g c = λ fault offset is. let e : c.in-Err.error ≡ Damaged fault offset = cc is in c.in-Err.ensures.damaged fault offset (ap Err e)
+pub returns-in_err-count_into-clause-damaged : goal.returns-in_err-count_into-clause-damaged
+returns-in_err-count_into-clause-damaged g c = λ fault offset is.
+    c.count_into.ensures.damaged fault offset (passed_on c.count_into.result c.from_residual-in_err-count_into.result _ _ c.in_err-count_into.was c.from_residual-in_err-count_into.ensures.1 is)

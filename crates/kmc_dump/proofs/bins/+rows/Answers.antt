@@ -1,6 +1,6 @@
 use Rattle.std.proofs.Common.{◌≡◌, ◌++◌, ℕ, List, map, take, drop, sym, ap, subst, ◌∙◌, Vec, Global, Err}
 use Rattle.std.proofs.lemmas.List.{map-append, take-append-drop}
-use Rattle.kmc_count.specs.declared.bin.CountError.TheVariants.{Damaged}
+use Rattle.kmc_count.proofs.PassedOn.{passed_on}
 use Rattle.kmc_count.specs.Bodies.{IsFirstDamaged}
 use Rattle.kmc_dump.proofs.ManyBodies.{texts, first_damaged, second_damaged}
 use Rattle.kmc_dump.specs.Listed.{pairs_of}
@@ -13,28 +13,26 @@ both : (bodies low high : List (Vec ℕ Global)) (at : ℕ) → low ≡ take at 
 both bodies low high at front back =
     sym (map-append (λ (b : Vec ℕ Global). b.items) low high) ∙ ap texts ((λ i. front i ++ back i) ∙ take-append-drop at bodies)
 
-pub returns-in-Err-first-clause-damaged : goal.returns-in-Err-first-clause-damaged
-returns-in-Err-first-clause-damaged g t c = λ fault offset h.
-    let a = c.args in let low = c.split_off.new.self.items in let high = c.in-Ok.high.items in
-    let same : c.in-Err-first.error ≡ Damaged fault offset = cc in
-    subst (IsFirstDamaged a.k fault offset) (both a.bodies.items low high c.share-at.result c.in-Ok.ensures.items c.in-Ok.ensures.tail)
-    (first_damaged a.strands a.k a.limits.now (texts low) (texts high) fault offset (c.join-first.ensures.first.damaged fault offset (c.in-Err-first.is ∙ ap Err same)))
+pub returns-in_err-lists-clause-damaged : goal.returns-in_err-lists-clause-damaged
+returns-in_err-lists-clause-damaged g t c = λ fault offset h.
+    let a = c.args in let low = c.split_off.new.self.items in let high = c.in_ok-high.high.items in
+    subst (IsFirstDamaged a.rule.k fault offset) (both a.bodies.items low high c.share-at.result c.in_ok-high.ensures.items c.in_ok-high.ensures.tail)
+    (first_damaged a.rule.strands a.rule.k a.limits (texts low) (texts high) fault offset (c.join-first.ensures.first.damaged fault offset (passed_on c.join-first.result.0 c.from_residual-in_err-lists.result _ _ c.in_err-lists.was c.from_residual-in_err-lists.ensures.1 h)))
 
-pub returns-in-Err-second-clause-damaged : goal.returns-in-Err-second-clause-damaged
-returns-in-Err-second-clause-damaged g t c = λ fault offset h.
-    let a = c.args in let low = c.split_off.new.self.items in let high = c.in-Ok.high.items in
-    let same : c.in-Err-second.error ≡ Damaged fault offset = cc in
-    let first = subst (IsListingOfBodies a.strands a.k a.limits.now low) c.in-Ok-first.is c.join-first.ensures.first in
-    subst (IsFirstDamaged a.k fault offset) (both a.bodies.items low high c.share-at.result c.in-Ok.ensures.items c.in-Ok.ensures.tail)
-    (second_damaged a.strands a.k a.limits.now (texts low) (texts high) (map pairs_of c.in-Ok-first.lists.items) fault offset first.ok.dumps
-    (c.join-first.ensures.second.damaged fault offset (c.in-Err-second.is ∙ ap Err same)))
+pub returns-in_err-more-clause-damaged : goal.returns-in_err-more-clause-damaged
+returns-in_err-more-clause-damaged g t c = λ fault offset h.
+    let a = c.args in let low = c.split_off.new.self.items in let high = c.in_ok-high.high.items in
+    let first = subst (IsListingOfBodies a.rule.strands a.rule.k a.limits low) c.in_ok-lists.was c.join-first.ensures.first in
+    subst (IsFirstDamaged a.rule.k fault offset) (both a.bodies.items low high c.share-at.result c.in_ok-high.ensures.items c.in_ok-high.ensures.tail)
+    (second_damaged a.rule.strands a.rule.k a.limits (texts low) (texts high) (map pairs_of c.in_ok-lists.lists.items) fault offset first.ok.dumps
+    (c.join-first.ensures.second.damaged fault offset (passed_on c.join-first.result.1 c.from_residual-in_err-more.result _ _ c.in_err-more.was c.from_residual-in_err-more.ensures.1 h)))
 
-pub returns-in-Ok-append-clause-ok : goal.returns-in-Ok-append-clause-ok
-returns-in-Ok-append-clause-ok g t c =
-    let a = c.args in let low = c.split_off.new.self.items in let high = c.in-Ok.high.items in
-    let first = subst (IsListingOfBodies a.strands a.k a.limits.now low) c.in-Ok-first.is c.join-first.ensures.first in
-    let second = subst (IsListingOfBodies a.strands a.k a.limits.now high) c.in-Ok-second.is c.join-first.ensures.second in
-    let front = c.in-Ok-first.lists.items in let back = c.in-Ok-second.more.items in
-    subst (AreListsOfBodies a.strands a.k a.limits.now (texts a.bodies.items)) (sym c.in-Ok-append.ensures.items)
-    (subst (λ (t : List (List ℕ)). AreListsOfBodies a.strands a.k a.limits.now t (front ++ back)) (both a.bodies.items low high c.share-at.result c.in-Ok.ensures.items c.in-Ok.ensures.tail)
-    (both_listed a.strands a.k a.limits.now (texts low) (texts high) front back first.ok second.ok))
+pub returns-clause-ok : goal.returns-clause-ok
+returns-clause-ok g t c =
+    let a = c.args in let low = c.split_off.new.self.items in let high = c.in_ok-high.high.items in
+    let first = subst (IsListingOfBodies a.rule.strands a.rule.k a.limits low) c.in_ok-lists.was c.join-first.ensures.first in
+    let second = subst (IsListingOfBodies a.rule.strands a.rule.k a.limits high) c.in_ok-more.was c.join-first.ensures.second in
+    let front = c.in_ok-lists.lists.items in let back = c.in_ok-more.more.items in
+    subst (AreListsOfBodies a.rule.strands a.rule.k a.limits (texts a.bodies.items)) (sym c.in_ok-append.ensures.items)
+    (subst (λ (t : List (List ℕ)). AreListsOfBodies a.rule.strands a.rule.k a.limits t (front ++ back)) (both a.bodies.items low high c.share-at.result c.in_ok-high.ensures.items c.in_ok-high.ensures.tail)
+    (both_listed a.rule.strands a.rule.k a.limits (texts low) (texts high) front back first.ok second.ok))
