@@ -98,8 +98,8 @@ fn last_round<T: Threads + Wait + Sync, G: Gate + Sync>(
 }
 
 /// Bins that hold the reads of all that the reader gives, of which at most `max_reads` reads may give bytes. Of a
-/// round's reads and the next round's bytes no more than one round is held at a time, beside the bins: a FASTA read that is open is taken in pieces.
-/// Each read is held as its pieces of at most `limit` symbols.
+/// round's reads and the next round's bytes no more than one round is held at a time, beside the bins: a FASTA read that
+/// is open is taken in pieces. Each read is held as its pieces of at most `limit` symbols.
 pub fn bins_of_input<T: Threads + Wait + Sync, R: Read, G: Gate + Sync>(
     rt: &T,
     alloc: Global,

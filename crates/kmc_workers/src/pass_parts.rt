@@ -61,9 +61,9 @@ fn open_way(alloc: Global, queue: QueueShape, bins: Bins) -> Result<(Way, Seats)
 
 /// Passes the parts of the reads through a queue of this shape: of its writers, splitter w cuts the chunks c with
 /// c mod `writers` = w, in rising order, and puts the parts of each in rising order of bins; each storer takes parts and
-/// absorbs them, the first one into these bins, each other into bins of its own. Chunk c holds `batch` reads from c times `batch` on, or the rest. Once all workers are joined all seats
-/// are back, in the order of their numbers. A worker that meets a refusal stops the others; of several causes want of
-/// memory is answered first.
+/// absorbs them, the first one into these bins, each other into bins of its own. Chunk c holds `batch` reads from c times
+/// `batch` on, or the rest. Once all workers are joined all seats are back, in the order of their numbers. A worker that
+/// meets a refusal stops the others; of several causes want of memory is answered first.
 pub fn pass_parts<R: Threads + Wait + Sync, G: Gate + Sync>(
     rt: &R,
     alloc: Global,
