@@ -17,29 +17,28 @@ MAN = $(DESTDIR)$(PREFIX)/share/man/man1
 
 all: count $(KMC_MERGE)
 
-# prove JOBS LIBRARY ..: one library after the other, each before those that stand on it, which spares a pass over all sources;
-# what fails here is told once more by what follows
-prove = for library in $(2); do (cd crates/$$library && rt lib --jobs $(1) > /dev/null 2>&1) || true; done
+# so many libraries are proved side by side
+JOBS := $(shell nproc)
 
-$(KMC): crates.txt $(shell find crates -path '*/out' -prune -o -type f -name '*.rt' -print -o -type f -name '*.antt' -print)
-	@echo "make: proving and building the program (some minutes the first time)"
-	@($(call prove,1,kmc_partcore kmc_partqueue kmc_reads kmc_argument)) & $(call prove,3,kmc_base kmc_split kmc_record kmc_device kmc_count kmc_dump); wait
-	@$(call prove,4,kmc_store kmc_workers kmc_tool kmc_command)
-	@cd crates/kmc && rt run < stdin > /dev/null 2> out.log || { cat out.log; rm -f out.log; exit 1; }
-	@rm -f crates/kmc/out.log
-	@cp crates/kmc/out/kmc $(KMC)
+# call built,CRATE,INPUT,WORDS: what the program stands on is proved, each library once those that it uses are; then it is built,
+# and run once
+define built
+	@echo "make: proving and building $(1) (some minutes the first time)"
+	@cd crates/$(1) && { rt all check --jobs $(JOBS) > out.log 2>&1 && rt run $(3) < $(2) > /dev/null 2> out.log; } || { cat out.log; rm -f out.log; exit 1; }
+	@rm -f crates/$(1)/out.log
+	@cp crates/$(1)/out/$(1) $@
+endef
 
-$(KMC_MERGE): crates.txt $(shell find crates/kmc_argument crates/kmc_base crates/kmc_device crates/kmc_count crates/kmc_record crates/kmc_split crates/kmc_sum crates/kmc_merge -path '*/out' -prune -o -type f -name '*.rt' -print -o -type f -name '*.antt' -print)
-	@echo "make: proving and building the program that sums dumps"
-	@cd crates/kmc_merge && rt run -- data/a.dump > /dev/null 2> out.log || { cat out.log; rm -f out.log; exit 1; }
-	@rm -f crates/kmc_merge/out.log
-	@cp crates/kmc_merge/out/kmc_merge $(KMC_MERGE)
+SOURCES := crates.txt $(shell find crates -path '*/out' -prune -o -type f -name '*.rt' -print -o -type f -name '*.antt' -print)
 
-$(REFUSED) $(BODIES) $(MANY): ./%: crates.txt $(shell find crates -path '*/out' -prune -o -type f -name '*.rt' -print -o -type f -name '*.antt' -print)
-	@echo "make: proving and building $*"
-	@cd crates/$* && rt run < stdin > /dev/null 2> out.log || { cat out.log; rm -f out.log; exit 1; }
-	@rm -f crates/$*/out.log
-	@cp crates/$*/out/$* $@
+$(KMC): $(SOURCES)
+	$(call built,kmc,stdin)
+
+$(KMC_MERGE): $(SOURCES)
+	$(call built,kmc_merge,/dev/null,-- data/a.dump)
+
+$(REFUSED) $(BODIES) $(MANY): ./%: $(SOURCES)
+	$(call built,$*,stdin)
 
 count: $(KMC)
 	@$(KMC) < examples/reads.fastq > examples/.counted
