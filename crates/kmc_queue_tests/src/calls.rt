@@ -7,6 +7,7 @@ use kmc_partcore::{
 };
 use kmc_partqueue::TryTaken;
 use std::alloc::{AllocError, Global};
+use std::process::Abort;
 use std::test::Fail;
 
 const LONGEST: usize = 64;
@@ -36,6 +37,11 @@ fn event_of(call: &str, item: u32) -> Option<Event<u32>> {
 fn calls_of(text: &str) -> Option<&str> {
     let (_, calls) = text.split_once(':')?;
     Some(calls)
+}
+
+/// The shape and the calls of a list.
+fn list_of(text: &str) -> Option<(QueueShape, &str)> {
+    Some((shape_of(text)?, calls_of(text)?))
 }
 
 fn register_text(alloc: Global, reply: Result<(), RegisterError>) -> Result<String, AllocError> {
@@ -117,33 +123,6 @@ fn call(core: &mut PartCore<u32>, event: Event<u32>) -> Reply<u32> {
     }
 }
 
-/// How many calls of the list are answered as it says, one by one, up to the first that is not.
-fn answered_one_by_one(alloc: Global, text: &str) -> Result<usize, AllocError> {
-    let mut answered = 0usize;
-    let Some(shape) = shape_of(text) else {
-        return Ok(answered);
-    };
-    let Some(calls) = calls_of(text) else {
-        return Ok(answered);
-    };
-    let mut core = PartCore::new(alloc, shape)?;
-    let mut item = 0u32;
-    for word in calls.split_ascii_whitespace() {
-        let Some(event) = event_of(word, item) else {
-            return Ok(answered);
-        };
-        if word.as_bytes().first() == Some(&b'p') {
-            item = item.saturating_add(1);
-        }
-        let reply = call(&mut core, event);
-        if !is_answered(alloc, word, reply)? {
-            return Ok(answered);
-        }
-        answered = answered.saturating_add(1);
-    }
-    Ok(answered)
-}
-
 /// The calls of a list as events.
 fn events_of(alloc: Global, calls: &str) -> Result<Vec<Event<u32>>, AllocError> {
     let mut events = Vec::new(alloc);
@@ -160,13 +139,28 @@ fn events_of(alloc: Global, calls: &str) -> Result<Vec<Event<u32>>, AllocError> 
     Ok(events)
 }
 
+/// How many calls of the list are answered as it says, one by one, up to the first that is not.
+fn answered_one_by_one(alloc: Global, text: &str) -> Result<usize, AllocError> {
+    let Some((shape, calls)) = list_of(text) else {
+        return Ok(0);
+    };
+    let mut answered = 0usize;
+    let mut core = PartCore::new(alloc, shape)?;
+    let events = events_of(alloc, calls)?;
+    for (word, event) in calls.split_ascii_whitespace().zip(events) {
+        let reply = call(&mut core, event);
+        if !is_answered(alloc, word, reply)? {
+            return Ok(answered);
+        }
+        answered = answered.saturating_add(1);
+    }
+    Ok(answered)
+}
+
 /// The same where `run` makes the calls.
 fn answered_by_run(alloc: Global, text: &str) -> Result<usize, AllocError> {
     let mut answered = 0usize;
-    let Some(shape) = shape_of(text) else {
-        return Ok(answered);
-    };
-    let Some(calls) = calls_of(text) else {
+    let Some((shape, calls)) = list_of(text) else {
         return Ok(answered);
     };
     let events = events_of(alloc, calls)?;
@@ -193,36 +187,31 @@ fn agrees(alloc: Global, text: &str) -> Result<bool, AllocError> {
     Ok(answered_one_by_one(alloc, text)? == all && answered_by_run(alloc, text)? == all)
 }
 
+/// Asserts that all calls of the list are answered as it says.
+fn assert_agrees(rt: &(impl Abort + Alloc<A = Global>), list: &str) -> Result<(), Fail> {
+    assert!(rt; agrees(rt.alloc(), list)?);
+    Ok(())
+}
+
 #[test]
 fn two_writers_fill_empty_and_finish_a_queue(rt: HostRuntime) -> Result<(), Fail> {
     let list = "211:r0+ r1+ p0+0 p0f1 t0g0.0.0 p1+0 c0+ p0c3 t0g1.0.2 t0e c1+ t0d1.1. t0d1.1. ";
-    assert!(rt; agrees(rt.alloc(), list)?);
-    Ok(())
+    assert_agrees(&rt, list)
 }
 
 #[test]
 fn a_writer_that_never_registered_keeps_the_queue_open(rt: HostRuntime) -> Result<(), Fail> {
-    let list = "211:r0+ c0+ t0e r0a p1u0 p2n1 t9n ";
-    assert!(rt; agrees(rt.alloc(), list)?);
-    Ok(())
-}
-
-#[test]
-fn items_stay_after_their_writer_completed(rt: HostRuntime) -> Result<(), Fail> {
-    let list = "121:r0+ p0+0 p0+1 c0+ c0c p0c2 c1n t0g0.0.0 t0g0.1.1 t0d2. ";
-    assert!(rt; agrees(rt.alloc(), list)?);
-    Ok(())
+    assert_agrees(&rt, "211:r0+ c0+ t0e r0a p1u0 p2n1 t9n ")
 }
 
 #[test]
 fn a_writer_must_register_first(rt: HostRuntime) -> Result<(), Fail> {
-    assert!(rt; agrees(rt.alloc(), "121:t0e p0u0 c0u ")?);
-    Ok(())
+    assert_agrees(&rt, "121:t0e p0u0 c0u ")
 }
 
 #[test]
 fn no_calls_get_no_answers(rt: HostRuntime) -> Result<(), Fail> {
-    assert!(rt; agrees(rt.alloc(), "121:")?);
+    assert_agrees(&rt, "121:")?;
     let shape = QueueShape::new(1, 2, 1).expect(&rt, "a shape");
     let none: Vec<Event<u32>> = Vec::new(rt.alloc());
     assert!(rt; run(rt.alloc(), shape, none)?.is_empty());
@@ -230,21 +219,24 @@ fn no_calls_get_no_answers(rt: HostRuntime) -> Result<(), Fail> {
 }
 
 #[test]
+fn items_stay_after_their_writer_completed(rt: HostRuntime) -> Result<(), Fail> {
+    assert_agrees(
+        &rt,
+        "121:r0+ p0+0 p0+1 c0+ c0c p0c2 c1n t0g0.0.0 t0g0.1.1 t0d2. ",
+    )
+}
+
+#[test]
 fn a_shape_is_within_its_limits(rt: HostRuntime) -> Result<(), Fail> {
-    for (writers, per_writer, readers, fits) in [
-        (1, 1, 1, true),
-        (16, 64, 8, true),
-        (0, 1, 1, false),
-        (17, 1, 1, false),
-        (1, 0, 1, false),
-        (1, 65, 1, false),
-        (1, 1, 0, false),
-        (1, 1, 9, false),
-    ] {
-        assert!(rt;
-            QueueShape::new(writers, per_writer, readers).is_some() == fits,
-            "{writers} {per_writer} {readers}"
-        );
+    assert!(rt; QueueShape::new(1, 1, 1).is_some() && QueueShape::new(16, 64, 8).is_some());
+    for writers in [0, 17] {
+        assert!(rt; QueueShape::new(writers, 1, 1).is_none());
+    }
+    for per_writer in [0, 65] {
+        assert!(rt; QueueShape::new(1, per_writer, 1).is_none());
+    }
+    for readers in [0, 9] {
+        assert!(rt; QueueShape::new(1, 1, readers).is_none());
     }
     Ok(())
 }

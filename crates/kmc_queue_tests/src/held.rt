@@ -3,7 +3,7 @@ ghost use Rattle.std.specs.Prelude.{◌≡◌, ◌<◌};
 ghost use Rattle.kmc_partqueue.specs.Seats.{IsWriterOf, IsReaderOf};
 
 use crate::lanes::{got, is_full, is_not_now, total, totals};
-use kmc_partcore::QueueShape;
+use kmc_partcore::{QueueShape, Totals};
 use kmc_partqueue::{DoneSeat, Gate, Lanes, NoGate, Point, ReaderSeat, WriterSeat};
 use kmc_testing::queue::gathered;
 use std::sync::atomic::{AtomicBool, Ordering};
@@ -96,12 +96,7 @@ fn try_beside(
 
 #[test]
 fn a_slot_stays_with_the_reader_that_is_held(rt: HostRuntime) -> Result<(), Fail> {
-    let shape = QueueShape {
-        writers: 1,
-        per_writer: 1,
-        readers: 2,
-    };
-    let (queue, mut writers, mut readers) = Lanes::<u8>::new(rt.alloc(), shape)?;
+    let (queue, mut writers, mut readers) = Lanes::<u8>::new(rt.alloc(), shape!(1, 1, 2))?;
     let mut writer = writers.pop().expect(&rt, "a writer");
     let second = readers.pop().expect(&rt, "a reader");
     let first = readers.pop().expect(&rt, "a reader");
@@ -151,12 +146,7 @@ fn pass_by(
 
 #[test]
 fn a_held_writer_does_not_stop_another(rt: HostRuntime) -> Result<(), Fail> {
-    let shape = QueueShape {
-        writers: 2,
-        per_writer: 1,
-        readers: 1,
-    };
-    let (queue, mut writers, mut readers) = Lanes::<u8>::new(rt.alloc(), shape)?;
+    let (queue, mut writers, mut readers) = Lanes::<u8>::new(rt.alloc(), shape!(2, 1, 1))?;
     let second = writers.pop().expect(&rt, "a writer");
     let first = writers.pop().expect(&rt, "a writer");
     let reader = readers.pop().expect(&rt, "a reader");
@@ -207,41 +197,30 @@ fn finish_beside(
     (right, done, reader)
 }
 
-/// The writer's total as `gather` answers it, of a queue with one writer and two readers.
+/// The totals as `gather` answers them, of a queue with one writer and two readers.
 fn gathered_by_two(
     rt: &HostRuntime,
     lanes: Lanes<u8>,
     done: DoneSeat<u8>,
     first: ReaderSeat<u8>,
     second: ReaderSeat<u8>,
-) -> Result<Option<u64>, Fail>
+) -> Result<Option<Totals>, Fail>
     requires shape { (lanes.shape.writers ≡ 1) × (lanes.shape.readers ≡ 2) }
     requires writer { IsWriterOf lanes.table.shared.table_id lanes.shape done × (done.number ≡ 0) }
     requires first { IsReaderOf lanes.table.shared.table_id lanes.shape first × (first.number ≡ 0) }
     requires second { IsReaderOf lanes.table.shared.table_id lanes.shape second × (second.number ≡ 1) }
 {
-    let mut writers = Vec::new(rt.alloc());
-    writers.push(done)?;
-    let mut readers = Vec::new(rt.alloc());
-    readers.push(first)?;
-    readers.push(second)?;
-    match gathered(lanes, writers, readers) {
-        Some(totals) => Ok(totals.of(0)),
-        None => Ok(None),
-    }
+    let writers = Vec::from_array(rt.alloc(), [done])?;
+    let readers = Vec::from_array(rt.alloc(), [first, second])?;
+    Ok(gathered(lanes, writers, readers))
 }
 
 #[test]
 fn a_queue_is_finished_while_a_reader_holds_its_part(rt: HostRuntime) -> Result<(), Fail> {
-    let shape = QueueShape {
-        writers: 1,
-        per_writer: 2,
-        readers: 2,
-    };
-    let (queue, mut writers, mut readers) = Lanes::<u8>::new(rt.alloc(), shape)?;
-    let mut writer = writers.pop().expect(&rt, "a writer");
+    let (queue, mut writers, mut readers) = Lanes::<u8>::new(rt.alloc(), shape!(1, 2, 2))?;
     let second = readers.pop().expect(&rt, "a reader");
     let first = readers.pop().expect(&rt, "a reader");
+    let mut writer = writers.pop().expect(&rt, "a writer");
     let a = queue.try_put(&mut writer, 40, &NoGate).ok();
     let b = queue.try_put(&mut writer, 41, &NoGate).ok();
     assert!(rt; a == Some(0) && b == Some(1));
@@ -265,7 +244,7 @@ fn a_queue_is_finished_while_a_reader_holds_its_part(rt: HostRuntime) -> Result<
     assert!(rt; item == Some((0, 0, 40)));
     let end = total(queue.try_take(&mut back, &NoGate), 0);
     assert!(rt; end == Some(2));
-    let all = gathered_by_two(&rt, queue, done, back, other)?;
-    assert!(rt; all == Some(2));
+    let all = gathered_by_two(&rt, queue, done, back, other)?.expect(&rt, "finished");
+    assert!(rt; all.of(0) == Some(2));
     Ok(())
 }

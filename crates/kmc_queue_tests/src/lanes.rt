@@ -47,35 +47,25 @@ pub(crate) fn is_full(answer: Result<u64, (TryPutError, u8)>, part: u8) -> bool 
     }
 }
 
-/// The writer's total as `gather` answers it, of a queue with one writer and one reader.
+/// The totals as `gather` answers them, of a queue with one writer and one reader.
 fn gathered_by_one(
     rt: &HostRuntime,
     lanes: Lanes<u8>,
     done: DoneSeat<u8>,
     reader: ReaderSeat<u8>,
-) -> Result<Option<u64>, Fail>
+) -> Result<Option<Totals>, Fail>
     requires shape { (lanes.shape.writers ≡ 1) × (lanes.shape.readers ≡ 1) }
     requires writer { IsWriterOf lanes.table.shared.table_id lanes.shape done × (done.number ≡ 0) }
     requires reader { IsReaderOf lanes.table.shared.table_id lanes.shape reader × (reader.number ≡ 0) }
 {
-    let mut writers = Vec::new(rt.alloc());
-    writers.push(done)?;
-    let mut readers = Vec::new(rt.alloc());
-    readers.push(reader)?;
-    match gathered(lanes, writers, readers) {
-        Some(totals) => Ok(totals.of(0)),
-        None => Ok(None),
-    }
+    let writers = Vec::from_array(rt.alloc(), [done])?;
+    let readers = Vec::from_array(rt.alloc(), [reader])?;
+    Ok(gathered(lanes, writers, readers))
 }
 
 #[test]
 fn three_parts_pass_through_two_slots(rt: HostRuntime) -> Result<(), Fail> {
-    let shape = QueueShape {
-        writers: 1,
-        per_writer: 2,
-        readers: 1,
-    };
-    let (lanes, mut writers, mut readers) = Lanes::<u8>::new(rt.alloc(), shape)?;
+    let (lanes, mut writers, mut readers) = Lanes::<u8>::new(rt.alloc(), shape!(1, 2, 1))?;
     let mut writer = writers.pop().expect(&rt, "a writer");
     let mut reader = readers.pop().expect(&rt, "a reader");
     assert!(rt; writer.next_number() == 0);
@@ -95,27 +85,22 @@ fn three_parts_pass_through_two_slots(rt: HostRuntime) -> Result<(), Fail> {
     let again = total(lanes.try_take(&mut reader, &NoGate), 0);
     assert!(rt; end == Some(3) && again == Some(3) && reader.finished());
     assert!(rt; done.number() == 0 && reader.number() == 0);
-    let all = gathered_by_one(&rt, lanes, done, reader)?;
-    assert!(rt; all == Some(3));
+    let all = gathered_by_one(&rt, lanes, done, reader)?.expect(&rt, "finished");
+    assert!(rt; all.of(0) == Some(3));
     Ok(())
 }
 
 #[test]
 fn a_queue_of_no_parts_is_finished_once_its_writer_completed(rt: HostRuntime) -> Result<(), Fail> {
-    let shape = QueueShape {
-        writers: 1,
-        per_writer: 1,
-        readers: 1,
-    };
-    let (lanes, mut writers, mut readers) = Lanes::<u8>::new(rt.alloc(), shape)?;
+    let (lanes, mut writers, mut readers) = Lanes::<u8>::new(rt.alloc(), shape!(1, 1, 1))?;
     let writer = writers.pop().expect(&rt, "a writer");
     let mut reader = readers.pop().expect(&rt, "a reader");
     assert!(rt; writer.number() == 0);
     let done = lanes.complete(writer);
     let end = total(lanes.try_take(&mut reader, &NoGate), 0);
     assert!(rt; end == Some(0));
-    let all = gathered_by_one(&rt, lanes, done, reader)?;
-    assert!(rt; all == Some(0));
+    let all = gathered_by_one(&rt, lanes, done, reader)?.expect(&rt, "finished");
+    assert!(rt; all.of(0) == Some(0));
     Ok(())
 }
 
@@ -130,12 +115,7 @@ fn outcome(taken: Taken<u8>) -> (Option<(usize, u64, u8)>, Option<u64>) {
 
 #[test]
 fn the_calls_that_wait_answer_at_once_where_they_can(rt: HostRuntime) -> Result<(), Fail> {
-    let shape = QueueShape {
-        writers: 1,
-        per_writer: 1,
-        readers: 1,
-    };
-    let (lanes, mut writers, mut readers) = Lanes::<u8>::new(rt.alloc(), shape)?;
+    let (lanes, mut writers, mut readers) = Lanes::<u8>::new(rt.alloc(), shape!(1, 1, 1))?;
     let mut writer = writers.pop().expect(&rt, "a writer");
     let mut reader = readers.pop().expect(&rt, "a reader");
     let put = lanes.put(&rt, &mut writer, 5, &NoGate).ok();

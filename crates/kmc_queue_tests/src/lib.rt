@@ -3,6 +3,18 @@
 //! (`tests_model/queue_model.py`) or from the description of the queue.
 #![tactic(auto)]
 
+/// The shape of a queue with so many writers, slots of each writer, and readers.
+#[cfg(test)]
+macro_rules! shape {
+    ($writers:expr, $per_writer:expr, $readers:expr) => {
+        QueueShape {
+            writers: $writers,
+            per_writer: $per_writer,
+            readers: $readers,
+        }
+    };
+}
+
 #[cfg(test)]
 mod calls;
 #[cfg(test)]

@@ -20,28 +20,19 @@ pub fn tell(rt: &impl Eprint, call: &str) {
     let _ = eprintln!(rt; "{call} was refused");
 }
 
+/// Makes each row of calls, and once more where a growth was refused.
+macro_rules! make_rows {
+    ($rt:expr, $alloc:expr; $($row:ident),+) => {
+        $(
+            if $row($rt, $alloc).is_err() {
+                $row($rt, $alloc)?;
+            }
+        )+
+    };
+}
+
 fn main(rt: HostRuntime) -> io::Result<()> {
-    let alloc = rt.alloc();
-    if read_in_pieces(&rt, alloc).is_err() {
-        read_in_pieces(&rt, alloc)?;
-    }
-    if spell_super_kmers(&rt, alloc).is_err() {
-        spell_super_kmers(&rt, alloc)?;
-    }
-    if judge_bodies(&rt, alloc).is_err() {
-        judge_bodies(&rt, alloc)?;
-    }
-    if absorb_parts(&rt, alloc).is_err() {
-        absorb_parts(&rt, alloc)?;
-    }
-    if merge_bins(&rt, alloc).is_err() {
-        merge_bins(&rt, alloc)?;
-    }
-    if write_words(&rt, alloc).is_err() {
-        write_words(&rt, alloc)?;
-    }
-    if push_pairs(&rt, alloc).is_err() {
-        push_pairs(&rt, alloc)?;
-    }
+    make_rows!(&rt, rt.alloc(); read_in_pieces, spell_super_kmers, judge_bodies);
+    make_rows!(&rt, rt.alloc(); absorb_parts, merge_bins, write_words, push_pairs);
     Ok(())
 }

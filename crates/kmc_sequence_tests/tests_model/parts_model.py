@@ -90,10 +90,12 @@ def main():
     print("/// A row on each line: k, p, n, the reads with a comma behind each, and the parts with a semicolon behind each.")
     table = [(k, p, n, "".join(read + "," for read in reads), "".join(
         f"{place} {words} {body.hex()};" for place, (words, body) in parts(reads, k, p, n))) for k, p, n, reads in rows()]
-    print("pub(super) const ROWS: &str = \"\\")
+    print("pub(super) fn rows() -> &'static str {")
+    print("    \"\\")
     for k, p, n, reads, found in table:
         print(k, p, n, reads, found, sep="|")
-    print("\";")
+    print("\"")
+    print("}")
 
 
 if __name__ == "__main__":

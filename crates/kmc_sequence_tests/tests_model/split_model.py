@@ -78,11 +78,13 @@ def main():
     print("//! `tests_model/split_model.py`, which works them out by the definitions.")
     print()
     print("/// A row on each line: k, m, the letters, and the runs.")
-    print("pub(super) const ROWS: &str = \"\\")
+    print("pub(super) fn rows() -> &'static str {")
+    print("    \"\\")
     for k, m, text in rows():
         runs = " ".join(f"{words}:{s}" for words, s in cut(text, k, m))
         print(k, m, text, runs, sep="|")
-    print("\";")
+    print("\"")
+    print("}")
 
 
 if __name__ == "__main__":

@@ -39,11 +39,10 @@ fn an_open_read_is_taken_in_pieces_that_overlap(rt: HostRuntime) {
 
 #[test]
 fn an_open_fastq_read_is_kept_whole(rt: HostRuntime) {
-    let alloc = rt.alloc();
-    let mut feeder = Feeder::new(alloc, Format::Fastq);
+    let mut feeder = Feeder::new(rt.alloc(), Format::Fastq);
     assert_eq!(rt; feed(&mut feeder, b"@r\nACGT"), Ok(()));
     assert_eq!(rt; feeder.open_symbols(), 0);
-    let none = take_open(alloc, &mut feeder, 1).expect(&rt, "memory");
+    let none = take_open(rt.alloc(), &mut feeder, 1).expect(&rt, "memory");
     assert!(rt; none.is_empty());
     assert_eq!(rt; feed(&mut feeder, b"\n+\nIIII\n"), Ok(()));
     match finish(feeder) {

@@ -32,6 +32,13 @@ fn gives(rt: &impl Abort, alloc: Global, feeder: &mut Feeder, piece: &str, want:
     are(rt, &reads, want, piece);
 }
 
+/// Asserts that none of these pieces ends a read.
+fn give_none(rt: &impl Abort, alloc: Global, feeder: &mut Feeder, pieces: &[&str]) {
+    for piece in pieces {
+        gives(rt, alloc, feeder, piece, &[]);
+    }
+}
+
 /// Asserts that this piece is refused so.
 fn refuses(rt: &impl Abort, feeder: &mut Feeder, piece: &str, want: ReadsError) {
     assert_eq!(rt; feed(feeder, piece.as_bytes()), Err(want), "{piece:?}");
@@ -63,9 +70,7 @@ fn end_refused(rt: &impl Abort, feeder: Feeder, want: ReadsError) -> Option<Feed
 fn a_read_ends_with_the_line_feed_of_its_quality(rt: HostRuntime) {
     let alloc = rt.alloc();
     let mut feeder = Feeder::new(alloc, Format::Fastq);
-    gives(&rt, alloc, &mut feeder, "@r\nAC", &[]);
-    gives(&rt, alloc, &mut feeder, "", &[]);
-    gives(&rt, alloc, &mut feeder, "GT\n+\nIIII", &[]);
+    give_none(&rt, alloc, &mut feeder, &["@r\nAC", "", "GT\n+\nIIII"]);
     gives(&rt, alloc, &mut feeder, "\n", &["ACGT"]);
     ends(&rt, feeder, &[]);
 }
@@ -73,11 +78,12 @@ fn a_read_ends_with_the_line_feed_of_its_quality(rt: HostRuntime) {
 #[test]
 fn the_end_of_the_text_ends_the_last_line(rt: HostRuntime) {
     let alloc = rt.alloc();
+    for format in [Format::Fastq, Format::Fasta] {
+        ends(&rt, Feeder::new(alloc, format), &[]);
+    }
     let mut feeder = Feeder::new(alloc, Format::Fastq);
     gives(&rt, alloc, &mut feeder, "@r\nACGT\n+\nIIII", &[]);
     ends(&rt, feeder, &["ACGT"]);
-    ends(&rt, Feeder::new(alloc, Format::Fastq), &[]);
-    ends(&rt, Feeder::new(alloc, Format::Fasta), &[]);
 }
 
 #[test]
@@ -88,9 +94,7 @@ fn a_fasta_read_ends_with_the_first_byte_of_the_next_header(rt: HostRuntime) {
     gives(&rt, alloc, &mut feeder, "\n>", &["ACGT"]);
     ends(&rt, feeder, &[""]);
     let mut feeder = Feeder::new(alloc, Format::Fasta);
-    gives(&rt, alloc, &mut feeder, "\r\n", &[]);
-    gives(&rt, alloc, &mut feeder, ">a\r", &[]);
-    gives(&rt, alloc, &mut feeder, "\nAC\r", &[]);
+    give_none(&rt, alloc, &mut feeder, &["\r\n", ">a\r", "\nAC\r"]);
     // a carriage return inside a line is a byte of it, and what follows is no header
     gives(&rt, alloc, &mut feeder, ">b\n>c\n>d", &["AC\r>b", ""]);
     ends(&rt, feeder, &[""]);
@@ -100,12 +104,10 @@ fn a_fasta_read_ends_with_the_first_byte_of_the_next_header(rt: HostRuntime) {
 fn a_carriage_return_at_the_end_of_a_piece_waits(rt: HostRuntime) {
     let alloc = rt.alloc();
     let mut feeder = Feeder::new(alloc, Format::Fastq);
-    gives(&rt, alloc, &mut feeder, "@r\r", &[]);
-    gives(&rt, alloc, &mut feeder, "\nACGT\r", &[]);
+    give_none(&rt, alloc, &mut feeder, &["@r\r", "\nACGT\r"]);
     gives(&rt, alloc, &mut feeder, "\n+\r\nIIII\r\n", &["ACGT"]);
     // one that is followed by another is content
-    gives(&rt, alloc, &mut feeder, "@s\nA\r", &[]);
-    gives(&rt, alloc, &mut feeder, "\r", &[]);
+    give_none(&rt, alloc, &mut feeder, &["@s\nA\r", "\r"]);
     gives(&rt, alloc, &mut feeder, "\n+\nII\n", &["A\r"]);
     ends(&rt, feeder, &[]);
 }

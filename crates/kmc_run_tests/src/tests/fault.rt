@@ -28,23 +28,19 @@ fn wrong_usage_shows_the_usage_and_ends_with_2(rt: HostRuntime) -> Result<(), Fa
 
 #[test]
 fn a_value_out_of_range_is_told_by_its_option_and_ends_with_2(rt: HostRuntime) -> Result<(), Fail> {
-    let told = [
-        (Setting::K, "kmc: value of -k is out of range"),
-        (Setting::P, "kmc: value of -p is out of range"),
-        (Setting::N, "kmc: value of -n is out of range"),
-        (Setting::Ci, "kmc: value of -ci is out of range"),
-        (Setting::Cx, "kmc: value of -cx is out of range"),
-        (Setting::Cs, "kmc: value of -cs is out of range"),
-        (Setting::Sp, "kmc: value of -sp is out of range"),
-        (Setting::Sr, "kmc: value of -sr is out of range"),
-    ];
-    for (setting, line) in told {
-        shows(
-            &rt,
-            Fault::Options(ParamsError::OutOfRange(setting)),
-            line,
-            2,
-        )?;
+    for (name, setting) in [
+        ("k", Setting::K),
+        ("p", Setting::P),
+        ("n", Setting::N),
+        ("ci", Setting::Ci),
+        ("cx", Setting::Cx),
+        ("cs", Setting::Cs),
+        ("sp", Setting::Sp),
+        ("sr", Setting::Sr),
+    ] {
+        let line = format!(in rt.alloc(); "kmc: value of -{name} is out of range")?;
+        let fault = Fault::Options(ParamsError::OutOfRange(setting));
+        shows(&rt, fault, line.as_str(), 2)?;
     }
     Ok(())
 }

@@ -45,6 +45,13 @@ fn is_out_of_range(rt: &(impl Abort + Alloc<A = Global>), line: &str, setting: S
     refuses(rt, line, ParamsError::OutOfRange(setting));
 }
 
+/// Asserts that each of these words alone is out of the setting's range.
+fn are_out_of_range(rt: &(impl Abort + Alloc<A = Global>), words: &str, setting: Setting) {
+    for word in words.split_whitespace() {
+        is_out_of_range(rt, word, setting);
+    }
+}
+
 fn is_taken(rt: &(impl Abort + Alloc<A = Global>), line: &str) {
     assert_eq!(rt; settings(rt.alloc(), line).err(), None, "{line}");
 }
@@ -161,68 +168,42 @@ fn long_forms_and_leading_zeros_are_read(rt: HostRuntime) -> Result<(), Fail> {
 
 #[test]
 fn each_limit_is_taken_at_both_edges(rt: HostRuntime) {
-    let lines = [
-        "-k1",
-        "-k64",
-        "-p5",
-        "-p11",
-        "-n1",
-        "-n2000",
-        "-ci0",
-        "-ci9223372036854775808",
-        "-cx0",
-        "-cx9223372036854775808",
-        "-cs1",
-        "-cs9223372036854775808",
-        "-sp1",
-        "-sp16",
-        "-sr1",
-        "-sr16",
-    ];
-    for line in lines {
-        is_taken(&rt, line);
+    let words =
+        "-k1 -k64 -p5 -p11 -n1 -n2000 -ci0 -ci9223372036854775808 -cx0 -cx9223372036854775808 \
+         -cs1 -cs9223372036854775808 -sp1 -sp16 -sr1 -sr16";
+    for word in words.split_whitespace() {
+        is_taken(&rt, word);
     }
 }
 
 #[test]
 fn each_limit_is_refused_past_its_edges(rt: HostRuntime) {
-    let lines = [
-        ("-k0", Setting::K),
-        ("-k65", Setting::K),
-        ("-p4", Setting::P),
-        ("-p12", Setting::P),
-        ("-n0", Setting::N),
-        ("-n2001", Setting::N),
-        ("-ci9223372036854775809", Setting::Ci),
-        ("-ci18446744073709551616", Setting::Ci),
-        ("-cx9223372036854775809", Setting::Cx),
-        ("-cs0", Setting::Cs),
-        ("-cs9223372036854775809", Setting::Cs),
-        ("-sp0", Setting::Sp),
-        ("-sp17", Setting::Sp),
-        ("-sr0", Setting::Sr),
-        ("-sr17", Setting::Sr),
-        ("-k999999999999999999999999999999", Setting::K),
-    ];
-    for (line, setting) in lines {
-        is_out_of_range(&rt, line, setting);
+    for (setting, words) in [
+        (Setting::K, "-k0 -k65 -k999999999999999999999999999999"),
+        (Setting::P, "-p4 -p12"),
+        (Setting::N, "-n0 -n2001"),
+        (
+            Setting::Ci,
+            "-ci9223372036854775809 -ci18446744073709551616",
+        ),
+        (Setting::Cx, "-cx9223372036854775809"),
+        (Setting::Cs, "-cs0 -cs9223372036854775809"),
+        (Setting::Sp, "-sp0 -sp17"),
+        (Setting::Sr, "-sr0 -sr17"),
+    ] {
+        are_out_of_range(&rt, words, setting);
     }
 }
 
 #[test]
 fn a_value_is_digits_alone(rt: HostRuntime) {
-    let lines = [
+    are_out_of_range(&rt, "-k+5 -k=5 -k2.5 -k٣ --k=", Setting::K);
+    for (word, setting) in [
         ("-nx", Setting::N),
         ("-spx", Setting::Sp),
         ("-ci-3", Setting::Ci),
-        ("-k+5", Setting::K),
-        ("-k=5", Setting::K),
-        ("-k2.5", Setting::K),
-        ("-k٣", Setting::K),
-        ("--k=", Setting::K),
-    ];
-    for (line, setting) in lines {
-        is_out_of_range(&rt, line, setting);
+    ] {
+        is_out_of_range(&rt, word, setting);
     }
 }
 
@@ -246,65 +227,19 @@ fn usage_is_judged_before_ranges(rt: HostRuntime) {
 
 #[test]
 fn an_option_stands_once_and_with_its_value(rt: HostRuntime) {
-    let lines = [
-        "-k5 -k5",
-        "-p5 -p5",
-        "-n5 -n5",
-        "-ci5 -ci5",
-        "-cx5 -cx5",
-        "-cs5 -cs5",
-        "-sp5 -sp5",
-        "-sr5 -sr5",
-        "-b -b",
-        "-k5 --k=5",
-        "-k",
-        "-p",
-        "-n",
-        "-ci",
-        "-cx",
-        "-cs",
-        "-sp",
-        "-sr",
-        "--k",
-        "--p",
-        "--n",
-        "--ci",
-        "--cx",
-        "--cs",
-        "--sp",
-        "--sr",
-        "--fa=x",
-        "--b=",
-        "--ci -3",
-    ];
-    for line in lines {
+    let lines = "-k5 -k5|-p5 -p5|-n5 -n5|-ci5 -ci5|-cx5 -cx5|-cs5 -cs5|-sp5 -sp5|-sr5 -sr5|-b -b|\
+                 -k5 --k=5|-k|-p|-n|-ci|-cx|-cs|-sp|-sr|--k|--p|--n|--ci|--cx|--cs|--sp|--sr|\
+                 --fa=x|--b=|--ci -3";
+    for line in lines.split('|') {
         is_usage(&rt, line);
     }
 }
 
 #[test]
 fn other_words_are_wrong_usage(rt: HostRuntime) -> Result<(), Fail> {
-    let lines = [
-        "reads.fq",
-        "-h",
-        "--help",
-        "-V",
-        "--version",
-        "-fast",
-        "-bx",
-        "-m12",
-        "-sm",
-        "-t4",
-        "-sf1",
-        "-r",
-        "-v",
-        "-zz",
-        "--kk=5",
-        "-",
-        "-- reads.fq",
-        "help",
-    ];
-    for line in lines {
+    let lines = "reads.fq|-h|--help|-V|--version|-fast|-bx|-m12|-sm|-t4|-sf1|-r|-v|-zz|--kk=5|-|\
+                 -- reads.fq|help";
+    for line in lines.split('|') {
         is_usage(&rt, line);
     }
     let mut empty = Vec::new(rt.alloc());

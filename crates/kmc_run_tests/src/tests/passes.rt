@@ -1,15 +1,16 @@
 //! A gate that counts the points that it is told of.
 use kmc_partqueue::{Gate, Point};
+use std::process::Abort;
 use std::sync::atomic::{AtomicU64, Ordering};
 
 /// How often each kind of point was passed.
 #[derive(Drop)]
 pub struct Passes {
-    pub before_put: AtomicU64,
-    pub after_put: AtomicU64,
-    pub slot_held: AtomicU64,
-    pub part_claimed: AtomicU64,
-    pub after_take: AtomicU64,
+    before_put: AtomicU64,
+    after_put: AtomicU64,
+    slot_held: AtomicU64,
+    part_claimed: AtomicU64,
+    after_take: AtomicU64,
 }
 
 impl Passes {
@@ -20,6 +21,19 @@ impl Passes {
             slot_held: AtomicU64::new(0),
             part_claimed: AtomicU64::new(0),
             after_take: AtomicU64::new(0),
+        }
+    }
+
+    /// Asserts that each kind of point was passed so often.
+    pub fn assert_each(&self, rt: &impl Abort, times: u64) {
+        for count in [
+            &self.before_put,
+            &self.after_put,
+            &self.slot_held,
+            &self.part_claimed,
+            &self.after_take,
+        ] {
+            assert_eq!(rt; count.load(Ordering::SeqCst), times);
         }
     }
 }

@@ -17,7 +17,7 @@ use kmc_record::shape::Shape;
 use kmc_record::spell::encode;
 use kmc_split::signature::signature;
 use kmc_split::super_kmer::{SuperKmer, super_kmers};
-use rows::ROWS;
+use rows::rows;
 use std::alloc::{AllocError, Global};
 use std::process::Abort;
 use std::test::Fail;
@@ -103,15 +103,11 @@ fn m_is_the_lesser_of_p_and_k(rt: HostRuntime) {
         let shape = shape_of(&rt, k, p, n);
         assert_eq!(rt; (shape.k(), shape.m(), shape.n()), (k, m, n));
     }
-    for (k, p, n) in [
-        (0, 9, 7),
-        (65, 9, 7),
-        (25, 4, 7),
-        (25, 12, 7),
-        (25, 9, 0),
-        (25, 9, 2001),
-    ] {
-        assert!(rt; Shape::new(k, p, n).is_none(), "{k}, {p}, {n}");
+    for k in [0, 65] {
+        assert!(rt; Shape::new(k, 9, 7).is_none(), "{k}");
+    }
+    for (p, n) in [(4, 7), (12, 7), (9, 0), (9, 2001)] {
+        assert!(rt; Shape::new(25, p, n).is_none(), "{p}, {n}");
     }
 }
 
@@ -175,25 +171,26 @@ fn gives_each_bin_its_records(rt: HostRuntime) -> Result<(), Fail> {
     Ok(())
 }
 
+/// Asserts that the reads of a row have its parts, by both bodies.
+fn assert_row(rt: &impl Abort, alloc: Global, row: &str) -> Result<(), Fail> {
+    let mut fields = row.split('|');
+    let (k, p) = (number(fields.next())?, number(fields.next())?);
+    let shape = shape_of(rt, k, p, number(fields.next())?);
+    let reads = fields.next().ok_or("reads")?;
+    let want = fields.next().ok_or("parts")?;
+    let made = parts_text(rt, alloc, reads, shape)?;
+    assert_eq!(rt; made.as_str(), want, "{row}");
+    let plain = plain_text(rt, alloc, reads, shape)?;
+    assert_eq!(rt; plain.as_str(), want, "{row}");
+    Ok(())
+}
+
 #[test]
 fn agrees_with_the_model_and_with_the_plain_body(rt: HostRuntime) -> Result<(), Fail> {
-    let alloc = rt.alloc();
-    let mut rows: usize = 0;
-    for row in ROWS.lines() {
-        let mut fields = row.split('|');
-        let k = number(fields.next())?;
-        let p = number(fields.next())?;
-        let n = number(fields.next())?;
-        let reads = fields.next().ok_or("reads")?;
-        let want = fields.next().ok_or("parts")?;
-        let shape = shape_of(&rt, k, p, n);
-        let made = parts_text(&rt, alloc, reads, shape)?;
-        assert_eq!(rt; made.as_str(), want, "{reads} at {k}, {p} and {n}");
-        let plain = plain_text(&rt, alloc, reads, shape)?;
-        assert_eq!(rt; plain.as_str(), want, "{reads} at {k}, {p} and {n}");
-        rows = rows.saturating_add(1);
+    assert_eq!(rt; rows().lines().count(), 31);
+    for row in rows().lines() {
+        assert_row(&rt, rt.alloc(), row)?;
     }
-    assert_eq!(rt; rows, 31);
     Ok(())
 }
 

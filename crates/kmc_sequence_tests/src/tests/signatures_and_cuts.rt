@@ -7,7 +7,7 @@ use kmc_split::cut::{Scratch, cut};
 use kmc_split::laws;
 use kmc_split::signature::{MAX_M, allowed, signature};
 use kmc_split::super_kmer::{SuperKmer, super_kmers};
-use rows::ROWS;
+use rows::rows;
 use std::alloc::Global;
 use std::process::Abort;
 use std::test::Fail;
@@ -160,24 +160,31 @@ fn both_strands_have_one_signature(rt: HostRuntime) -> Result<(), Fail> {
     Ok(())
 }
 
+/// Asserts that the letters of a row have its runs, as runs and as super-k-mers.
+fn assert_row(
+    rt: &impl Abort,
+    alloc: Global,
+    row: &str,
+    scratch: &mut Scratch,
+) -> Result<(), Fail> {
+    let mut fields = row.split('|');
+    let (k, m) = (number(fields.next())?, number(fields.next())?);
+    let letters = fields.next().ok_or("letters")?;
+    let want = fields.next().ok_or("runs")?;
+    let runs = runs_text(rt, alloc, letters, k, m, scratch)?;
+    assert_eq!(rt; runs.as_str(), want, "{row}");
+    let pieces = pieces_text(rt, alloc, letters, k, m)?;
+    assert_eq!(rt; pieces.as_str(), want, "{row}");
+    Ok(())
+}
+
 #[test]
 fn agrees_with_the_model(rt: HostRuntime) -> Result<(), Fail> {
-    let alloc = rt.alloc();
-    let mut scratch = Scratch::new(alloc);
-    let mut rows: usize = 0;
-    for row in ROWS.lines() {
-        let mut fields = row.split('|');
-        let k = number(fields.next())?;
-        let m = number(fields.next())?;
-        let letters = fields.next().ok_or("letters")?;
-        let want = fields.next().ok_or("runs")?;
-        let runs = runs_text(&rt, alloc, letters, k, m, &mut scratch)?;
-        assert_eq!(rt; runs.as_str(), want, "{letters} at {k} and {m}");
-        let pieces = pieces_text(&rt, alloc, letters, k, m)?;
-        assert_eq!(rt; pieces.as_str(), want, "{letters} at {k} and {m}");
-        rows = rows.saturating_add(1);
+    let mut scratch = Scratch::new(rt.alloc());
+    assert_eq!(rt; rows().lines().count(), 40);
+    for row in rows().lines() {
+        assert_row(&rt, rt.alloc(), row, &mut scratch)?;
     }
-    assert_eq!(rt; rows, 40);
     Ok(())
 }
 

@@ -2,10 +2,34 @@
 use super::*;
 use kmc_reads::error::ReadsError;
 use kmc_testing::devices::FlushCounter;
+use std::process::Abort;
 
 const TEXT: &[u8] = b"@r\nACGTACGT\n+\nIIIIIIII\n";
 
 const DUMP: &[u8] = b"ACGT\t2\nCGTA\t2\nGTAC\t1\n";
+
+/// Asserts what a run answered and wrote, and how many calls of its reader and of its writer failed.
+fn assert_run(
+    rt: &impl Abort,
+    made: &Outcome,
+    answer: Result<u64, RunError>,
+    written: &[u8],
+    failures: (u64, u64),
+) {
+    assert_eq!(rt; made.answer, answer);
+    assert_eq!(rt; made.written.as_slice(), written);
+    assert_eq!(rt; (made.read_failures, made.write_failures), failures);
+}
+
+/// A run that counts words of 4 symbols.
+fn run_at_4<R: Threads + Wait + Sync + Alloc<A = Global>>(
+    rt: &R,
+    reader: PieceReader,
+    writer: NarrowWriter,
+) -> Result<Outcome, Fail> {
+    let params = settings(4, 1, BILLION, 255)?;
+    Ok(run_between(rt, rt.alloc(), reader, writer, &params))
+}
 
 #[test]
 fn refuses_faulty_texts_with_their_lines(rt: HostRuntime) -> Result<(), Fail> {
@@ -21,24 +45,19 @@ fn refuses_faulty_texts_with_their_lines(rt: HostRuntime) -> Result<(), Fail> {
     ];
     for (text, e) in refused {
         let made = dump_of(&rt, alloc, text, &Params::default());
-        assert_eq!(rt; made.answer, Err(RunError::Input(e)));
-        assert!(rt; made.written.is_empty());
-        assert_eq!(rt; made.read_failures, 0);
+        assert_run(&rt, &made, Err(RunError::Input(e)), b"", (0, 0));
     }
     Ok(())
 }
 
 #[test]
 fn gives_the_same_dump_in_any_pieces(rt: HostRuntime) -> Result<(), Fail> {
-    let alloc = rt.alloc();
-    let params = settings(4, 1, BILLION, 255)?;
     for piece in [1, 2, 7, 22, 100] {
         for width in [1, 3, 100] {
             let reader = PieceReader::new(TEXT, piece, 0);
-            let writer = NarrowWriter::new(Vec::new(alloc), width, 1000, Full::Fails, true);
-            let made = run_between(&rt, alloc, reader, writer, &params);
-            assert_eq!(rt; made.answer, Ok(3));
-            assert_eq!(rt; made.written.as_slice(), DUMP);
+            let writer = NarrowWriter::new(Vec::new(rt.alloc()), width, 1000, Full::Fails, true);
+            let made = run_at_4(&rt, reader, writer)?;
+            assert_run(&rt, &made, Ok(3), DUMP, (0, 0));
         }
     }
     Ok(())
@@ -46,33 +65,23 @@ fn gives_the_same_dump_in_any_pieces(rt: HostRuntime) -> Result<(), Fail> {
 
 #[test]
 fn writes_nothing_after_a_failed_read(rt: HostRuntime) -> Result<(), Fail> {
-    let alloc = rt.alloc();
-    let params = settings(4, 1, BILLION, 255)?;
     for failing in 1..=24 {
         let reader = PieceReader::new(TEXT, 1, failing);
-        let writer = NarrowWriter::new(Vec::new(alloc), 100, 1000, Full::Fails, true);
-        let made = run_between(&rt, alloc, reader, writer, &params);
-        assert_eq!(rt; made.answer, Err(RunError::Read));
-        assert!(rt; made.written.is_empty());
-        assert_eq!(rt; made.read_failures, 1);
-        assert_eq!(rt; made.write_failures, 0);
+        let writer = NarrowWriter::new(Vec::new(rt.alloc()), 100, 1000, Full::Fails, true);
+        let made = run_at_4(&rt, reader, writer)?;
+        assert_run(&rt, &made, Err(RunError::Read), b"", (1, 0));
     }
     Ok(())
 }
 
 #[test]
 fn writes_a_front_of_the_dump_before_a_failed_write(rt: HostRuntime) -> Result<(), Fail> {
-    let alloc = rt.alloc();
-    let params = settings(4, 1, BILLION, 255)?;
     for room in 0..DUMP.len() {
         for full in [Full::Fails, Full::Takes0] {
             let reader = PieceReader::new(TEXT, 100, 0);
-            let writer = NarrowWriter::new(Vec::new(alloc), 4, room, full, true);
-            let made = run_between(&rt, alloc, reader, writer, &params);
-            assert_eq!(rt; made.answer, Err(RunError::Write));
-            assert_eq!(rt; made.written.as_slice(), &DUMP[..room]);
-            assert_eq!(rt; made.write_failures, 1);
-            assert_eq!(rt; made.read_failures, 0);
+            let writer = NarrowWriter::new(Vec::new(rt.alloc()), 4, room, full, true);
+            let made = run_at_4(&rt, reader, writer)?;
+            assert_run(&rt, &made, Err(RunError::Write), &DUMP[..room], (0, 1));
         }
     }
     Ok(())
@@ -80,15 +89,11 @@ fn writes_a_front_of_the_dump_before_a_failed_write(rt: HostRuntime) -> Result<(
 
 #[test]
 fn a_failed_flush_fails_the_run(rt: HostRuntime) -> Result<(), Fail> {
-    let alloc = rt.alloc();
-    let params = settings(4, 1, BILLION, 255)?;
     for (text, dump) in [(TEXT, DUMP), (b"".as_slice(), b"".as_slice())] {
         let reader = PieceReader::new(text, 100, 0);
-        let writer = NarrowWriter::new(Vec::new(alloc), 100, 1000, Full::Fails, false);
-        let made = run_between(&rt, alloc, reader, writer, &params);
-        assert_eq!(rt; made.answer, Err(RunError::Write));
-        assert_eq!(rt; made.written.as_slice(), dump);
-        assert_eq!(rt; made.write_failures, 1);
+        let writer = NarrowWriter::new(Vec::new(rt.alloc()), 100, 1000, Full::Fails, false);
+        let made = run_at_4(&rt, reader, writer)?;
+        assert_run(&rt, &made, Err(RunError::Write), dump, (0, 1));
     }
     Ok(())
 }

@@ -3,7 +3,6 @@ use super::*;
 use crate::tests::passes::Passes;
 use kmc_count::direct::count_direct;
 use kmc_count::dump::write_dump;
-use std::sync::atomic::Ordering;
 
 /// The dump of the direct count of these reads.
 fn direct_dump(alloc: Global, reads: &[&[u8]], params: &Params) -> Result<Vec<u8>, Fail> {
@@ -108,10 +107,6 @@ fn a_run_tells_its_gate_of_each_part(rt: HostRuntime) -> Result<(), Fail> {
     let mut writer = Counted::new(device);
     let made = run(&rt, alloc, &mut reader, &mut writer, &params, &passes);
     assert_eq!(rt; made, Ok(3));
-    assert_eq!(rt; passes.before_put.load(Ordering::SeqCst), 6);
-    assert_eq!(rt; passes.after_put.load(Ordering::SeqCst), 6);
-    assert_eq!(rt; passes.slot_held.load(Ordering::SeqCst), 6);
-    assert_eq!(rt; passes.part_claimed.load(Ordering::SeqCst), 6);
-    assert_eq!(rt; passes.after_take.load(Ordering::SeqCst), 6);
+    passes.assert_each(&rt, 6);
     Ok(())
 }

@@ -3,7 +3,6 @@ use super::outcome::passed;
 use super::records::assert_twice;
 use super::{TWICE, one_read_a_chunk, reads_of, two_writers};
 use crate::tests::passes::Passes;
-use std::sync::atomic::Ordering;
 use std::test::Fail;
 
 #[test]
@@ -16,11 +15,7 @@ fn six_parts_pass_each_point_once(rt: HostRuntime) -> Result<(), Fail> {
         let passes = Passes::new();
         let made = passed(&rt, alloc, &reads, plan, queue, &passes)?;
         assert_twice(&rt, alloc, &made)?;
-        assert_eq!(rt; passes.slot_held.load(Ordering::SeqCst), 6);
-        assert_eq!(rt; passes.part_claimed.load(Ordering::SeqCst), 6);
-        assert_eq!(rt; passes.before_put.load(Ordering::SeqCst), 6);
-        assert_eq!(rt; passes.after_put.load(Ordering::SeqCst), 6);
-        assert_eq!(rt; passes.after_take.load(Ordering::SeqCst), 6);
+        passes.assert_each(&rt, 6);
     }
     Ok(())
 }

@@ -78,13 +78,13 @@ fn two_splitters_meet(rt: HostRuntime) -> Result<(), Fail> {
 }
 
 #[test]
-fn splitters_in_turn_do_not_meet(rt: HostRuntime) -> Result<(), Fail> {
-    they_miss_in_turn(&rt, Pair::Splitters)
+fn two_storers_meet(rt: HostRuntime) -> Result<(), Fail> {
+    they_meet(&rt, Pair::Storers, 2)
 }
 
 #[test]
-fn two_storers_meet(rt: HostRuntime) -> Result<(), Fail> {
-    they_meet(&rt, Pair::Storers, 2)
+fn splitters_in_turn_do_not_meet(rt: HostRuntime) -> Result<(), Fail> {
+    they_miss_in_turn(&rt, Pair::Splitters)
 }
 
 #[test]

@@ -2,7 +2,8 @@
 //! `tests_model/split_model.py`, which works them out by the definitions.
 
 /// A row on each line: k, m, the letters, and the runs.
-pub(super) const ROWS: &str = "\
+pub(super) fn rows() -> &'static str {
+    "\
 1|1|ACGAACGA|1:0 2:1 2:0 2:1 1:0
 2|1|CCGCTTTCT|3:1 5:0
 2|2|GCG|1:9 1:6
@@ -43,4 +44,5 @@ pub(super) const ROWS: &str = "\
 33|9|AGCGATTAGTTCACTGGGCTAGACCTTCCATTAA|2:11122
 64|11|TGTGTTGTGTTGTGTTGTGTTGTGTTGTGTTGTGTTGTGTTGTGTTGTGTTGTGTTGTGTTGTGTTGTGTT|8:4194304
 64|1|AAACTATAAATTAGTATTTTTTATATCTAAGCGCTTTTTAGAAAATTTTTTTATTTTCCATATAGCATCGT|8:0
-";
+"
+}
