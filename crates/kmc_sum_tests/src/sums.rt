@@ -93,13 +93,8 @@ fn refuses(
 #[test]
 fn counts_of_equal_words_are_added(rt: HostRuntime) -> Result<(), Fail> {
     let texts = ["AC\t2\nCA\t5\n", "", "AC\t3\nTT\t1\n", "AA\t1\nAC\t1\n"];
-    gives(
-        &rt,
-        &texts,
-        &limits(1, GREATEST, GREATEST)?,
-        "AA\t1\nAC\t6\nCA\t5\nTT\t1\n",
-        4,
-    )
+    let dump = "AA\t1\nAC\t6\nCA\t5\nTT\t1\n";
+    gives(&rt, &texts, &limits(1, GREATEST, GREATEST)?, dump, 4)
 }
 
 #[test]
@@ -110,18 +105,13 @@ fn limits_judge_the_sums(rt: HostRuntime) -> Result<(), Fail> {
 
 #[test]
 fn sums_above_64_bits_do_not_wrap(rt: HostRuntime) -> Result<(), Fail> {
+    let dump = "CA\t9223372036854775808\n";
     let texts = [
         "AC\t18446744073709551615\n",
         "AC\t3\nCA\t9223372036854775807\n",
         "CA\t1\n",
     ];
-    gives(
-        &rt,
-        &texts,
-        &limits(0, GREATEST, GREATEST)?,
-        "CA\t9223372036854775808\n",
-        1,
-    )
+    gives(&rt, &texts, &limits(0, GREATEST, GREATEST)?, dump, 1)
 }
 
 #[test]

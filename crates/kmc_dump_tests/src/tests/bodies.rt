@@ -1,5 +1,4 @@
 //! Packed lists of random bodies against the plain counts of the same bodies.
-use crate::tests::listed::Dice;
 use kmc_base::kmer::Kmer;
 use kmc_base::strands::Strands;
 use kmc_base::word::Word;
@@ -8,19 +7,20 @@ use kmc_count::limits::Limits;
 use kmc_dump::counts::Counts;
 use kmc_dump::lists::{BinLists, SizedLists, list_bins};
 use kmc_dump::shown::Shown;
+use kmc_testing::dice::Dice;
 use std::alloc::{AllocError, Global};
 use std::test::Fail;
 
 /// Appends a record of k or up to 15 symbols more, with zeros behind the last.
 fn push_record(body: &mut Vec<u8>, dice: &mut Dice, k: usize) -> Result<(), AllocError> {
-    let above = (dice.letter() % 4) as u8 * 5;
+    let above = dice.roll(4) as u8 * 5;
     body.push(above)?;
     let mut left = k.saturating_add(usize::from(above));
     for _ in 0..left.div_ceil(4) {
         let mut byte = 0u8;
         for place in 0..4 {
             // two letters alone, so that words come again
-            let code = if place < left { dice.letter() % 2 } else { 0 };
+            let code = if place < left { dice.roll(2) } else { 0 };
             byte = byte << 2 | code as u8;
         }
         body.push(byte)?;

@@ -1,10 +1,11 @@
 //! Devices that fail at each byte of a dump, and memory that is refused.
 ghost use Rattle.std.specs.Prelude.{Some};
 
-use crate::tests::listed::{Dice, alone, listed, plain, settings, thrown};
+use crate::tests::listed::{alone, listed, plain, settings, thrown};
 use kmc_device::counted::Counted;
 use kmc_dump::lists::write_bins;
 use kmc_dump::write::DumpError;
+use kmc_testing::dice::Dice;
 use std::io;
 use std::io::{ErrorKind, Write};
 use std::test::Fail;
@@ -42,16 +43,14 @@ impl Write for Full {
 #[test]
 fn a_front_is_out_where_the_device_fails(rt: HostRuntime) -> Result<(), Fail> {
     let alloc = rt.alloc();
-    let mut dice = Dice {
-        state: 88172645463325252,
-    };
+    let mut dice = Dice { state: 41 };
     let small = alone(alloc, thrown(alloc, &mut dice, 60)?)?;
     let large = alone(alloc, thrown(alloc, &mut dice, 70_000)?)?;
     // each byte of one range, and bytes of two ranges far from one another
     for (reads, k, step) in [(&small, 9, 1), (&large, 20, 520_000)] {
         for threads in [1, 2] {
             let params = settings(k, 255, threads)?;
-            let (direct, _) = plain(&rt, alloc, reads, &params)?;
+            let (direct, _) = plain(alloc, reads, &params)?;
             let Some(lists) = listed(&rt, alloc, reads, &params) else {
                 return Err(Fail::from("out of memory"));
             };

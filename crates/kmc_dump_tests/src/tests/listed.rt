@@ -11,6 +11,7 @@ use kmc_dump::lists::{BinLists, write_bins};
 use kmc_partqueue::NoGate;
 use kmc_reads::format::Format;
 use kmc_reads::reads::slices_of;
+use kmc_testing::dice::Dice;
 use kmc_tool::params::Params;
 use kmc_tool::stage_one::stage_one;
 use kmc_tool::stage_two::stage_two;
@@ -20,28 +21,12 @@ use std::sync::Wait;
 use std::test::Fail;
 use std::thread::Threads;
 
-/// Numbers that look thrown, the same on each run.
-#[derive(Drop)]
-pub struct Dice {
-    pub state: u64,
-}
-
-impl Dice {
-    /// A number below 4.
-    pub fn letter(&mut self) -> usize {
-        self.state ^= self.state << 13;
-        self.state ^= self.state >> 7;
-        self.state ^= self.state << 17;
-        (self.state >> 33) as usize % 4
-    }
-}
-
 /// A read of so many symbols.
 pub fn thrown(alloc: Global, dice: &mut Dice, len: usize) -> Result<Vec<u8>, AllocError> {
     let letters = b"ACGT";
     let mut read = Vec::with_capacity(alloc, len)?;
     for _ in 0..len {
-        read.push(letters[dice.letter() % 4])?;
+        read.push(letters[dice.roll(4)])?;
     }
     Ok(read)
 }
@@ -99,15 +84,11 @@ pub fn by_ranges<R: Abort + Threads + Wait + Sync>(
 }
 
 /// The dump of the direct count of the reads, and its number of lines.
-pub fn plain(
-    rt: &impl Abort,
-    alloc: Global,
-    reads: &[Vec<u8>],
-    params: &Params,
-) -> Result<(Vec<u8>, u64), Fail> {
+pub fn plain(alloc: Global, reads: &[Vec<u8>], params: &Params) -> Result<(Vec<u8>, u64), Fail> {
     let pairs = count_direct(alloc, reads, params.k, params.strands, &params.limits)?;
     let mut writer = Counted::new(Vec::new(alloc));
-    let written = write_dump(&mut writer, &pairs);
-    assert!(rt; written.is_ok());
-    Ok((writer.into_inner(), pairs.len() as u64))
+    match write_dump(&mut writer, &pairs) {
+        Ok(_) => Ok((writer.into_inner(), pairs.len() as u64)),
+        Err(_) => Err(Fail::from("not written")),
+    }
 }

@@ -1,6 +1,7 @@
 //! Words that share a prefix: the first one, the last one, and one with more pairs than a range should have.
-use crate::tests::listed::{Dice, by_ranges, plain, settings};
+use crate::tests::listed::{by_ranges, plain, settings};
 use kmc_base::strands::Strands;
+use kmc_testing::dice::Dice;
 use std::alloc::{AllocError, Global};
 use std::test::Fail;
 
@@ -54,7 +55,7 @@ fn crowded(alloc: Global, count: usize) -> Result<Vec<Vec<u8>>, AllocError> {
     for _ in 0..count {
         let mut read = equal(alloc, b'T', 10)?;
         for _ in 0..10 {
-            read.push(letters[dice.letter() % 4])?;
+            read.push(letters[dice.roll(4)])?;
         }
         reads.push(read)?;
     }
@@ -67,7 +68,7 @@ fn a_crowded_prefix_is_one_range(rt: HostRuntime) -> Result<(), Fail> {
     let alloc = rt.alloc();
     let reads = crowded(alloc, 70_000)?;
     let params = settings(20, 255, 2)?.with_strands(Strands::Apart);
-    let (direct, wanted) = plain(&rt, alloc, &reads, &params)?;
+    let (direct, wanted) = plain(alloc, &reads, &params)?;
     let (text, lines) = by_ranges(&rt, alloc, &reads, &params)?;
     assert!(rt; wanted > 65536);
     assert!(rt; text == direct && lines == wanted);
