@@ -34,7 +34,7 @@ module _ {T : Type 0} (k : QueueShape) where
     pub own : WriterOk k r.lanes (heads_of k s.words) a
     own = (r.each_seat id (one_of_writers a) at).0.0
 
-    -- no other seat has this writer
+    -- the writer has one seat
     pub alone : (j : ℕ) (u : View T) → j ≢ id → get_elem? s.views j ≡ some u → writers_of a.number u ≡ 0
     alone = alone_with (writers_of a.number) s id (one_of_writers a) at (one_of_itself a.number) (r.one_writer a.number own.known)
 
