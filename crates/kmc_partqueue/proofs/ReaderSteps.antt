@@ -28,6 +28,10 @@ at_end true n h e = (refl, (let e' : suc n ≡ suc h = e in let g : n ≡ h = om
 at_end false n h e = let e' : 0 ≡ suc h = e in absurd (omega arith)
 
 module _ {T : Type 0} (k : QueueShape) where
+  rises_more : (es : List (Received T)) (x : Received T) → Rises es → Each (λ (f : Received T). f.writer ≡ x.writer → f.number < x.number) es → Rises (es ++ x ∷ [])
+  rises_more [] x p q = (tt, tt)
+  rises_more (e ∷ es) x p q = (each_append (λ (f : Received T). f.writer ≡ e.writer → e.number < f.number) es (x ∷ []) p.0 ((λ is. q.0 (sym is)), tt), rises_more es x p.1 q.1)
+
   module _ (s : St T) (r : LanesRule k s) (id : ℕ) (b : Reading T) (at : get_elem? s.views id ≡ some (one_of_readers b)) where
     pub own : ReaderOk k r.lanes (heads_of k s.words) b
     own = (r.each_seat id (one_of_readers b) at).1.0
@@ -35,10 +39,6 @@ module _ {T : Type 0} (k : QueueShape) where
     -- no other seat has the reader
     pub alone : (j : ℕ) (u : View T) → j ≢ id → get_elem? s.views j ≡ some u → readers_of b.number u ≡ 0
     alone = alone_with (readers_of b.number) s id (one_of_readers b) at (one_of_itself b.number) (r.one_reader b.number own.known)
-
-  rises_more : (es : List (Received T)) (x : Received T) → Rises es → Each (λ (f : Received T). f.writer ≡ x.writer → f.number < x.number) es → Rises (es ++ x ∷ [])
-  rises_more [] x p q = (tt, tt)
-  rises_more (e ∷ es) x p q = (each_append (λ (f : Received T). f.writer ≡ e.writer → e.number < f.number) es (x ∷ []) p.0 ((λ is. q.0 (sym is)), tt), rises_more es x p.1 q.1)
 
   -- a lane whose list, hand and end stay
   abbrev pub recelled : Lane T → ℕ → Cell → Lane T

@@ -13,7 +13,7 @@ use Rattle.kmc_partqueue.specs.Lane.{free, writing, full, reading, Cell, Lane, L
 use Rattle.kmc_partqueue.specs.Rule.{head_at, end_at, slot_at, mark_at, entries, writers_of, WriterOk, ReaderOk, ViewOk, LanesRule}
 use Rattle.kmc_partqueue.specs.Dealing.{one_of_writers}
 use Rattle.kmc_partqueue.specs.Plays.{next_slot_of, holding, sending, completed}
-use Rattle.kmc_partqueue.proofs.Sums.{one_of_itself, put, at_put, put_here, put_else, same_refl, total_set, each_map, each_absent}
+use Rattle.kmc_partqueue.proofs.Sums.{one_of_itself, put, at_put, put_here, put_else, total_set, each_map, each_absent}
 use Rattle.kmc_partqueue.proofs.OneLane.{Longer, lane_of, free_found, late, lane_holds, lane_stays, lane_puts, lane_ends}
 use Rattle.kmc_partqueue.proofs.Frame.{St, heads_of, alone_with, Grows, Hands, reader_stays, hands_put, rule_moves}
 use Rattle.kmc_partqueue.proofs.Places.{LaneSame, slot_within, mark_within, mark_head, mark_end, mark_mark, end_head, end_end, end_mark, home_else}
@@ -34,7 +34,7 @@ module _ {T : Type 0} (k : QueueShape) where
     pub own : WriterOk k r.lanes (heads_of k s.words) a
     own = (r.each_seat id (one_of_writers a) at).0.0
 
-    -- no other seat has this writer
+    -- the writer has one seat
     pub alone : (j : ℕ) (u : View T) → j ≢ id → get_elem? s.views j ≡ some u → writers_of a.number u ≡ 0
     alone = alone_with (writers_of a.number) s id (one_of_writers a) at (one_of_itself a.number) (r.one_writer a.number own.known)
 

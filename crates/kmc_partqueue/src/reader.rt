@@ -20,9 +20,9 @@ use std::thread;
 #[derive(Drop)]
 pub struct ReaderSeat<T> {
     pub(crate) seat: Seat<Option<T>, View<T>>,
-    pub(crate) totals: [Option<u64>; MAX_WRITERS],
     pub(crate) number: usize,
     pub(crate) per_writer: usize,
+    pub(crate) totals: [Option<u64>; MAX_WRITERS],
     pub(crate) writers: usize,
     pub(crate) next: usize,
 }

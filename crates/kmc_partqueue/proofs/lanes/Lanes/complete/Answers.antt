@@ -1,4 +1,4 @@
-use Rattle.std.proofs.Common.{arith, refl, sym, ap, ◌∙◌, ◌≡◌, ℕ, suc, ◌+◌, ◌*◌, ◌<◌, false, true, subst}
+use Rattle.std.proofs.Common.{arith, refl, sym, ap, ◌∙◌, ◌≡◌, ℕ, suc, ◌+◌, ◌*◌, ◌<◌, true, subst}
 use Rattle.kmc_partqueue.specs.Seats.{per_writer_of, sent_of}
 use Rattle.kmc_partqueue.proofs.WriterCalls.{resting, end_call, ended_after}
 use Rattle.kmc_partqueue.proofs.lanes.Lanes.complete.Given.{Over}

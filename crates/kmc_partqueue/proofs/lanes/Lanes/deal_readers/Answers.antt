@@ -1,4 +1,4 @@
-use Rattle.std.proofs.Common.{arith, sym, ap, ◌∙◌, ℕ, ◌+◌, ◌*◌, ◌<◌, ◌++◌, ◌∷◌, [], subst, replicate, None}
+use Rattle.std.proofs.Common.{arith, sym, ◌∙◌, ℕ, ◌+◌, ◌*◌, ◌<◌, ◌++◌, ◌∷◌, [], subst}
 use Rattle.kmc_partqueue.specs.Seats.{new_reader}
 use Rattle.kmc_partqueue.specs.Dealing.{one_of_readers, fresh_reader}
 use Rattle.kmc_partqueue.proofs.Allowed.{splits_reader}

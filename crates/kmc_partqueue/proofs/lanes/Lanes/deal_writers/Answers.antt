@@ -1,4 +1,4 @@
-use Rattle.std.proofs.Common.{arith, refl, sym, ap, ◌∙◌, ℕ, ◌+◌, ◌*◌, ◌<◌, ◌++◌, ◌∷◌, [], false, subst}
+use Rattle.std.proofs.Common.{arith, sym, ap, ◌∙◌, ℕ, ◌+◌, ◌*◌, ◌<◌, ◌++◌, ◌∷◌, [], false, subst}
 use Rattle.kmc_partqueue.specs.Seats.{new_writer}
 use Rattle.kmc_partqueue.proofs.Allowed.{splits_writer}
 use Rattle.kmc_partqueue.proofs.DealCalls.{pops, left_writers, own_writer, row_next}

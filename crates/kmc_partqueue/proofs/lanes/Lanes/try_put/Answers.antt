@@ -1,4 +1,4 @@
-use Rattle.std.proofs.Common.{rules, arith, refl, sym, ap, ◌∙◌, ℕ, ◌+◌, ◌*◌, ◌/◌, ◌%◌, ◌<◌, ◌≤◌, ◌++◌, ◌∷◌, [], false, Some, None, length, subst, mod-lt, length-append}
+use Rattle.std.proofs.Common.{rules, arith, refl, sym, ap, ◌∙◌, ℕ, ◌+◌, ◌*◌, ◌/◌, ◌%◌, ◌<◌, ◌≤◌, ◌++◌, ◌∷◌, [], Some, None, length, subst, mod-lt, length-append}
 use Rattle.kmc_partqueue.specs.Seats.{sent_of, AtRest}
 use Rattle.kmc_partqueue.proofs.Turns.{lane_within}
 use Rattle.kmc_partqueue.proofs.WriterCalls.{free_call, send_call, held_after, full_after, sent_after, rests}
