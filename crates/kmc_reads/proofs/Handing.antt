@@ -96,65 +96,52 @@ module _ (overlap n : ℕ) (rows : List (List ℕ)) (old new : Scan) (reads : Li
       settled = settled;
     }
 
-  of_body : (read front : List ℕ) → At rows (spot n Body read) front old → Hands overlap rows (spot n Body read) front reads new
-  of_body read [] at =
+  -- what is handed out at a stage of an open read, where no line is open
+  between_lines : (stage : Stage) → kept stage [] ≡ [] → ((own : List ℕ) → begun_by stage own [] ≡ [])
+      → ((own rest : List ℕ) → length rest ≡ overlap → LeadsCut overlap (spot n stage (own ++ rest)) [] [] ((own ++ rest) ∷ []) (spot n stage rest) [])
+      → (read : List ℕ) → At rows (spot n stage read) [] old → Hands overlap rows (spot n stage read) [] reads new
+  between_lines stage none settled lead read at =
       let k = at.keeps in
-      let bytes : old.bytes.items ≡ concat rows ++ read = k.bytes ∙ ap (λ (t : List ℕ). concat rows ++ t) (append-nil read) in
+      let bytes : old.bytes.items ≡ concat rows ++ read = k.bytes ∙ ap (λ (t : List ℕ). concat rows ++ (read ++ t)) none ∙ ap (λ (t : List ℕ). concat rows ++ t) (append-nil read) in
       let own = a read bytes k.start k.ends in let rest = b read bytes k.start k.ends in
       record {
         more = (own ++ rest) ∷ [];
-        next = spot n Body rest;
+        next = spot n stage rest;
         left = [];
         given = given read bytes k.start k.ends;
-        leads = subst (λ t. LeadsCut overlap (spot n Body t) [] [] ((own ++ rest) ∷ []) (spot n Body rest) []) (sym (parts read bytes k.start k.ends)) (cut_between overlap n own rest (long read bytes k.start k.ends));
-        stands = stands read bytes k.start k.ends Body k.number (cut.between k.many ∙ k.stage) refl refl;
+        leads = subst (λ t. LeadsCut overlap (spot n stage t) [] [] ((own ++ rest) ∷ []) (spot n stage rest) []) (sym (parts read bytes k.start k.ends)) (lead own rest (long read bytes k.start k.ends));
+        stands = stands read bytes k.start k.ends stage k.number (cut.between k.many ∙ k.stage) none (settled rest);
       }
-  of_body read (x ∷ xs) at =
-      let k = at.keeps in let front = x ∷ xs in
+
+  -- and where one is, which goes on behind the cut
+  within_line : (stage : Stage) (read front : List ℕ) → 0 < length front → kept stage (strip_last 13 front) ≡ strip_last 13 front
+      → ((own rest : List ℕ) → length rest ≡ overlap → read ++ front ≡ own ++ rest → ends_with_byte 13 front ≡ false → LeadsCut overlap (spot n stage read) front [] ((own ++ rest) ∷ []) (spot n Rest rest) [])
+      → At rows (spot n stage read) front old → Hands overlap rows (spot n stage read) front reads new
+  within_line stage read front begun keeps lead at =
+      let k = at.keeps in
       let none : ends_with_byte 13 front ≡ false = sym at.held ∙ cut.held in
       let same : strip_last 13 front ≡ front = no_return front none in
       let whole = read ++ front in
-      let bytes : old.bytes.items ≡ concat rows ++ whole = k.bytes ∙ ap (λ (t : List ℕ). concat rows ++ (read ++ t)) same in
+      let bytes : old.bytes.items ≡ concat rows ++ whole = k.bytes ∙ ap (λ (t : List ℕ). concat rows ++ (read ++ t)) (keeps ∙ same) in
       let own = a whole bytes k.start k.ends in let rest = b whole bytes k.start k.ends in
-      let some : 0 < old.place.length = omega (arith, k.many, ap length same) in
+      let some : 0 < old.place.length = omega (arith, k.many, ap length same, begun) in
       record {
         more = (own ++ rest) ∷ [];
         next = spot n Rest rest;
         left = [];
         given = given whole bytes k.start k.ends;
-        leads = cut_line overlap n own rest (long whole bytes k.start k.ends) read front (parts whole bytes k.start k.ends) (omega arith) none (λ r. any_read (x == 62) read r at.settled);
+        leads = lead own rest (long whole bytes k.start k.ends) (parts whole bytes k.start k.ends) none;
         stands = stands whole bytes k.start k.ends Rest k.number (cut.inside some) refl refl;
       }
 
+  of_body : (read front : List ℕ) → At rows (spot n Body read) front old → Hands overlap rows (spot n Body read) front reads new
+  of_body read [] at = between_lines Body refl (λ own. refl) (λ own rest l. cut_between overlap n own rest l) read at
+  of_body read (x ∷ xs) at =
+      within_line Body read (x ∷ xs) (omega arith) refl (λ own rest l whole none. cut_line overlap n own rest l read (x ∷ xs) whole (omega arith) none (λ r. any_read (x == 62) read r at.settled)) at
+
   of_rest : (read front : List ℕ) → At rows (spot n Rest read) front old → Hands overlap rows (spot n Rest read) front reads new
-  of_rest read [] at =
-      let k = at.keeps in
-      let bytes : old.bytes.items ≡ concat rows ++ read = k.bytes ∙ ap (λ (t : List ℕ). concat rows ++ t) (append-nil read) in
-      let own = a read bytes k.start k.ends in let rest = b read bytes k.start k.ends in
-      record {
-        more = (own ++ rest) ∷ [];
-        next = spot n Rest rest;
-        left = [];
-        given = given read bytes k.start k.ends;
-        leads = subst (λ t. LeadsCut overlap (spot n Rest t) [] [] ((own ++ rest) ∷ []) (spot n Rest rest) []) (sym (parts read bytes k.start k.ends)) (cut_in_rest overlap n own rest (long read bytes k.start k.ends));
-        stands = stands read bytes k.start k.ends Rest k.number (cut.between k.many ∙ k.stage) refl refl;
-      }
-  of_rest read (x ∷ xs) at =
-      let k = at.keeps in let front = x ∷ xs in
-      let none : ends_with_byte 13 front ≡ false = sym at.held ∙ cut.held in
-      let same : strip_last 13 front ≡ front = no_return front none in
-      let whole = read ++ front in
-      let bytes : old.bytes.items ≡ concat rows ++ whole = k.bytes ∙ ap (λ (t : List ℕ). concat rows ++ (read ++ t)) same in
-      let own = a whole bytes k.start k.ends in let rest = b whole bytes k.start k.ends in
-      let some : 0 < old.place.length = omega (arith, k.many, ap length same) in
-      record {
-        more = (own ++ rest) ∷ [];
-        next = spot n Rest rest;
-        left = [];
-        given = given whole bytes k.start k.ends;
-        leads = cut_rest overlap n own rest (long whole bytes k.start k.ends) read front (parts whole bytes k.start k.ends) (omega arith) none;
-        stands = stands whole bytes k.start k.ends Rest k.number (cut.inside some) refl refl;
-      }
+  of_rest read [] at = between_lines Rest refl (λ own. refl) (λ own rest l. cut_in_rest overlap n own rest l) read at
+  of_rest read (x ∷ xs) at = within_line Rest read (x ∷ xs) (omega arith) refl (λ own rest l whole none. cut_rest overlap n own rest l read (x ∷ xs) whole (omega arith) none) at
 
 -- what a cut hands out
 pub hands : (overlap : ℕ) (rows : List (List ℕ)) (s : Spot) (front : List ℕ) (old new : Scan) (reads : List (List ℕ)) → HasCut overlap old new reads

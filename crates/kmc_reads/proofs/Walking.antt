@@ -26,30 +26,25 @@ pub record IsUnder (piece rest : List ℕ) (old new : Scan) : Type 0 where
   pub bytes : take (length old.bytes.items) new.bytes.items ≡ old.bytes.items
   pub ends : take (length old.ends.items) new.ends.items ≡ old.ends.items
 
--- bytes without a line feed go onto the open line
+-- bytes without a line feed go onto the open line, whatever is made of the lines
+module _ {A : Type 0} (made : List ℕ → List ℕ → A) (ended : List ℕ → List ℕ → A) (step : (front : List ℕ) (b : ℕ) (rest : List ℕ) → made front (b ∷ rest) ≡ cond (b == 10) (ended front rest) (made (front ++ b ∷ []) rest)) where
+  onto_open : (front p rest : List ℕ) → HasNoFeed p → made front (p ++ rest) ≡ made (front ++ p) rest
+  onto_open front [] rest unbroken = ap (λ t. made t rest) (sym (append-nil front))
+  onto_open front (b ∷ p) rest unbroken =
+      let e = ne_eqb b 10 (unbroken 0 (grind arith)) in
+      step front b (p ++ rest)
+      ∙ ap (λ t. cond t (ended front (p ++ rest)) (made (front ++ b ∷ []) (p ++ rest))) e
+      ∙ onto_open (front ++ b ∷ []) p rest (λ k h. unbroken (suc k) (grind arith))
+      ∙ ap (λ t. made t rest) (append_assoc front (b ∷ []) p)
+
 pub whole_open : (front p rest : List ℕ) → HasNoFeed p → whole_from front (p ++ rest) ≡ whole_from (front ++ p) rest
-whole_open front [] rest unbroken = ap (λ t. whole_from t rest) (sym (append-nil front))
-whole_open front (b ∷ p) rest unbroken =
-    let e = ne_eqb b 10 (unbroken 0 (grind arith)) in
-    ap (λ t. cond t (strip_last 13 front ∷ whole_from [] (p ++ rest)) (whole_from (front ++ b ∷ []) (p ++ rest))) e
-    ∙ whole_open (front ++ b ∷ []) p rest (λ k h. unbroken (suc k) (grind arith))
-    ∙ ap (λ t. whole_from t rest) (append_assoc front (b ∷ []) p)
+whole_open = onto_open whole_from (λ front rest. strip_last 13 front ∷ whole_from [] rest) (λ front b rest. refl)
 
 pub open_open : (front p rest : List ℕ) → HasNoFeed p → open_from front (p ++ rest) ≡ open_from (front ++ p) rest
-open_open front [] rest unbroken = ap (λ t. open_from t rest) (sym (append-nil front))
-open_open front (b ∷ p) rest unbroken =
-    let e = ne_eqb b 10 (unbroken 0 (grind arith)) in
-    ap (λ t. cond t (open_from [] (p ++ rest)) (open_from (front ++ b ∷ []) (p ++ rest))) e
-    ∙ open_open (front ++ b ∷ []) p rest (λ k h. unbroken (suc k) (grind arith))
-    ∙ ap (λ t. open_from t rest) (append_assoc front (b ∷ []) p)
+open_open = onto_open open_from (λ front rest. open_from [] rest) (λ front b rest. refl)
 
 pub lines_open : (front p rest : List ℕ) → HasNoFeed p → lines_from front (p ++ rest) ≡ lines_from (front ++ p) rest
-lines_open front [] rest unbroken = ap (λ t. lines_from t rest) (sym (append-nil front))
-lines_open front (b ∷ p) rest unbroken =
-    let e = ne_eqb b 10 (unbroken 0 (grind arith)) in
-    ap (λ t. cond t (strip_last 13 front ∷ lines_from [] (p ++ rest)) (lines_from (front ++ b ∷ []) (p ++ rest))) e
-    ∙ lines_open (front ++ b ∷ []) p rest (λ k h. unbroken (suc k) (grind arith))
-    ∙ ap (λ t. lines_from t rest) (append_assoc front (b ∷ []) p)
+lines_open = onto_open lines_from (λ front rest. strip_last 13 front ∷ lines_from [] rest) (λ front b rest. refl)
 
 pub open_leads : (s : Spot) (front p : List ℕ) → HasNoFeed p → Leads s front p [] s (front ++ p)
 open_leads s front p unbroken = record {
