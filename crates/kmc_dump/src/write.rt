@@ -24,7 +24,8 @@ use std::thread::Threads;
 pub enum DumpError {
     /// A growth was refused. Nothing was written.
     Memory,
-    /// A write or the flush failed, or a write took nothing of what was left.
+    /// A write or the flush failed, or a write took nothing of what was left. What went out before is the front of the
+    /// dump.
     Write,
 }
 

@@ -1,4 +1,4 @@
-use Rattle.std.proofs.Common.{◌≡◌, ◌++◌, ℕ, List, map, take, drop, sym, ap, subst, ◌∙◌, Vec, Global, Err}
+use Rattle.std.proofs.Common.{◌≡◌, ◌++◌, ℕ, List, map, take, drop, sym, ap, subst, ◌∙◌, Vec, Global}
 use Rattle.std.proofs.lemmas.List.{map-append, take-append-drop}
 use Rattle.kmc_count.proofs.PassedOn.{passed_on}
 use Rattle.kmc_count.specs.Bodies.{IsFirstDamaged}
