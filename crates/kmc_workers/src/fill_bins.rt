@@ -1,12 +1,12 @@
 //! Reads into bins: through the queue to the storers, whose bins become one.
 ghost use Rattle.std.specs.Prelude.{◌≡◌, ℕ, ◌<◌, List, ◌++◌, length, map, IfOk, IfErr};
 ghost use Rattle.std.specs.List.{flat_map};
+ghost use Rattle.kmc_partqueue.specs.Counts.{Each};
 ghost use Rattle.kmc_store.specs.Bins.{BinList};
 ghost use Rattle.kmc_store.specs.Bodies.{AreAdded};
 ghost use Rattle.kmc_store.specs.Holds.{HoldsReads};
-ghost use Rattle.kmc_partqueue.specs.Counts.{Each};
-ghost use Rattle.kmc_workers.specs.Causes.{IsCause};
 ghost use Rattle.kmc_workers.specs.Shards.{IsPassage, AreGrown};
+ghost use Rattle.kmc_workers.specs.Causes.{IsCause};
 ghost use Rattle.kmc_workers.specs.Workers.{items_of};
 
 use crate::pass_parts::pass_parts;
