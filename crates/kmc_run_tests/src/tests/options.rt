@@ -121,9 +121,18 @@ fn numbers_of(given: &Params) -> [u64; 8] {
 #[test]
 fn no_option_means_the_defaults(rt: HostRuntime) -> Result<(), Fail> {
     let given = settings(rt.alloc(), "")?;
-    assert_eq!(rt; (given.format, given.strands), (Format::Fastq, Strands::Joined));
-    assert_eq!(rt; numbers_of(&given), [25, 9, 512, 2, 1_000_000_000, 255, 2, 2]);
-    assert_eq!(rt; (given.readers, given.per_writer, given.batch), (1, 8, 1024));
+    assert_eq!(rt;
+        (given.format, given.strands),
+        (Format::Fastq, Strands::Joined)
+    );
+    assert_eq!(rt;
+        numbers_of(&given),
+        [25, 9, 512, 2, 1_000_000_000, 255, 2, 2]
+    );
+    assert_eq!(rt;
+        (given.readers, given.per_writer, given.batch),
+        (1, 8, 1024)
+    );
     Ok(())
 }
 
@@ -131,7 +140,10 @@ fn no_option_means_the_defaults(rt: HostRuntime) -> Result<(), Fail> {
 fn each_option_gives_its_own_setting(rt: HostRuntime) -> Result<(), Fail> {
     let line = "-fa -k31 -p7 -n64 -ci3 -cx90 -cs80 -sp4 -sr5 -b";
     let given = settings(rt.alloc(), line)?;
-    assert_eq!(rt; (given.format, given.strands), (Format::Fasta, Strands::Apart));
+    assert_eq!(rt;
+        (given.format, given.strands),
+        (Format::Fasta, Strands::Apart)
+    );
     assert_eq!(rt; numbers_of(&given), [31, 7, 64, 3, 90, 80, 4, 5]);
     Ok(())
 }
