@@ -104,16 +104,30 @@ fn the_order_of_words_stays(rt: HostRuntime) -> Result<(), Fail> {
     Ok(())
 }
 
+/// The numbers of k, p, n, ci, cx, cs, sp and sr.
+fn numbers_of(given: &Params) -> [u64; 8] {
+    [
+        given.k as u64,
+        given.p as u64,
+        given.n as u64,
+        given.limits.ci,
+        given.limits.cx,
+        given.limits.cs,
+        given.sp as u64,
+        given.sr as u64,
+    ]
+}
+
 #[test]
 fn no_option_means_the_defaults(rt: HostRuntime) -> Result<(), Fail> {
     let given = settings(rt.alloc(), "")?;
-    assert_eq!(rt; given.format, Format::Fastq);
-    assert_eq!(rt; given.strands, Strands::Joined);
-    assert_eq!(rt; (given.k, given.p, given.n), (25, 9, 512));
-    assert_eq!(rt; (given.sp, given.sr), (2, 2));
     assert_eq!(rt;
-        (given.limits.ci, given.limits.cx, given.limits.cs),
-        (2, 1_000_000_000, 255)
+        (given.format, given.strands),
+        (Format::Fastq, Strands::Joined)
+    );
+    assert_eq!(rt;
+        numbers_of(&given),
+        [25, 9, 512, 2, 1_000_000_000, 255, 2, 2]
     );
     assert_eq!(rt;
         (given.readers, given.per_writer, given.batch),
@@ -126,14 +140,11 @@ fn no_option_means_the_defaults(rt: HostRuntime) -> Result<(), Fail> {
 fn each_option_gives_its_own_setting(rt: HostRuntime) -> Result<(), Fail> {
     let line = "-fa -k31 -p7 -n64 -ci3 -cx90 -cs80 -sp4 -sr5 -b";
     let given = settings(rt.alloc(), line)?;
-    assert_eq!(rt; given.format, Format::Fasta);
-    assert_eq!(rt; given.strands, Strands::Apart);
-    assert_eq!(rt; (given.k, given.p, given.n), (31, 7, 64));
-    assert_eq!(rt; (given.sp, given.sr), (4, 5));
     assert_eq!(rt;
-        (given.limits.ci, given.limits.cx, given.limits.cs),
-        (3, 90, 80)
+        (given.format, given.strands),
+        (Format::Fasta, Strands::Apart)
     );
+    assert_eq!(rt; numbers_of(&given), [31, 7, 64, 3, 90, 80, 4, 5]);
     Ok(())
 }
 
