@@ -95,7 +95,8 @@ impl Kmer {
 
     /// The word of these codes, where they are 1 to [`MAX_K`] and none is above 3.
     pub fn new(codes: &[u8]) -> Option<Kmer>
-        ensures { MatchOption result (¬ (IsKmer codes.now)) (λ w. (w ≡ codes.now) × IsKmer codes.now) }
+        ensures { MatchOption result (¬ (IsKmer codes.now))
+            (λ w. (w ≡ codes.now) × IsKmer codes.now) }
     {
         if codes.is_empty() || codes.len() > MAX_K {
             return None;

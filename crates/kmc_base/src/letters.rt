@@ -52,7 +52,9 @@ static FOUR_LETTERS: [u8; 1024] = [
 /// Writes the letters of the four codes of a byte from a place on.
 pub(crate) fn write_four(out: &mut [u8], at: usize, byte: u8)
     requires { at + 4 ≤ length out.old }
-    ensures { out.new ≡ slice_set (slice_set (slice_set (slice_set out.old (at + 3) (letter (byte % 4))) (at + 2) (letter (byte / 4 % 4))) (at + 1) (letter (byte / 16 % 4))) at (letter (byte / 64 % 4)) }
+    ensures { out.new ≡ slice_set
+        (slice_set (slice_set (slice_set out.old (at + 3) (letter (byte % 4))) (at + 2)
+        (letter (byte / 4 % 4))) (at + 1) (letter (byte / 16 % 4))) at (letter (byte / 64 % 4)) }
 {
     let word = 4 * byte as usize;
     out[at + 3] = FOUR_LETTERS[word + 3];

@@ -38,7 +38,8 @@ pub fn words(alloc: Global, argv: Vec<String>) -> Result<Vec<String>, AllocError
 /// or more ASCII digits.
 pub fn params(alloc: Global, words: Vec<String>) -> Result<Params, ParamsError>
     ensures answer { let texts = map string_bytes words.items in MatchResult result
-        (λ r. (is_taken texts ≡ true) × AreGiven (found texts) r × HasUsualQueue r) (Explains texts) }
+        (λ r. (is_taken texts ≡ true) × AreGiven (found texts) r × HasUsualQueue r)
+        (Explains texts) }
     ensures complete { let texts = map string_bytes words.items in
         is_taken texts ≡ true → first_out_of_range (found texts) ≡ None
         → IfErr result (λ e. e ≡ Memory) }
@@ -59,7 +60,8 @@ const CHUNK_READS: usize = 32768;
 /// The settings of a run that the words of a command line give, glued or in long form, with the program's own queue.
 pub fn settings(alloc: Global, argv: Vec<String>) -> Result<Params, ParamsError>
     ensures answer { let texts = long_forms (map string_bytes argv.items) in MatchResult result
-        (λ r. (is_taken texts ≡ true) × AreGiven (found texts) r × HasProgramQueue r) (Explains texts) }
+        (λ r. (is_taken texts ≡ true) × AreGiven (found texts) r × HasProgramQueue r)
+        (Explains texts) }
     ensures complete { let texts = long_forms (map string_bytes argv.items) in
         is_taken texts ≡ true → first_out_of_range (found texts) ≡ None
         → IfErr result (λ e. e ≡ Memory) }

@@ -43,26 +43,32 @@ pub fn count<T: Threads + Wait + Sync, R: Read, W: Write>(
         × GaveAll (R.remaining reader.old.inner) (R.remaining reader.new.inner) bytes
         × IsAnswered (long_forms (map string_bytes argv.items)) bytes text lines
         × Appends (W.contents writer.old.inner) (W.contents writer.new.inner) text) }
-    ensures sound { IfOk result (λ lines. (reader.new.failures ≡ reader.old.failures) × (writer.new.failures ≡ writer.old.failures)) }
+    ensures sound { IfOk result (λ lines. (reader.new.failures ≡ reader.old.failures)
+        × (writer.new.failures ≡ writer.old.failures)) }
     ensures options { (e : ParamsError) → IsErrOf result (Fault.Options e)
         → Explains (long_forms (map string_bytes argv.items)) e × (reader.new ≡ reader.old) }
     ensures run { (e : RunError) → IsErrOf result (Fault.Run e)
         → IsAsked (long_forms (map string_bytes argv.items)) }
     ensures input { (e : ReadsError) → IsErrOf result (Fault.Run (RunError.Input e))
         → (asked : IsAsked (long_forms (map string_bytes argv.items)))
-        × IsRefused asked.params.format (R.remaining reader.old.inner) (R.remaining reader.new.inner) [] e }
-    ensures read { IsErrOf result (Fault.Run RunError.Read) → reader.new.failures ≡ reader.old.failures + 1 }
-    ensures write { IsErrOf result (Fault.Run RunError.Write) → (writer.new.failures ≡ writer.old.failures + 1)
+        × IsRefused asked.params.format (R.remaining reader.old.inner)
+        (R.remaining reader.new.inner) [] e }
+    ensures read { IsErrOf result (Fault.Run RunError.Read)
+        → reader.new.failures ≡ reader.old.failures + 1 }
+    ensures write { IsErrOf result (Fault.Run RunError.Write)
+        → (writer.new.failures ≡ writer.old.failures + 1)
         × (bytes text : List ℕ) × (lines : ℕ)
         × GaveAll (R.remaining reader.old.inner) (R.remaining reader.new.inner) bytes
         × IsAnswered (long_forms (map string_bytes argv.items)) bytes text lines
         × AppendsFront (W.contents writer.old.inner) (W.contents writer.new.inner) text }
-    ensures long { IsErrOf result (Fault.Run RunError.TooLong) → (reader.new.reads ≡ reader.old.reads + 2 ^ 32)
+    ensures long { IsErrOf result (Fault.Run RunError.TooLong)
+        → (reader.new.reads ≡ reader.old.reads + 2 ^ 32)
         × (bytes : List ℕ)
         × Consumes (R.remaining reader.old.inner) (R.remaining reader.new.inner) bytes
         × (2 ^ 32 ≤ length bytes) }
     ensures silent { IfErr result (λ e. e ≢ Fault.Run RunError.Write → writer.new ≡ writer.old) }
-    ensures kept { IfErr result (λ e. e ≢ Fault.Run RunError.Read → reader.new.failures ≡ reader.old.failures) }
+    ensures kept { IfErr result
+        (λ e. e ≢ Fault.Run RunError.Read → reader.new.failures ≡ reader.old.failures) }
 {
     let params = settings(alloc, argv)?;
     match run(rt, alloc, reader, writer, &params, &NoGate) {
@@ -108,12 +114,15 @@ pub fn program<T: Threads + Wait + Sync + Env + Eprint + Alloc<A = Global>, R: R
     requires reader { reader.old.failures < 2 ^ 64 - 1 }
     requires writer { writer.old.failures < 2 ^ 64 - 1 }
     requires reads { reader.old.reads + 2 ^ 32 < 2 ^ 64 }
-    ensures done { exit_status result ≡ 0 → (words : List Word) × (bytes text : List ℕ) × (lines : ℕ)
+    ensures done { exit_status result ≡ 0 → (words : List Word) × (bytes text : List ℕ)
+        × (lines : ℕ)
         × GaveAll (R.remaining reader.old.inner) (R.remaining reader.new.inner) bytes
         × IsAnswered words bytes text lines
         × Appends (W.contents writer.old.inner) (W.contents writer.new.inner) text }
-    ensures failed { exit_status result ≡ 1 → (writer.new ≡ writer.old) ⊎ (writer.new.failures ≡ writer.old.failures + 1) }
-    ensures misused { exit_status result ≡ 2 → (reader.new ≡ reader.old) × (writer.new ≡ writer.old) }
+    ensures failed { exit_status result ≡ 1 → (writer.new ≡ writer.old)
+        ⊎ (writer.new.failures ≡ writer.old.failures + 1) }
+    ensures misused { exit_status result ≡ 2 → (reader.new ≡ reader.old)
+        × (writer.new ≡ writer.old) }
     ensures statuses { exit_status result ≤ 2 }
 {
     let argv = match arguments(rt) {

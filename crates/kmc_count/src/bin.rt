@@ -42,8 +42,11 @@ fn sorted_keys<W: Word + Drop>(
     rule: KeyRule,
 ) -> Result<(), CountError>
     requires { rule.k ≤ W.most }
-    ensures ok { OnOk result (AreSortedKeys rule.strands rule.k body.now (map W.number words.new.items)) }
-    ensures damaged { (fault : RecordFault) (offset : ℕ) → IsErrOf result (CountError.Damaged fault offset) → IsFirstFault rule.k fault offset body.now }
+    ensures ok { OnOk result (AreSortedKeys rule.strands rule.k body.now
+        (map W.number words.new.items)) }
+    ensures damaged { (fault : RecordFault) (offset : ℕ)
+        → IsErrOf result (CountError.Damaged fault offset)
+        → IsFirstFault rule.k fault offset body.now }
     ensures memory { IsErrOf result CountError.Memory → StopsAtRecord rule.k body.now }
 {
     words.clear();
@@ -70,8 +73,11 @@ pub fn count_into<W: Word + Drop, L: PairList<W>>(
     requires empty { L.pairs pairs.old ≡ [] }
     requires wide { limits.now.cs ≤ L.greatest }
     ensures takes { OnOk result (L.takes rule.k pairs.new) }
-    ensures ok { OnOk result (IsDumpOfBody rule.strands rule.k limits.now body.now (L.pairs pairs.new)) }
-    ensures damaged { (fault : RecordFault) (offset : ℕ) → IsErrOf result (CountError.Damaged fault offset) → IsFirstFault rule.k fault offset body.now }
+    ensures ok { OnOk result (IsDumpOfBody rule.strands rule.k limits.now body.now
+        (L.pairs pairs.new)) }
+    ensures damaged { (fault : RecordFault) (offset : ℕ)
+        → IsErrOf result (CountError.Damaged fault offset)
+        → IsFirstFault rule.k fault offset body.now }
     ensures memory { IsErrOf result CountError.Memory → WantsMemory rule.k body.now }
 {
     sorted_keys(words, body, rule)?;
@@ -92,7 +98,8 @@ pub fn count_bin(
     requires some { 1 ≤ k }
     requires most { k ≤ MAX_K }
     ensures ok { IfOk result (λ pairs. IsDumpOfBody strands k limits.now body.now pairs.items) }
-    ensures damaged { (fault : RecordFault) (offset : ℕ) → IsErrOf result (CountError.Damaged fault offset) → IsFirstFault k fault offset body.now }
+    ensures damaged { (fault : RecordFault) (offset : ℕ)
+        → IsErrOf result (CountError.Damaged fault offset) → IsFirstFault k fault offset body.now }
     ensures memory { IsErrOf result CountError.Memory → WantsMemory k body.now }
 {
     let rule = KeyRule { k, strands };

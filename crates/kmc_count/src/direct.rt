@@ -27,7 +27,9 @@ fn push_read<W: Word + Drop>(
     rule: KeyRule,
 ) -> Result<(), AllocError>
     requires { rule.k ≤ W.most }
-    ensures { OnOk result (map W.number words.new.items ≡ map W.number words.old.items ++ map pack (map (placed_key rule.strands) (counted_words rule.k read.now))) }
+    ensures { OnOk result (map W.number words.new.items
+        ≡ map W.number words.old.items
+        ++ map pack (map (placed_key rule.strands) (counted_words rule.k read.now))) }
 {
     let stretches = segments(alloc, read, rule.k)?;
     for segment in &stretches {
@@ -44,7 +46,8 @@ fn count_at<W: Word + Drop>(
     limits: &Limits,
 ) -> Result<Vec<(Kmer, u64)>, AllocError>
     requires { rule.k ≤ W.most }
-    ensures { IfOk result (λ pairs. IsDump (count_of rule.strands rule.k (map (λ r. r.items) reads.now)) limits.now pairs.items) }
+    ensures { IfOk result (λ pairs. IsDump
+        (count_of rule.strands rule.k (map (λ r. r.items) reads.now)) limits.now pairs.items) }
 {
     let mut words: Vec<W> = Vec::new(alloc);
     for read in reads {
@@ -67,7 +70,8 @@ pub fn count_direct(
 ) -> Result<Vec<(Kmer, u64)>, AllocError>
     requires some { 1 ≤ k }
     requires most { k ≤ MAX_K }
-    ensures { IfOk result (λ pairs. IsDump (count_of strands k (map (λ r. r.items) reads.now)) limits.now pairs.items) }
+    ensures { IfOk result (λ pairs. IsDump
+        (count_of strands k (map (λ r. r.items) reads.now)) limits.now pairs.items) }
 {
     let rule = KeyRule { k, strands };
     if k <= NARROW_K {

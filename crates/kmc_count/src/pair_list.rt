@@ -21,7 +21,8 @@ pub trait PairList<W: Word> {
         requires fits { W.number word < 4 ^ rule.k }
         requires wide { shown ≤ greatest }
         ensures takes { OnOk result (takes rule.k self.new) }
-        ensures pairs { OnOk result (pairs self.new ≡ pairs self.old ++ (unpack rule.k (W.number word), shown) ∷ []) };
+        ensures pairs { OnOk result (pairs self.new
+            ≡ pairs self.old ++ (unpack rule.k (W.number word), shown) ∷ []) };
 }
 
 impl<W: Word + Drop> PairList<W> for Vec<(Kmer, u64)> {

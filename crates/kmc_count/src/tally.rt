@@ -25,7 +25,9 @@ fn push_kept<W: Word + Drop, L: PairList<W>>(
     requires fits { W.number word < 4 ^ rule.k }
     requires wide { limits.now.cs ≤ L.greatest }
     ensures takes { OnOk result (L.takes rule.k pairs.new) }
-    ensures pairs { OnOk result (L.pairs pairs.new ≡ L.pairs pairs.old ++ cons_option (keep_pair limits.now (unpack rule.k (W.number word), count)) []) }
+    ensures pairs { OnOk result (L.pairs pairs.new
+        ≡ L.pairs pairs.old
+        ++ cons_option (keep_pair limits.now (unpack rule.k (W.number word), count)) []) }
 {
     if let Some(shown) = limits.keep(count) {
         pairs.push_pair(word, rule, shown)?;
@@ -46,7 +48,9 @@ pub fn tally<W: Word + Drop, L: PairList<W>>(
     requires fit { All (λ n. n < 4 ^ rule.k) (map W.number words.now) }
     requires sorted { IsSorted nat_cmp (map W.number words.now) }
     ensures takes { OnOk result (L.takes rule.k pairs.new) }
-    ensures dump { OnOk result (IsDump (occurrences (map (unpack rule.k) (map W.number words.now))) limits.now (L.pairs pairs.new)) }
+    ensures dump { OnOk result (IsDump
+        (occurrences (map (unpack rule.k) (map W.number words.now))) limits.now
+        (L.pairs pairs.new)) }
 {
     let Some((first, rest)) = words.split_first() else {
         return Ok(());

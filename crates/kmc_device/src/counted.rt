@@ -88,7 +88,8 @@ impl<R: Read> Read for Counted<R> {
 
     fn read(&mut self, buf: &mut [u8]) -> io::Result<usize>
         ensures bound { ReadsAtMost result buf.new }
-        ensures bytes { ReadConsumes (R.remaining self.old.inner) (R.remaining self.new.inner) result buf.new }
+        ensures bytes { ReadConsumes (R.remaining self.old.inner)
+            (R.remaining self.new.inner) result buf.new }
         ensures ok { OnOk result (self.new.failures ≡ self.old.failures) }
         ensures counted { IfOk result (λ n. 0 < n → RisesByOne self.old.reads self.new.reads) }
         ensures at_end { IfOk result (λ n. n ≡ 0 → self.new.reads ≡ self.old.reads) }
@@ -117,15 +118,18 @@ impl<W: Write> Write for Counted<W> {
 
     fn write(&mut self, buf: &[u8]) -> io::Result<usize>
         ensures bound { WritesAtMost result buf.now }
-        ensures bytes { WriteAppends (W.contents self.old.inner) (W.contents self.new.inner) result buf.now }
+        ensures bytes { WriteAppends (W.contents self.old.inner)
+            (W.contents self.new.inner) result buf.now }
         ensures ok { IfOk result (λ n. 0 < n → self.new.failures ≡ self.old.failures) }
         ensures empty { OnOk result (length buf.now ≡ 0 → self.new.failures ≡ self.old.failures) }
         ensures reads { self.new.reads ≡ self.old.reads }
-        ensures stuck { IfOk result (λ n. n ≡ 0 → 0 < length buf.now → RisesByOne self.old.failures self.new.failures) }
+        ensures stuck { IfOk result (λ n. n ≡ 0 → 0 < length buf.now
+            → RisesByOne self.old.failures self.new.failures) }
         ensures failed { OnErr result (RisesByOne self.old.failures self.new.failures) }
         ensures pipe { IfErr result (TellsOfPipe self.new.pipe_closed) }
         ensures pipe_kept { IfOk result (λ n. 0 < n → self.new.pipe_closed ≡ self.old.pipe_closed) }
-        ensures pipe_stuck { IfOk result (λ n. n ≡ 0 → 0 < length buf.now → self.new.pipe_closed ≡ false) }
+        ensures pipe_stuck { IfOk result (λ n. n ≡ 0 → 0 < length buf.now
+            → self.new.pipe_closed ≡ false) }
     {
         match self.inner.write(buf) {
             Ok(n) => {

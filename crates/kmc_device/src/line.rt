@@ -56,10 +56,14 @@ pub fn make_room<W: Write>(
     requires failures { writer.old.failures < 2 ^ 64 - 1 }
     requires within { filled ≤ length room.now }
     requires long { more ≤ length room.now }
-    ensures ok { IfOk result (λ left. (left + more ≤ length room.now) × (writer.new.failures ≡ writer.old.failures)
-        × WritesOut (W.contents writer.old.inner) (W.contents writer.new.inner) (take filled room.now) (take left room.now)) }
+    ensures ok { IfOk result (λ left. (left + more ≤ length room.now)
+        × (writer.new.failures ≡ writer.old.failures)
+        × WritesOut (W.contents writer.old.inner) (W.contents writer.new.inner)
+        (take filled room.now) (take left room.now)) }
     ensures failed { OnErr result (RisesByOne writer.old.failures writer.new.failures) }
-    ensures front { OnErr result (AppendsFront (W.contents writer.old.inner) (W.contents writer.new.inner) (take filled room.now)) }
+    ensures front { OnErr result
+        (AppendsFront (W.contents writer.old.inner) (W.contents writer.new.inner)
+        (take filled room.now)) }
 {
     if room.len() - filled >= more {
         return Ok(filled);

@@ -13,10 +13,12 @@ pub struct WriteFault;
 /// Writes all of the text, in as many writes as the device wants.
 pub fn write_text<W: Write>(writer: &mut Counted<W>, text: &[u8]) -> Result<(), WriteFault>
     requires { writer.old.failures < 2 ^ 64 - 1 }
-    ensures ok { OnOk result (Appends (W.contents writer.old.inner) (W.contents writer.new.inner) text.now) }
+    ensures ok { OnOk result (Appends (W.contents writer.old.inner)
+        (W.contents writer.new.inner) text.now) }
     ensures kept { OnOk result (writer.new.failures ≡ writer.old.failures) }
     ensures failed { OnErr result (RisesByOne writer.old.failures writer.new.failures) }
-    ensures front { OnErr result (AppendsFront (W.contents writer.old.inner) (W.contents writer.new.inner) text.now) }
+    ensures front { OnErr result
+        (AppendsFront (W.contents writer.old.inner) (W.contents writer.new.inner) text.now) }
 {
     let mut done = 0;
     while done < text.len() {

@@ -25,8 +25,11 @@ pub fn list_body<W: Word + Drop, C: Shown + Drop>(
     requires most { rule.k ≤ W.most }
     requires wide { limits.now.cs ≤ C.greatest }
     ensures list { IfOk result (λ c. IsListOf rule.k c) }
-    ensures ok { IfOk result (λ c. IsDumpOfBody rule.strands rule.k limits.now body.now (pairs_of c)) }
-    ensures damaged { (fault : RecordFault) (offset : ℕ) → IsErrOf result (CountError.Damaged fault offset) → IsFirstFault rule.k fault offset body.now }
+    ensures ok { IfOk result (λ c. IsDumpOfBody rule.strands rule.k limits.now body.now
+        (pairs_of c)) }
+    ensures damaged { (fault : RecordFault) (offset : ℕ)
+        → IsErrOf result (CountError.Damaged fault offset)
+        → IsFirstFault rule.k fault offset body.now }
 {
     // The records of a usual bin have about one word a byte, whatever k is.
     words.clear();

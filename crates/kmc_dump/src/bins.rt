@@ -26,8 +26,11 @@ fn list_row<W: Word + Drop, C: Shown + Drop>(
 ) -> Result<Vec<Counts<W, C>>, CountError>
     requires most { rule.k ≤ W.most }
     requires wide { limits.now.cs ≤ C.greatest }
-    ensures ok { IfOk result (λ lists. AreListsOfBodies rule.strands rule.k limits.now (map (λ b. b.items) bodies.items) lists.items) }
-    ensures damaged { (fault : RecordFault) (offset : ℕ) → IsErrOf result (CountError.Damaged fault offset) → IsFirstDamaged rule.k fault offset (map (λ b. b.items) bodies.items) }
+    ensures ok { IfOk result (λ lists. AreListsOfBodies rule.strands rule.k limits.now
+        (map (λ b. b.items) bodies.items) lists.items) }
+    ensures damaged { (fault : RecordFault) (offset : ℕ)
+        → IsErrOf result (CountError.Damaged fault offset)
+        → IsFirstDamaged rule.k fault offset (map (λ b. b.items) bodies.items) }
 {
     let mut lists = Vec::with_capacity(alloc, bodies.len())?;
     let mut words: Vec<W> = Vec::new(alloc);
@@ -77,8 +80,11 @@ pub fn list_bodies<R: Threads + Sync, W: Word + Drop + Send, C: Shown + Drop + S
     requires most { rule.k ≤ W.most }
     requires wide { limits.cs ≤ C.greatest }
     requires threads { 1 ≤ threads }
-    ensures ok { IfOk result (λ lists. AreListsOfBodies rule.strands rule.k limits (map (λ b. b.items) bodies.items) lists.items) }
-    ensures damaged { (fault : RecordFault) (offset : ℕ) → IsErrOf result (CountError.Damaged fault offset) → IsFirstDamaged rule.k fault offset (map (λ b. b.items) bodies.items) }
+    ensures ok { IfOk result (λ lists. AreListsOfBodies rule.strands rule.k limits
+        (map (λ b. b.items) bodies.items) lists.items) }
+    ensures damaged { (fault : RecordFault) (offset : ℕ)
+        → IsErrOf result (CountError.Damaged fault offset)
+        → IsFirstDamaged rule.k fault offset (map (λ b. b.items) bodies.items) }
 {
     if threads == 1 {
         return list_row(alloc, bodies, rule, &limits);

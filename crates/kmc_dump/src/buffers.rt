@@ -42,7 +42,8 @@ pub fn make_buffers<W: Word + Drop, C: Shown + Drop>(
 ) -> Result<Vec<Buffer<W, C>>, AllocError>
     ensures count { IfOk result (λ v. vec_len v ≡ count) }
     ensures pairs { IfOk result (λ v. All (λ b. widest ≤ vec_capacity b.pairs) v.items) }
-    ensures text { IfOk result (λ v. All (λ b. widest * line_room size.k C.most_digits ≤ length b.text.items) v.items) }
+    ensures text { IfOk result (λ v. All
+        (λ b. widest * line_room size.k C.most_digits ≤ length b.text.items) v.items) }
 {
     let Some(bytes) = widest.checked_mul(line_room(size.k, C::digits())) else {
         return Err(AllocError);

@@ -56,8 +56,11 @@ fn list_sized<R: Threads + Sync, W: Word + Drop + Send>(
 ) -> Result<SizedLists<W>, CountError>
     requires most { rule.k ≤ W.most }
     requires threads { 1 ≤ threads }
-    ensures ok { IfOk result (λ lists. AreListsOfBodies rule.strands rule.k limits.now (map (λ b. b.items) bodies.items) (sized_lists lists)) }
-    ensures damaged { (fault : RecordFault) (offset : ℕ) → IsErrOf result (CountError.Damaged fault offset) → IsFirstDamaged rule.k fault offset (map (λ b. b.items) bodies.items) }
+    ensures ok { IfOk result (λ lists. AreListsOfBodies rule.strands rule.k limits.now
+        (map (λ b. b.items) bodies.items) (sized_lists lists)) }
+    ensures damaged { (fault : RecordFault) (offset : ℕ)
+        → IsErrOf result (CountError.Damaged fault offset)
+        → IsFirstDamaged rule.k fault offset (map (λ b. b.items) bodies.items) }
 {
     Ok(if limits.cs <= u64::from(u8::MAX) {
         Byte(list_bodies(rt, alloc, bodies, rule, *limits, threads)?)
@@ -83,8 +86,11 @@ pub fn list_bins<R: Threads + Sync>(
     requires some { 1 ≤ k }
     requires most { k ≤ MAX_K }
     requires threads { 1 ≤ threads }
-    ensures ok { IfOk result (λ lists. AreListsOfBodies strands k limits.now (map (λ b. b.items) bodies.items) (lists_of lists)) }
-    ensures damaged { (fault : RecordFault) (offset : ℕ) → IsErrOf result (CountError.Damaged fault offset) → IsFirstDamaged k fault offset (map (λ b. b.items) bodies.items) }
+    ensures ok { IfOk result (λ lists. AreListsOfBodies strands k limits.now
+        (map (λ b. b.items) bodies.items) (lists_of lists)) }
+    ensures damaged { (fault : RecordFault) (offset : ℕ)
+        → IsErrOf result (CountError.Damaged fault offset)
+        → IsFirstDamaged k fault offset (map (λ b. b.items) bodies.items) }
 {
     let rule = KeyRule { k, strands };
     Ok(if k <= NARROW_K {
@@ -111,11 +117,15 @@ pub fn write_bins<R: Threads + Sync, D: Write>(
     requires merge { CanBeMerged k (lists_of lists.now) }
     requires threads { 1 ≤ threads }
     requires failures { writer.old.failures < 2 ^ 64 - 1 }
-    ensures ok { OnOk result (Appends (D.contents writer.old.inner) (D.contents writer.new.inner) (text_of (spelled k (whole (lists_of lists.now))))) }
+    ensures ok { OnOk result (Appends (D.contents writer.old.inner) (D.contents writer.new.inner)
+        (text_of (spelled k (whole (lists_of lists.now))))) }
     ensures lines { IfOk result (λ lines. lines ≡ length (whole (lists_of lists.now))) }
     ensures kept { OnOk result (writer.new.failures ≡ writer.old.failures) }
-    ensures failed { IsErrOf result DumpError.Write → RisesByOne writer.old.failures writer.new.failures }
-    ensures front { IsErrOf result DumpError.Write → AppendsFront (D.contents writer.old.inner) (D.contents writer.new.inner) (text_of (spelled k (whole (lists_of lists.now)))) }
+    ensures failed { IsErrOf result DumpError.Write
+        → RisesByOne writer.old.failures writer.new.failures }
+    ensures front { IsErrOf result DumpError.Write
+        → AppendsFront (D.contents writer.old.inner) (D.contents writer.new.inner)
+        (text_of (spelled k (whole (lists_of lists.now)))) }
     ensures silent { IsErrOf result DumpError.Memory → writer.new ≡ writer.old }
 {
     let size = WordSize { k };

@@ -16,7 +16,9 @@ fn add_list<W: Word + Drop, C: Shown + Drop>(
 ) -> Result<(), AllocError>
     requires shift { shift < 128 }
     requires inside { All (λ p. p.0 / 2 ^ shift < length sizes.old) list.now.packed }
-    ensures { OnOk result ((i : ℕ) → i < length sizes.old → slice_index sizes.new i ≡ slice_index sizes.old i + length (within (2 ^ shift) i (i + 1) list.now.packed)) }
+    ensures { OnOk result ((i : ℕ) → i < length sizes.old
+        → slice_index sizes.new i
+        ≡ slice_index sizes.old i + length (within (2 ^ shift) i (i + 1) list.now.packed)) }
 {
     for i in 0..list.len() {
         let (word, _) = list.get(i);

@@ -23,10 +23,13 @@ fn fill<W: Word + Drop, C: Shown + Drop>(
     requires ranges { AreRanges ranges.now lists.now }
     requires inside { range + 1 < length ranges.now.bounds.items }
     requires pairs { ranges.now.widest ≤ vec_capacity buffer.old.pairs }
-    requires text { ranges.now.widest * line_room ranges.now.k C.most_digits ≤ length buffer.old.text.items }
+    requires text { ranges.now.widest * line_room ranges.now.k C.most_digits
+        ≤ length buffer.old.text.items }
     ensures within { buffer.new.filled ≤ length buffer.new.text.items }
     ensures text { take buffer.new.filled buffer.new.text.items
-        ≡ range_text ranges.now.k (2 ^ ranges.now.shift) (slice_index ranges.now.bounds.items range) (slice_index ranges.now.bounds.items (range + 1)) lists.now }
+        ≡ range_text ranges.now.k (2 ^ ranges.now.shift)
+        (slice_index ranges.now.bounds.items range)
+        (slice_index ranges.now.bounds.items (range + 1)) lists.now }
     ensures capacity { vec_capacity buffer.old.pairs ≤ vec_capacity buffer.new.pairs }
     ensures long { length buffer.new.text.items ≡ length buffer.old.text.items }
 {
@@ -56,12 +59,17 @@ pub fn fill_wave<R: Threads + Sync, W: Word + Drop + Send + Sync, C: Shown + Dro
     requires some { 1 ≤ length buffers.old }
     requires inside { first + length buffers.old < length ranges.now.bounds.items }
     requires pairs { All (λ b. ranges.now.widest ≤ vec_capacity b.pairs) buffers.old }
-    requires text { All (λ b. ranges.now.widest * line_room ranges.now.k C.most_digits ≤ length b.text.items) buffers.old }
+    requires text { All (λ b. ranges.now.widest * line_room ranges.now.k C.most_digits
+        ≤ length b.text.items) buffers.old }
     ensures within { All (λ b. b.filled ≤ length b.text.items) buffers.new }
-    ensures texts { (i : ℕ) (d : _) → i < length buffers.new → take (slice_index_or buffers.new i d).filled (slice_index_or buffers.new i d).text.items
-        ≡ range_text ranges.now.k (2 ^ ranges.now.shift) (slice_index ranges.now.bounds.items (first + i)) (slice_index ranges.now.bounds.items (first + i + 1)) lists.now }
+    ensures texts { (i : ℕ) (d : _) → i < length buffers.new
+        → take (slice_index_or buffers.new i d).filled (slice_index_or buffers.new i d).text.items
+        ≡ range_text ranges.now.k (2 ^ ranges.now.shift)
+        (slice_index ranges.now.bounds.items (first + i))
+        (slice_index ranges.now.bounds.items (first + i + 1)) lists.now }
     ensures pairs { All (λ b. ranges.now.widest ≤ vec_capacity b.pairs) buffers.new }
-    ensures text { All (λ b. ranges.now.widest * line_room ranges.now.k C.most_digits ≤ length b.text.items) buffers.new }
+    ensures text { All (λ b. ranges.now.widest * line_room ranges.now.k C.most_digits
+        ≤ length b.text.items) buffers.new }
 {
     let threads = buffers.len();
     thread::for_each_mut(

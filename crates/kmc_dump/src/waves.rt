@@ -25,10 +25,13 @@ fn write_buffers<D: Write, W: Word + Drop, C: Shown + Drop>(
 ) -> Result<(), WriteFault>
     requires failures { writer.old.failures < 2 ^ 64 - 1 }
     requires within { All (λ b. b.filled ≤ length b.text.items) buffers.now }
-    ensures ok { OnOk result (Appends (D.contents writer.old.inner) (D.contents writer.new.inner) (flat_map (λ b. take b.filled b.text.items) buffers.now)) }
+    ensures ok { OnOk result (Appends (D.contents writer.old.inner) (D.contents writer.new.inner)
+        (flat_map (λ b. take b.filled b.text.items) buffers.now)) }
     ensures kept { OnOk result (writer.new.failures ≡ writer.old.failures) }
     ensures failed { OnErr result (RisesByOne writer.old.failures writer.new.failures) }
-    ensures front { OnErr result (AppendsFront (D.contents writer.old.inner) (D.contents writer.new.inner) (flat_map (λ b. take b.filled b.text.items) buffers.now)) }
+    ensures front { OnErr result
+        (AppendsFront (D.contents writer.old.inner) (D.contents writer.new.inner)
+        (flat_map (λ b. take b.filled b.text.items) buffers.now)) }
 {
     for buffer in buffers {
         write_text(writer, &buffer.text[..buffer.filled])?;
@@ -54,12 +57,16 @@ pub fn write_ranges<
     requires ranges { AreRanges ranges.now lists.now }
     requires buffers { 1 ≤ length buffers.old }
     requires pairs { All (λ b. ranges.now.widest ≤ vec_capacity b.pairs) buffers.old }
-    requires text { All (λ b. ranges.now.widest * line_room ranges.now.k C.most_digits ≤ length b.text.items) buffers.old }
+    requires text { All (λ b. ranges.now.widest * line_room ranges.now.k C.most_digits
+        ≤ length b.text.items) buffers.old }
     requires failures { writer.old.failures < 2 ^ 64 - 1 }
-    ensures ok { OnOk result (Appends (D.contents writer.old.inner) (D.contents writer.new.inner) (text_of (spelled ranges.now.k (whole lists.now)))) }
+    ensures ok { OnOk result (Appends (D.contents writer.old.inner) (D.contents writer.new.inner)
+        (text_of (spelled ranges.now.k (whole lists.now)))) }
     ensures kept { OnOk result (writer.new.failures ≡ writer.old.failures) }
     ensures failed { OnErr result (RisesByOne writer.old.failures writer.new.failures) }
-    ensures front { OnErr result (AppendsFront (D.contents writer.old.inner) (D.contents writer.new.inner) (text_of (spelled ranges.now.k (whole lists.now)))) }
+    ensures front { OnErr result
+        (AppendsFront (D.contents writer.old.inner) (D.contents writer.new.inner)
+        (text_of (spelled ranges.now.k (whole lists.now)))) }
 {
     let count = ranges.bounds.len() - 1;
     let mut first = 0;

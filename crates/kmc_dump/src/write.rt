@@ -71,11 +71,15 @@ pub fn write_lists<
     requires merge { CanBeMerged size.k lists.now }
     requires threads { 1 ≤ threads }
     requires failures { writer.old.failures < 2 ^ 64 - 1 }
-    ensures ok { OnOk result (Appends (D.contents writer.old.inner) (D.contents writer.new.inner) (text_of (spelled size.k (whole lists.now)))) }
+    ensures ok { OnOk result (Appends (D.contents writer.old.inner) (D.contents writer.new.inner)
+        (text_of (spelled size.k (whole lists.now)))) }
     ensures lines { IfOk result (λ lines. lines ≡ length (whole lists.now)) }
     ensures kept { OnOk result (writer.new.failures ≡ writer.old.failures) }
-    ensures failed { IsErrOf result DumpError.Write → RisesByOne writer.old.failures writer.new.failures }
-    ensures front { IsErrOf result DumpError.Write → AppendsFront (D.contents writer.old.inner) (D.contents writer.new.inner) (text_of (spelled size.k (whole lists.now))) }
+    ensures failed { IsErrOf result DumpError.Write
+        → RisesByOne writer.old.failures writer.new.failures }
+    ensures front { IsErrOf result DumpError.Write
+        → AppendsFront (D.contents writer.old.inner) (D.contents writer.new.inner)
+        (text_of (spelled size.k (whole lists.now))) }
     ensures silent { IsErrOf result DumpError.Memory → writer.new ≡ writer.old }
 {
     let total = count_pairs(lists)?;

@@ -21,7 +21,8 @@ fn put_all<R: Wait>(
     seen: &Seen,
 ) -> DoneSeat<u64>
     requires { IsWriterOf lanes.now.table.shared.table_id lanes.now.shape seat }
-    ensures { IsWriterOf lanes.now.table.shared.table_id lanes.now.shape result × (result.number ≡ seat.number) }
+    ensures { IsWriterOf lanes.now.table.shared.table_id lanes.now.shape result
+        × (result.number ≡ seat.number) }
 {
     for number in 0..EACH {
         let item = item_of(seat.number(), number);
@@ -40,7 +41,8 @@ fn take_all<R: Wait>(
     seen: &Seen,
 ) -> ReaderSeat<u64>
     requires { IsReaderOf lanes.now.table.shared.table_id lanes.now.shape seat }
-    ensures { IsReaderOf lanes.now.table.shared.table_id lanes.now.shape result × (result.number ≡ seat.number) }
+    ensures { IsReaderOf lanes.now.table.shared.table_id lanes.now.shape result
+        × (result.number ≡ seat.number) }
 {
     let mut least = [0u64; WRITERS];
     for _ in 0..WRITERS as u64 * EACH + 1 {
@@ -64,16 +66,20 @@ fn write<R: Threads + Wait + Sync>(
     seats: Vec<WriterSeat<u64>>,
     seen: &Seen,
 ) -> Result<Vec<DoneSeat<u64>>, AllocError>
-    requires { seats.items ≡ row_from (new_writer lanes.now.table.shared.table_id lanes.now.shape) 0 lanes.now.shape.writers }
-    ensures queue { IfOk result (λ v. Each (IsWriterOf lanes.now.table.shared.table_id lanes.now.shape) v.items) }
-    ensures numbers { IfOk result (λ v. (w : ℕ) → w < lanes.now.shape.writers → total_of (λ s. same s.number w) v.items ≡ 1) }
+    requires { seats.items ≡ row_from
+        (new_writer lanes.now.table.shared.table_id lanes.now.shape) 0 lanes.now.shape.writers }
+    ensures queue { IfOk result (λ v. Each
+        (IsWriterOf lanes.now.table.shared.table_id lanes.now.shape) v.items) }
+    ensures numbers { IfOk result (λ v. (w : ℕ) → w < lanes.now.shape.writers
+        → total_of (λ s. same s.number w) v.items ≡ 1) }
 {
     thread::map_vec(
         rt,
         seats,
         &|seat| -> DoneSeat<u64>
             requires { IsWriterOf lanes.now.table.shared.table_id lanes.now.shape seat }
-            ensures { IsWriterOf lanes.entry.now.table.shared.table_id lanes.entry.now.shape result × (result.number ≡ seat.number) }
+            ensures { IsWriterOf lanes.entry.now.table.shared.table_id lanes.entry.now.shape result
+                × (result.number ≡ seat.number) }
         { put_all(rt, lanes, seat, seen) },
     )
 }
@@ -85,16 +91,20 @@ fn read<R: Threads + Wait + Sync>(
     seats: Vec<ReaderSeat<u64>>,
     seen: &Seen,
 ) -> Result<Vec<ReaderSeat<u64>>, AllocError>
-    requires { seats.items ≡ row_from (new_reader lanes.now.table.shared.table_id lanes.now.shape) 0 lanes.now.shape.readers }
-    ensures queue { IfOk result (λ v. Each (IsReaderOf lanes.now.table.shared.table_id lanes.now.shape) v.items) }
-    ensures numbers { IfOk result (λ v. (q : ℕ) → q < lanes.now.shape.readers → total_of (λ s. same s.number q) v.items ≡ 1) }
+    requires { seats.items ≡ row_from
+        (new_reader lanes.now.table.shared.table_id lanes.now.shape) 0 lanes.now.shape.readers }
+    ensures queue { IfOk result (λ v. Each
+        (IsReaderOf lanes.now.table.shared.table_id lanes.now.shape) v.items) }
+    ensures numbers { IfOk result (λ v. (q : ℕ) → q < lanes.now.shape.readers
+        → total_of (λ s. same s.number q) v.items ≡ 1) }
 {
     thread::map_vec(
         rt,
         seats,
         &|seat| -> ReaderSeat<u64>
             requires { IsReaderOf lanes.now.table.shared.table_id lanes.now.shape seat }
-            ensures { IsReaderOf lanes.entry.now.table.shared.table_id lanes.entry.now.shape result × (result.number ≡ seat.number) }
+            ensures { IsReaderOf lanes.entry.now.table.shared.table_id lanes.entry.now.shape result
+                × (result.number ≡ seat.number) }
         { take_all(rt, lanes, seat, seen) },
     )
 }
@@ -108,21 +118,29 @@ pub fn pass_all<R: Threads + Wait + Sync>(
     readers: Vec<ReaderSeat<u64>>,
     seen: &Seen,
 ) -> Option<Totals>
-    requires writers { writers.items ≡ row_from (new_writer lanes.table.shared.table_id lanes.shape) 0 lanes.shape.writers }
-    requires readers { readers.items ≡ row_from (new_reader lanes.table.shared.table_id lanes.shape) 0 lanes.shape.readers }
+    requires writers { writers.items
+        ≡ row_from (new_writer lanes.table.shared.table_id lanes.shape) 0 lanes.shape.writers }
+    requires readers { readers.items
+        ≡ row_from (new_reader lanes.table.shared.table_id lanes.shape) 0 lanes.shape.readers }
 {
     let queue = &lanes;
     let (written, read) = thread::join(
         rt,
         move || -> Result<Vec<DoneSeat<u64>>, AllocError>
-            requires { writers.items ≡ row_from (new_writer queue.now.table.shared.table_id queue.now.shape) 0 queue.now.shape.writers }
-            ensures queue { IfOk result (λ v. Each (IsWriterOf queue.entry.now.table.shared.table_id queue.entry.now.shape) v.items) }
-            ensures numbers { IfOk result (λ v. (w : ℕ) → w < queue.entry.now.shape.writers → total_of (λ s. same s.number w) v.items ≡ 1) }
+            requires { writers.items
+                ≡ row_from (new_writer queue.now.table.shared.table_id queue.now.shape) 0 queue.now.shape.writers }
+            ensures queue { IfOk result (λ v. Each
+                (IsWriterOf queue.entry.now.table.shared.table_id queue.entry.now.shape) v.items) }
+            ensures numbers { IfOk result (λ v. (w : ℕ) → w < queue.entry.now.shape.writers
+                → total_of (λ s. same s.number w) v.items ≡ 1) }
         { write(rt, queue, writers, seen) },
         move || -> Result<Vec<ReaderSeat<u64>>, AllocError>
-            requires { readers.items ≡ row_from (new_reader queue.now.table.shared.table_id queue.now.shape) 0 queue.now.shape.readers }
-            ensures queue { IfOk result (λ v. Each (IsReaderOf queue.entry.now.table.shared.table_id queue.entry.now.shape) v.items) }
-            ensures numbers { IfOk result (λ v. (q : ℕ) → q < queue.entry.now.shape.readers → total_of (λ s. same s.number q) v.items ≡ 1) }
+            requires { readers.items
+                ≡ row_from (new_reader queue.now.table.shared.table_id queue.now.shape) 0 queue.now.shape.readers }
+            ensures queue { IfOk result (λ v. Each
+                (IsReaderOf queue.entry.now.table.shared.table_id queue.entry.now.shape) v.items) }
+            ensures numbers { IfOk result (λ v. (q : ℕ) → q < queue.entry.now.shape.readers
+                → total_of (λ s. same s.number q) v.items ≡ 1) }
         { read(rt, queue, readers, seen) },
     );
     match (written, read) {

@@ -27,7 +27,8 @@ impl QueueShape {
     /// The shape, or `None` where a number is out of its limits.
     pub fn new(writers: usize, per_writer: usize, readers: usize) -> Option<QueueShape>
         ensures some { IsSome result ↔ IsWithinLimits writers per_writer readers }
-        ensures fields { IfSome result (λ q. (q.writers ≡ writers) × (q.per_writer ≡ per_writer) × (q.readers ≡ readers)) }
+        ensures fields { IfSome result
+            (λ q. (q.writers ≡ writers) × (q.per_writer ≡ per_writer) × (q.readers ≡ readers)) }
     {
         let fits = 1 <= writers
             && writers <= MAX_WRITERS

@@ -27,8 +27,10 @@ use Rattle.kmc_partqueue.proofs.Ends.{all_ends}
 
 module _ {T : Type 0} (k : QueueShape) where
   -- a load that finds nothing new
-  still : (s : St T) (r : IsReached k s) (i id : ℕ) (c : List (ℕ × Option T)) (v : View T) → get_elem? s.views id ≡ some v → IsReached k (stepped s i (get_or s.words i 0) id c v keeps)
-  still s r i id c v at = reached k s (stepped s i (get_or s.words i 0) id c v keeps) r [] (step.finds_nothing (λ j. record { words = set-get_or s.words i 0 j; homes = s.homes; views = set_again s.views id v at j }))
+  still : (s : St T) (r : IsReached k s) (i id : ℕ) (c : List (ℕ × Option T)) (v : View T)
+      → get_elem? s.views id ≡ some v → IsReached k (stepped s i (get_or s.words i 0) id c v keeps)
+  still s r i id c v at =
+      reached k s (stepped s i (get_or s.words i 0) id c v keeps) r [] (step.finds_nothing (λ j. record { words = set-get_or s.words i 0 j; homes = s.homes; views = set_again s.views id v at j }))
 
   one_writer : (a a' : Writing T) → one_of_writers a ≡ one_of_writers a' → a ≡ a'
   one_writer a a' e = let x : a ∷ [] ≡ a' ∷ [] = ap (λ (v : View T). v.writers) e in cc
@@ -45,10 +47,14 @@ module _ {T : Type 0} (k : QueueShape) where
   abbrev claims : Writing T → List (ℕ × Option T) → Seated T
   claims a c = (one_of_writers (holding a), (next_slot_of a, None) ∷ c)
 
-  pub claims_free_slot : (n id : ℕ) (a : Writing T) (c : List (ℕ × Option T)) (i : ℕ) → i ≡ mark_at k a.number (length a.sent % k.per_writer) → a.held ≡ false
+  pub claims_free_slot : (n id : ℕ) (a : Writing T) (c : List (ℕ × Option T)) (i : ℕ)
+      → i ≡ mark_at k a.number (length a.sent % k.per_writer) → a.held ≡ false
       → Allows (IsReached k) n id (one_of_writers a, c) i (λ y. y) (claimed_free_slot (step_of n i 0 0 none) (one_of_writers a, c))
-  claims_free_slot n id a c i is empty s r wide at _ = let y : ℕ = get_or s.words i 0 in let turn : ℕ = 2 * (length a.sent / a.per_writer) in let p = writer.own k s (rule_of k s r) id a at in
-      let turn_is : turn ≡ 2 * (length a.sent / k.per_writer) = ap (λ (z : ℕ). 2 * (length a.sent / z)) p.per_writer in let word_is : y ≡ get_or s.words (mark_at k a.number (length a.sent % k.per_writer)) 0 = ap (λ (z : ℕ). get_or s.words z 0) is in
+  claims_free_slot n id a c i is empty s r wide at _ =
+      let y : ℕ = get_or s.words i 0 in let turn : ℕ = 2 * (length a.sent / a.per_writer) in
+      let p = writer.own k s (rule_of k s r) id a at in
+      let turn_is : turn ≡ 2 * (length a.sent / k.per_writer) = ap (λ (z : ℕ). 2 * (length a.sent / z)) p.per_writer in
+      let word_is : y ≡ get_or s.words (mark_at k a.number (length a.sent % k.per_writer)) 0 = ap (λ (z : ℕ). get_or s.words z 0) is in
       dite (ℕ_discrete y turn)
       (λ hit. let found = sym word_is ∙ hit ∙ turn_is in (
         one_of_writers (holding a),
@@ -71,7 +77,9 @@ module _ {T : Type 0} (k : QueueShape) where
         ),
       ))
 
-  pub publishes_part : (n id : ℕ) (a : Writing T) (x : T) (c : List (ℕ × Option T)) (i new : ℕ) → i ≡ mark_at k a.number (length a.sent % k.per_writer) → new ≡ 2 * (length a.sent / k.per_writer) + 1 → a.held ≡ true → a.done ≡ false → length a.sent < 4294967295
+  pub publishes_part : (n id : ℕ) (a : Writing T) (x : T) (c : List (ℕ × Option T)) (i new : ℕ)
+      → i ≡ mark_at k a.number (length a.sent % k.per_writer) → new ≡ 2 * (length a.sent / k.per_writer) + 1
+      → a.held ≡ true → a.done ≡ false → length a.sent < 4294967295
       → Allows (IsReached k) n id (one_of_writers a, (next_slot_of a, Some x) ∷ c) i (λ _. new) (λ _. published_part (step_of n i new 0 none) (one_of_writers a, (next_slot_of a, Some x) ∷ c) new)
   publishes_part n id a x c i new is marks held going small s r wide at _ = (
     one_of_writers (sending a x),
@@ -83,9 +91,12 @@ module _ {T : Type 0} (k : QueueShape) where
   )
     where
       one_item : {i i' : ℕ} {x x' : T} {c c' : List (ℕ × Option T)} → (i, Some x) ∷ c ≡ (i', Some x') ∷ c' → x ≡ x'
-      one_item {i} {i'} {x} {x'} {c} {c'} e = let p : ℕ × Option T = (i, Some x) in let q : ℕ × Option T = (i', Some x') in let hd : p ≡ q = cc in let sm : Some x ≡ Some x' = ap (λ (z : ℕ × Option T). z.1) hd in cc
+      one_item {i} {i'} {x} {x'} {c} {c'} e =
+          let p : ℕ × Option T = (i, Some x) in let q : ℕ × Option T = (i', Some x') in let hd : p ≡ q = cc in
+          let sm : Some x ≡ Some x' = ap (λ (z : ℕ × Option T). z.1) hd in cc
 
-  pub closes_lane : (n id : ℕ) (a : Writing T) (c : List (ℕ × Option T)) (i new : ℕ) → i ≡ end_at k a.number → new ≡ suc (length a.sent) → a.done ≡ false
+  pub closes_lane : (n id : ℕ) (a : Writing T) (c : List (ℕ × Option T)) (i new : ℕ) → i ≡ end_at k a.number
+      → new ≡ suc (length a.sent) → a.done ≡ false
       → Allows (IsReached k) n id (one_of_writers a, c) i (λ _. new) (λ _. closed_lane (step_of n i new 0 none) (one_of_writers a, c) new)
   closes_lane n id a c i new index is going s r wide at _ = (
     one_of_writers (completed a),
@@ -97,19 +108,23 @@ module _ {T : Type 0} (k : QueueShape) where
 
   pub reads_head : (n id : ℕ) (b : Reading T) (c : List (ℕ × Option T)) (w i : ℕ) → w < k.writers → i ≡ head_at k w → b.held ≡ false
       → Allows (IsReached k) n id (one_of_readers b, c) i (λ y. y) (read_head (step_of n i 0 0 none) (one_of_readers b, c))
-  reads_head n id b c w i near is empty s r wide at _ = let p = reader.own k s (rule_of k s r) id b at in let h : ℕ = get_or s.words (head_at k w) 0 in let y : ℕ = get_or s.words i 0 in let word_is : y ≡ h = ap (λ (z : ℕ). get_or s.words z 0) is in (
-    one_of_readers (looking b w y),
-    keeps,
-    tt,
-    reached k s (stepped s i y id c (one_of_readers (looking b w y)) keeps) r [] (step.reads_head id b w at near empty (λ j. record { words = set-get_or s.words i 0 j; homes = s.homes; views = set s.views id (one_of_readers (looking b w (word_is j))) })),
-    λ b' w' e at_word. let one = one_reader b b' e in let all : b.writers ≡ k.writers = p.writers in let all' : b.writers ≡ b'.writers = ap (λ (z : Reading T). z.writers) one in
-        let here : k.writers + w ≡ b'.writers + w' = sym is ∙ at_word in let lane : w ≡ w' = omega arith in
-        ((λ j. (one_of_readers (looking (one j) (lane j) y), c)), (let ok = (rule_of k s r).each_lane w near in let x : h ≤ length ((rule_of k s r).lanes w).sent = ok.behind in let z : length ((rule_of k s r).lanes w).sent ≤ 4294967295 = ok.limit in omega arith)),
-  )
+  reads_head n id b c w i near is empty s r wide at _ =
+      let p = reader.own k s (rule_of k s r) id b at in let h : ℕ = get_or s.words (head_at k w) 0 in
+      let y : ℕ = get_or s.words i 0 in let word_is : y ≡ h = ap (λ (z : ℕ). get_or s.words z 0) is in (
+        one_of_readers (looking b w y),
+        keeps,
+        tt,
+        reached k s (stepped s i y id c (one_of_readers (looking b w y)) keeps) r [] (step.reads_head id b w at near empty (λ j. record { words = set-get_or s.words i 0 j; homes = s.homes; views = set s.views id (one_of_readers (looking b w (word_is j))) })),
+        λ b' w' e at_word. let one = one_reader b b' e in let all : b.writers ≡ k.writers = p.writers in let all' : b.writers ≡ b'.writers = ap (λ (z : Reading T). z.writers) one in
+            let here : k.writers + w ≡ b'.writers + w' = sym is ∙ at_word in let lane : w ≡ w' = omega arith in
+            ((λ j. (one_of_readers (looking (one j) (lane j) y), c)), (let ok = (rule_of k s r).each_lane w near in let x : h ≤ length ((rule_of k s r).lanes w).sent = ok.behind in let z : length ((rule_of k s r).lanes w).sent ≤ 4294967295 = ok.limit in omega arith)),
+      )
 
   pub sees_published_part : (n id : ℕ) (b : Reading T) (c : List (ℕ × Option T)) (i : ℕ) → i ≡ mark_at k b.lane (b.head % k.per_writer)
       → Allows (IsReached k) n id (one_of_readers b, c) i (λ y. y) (saw_published_part (step_of n i 0 0 none) (one_of_readers b, c))
-  sees_published_part n id b c i index s r wide at _ = let p = reader.own k s (rule_of k s r) id b at in let y : ℕ = get_or s.words i 0 in let turn : ℕ = 2 * (b.head / b.per_writer) + 1 in
+  sees_published_part n id b c i index s r wide at _ =
+      let p = reader.own k s (rule_of k s r) id b at in let y : ℕ = get_or s.words i 0 in
+      let turn : ℕ = 2 * (b.head / b.per_writer) + 1 in
       dite (ℕ_discrete y turn)
       (λ hit. (
         one_of_readers (seeing b),
@@ -126,9 +141,11 @@ module _ {T : Type 0} (k : QueueShape) where
         λ b' e. let one = one_reader b b' e in (subst (λ (z : Reading T). y ≡ 2 * (z.head / z.per_writer) + 1 → reader_with b c ≡ reader_with (seeing z) c) one (λ h. absurd (miss h)), λ _. refl),
       ))
 
-  pub claims_part : (n id : ℕ) (b : Reading T) (c : List (ℕ × Option T)) (i old new : ℕ) → i ≡ head_at k b.lane → old ≡ b.head → new ≡ b.head + 1 → b.ready ≡ true → b.held ≡ false
+  pub claims_part : (n id : ℕ) (b : Reading T) (c : List (ℕ × Option T)) (i old new : ℕ) → i ≡ head_at k b.lane
+      → old ≡ b.head → new ≡ b.head + 1 → b.ready ≡ true → b.held ≡ false
       → Allows (IsReached k) n id (one_of_readers b, c) i (λ y. either (eqb y old) new y) (claimed_part (step_of n i old new none) (one_of_readers b, c))
-  claims_part n id b c i old new index is next set_ready empty s r wide at _ = let y : ℕ = get_or s.words i 0 in let told = claimed_part (step_of n i old new none) (one_of_readers b, c) in
+  claims_part n id b c i old new index is next set_ready empty s r wide at _ =
+      let y : ℕ = get_or s.words i 0 in let told = claimed_part (step_of n i old new none) (one_of_readers b, c) in
       exchanged y old new (λ z. (w : View T) × (a : Act (Option T)) × Valid s.homes c a × IsReached k (stepped s i z id c w a) × told y (w, carried_after c a))
       (λ hit. let at_head : get_or s.words (head_at k b.lane) 0 ≡ b.head = ap (λ (z : ℕ). get_or s.words z 0) (sym index) ∙ hit ∙ is in let t = reader.takes_kept k s (rule_of k s r) id b at set_ready at_head in let x : T = t.0 in (
         one_of_readers (taking b x),
@@ -145,7 +162,8 @@ module _ {T : Type 0} (k : QueueShape) where
         λ b' e. let one = one_reader b b' e in (λ hit. absurd (miss (hit ∙ ap (λ (z : Reading T). z.head) (sym one) ∙ sym is)), λ _. refl),
       ))
 
-  pub releases_slot : (n id : ℕ) (b : Reading T) (c : List (ℕ × Option T)) (i new : ℕ) → i ≡ mark_at k b.lane (b.head % k.per_writer) → new ≡ 2 * (b.head / k.per_writer) + 2 → b.held ≡ true
+  pub releases_slot : (n id : ℕ) (b : Reading T) (c : List (ℕ × Option T)) (i new : ℕ)
+      → i ≡ mark_at k b.lane (b.head % k.per_writer) → new ≡ 2 * (b.head / k.per_writer) + 2 → b.held ≡ true
       → Allows (IsReached k) n id (one_of_readers b, (seen_slot_of b, None) ∷ c) i (λ _. new) (λ _. released_slot (step_of n i new 0 none) (one_of_readers b, (seen_slot_of b, None) ∷ c) new)
   releases_slot n id b c i new index is held s r wide at _ = (
     one_of_readers (freeing b),
@@ -179,10 +197,13 @@ module _ {T : Type 0} (k : QueueShape) where
       ))
 
   pub splits_writer : (id : ℕ) (v : View T) → Splits (IsReached k) id v (no_writer v) (its_writer v)
-  splits_writer id v s r at = reached k s record { words = s.words; homes = s.homes; views = set s.views id (no_writer v) ++ its_writer v ∷ [] } r [] (step.splits_writer id v at refl)
+  splits_writer id v s r at =
+      reached k s record { words = s.words; homes = s.homes; views = set s.views id (no_writer v) ++ its_writer v ∷ [] } r [] (step.splits_writer id v at refl)
 
   pub splits_reader : (id : ℕ) (v : View T) → Splits (IsReached k) id v (no_reader v) (its_reader v)
-  splits_reader id v s r at = reached k s record { words = s.words; homes = s.homes; views = set s.views id (no_reader v) ++ its_reader v ∷ [] } r [] (step.splits_reader id v at refl)
+  splits_reader id v s r at =
+      reached k s record { words = s.words; homes = s.homes; views = set s.views id (no_reader v) ++ its_reader v ∷ [] } r [] (step.splits_reader id v at refl)
 
   pub joins_seat : (id : ℕ) (v : View T) (other : ℕ) (w : View T) → Joins (IsReached k) id v other w (both v w) spent
-  joins_seat id v other w s r at ne at' = reached k s record { words = s.words; homes = s.homes; views = set (set s.views id (both v w)) other spent } r [] (step.joins_seat id other v w at ne (sym (set_else s.views id other (both v w) ne) ∙ at') refl)
+  joins_seat id v other w s r at ne at' =
+      reached k s record { words = s.words; homes = s.homes; views = set (set s.views id (both v w)) other spent } r [] (step.joins_seat id other v w at ne (sym (set_else s.views id other (both v w) ne) ∙ at') refl)

@@ -27,13 +27,15 @@ module _ (totals : List (Option ℕ)) where
   abbrev pub CountsBelow : ℕ → List ℕ → Type 0
   CountsBelow n counts = (w : ℕ) → w < n → (t : ℕ) × (slice_get totals w ≡ Some (Some t)) × (slice_get counts w ≡ Some t)
 
-  pub counts_more : (n t : ℕ) (counts : List ℕ) → CountsBelow n counts → n < length counts → slice_get totals n ≡ Some (Some t) → CountsBelow (n + 1) (set counts n t)
+  pub counts_more : (n t : ℕ) (counts : List ℕ) → CountsBelow n counts → n < length counts
+      → slice_get totals n ≡ Some (Some t) → CountsBelow (n + 1) (set counts n t)
   counts_more n t counts below inside is w lt = dite (ℕ_discrete w n)
       (λ e. (t, ap (slice_get totals) e ∙ is, ap (slice_get (set counts n t)) e ∙ set_same counts n t inside))
       (λ ne. let b = below w (omega arith) in (b.0, b.1, set_rest counts n w t ne ∙ b.2))
 
   pub counts_first : (n m : ℕ) (counts : List ℕ) → CountsBelow m counts → n ≤ m → n ≤ length counts → AreKeptTotals n totals (take n counts)
-  counts_first n m counts below le long = (take_long n counts long, λ w lt. let b = below w (omega arith) in (b.0, b.1, take_at n counts w lt ∙ b.2))
+  counts_first n m counts below le long =
+      (take_long n counts long, λ w lt. let b = below w (omega arith) in (b.0, b.1, take_at n counts w lt ∙ b.2))
 
 pub not_ended : {A : Type 0} (l : List (Option ℕ)) (i t : ℕ) → i < length l → get_or l i None ≡ None → slice_get l i ≡ Some (Some t) → A
 not_ended {A} l i t lt none has = let e : Some None ≡ Some (Some t) = ap Some (sym none) ∙ sym (get_at l i None lt) ∙ has in cc

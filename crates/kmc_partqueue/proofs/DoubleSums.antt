@@ -34,21 +34,25 @@ module _ {A B : Type 0} (list : A → List B) (l : List A) where
   over f = total_of (λ (x : A). total_of f (list x)) l
 
   pub over_same : (f g : B → ℕ) → Each (λ (x : A). Each (λ (y : B). f y ≡ g y) (list x)) l → over f ≡ over g
-  over_same f g e = same_terms (λ (x : A). total_of f (list x)) (λ (x : A). total_of g (list x)) l (each_map (λ (x : A). Each (λ (y : B). f y ≡ g y) (list x)) (λ (x : A). total_of f (list x) ≡ total_of g (list x)) (λ x p. same_terms f g (list x) p) l e)
+  over_same f g e =
+      same_terms (λ (x : A). total_of f (list x)) (λ (x : A). total_of g (list x)) l (each_map (λ (x : A). Each (λ (y : B). f y ≡ g y) (list x)) (λ (x : A). total_of f (list x) ≡ total_of g (list x)) (λ x p. same_terms f g (list x) p) l e)
 
   pub over_zero : over (λ (y : B). 0) ≡ 0
   over_zero = (λ j. total_of (λ (x : A). zero_terms (list x) j) l) ∙ zero_terms l
 
   pub over_added : (f g : B → ℕ) → over (λ (y : B). f y + g y) ≡ over f + over g
-  over_added f g = (λ j. total_of (λ (x : A). added_terms f g (list x) j) l) ∙ added_terms (λ (x : A). total_of f (list x)) (λ (x : A). total_of g (list x)) l
+  over_added f g =
+      (λ j. total_of (λ (x : A). added_terms f g (list x) j) l) ∙ added_terms (λ (x : A). total_of f (list x)) (λ (x : A). total_of g (list x)) l
 
   pub over_scaled : (f : B → ℕ) (a : ℕ) → over (λ (y : B). f y * a) ≡ over f * a
   over_scaled f a = (λ j. total_of (λ (x : A). scaled_terms f a (list x) j) l) ∙ scaled_terms (λ (x : A). total_of f (list x)) a l
 
   -- a sum of sums, the other one first
-  pub over_exchanged : {C : Type 0} (h : B → C → ℕ) (m : List C) → over (λ (y : B). total_of (h y) m) ≡ total_of (λ (z : C). over (λ (y : B). h y z)) m
+  pub over_exchanged : {C : Type 0} (h : B → C → ℕ) (m : List C)
+      → over (λ (y : B). total_of (h y) m) ≡ total_of (λ (z : C). over (λ (y : B). h y z)) m
   over_exchanged h [] = over_zero
-  over_exchanged {C} h (z ∷ m) = over_added (λ (y : B). h y z) (λ (y : B). total_of (h y) m) ∙ ap (λ (n : ℕ). over (λ (y : B). h y z) + n) (over_exchanged h m)
+  over_exchanged {C} h (z ∷ m) =
+      over_added (λ (y : B). h y z) (λ (y : B). total_of (h y) m) ∙ ap (λ (n : ℕ). over (λ (y : B). h y z) + n) (over_exchanged h m)
 
   pub over_is_sum : (f : B → ℕ) → over f ≡ sum_by (λ (x : A). sum_by f (list x)) l
   over_is_sum f = (λ j. total_of (λ (x : A). total_is_sum f (list x) j) l) ∙ total_is_sum (λ (x : A). sum_by f (list x)) l

@@ -16,7 +16,9 @@ module _ {S V : Type 0} (Is : S → Type 0) (Tell : List V → List S → Type 0
   pub joins_none : Each Is given → Tell [] [] → Joined Is Tell old old given given
   joins_none all none = record { each = all; views = []; popped = []; split = append_none given; grown = refl; told = none }
 
-  pub joins_one : (now now' : List V) (left more : List S) (v : V) (s : S) → Joined Is Tell old now given left → left ≡ more ++ s ∷ [] → now' ≡ v ∷ now → ((vs : List V) (ss : List S) → Tell vs ss → Tell (v ∷ vs) (s ∷ ss)) → Joined Is Tell old now' given more
+  pub joins_one : (now now' : List V) (left more : List S) (v : V) (s : S) → Joined Is Tell old now given left
+      → left ≡ more ++ s ∷ [] → now' ≡ v ∷ now → ((vs : List V) (ss : List S) → Tell vs ss → Tell (v ∷ vs) (s ∷ ss))
+      → Joined Is Tell old now' given more
   joins_one now now' left more v s j last grows tells = record {
     each = (each_split Is more (s ∷ []) (subst (Each Is) last j.each)).0;
     views = v ∷ j.views;
@@ -26,5 +28,6 @@ module _ {S V : Type 0} (Is : S → Type 0) (Tell : List V → List S → Type 0
     told = tells j.views j.popped j.told;
   }
 
-  pub joins_all : (now : List V) (left : List S) → Joined Is Tell old now given left → left ≡ [] → (vs : List V) × (now ≡ vs ++ old) × Tell vs given
+  pub joins_all : (now : List V) (left : List S) → Joined Is Tell old now given left → left ≡ []
+      → (vs : List V) × (now ≡ vs ++ old) × Tell vs given
   joins_all now left j none = (j.views, j.grown, subst (Tell j.views) (sym (j.split ∙ ap (λ z. z ++ j.popped) none)) j.told)

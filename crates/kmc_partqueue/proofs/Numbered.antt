@@ -34,7 +34,9 @@ module _ {A : Type 0} where
 
     none_before : (i : ℕ) (l : List A) → Numbered i l → w < i → total_of (λ (a : A). same (num a) w) l ≡ 0
     none_before i [] go lt = refl
-    none_before i (x ∷ l) go lt = let r = none_before (suc i) l (numbered_rest i x l go) (omega arith) in let f = first_number i x l go in let z : same (num x) w ≡ 0 = same_ne (num x) w (λ e. omega arith) in omega arith
+    none_before i (x ∷ l) go lt =
+        let r = none_before (suc i) l (numbered_rest i x l go) (omega arith) in let f = first_number i x l go in
+        let z : same (num x) w ≡ 0 = same_ne (num x) w (λ e. omega arith) in omega arith
 
     -- each number stands once
     pub once_from : (i : ℕ) (l : List A) → Numbered i l → i ≤ w → w < i + length l → total_of (λ (a : A). same (num a) w) l ≡ 1

@@ -28,9 +28,11 @@ at_end true n h e = (refl, (let e' : suc n ≡ suc h = e in let g : n ≡ h = om
 at_end false n h e = let e' : 0 ≡ suc h = e in absurd (omega arith)
 
 module _ {T : Type 0} (k : QueueShape) where
-  rises_more : (es : List (Received T)) (x : Received T) → Rises es → Each (λ (f : Received T). f.writer ≡ x.writer → f.number < x.number) es → Rises (es ++ x ∷ [])
+  rises_more : (es : List (Received T)) (x : Received T) → Rises es
+      → Each (λ (f : Received T). f.writer ≡ x.writer → f.number < x.number) es → Rises (es ++ x ∷ [])
   rises_more [] x p q = (tt, tt)
-  rises_more (e ∷ es) x p q = (each_append (λ (f : Received T). f.writer ≡ e.writer → e.number < f.number) es (x ∷ []) p.0 ((λ is. q.0 (sym is)), tt), rises_more es x p.1 q.1)
+  rises_more (e ∷ es) x p q =
+      (each_append (λ (f : Received T). f.writer ≡ e.writer → e.number < f.number) es (x ∷ []) p.0 ((λ is. q.0 (sym is)), tt), rises_more es x p.1 q.1)
 
   module _ (s : St T) (r : LanesRule k s) (id : ℕ) (b : Reading T) (at : get_elem? s.views id ≡ some (one_of_readers b)) where
     pub own : ReaderOk k r.lanes (heads_of k s.words) b
@@ -44,7 +46,8 @@ module _ {T : Type 0} (k : QueueShape) where
   abbrev pub recelled : Lane T → ℕ → Cell → Lane T
   recelled l i cell = lane_of l.sent l.held l.done (put l.cells i cell)
 
-  writer_same : (lanes : ℕ → Lane T) (heads heads' : ℕ → ℕ) (w₀ i : ℕ) (cell : Cell) (a : Writing T) → WriterOk k lanes heads a → WriterOk k (put lanes w₀ (recelled (lanes w₀) i cell)) heads' a
+  writer_same : (lanes : ℕ → Lane T) (heads heads' : ℕ → ℕ) (w₀ i : ℕ) (cell : Cell) (a : Writing T)
+      → WriterOk k lanes heads a → WriterOk k (put lanes w₀ (recelled (lanes w₀) i cell)) heads' a
   writer_same lanes heads heads' w₀ i cell a p = let l' = recelled (lanes w₀) i cell in record {
     known = p.known;
     per_writer = p.per_writer;
@@ -54,15 +57,26 @@ module _ {T : Type 0} (k : QueueShape) where
   }
 
   -- the part at the head is taken
-  pub takes_kept : (s : St T) (r : LanesRule k s) (id : ℕ) (b : Reading T) (at : get_elem? s.views id ≡ some (one_of_readers b)) → b.ready ≡ true → get_or s.words (head_at k b.lane) 0 ≡ b.head
+  pub takes_kept : (s : St T) (r : LanesRule k s) (id : ℕ) (b : Reading T) (at : get_elem? s.views id ≡ some (one_of_readers b))
+      → b.ready ≡ true → get_or s.words (head_at k b.lane) 0 ≡ b.head
       → (x : T) × (get_elem? (r.lanes b.lane).sent b.head ≡ some x) × (get_elem? s.homes (seen_slot_of b) ≡ some (some (Some x))) × LanesRule k record { words = set s.words (head_at k b.lane) (b.head + 1); homes = set s.homes (seen_slot_of b) none; views = set s.views id (one_of_readers (taking b x)) }
-  takes_kept s r id b at set_ready at_head = let p = own s r id b at in let w₀ : ℕ = b.lane in let l : Lane T = r.lanes w₀ in let C : ℕ = k.per_writer in let ok = r.each_lane w₀ p.lane in let h : ℕ = b.head in
+  takes_kept s r id b at set_ready at_head =
+      let p = own s r id b at in let w₀ : ℕ = b.lane in let l : Lane T = r.lanes w₀ in let C : ℕ = k.per_writer in
+      let ok = r.each_lane w₀ p.lane in let h : ℕ = b.head in
       let lt : h < length l.sent = p.ready set_ready in let new : ℕ = h + 1 in let next : new ≡ h + 1 = refl in
-      let i₀ : ℕ = h % C in let h₀ : ℕ = get_or s.words (head_at k w₀) 0 in let e₀ : ℕ = get_or s.words (end_at k w₀) 0 in let ms = λ (j : ℕ). get_or s.words (mark_at k w₀ j) 0 in let os = λ (j : ℕ). get_elem? s.homes (slot_at k w₀ j) in
-      let fl = full_found C r.some_room l h₀ e₀ ms os ok h (omega arith) lt in let x : T = fl.2.0 in let near : i₀ < C = mod-lt h r.some_room in
-      let eslot : seen_slot_of b ≡ slot_at k w₀ i₀ = ap (λ (z : ℕ). w₀ * z + h % z) p.per_writer in let at_slot : ℕ = slot_at k w₀ i₀ in let cell' : Cell = (h, reading b.number) in let l' : Lane T = recelled l i₀ cell' in let ls : ℕ → Lane T = put r.lanes w₀ l' in
-      let ws' : List ℕ = set s.words (head_at k w₀) new in let homes' : List (maybe.Option (Option T)) = set s.homes at_slot none in let hs = heads_of k s.words in let hs' = heads_of k ws' in
-      let prod : ℕ = k.writers * k.per_writer in let low : w₀ < k.writers = p.lane in let inside : head_at k w₀ < length s.words = subst (λ (z : ℕ). head_at k w₀ < z) (sym r.wide) (let g : k.writers + w₀ < 2 * k.writers + prod = omega arith in g) in
+      let i₀ : ℕ = h % C in let h₀ : ℕ = get_or s.words (head_at k w₀) 0 in
+      let e₀ : ℕ = get_or s.words (end_at k w₀) 0 in let ms = λ (j : ℕ). get_or s.words (mark_at k w₀ j) 0 in
+      let os = λ (j : ℕ). get_elem? s.homes (slot_at k w₀ j) in
+      let fl = full_found C r.some_room l h₀ e₀ ms os ok h (omega arith) lt in let x : T = fl.2.0 in
+      let near : i₀ < C = mod-lt h r.some_room in
+      let eslot : seen_slot_of b ≡ slot_at k w₀ i₀ = ap (λ (z : ℕ). w₀ * z + h % z) p.per_writer in
+      let at_slot : ℕ = slot_at k w₀ i₀ in let cell' : Cell = (h, reading b.number) in
+      let l' : Lane T = recelled l i₀ cell' in let ls : ℕ → Lane T = put r.lanes w₀ l' in
+      let ws' : List ℕ = set s.words (head_at k w₀) new in
+      let homes' : List (maybe.Option (Option T)) = set s.homes at_slot none in let hs = heads_of k s.words in
+      let hs' = heads_of k ws' in
+      let prod : ℕ = k.writers * k.per_writer in let low : w₀ < k.writers = p.lane in
+      let inside : head_at k w₀ < length s.words = subst (λ (z : ℕ). head_at k w₀ < z) (sym r.wide) (let g : k.writers + w₀ < 2 * k.writers + prod = omega arith in g) in
       let here_head : get_or ws' (head_at k w₀) 0 ≡ h + 1 = get_or-set_same s.words (head_at k w₀) new 0 inside ∙ next in
       let here = lane_takes C r.some_room l h₀ e₀ ms os ok h b.number (get_or ws' (head_at k w₀) 0) (λ (j : ℕ). get_elem? homes' (slot_at k w₀ j)) at_head lt here_head (set_here s.homes at_slot none (subst (λ (z : ℕ). at_slot < z) (sym r.slots) (slot_within k w₀ i₀ p.lane near))) (λ j lj other. home_else k s.homes w₀ i₀ p.lane near none w₀ j lj (λ e. other e.1)) in
       let g : Grows k r.lanes ls hs hs' = grows_put k r.lanes hs hs' w₀ l' (λ w lw. heads_up s.words (head_at k w₀) new (head_at k w) inside (let n₀ : h₀ ≤ new = omega arith in n₀)) (λ w _ other. head_head k s.words w₀ p.lane new w other) (le_refl (length l.sent)) (λ q z e. e)
@@ -90,11 +104,15 @@ module _ {T : Type 0} (k : QueueShape) where
       (λ j u other e. let o = r.each_seat j u e in (each_map (WriterOk k r.lanes hs) (WriterOk k ls hs') (λ a q. writer_same r.lanes hs hs' w₀ i₀ cell' a q) u.writers o.0, each_map (ReaderOk k r.lanes hs) (ReaderOk k ls hs') (λ q z. reader_stays k r.lanes ls hs hs' g q (λ _. hands q.number) z) u.readers o.1))
       (λ w. refl) (λ w. refl)
       (λ w m lw. let t = total_set (entries w m) s.views id (one_of_readers b) v' at in let o = r.taken_once w m lw in let x₁ : ℕ = total_of (entries w m) (set s.views id v') in let x₀ : ℕ = total_of (entries w m) s.views in
-      let q₀ : ℕ = got_once w m b in let q₁ : ℕ = got_once w m (taking b x) in let t' : x₁ + (q₀ + 0) ≡ x₀ + (q₁ + 0) = t in let d₀ : ℕ = same w₀ w in let d₁ : ℕ = same h m in let q' : q₁ ≡ q₀ + (d₀ * d₁ + 0) = total_append (is_entry w m) b.got (entry ∷ []) in
-      let a₁ : ℕ = once_below m (get_or ws' (head_at k w) 0) in let a₀ : ℕ = once_below m (get_or s.words (head_at k w) 0) in let o' : x₀ ≡ a₀ = o in
+      let q₀ : ℕ = got_once w m b in let q₁ : ℕ = got_once w m (taking b x) in
+      let t' : x₁ + (q₀ + 0) ≡ x₀ + (q₁ + 0) = t in let d₀ : ℕ = same w₀ w in let d₁ : ℕ = same h m in
+      let q' : q₁ ≡ q₀ + (d₀ * d₁ + 0) = total_append (is_entry w m) b.got (entry ∷ []) in
+      let a₁ : ℕ = once_below m (get_or ws' (head_at k w) 0) in
+      let a₀ : ℕ = once_below m (get_or s.words (head_at k w) 0) in let o' : x₀ ≡ a₀ = o in
       dite (ℕ_discrete w₀ w)
       (λ e. let one : d₀ * d₁ ≡ d₁ = ap (λ (z : ℕ). z * d₁) (same_refl w₀ w e) ∙ (let g' : 1 * d₁ ≡ d₁ = omega arith in g') in
-      let up : a₁ ≡ a₀ + d₁ = ap (λ (z : ℕ). once_below m (get_or ws' (head_at k z) 0)) (sym e) ∙ ap (once_below m) here_head ∙ once_next m h ∙ ap (λ (z : ℕ). once_below m z + d₁) (sym at_head ∙ ap (λ (z : ℕ). get_or s.words (head_at k z) 0) e) in omega arith)
+      let up : a₁ ≡ a₀ + d₁ = ap (λ (z : ℕ). once_below m (get_or ws' (head_at k z) 0)) (sym e) ∙ ap (once_below m) here_head ∙ once_next m h ∙ ap (λ (z : ℕ). once_below m z + d₁) (sym at_head ∙ ap (λ (z : ℕ). get_or s.words (head_at k z) 0) e) in
+      omega arith)
       (λ ne. let none_of : d₀ * d₁ ≡ 0 = ap (λ (z : ℕ). z * d₁) (same_ne w₀ w ne) ∙ (let g' : 0 * d₁ ≡ 0 = omega arith in g') in
       let up : a₁ ≡ a₀ = ap (once_below m) (head_head k s.words w₀ p.lane new w (λ e. ne (sym e))) in omega arith)) in
       (x, fl.2.1, ap (get_elem? s.homes) eslot ∙ fl.2.2, subst (λ (z : ℕ). LanesRule k record { words = set s.words (head_at k w₀) new; homes = set s.homes z none; views = set s.views id v' }) (sym eslot) go)
@@ -105,14 +123,22 @@ module _ {T : Type 0} (k : QueueShape) where
           (λ n. subst (λ (z : ℕ). get_or ws w 0 ≤ z) (sym (get_or-set_other ws w₀ w new 0 n)) (le_refl (get_or ws w 0)))
 
   -- the slot is free again
-  pub frees_kept : (s : St T) (r : LanesRule k s) (id : ℕ) (b : Reading T) (at : get_elem? s.views id ≡ some (one_of_readers b)) → b.held ≡ true
+  pub frees_kept : (s : St T) (r : LanesRule k s) (id : ℕ) (b : Reading T) (at : get_elem? s.views id ≡ some (one_of_readers b))
+      → b.held ≡ true
       → LanesRule k record { words = set s.words (mark_at k b.lane (b.head % k.per_writer)) (2 * (b.head / k.per_writer) + 2); homes = set s.homes (seen_slot_of b) (some None); views = set s.views id (one_of_readers (freeing b)) }
   frees_kept s r id b at held = let new : ℕ = 2 * (b.head / k.per_writer) + 2 in let is : new ≡ 2 * (b.head / k.per_writer) + 2 = refl in
-      let p = own s r id b at in let w₀ : ℕ = b.lane in let l : Lane T = r.lanes w₀ in let C : ℕ = k.per_writer in let ok = r.each_lane w₀ p.lane in let h : ℕ = b.head in let i₀ : ℕ = h % C in let near : i₀ < C = mod-lt h r.some_room in
-      let h₀ : ℕ = get_or s.words (head_at k w₀) 0 in let e₀ : ℕ = get_or s.words (end_at k w₀) 0 in let ms = λ (j : ℕ). get_or s.words (mark_at k w₀ j) 0 in let os = λ (j : ℕ). get_elem? s.homes (slot_at k w₀ j) in
-      let has = (p.held held).0 in let eslot : seen_slot_of b ≡ slot_at k w₀ i₀ = ap (λ (z : ℕ). w₀ * z + h % z) p.per_writer in let at_slot : ℕ = slot_at k w₀ i₀ in let at_mark : ℕ = mark_at k w₀ i₀ in
+      let p = own s r id b at in let w₀ : ℕ = b.lane in let l : Lane T = r.lanes w₀ in let C : ℕ = k.per_writer in
+      let ok = r.each_lane w₀ p.lane in let h : ℕ = b.head in let i₀ : ℕ = h % C in
+      let near : i₀ < C = mod-lt h r.some_room in
+      let h₀ : ℕ = get_or s.words (head_at k w₀) 0 in let e₀ : ℕ = get_or s.words (end_at k w₀) 0 in
+      let ms = λ (j : ℕ). get_or s.words (mark_at k w₀ j) 0 in let os = λ (j : ℕ). get_elem? s.homes (slot_at k w₀ j) in
+      let has = (p.held held).0 in
+      let eslot : seen_slot_of b ≡ slot_at k w₀ i₀ = ap (λ (z : ℕ). w₀ * z + h % z) p.per_writer in
+      let at_slot : ℕ = slot_at k w₀ i₀ in let at_mark : ℕ = mark_at k w₀ i₀ in
       let cell' : Cell = (h + C, free) in let l' : Lane T = recelled l i₀ cell' in let ls : ℕ → Lane T = put r.lanes w₀ l' in
-      let ws' : List ℕ = set s.words at_mark new in let homes' : List (maybe.Option (Option T)) = set s.homes at_slot (some None) in let hs = heads_of k s.words in let hs' = heads_of k ws' in
+      let ws' : List ℕ = set s.words at_mark new in
+      let homes' : List (maybe.Option (Option T)) = set s.homes at_slot (some None) in let hs = heads_of k s.words in
+      let hs' = heads_of k ws' in
       let here = lane_frees C r.some_room l h₀ e₀ ms os ok h b.number (λ (j : ℕ). get_or ws' (mark_at k w₀ j) 0) (λ (j : ℕ). get_elem? homes' (slot_at k w₀ j)) has
       (get_or-set_same s.words at_mark new 0 (subst (λ (z : ℕ). at_mark < z) (sym r.wide) (mark_within k w₀ i₀ p.lane near)) ∙ is) (set_here s.homes at_slot (some None) (subst (λ (z : ℕ). at_slot < z) (sym r.slots) (slot_within k w₀ i₀ p.lane near)))
       (λ j lj other. mark_mark k s.words w₀ p.lane new i₀ near w₀ j lj (λ e. other e.1)) (λ j lj other. home_else k s.homes w₀ i₀ p.lane near (some None) w₀ j lj (λ e. other e.1)) in
@@ -133,7 +159,8 @@ module _ {T : Type 0} (k : QueueShape) where
       ))
       (λ w. refl) (λ w. refl)
       (λ w m lw. let t = total_set (entries w m) s.views id (one_of_readers b) v' at in let o = r.taken_once w m lw in let x₁ : ℕ = total_of (entries w m) (set s.views id v') in let x₀ : ℕ = total_of (entries w m) s.views in
-      let q₀ : ℕ = got_once w m b in let t' : x₁ + (q₀ + 0) ≡ x₀ + (q₀ + 0) = t in let same_now : x₁ ≡ x₀ = omega arith in same_now ∙ o ∙ ap (once_below m) (sym (heads w lw))) in
+      let q₀ : ℕ = got_once w m b in let t' : x₁ + (q₀ + 0) ≡ x₀ + (q₀ + 0) = t in
+      let same_now : x₁ ≡ x₀ = omega arith in same_now ∙ o ∙ ap (once_below m) (sym (heads w lw))) in
       subst (λ (z : ℕ). LanesRule k record { words = set s.words at_mark new; homes = set s.homes z (some None); views = set s.views id v' }) (sym eslot) go
     where
       clash : {A : Type 0} → false ≡ true → A
@@ -148,11 +175,14 @@ module _ {T : Type 0} (k : QueueShape) where
     hs = heads_of k s.words
 
     -- a load: the new view counts as the old one did
-    noted : (b' : Reading T) → b'.number ≡ b.number → b'.got ≡ b.got → ReaderOk k r.lanes hs b' → LanesRule k record { words = s.words; homes = s.homes; views = set s.views id (one_of_readers b') }
-    noted b' en eg ok = reviewed k s r id (one_of_readers b) (one_of_readers b') at (tt, (ok, tt)) (λ w. refl) (λ w. ap (λ (z : ℕ). same z w + 0) en) (λ w n. ap (λ (z : List (Received T)). total_of (is_entry w n) z + 0) eg)
+    noted : (b' : Reading T) → b'.number ≡ b.number → b'.got ≡ b.got → ReaderOk k r.lanes hs b'
+        → LanesRule k record { words = s.words; homes = s.homes; views = set s.views id (one_of_readers b') }
+    noted b' en eg ok =
+        reviewed k s r id (one_of_readers b) (one_of_readers b') at (tt, (ok, tt)) (λ w. refl) (λ w. ap (λ (z : ℕ). same z w + 0) en) (λ w n. ap (λ (z : List (Received T)). total_of (is_entry w n) z + 0) eg)
 
     -- the head of a lane is read
-    pub looks_kept : (w : ℕ) → w < k.writers → b.held ≡ false → LanesRule k record { words = s.words; homes = s.homes; views = set s.views id (one_of_readers (looking b w (get_or s.words (head_at k w) 0))) }
+    pub looks_kept : (w : ℕ) → w < k.writers → b.held ≡ false
+        → LanesRule k record { words = s.words; homes = s.homes; views = set s.views id (one_of_readers (looking b w (get_or s.words (head_at k w) 0))) }
     looks_kept w near empty = let p = own s r id b at in let h : ℕ = get_or s.words (head_at k w) 0 in
         noted (looking b w h) refl refl record { known = p.known; writers = p.writers; per_writer = p.per_writer; lane = near; head = le_refl h; ready = λ e. never refl e; shown = p.shown; rises = p.rises; ends = p.ends; held = λ e. never empty e }
       where
@@ -160,17 +190,22 @@ module _ {T : Type 0} (k : QueueShape) where
         never {A} {x} d e = let z : false ≡ true = sym d ∙ e in cc
 
     -- the part at the head is seen published
-    pub sees_kept : get_or s.words (mark_at k b.lane (b.head % k.per_writer)) 0 ≡ 2 * (b.head / k.per_writer) + 1 → LanesRule k record { words = s.words; homes = s.homes; views = set s.views id (one_of_readers (seeing b)) }
+    pub sees_kept : get_or s.words (mark_at k b.lane (b.head % k.per_writer)) 0 ≡ 2 * (b.head / k.per_writer) + 1
+        → LanesRule k record { words = s.words; homes = s.homes; views = set s.views id (one_of_readers (seeing b)) }
     sees_kept found = let p = own s r id b at in let w₀ : ℕ = b.lane in
         let lt = ready_found k.per_writer r.some_room (r.lanes w₀) (get_or s.words (head_at k w₀) 0) (get_or s.words (end_at k w₀) 0) (λ (j : ℕ). get_or s.words (mark_at k w₀ j) 0) (λ (j : ℕ). get_elem? s.homes (slot_at k w₀ j)) (r.each_lane w₀ p.lane) b.head p.head found in
         noted (seeing b) refl refl record { known = p.known; writers = p.writers; per_writer = p.per_writer; lane = p.lane; head = p.head; ready = λ _. lt; shown = p.shown; rises = p.rises; ends = p.ends; held = p.held }
 
     -- the end of the lane is seen, and each total that the view then has is the lane's
     pub ends_noted : get_or s.words (end_at k b.lane) 0 ≡ suc b.head → Each (EndOk k r.lanes hs) (ending b).ends
-    ends_noted found = let p = own s r id b at in let w₀ : ℕ = b.lane in let l = r.lanes w₀ in let ok = r.each_lane w₀ p.lane in let d = at_end l.done (length l.sent) b.head (sym ok.ended ∙ found) in
-        let h₀ : ℕ = get_or s.words (head_at k w₀) 0 in let below : b.head ≤ h₀ = p.head in let behind : h₀ ≤ length l.sent = ok.behind in let long : length l.sent ≡ b.head = d.1 in
+    ends_noted found =
+        let p = own s r id b at in let w₀ : ℕ = b.lane in let l = r.lanes w₀ in let ok = r.each_lane w₀ p.lane in
+        let d = at_end l.done (length l.sent) b.head (sym ok.ended ∙ found) in
+        let h₀ : ℕ = get_or s.words (head_at k w₀) 0 in let below : b.head ≤ h₀ = p.head in
+        let behind : h₀ ≤ length l.sent = ok.behind in let long : length l.sent ≡ b.head = d.1 in
         each_append (EndOk k r.lanes hs) b.ends (record { writer = b.lane; total = b.head } ∷ []) p.ends (record { known = p.lane; done = d.0; sent = long; taken = (let g : h₀ ≡ b.head = omega arith in g) }, tt)
 
-    pub ends_kept : get_or s.words (end_at k b.lane) 0 ≡ suc b.head → LanesRule k record { words = s.words; homes = s.homes; views = set s.views id (one_of_readers (ending b)) }
+    pub ends_kept : get_or s.words (end_at k b.lane) 0 ≡ suc b.head
+        → LanesRule k record { words = s.words; homes = s.homes; views = set s.views id (one_of_readers (ending b)) }
     ends_kept found = let p = own s r id b at in
         noted (ending b) refl refl record { known = p.known; writers = p.writers; per_writer = p.per_writer; lane = p.lane; head = p.head; ready = p.ready; shown = p.shown; rises = p.rises; ends = ends_noted found; held = p.held }

@@ -44,9 +44,12 @@ module _ {A : Type 0} (P Q : A → Type 0) where
   each_map go (x ∷ xs) p = (go x p.0, each_map go xs p.1)
 
   -- where no member has the number w, the facts of the others stay
-  pub each_absent : (num : A → ℕ) (w : ℕ) → ((x : A) → num x ≢ w → P x → Q x) → (l : List A) → total_of (λ (x : A). same (num x) w) l ≡ 0 → Each P l → Each Q l
+  pub each_absent : (num : A → ℕ) (w : ℕ) → ((x : A) → num x ≢ w → P x → Q x) → (l : List A)
+      → total_of (λ (x : A). same (num x) w) l ≡ 0 → Each P l → Each Q l
   each_absent num w go [] z p = tt
-  each_absent num w go (x ∷ xs) z p = let t : ℕ = total_of (λ (y : A). same (num y) w) xs in let z' : same (num x) w + t ≡ 0 = z in let u : ℕ = same (num x) w in
+  each_absent num w go (x ∷ xs) z p =
+      let t : ℕ = total_of (λ (y : A). same (num y) w) xs in let z' : same (num x) w + t ≡ 0 = z in
+      let u : ℕ = same (num x) w in
       (dite (ℕ_discrete (num x) w) (λ e. let one : u ≡ 1 = same_refl (num x) w e in absurd (omega arith)) (λ n. go x n p.0), each_absent num w go xs (omega arith) p.1)
 
 pub each_both : {A : Type 0} (P Q : A → Type 0) (l : List A) → Each P l → Each Q l → Each (λ x. P x × Q x) l
@@ -58,8 +61,11 @@ each_append P [] m p q = q
 each_append P (x ∷ xs) m p q = (p.0, each_append P xs m p.1 q)
 
 -- what holds of the new view, and of each other, holds of all
-pub views_stay : {V : Type 0} (Q : ℕ → V → Type 0) (vs : List V) (id : ℕ) (w : V) → Q id w → ((j : ℕ) (v : V) → j ≢ id → get_elem? vs j ≡ some v → Q j v) → (j : ℕ) (v : V) → get_elem? (set vs id w) j ≡ some v → Q j v
-views_stay {V} Q vs id w mine others j v e = ⊎_elim (λ (x : (j ≡ id) × (w ≡ v)). subst (λ (y : ℕ × V). Q y.0 y.1) (λ i. (sym x.0 i, x.1 i)) mine) (λ (x : (j ≢ id) × (get_elem? vs j ≡ some v)). others j v x.0 x.1) (at_set vs id j w v e)
+pub views_stay : {V : Type 0} (Q : ℕ → V → Type 0) (vs : List V) (id : ℕ) (w : V) → Q id w
+    → ((j : ℕ) (v : V) → j ≢ id → get_elem? vs j ≡ some v → Q j v) → (j : ℕ) (v : V)
+    → get_elem? (set vs id w) j ≡ some v → Q j v
+views_stay {V} Q vs id w mine others j v e =
+    ⊎_elim (λ (x : (j ≡ id) × (w ≡ v)). subst (λ (y : ℕ × V). Q y.0 y.1) (λ i. (sym x.0 i, x.1 i)) mine) (λ (x : (j ≢ id) × (get_elem? vs j ≡ some v)). others j v x.0 x.1) (at_set vs id j w v e)
 
 abbrev pick : {A P : Type 0} → Dec P → A → A → A
 pick (yes _) a b = a

@@ -32,7 +32,8 @@ module _ (n : ℕ) (ends : List Ending) (totals : List _) (noted : Noted ends to
   seen_kept all w near = let t = all w near in (t.0, noted.kept w t.0 t.1)
 
   kept_is : (w t : ℕ) → Among record { writer = w; total = t } ends → slice_get totals w ≡ Some (Some t)
-  kept_is w t at = each_at (λ (e : Ending). slice_get totals e.writer ≡ Some (Some e.total)) ends noted.all at.0 record { writer = w; total = t } at.1
+  kept_is w t at =
+      each_at (λ (e : Ending). slice_get totals e.writer ≡ Some (Some e.total)) ends noted.all at.0 record { writer = w; total = t } at.1
 
   kept_seen : SawAllEnds n ends → AllEnded n totals
   kept_seen all w near = let t = all w near in (t.0, kept_is w t.0 t.1)
@@ -55,8 +56,11 @@ module _ {T : Type 0} (k : QueueShape) (h : History T) where
 
 pub told : {T : Type 0} (k : QueueShape) (s : St T) (r : IsReached k s) (id : ℕ) (v : View T) (at : get_elem? s.views id ≡ some v) (writers : List (WriterState T)) (readers : List (ReaderState T)) (ws : WriterPairs v.writers writers) (bs : Pairs v.readers readers)
     (each_writer : (w : ℕ) → w < k.writers → total_of (λ (x : WriterState T). same x.number w) writers ≡ 1) (each_reader : (q : ℕ) → q < k.readers → total_of (λ (x : ReaderState T). same x.number q) readers ≡ 1)
-    (last : ReaderState T) (among : Among last readers) (ended : AllEnded k.writers last.totals) → (h : History T) × IsHistoryOf k writers readers h
-told {T} k s r id v at writers readers ws bs each_writer each_reader last among ended = let law = steps_law T k s r.entries r.steps in let h : History T = r.entries ++ registrations k.writers in let shows = law.2 in let rule = rule_of k s r in
+    (last : ReaderState T) (among : Among last readers) (ended : AllEnded k.writers last.totals)
+    → (h : History T) × IsHistoryOf k writers readers h
+told {T} k s r id v at writers readers ws bs each_writer each_reader last among ended =
+    let law = steps_law T k s r.entries r.steps in let h : History T = r.entries ++ registrations k.writers in
+    let shows = law.2 in let rule = rule_of k s r in
     let Lane = OfLane k s rule id v at writers readers ws bs each_writer each_reader last among ended in
     let lanes = of_lanes k s rule id v at writers readers ws bs each_writer each_reader last among ended in
     let lane_full = full k s rule id v at writers readers ws bs each_writer each_reader last among ended in
@@ -66,7 +70,8 @@ told {T} k s r id v at writers readers ws bs each_writer each_reader last among 
       record {
         legal = law.1;
         of_writers = each_map (λ (x : WriterState T). Lane x × IsIn x) (HistoryOfWriter h) (λ x p. record { put = p.1.0; completed = p.1.1; all_left = shows.heads x.number p.0.0 ∙ (lane_full x.number p.0.0).1 ∙ ap length (sym p.0.1) }) writers (each_both Lane IsIn writers lanes shown);
-        of_readers = pairs_each (λ (b : Reading T). ReaderShows (state_of h) b × FinishTold k h b) (HistoryOfReader k h) (reader_told k h) v.readers readers bs
+        of_readers =
+            pairs_each (λ (b : Reading T). ReaderShows (state_of h) b × FinishTold k h b) (HistoryOfReader k h) (reader_told k h) v.readers readers bs
             (each_both (ReaderShows (state_of h)) (FinishTold k h) v.readers (shows.readers id v at) (reached_tells k s r id v at));
       },
     )

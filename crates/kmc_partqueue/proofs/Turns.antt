@@ -13,7 +13,8 @@ module _ (c : ℕ) where
 
   -- two numbers of one slot less than a turn apart are one number
   pub near_one : (p q : ℕ) → p < q + c → q < p + c → q % c ≡ p % c → q ≡ p
-  near_one p q a b m = dite (dec_le p q) (λ le. sym (one_turn p q c le b (sym m))) (λ n. let lt : q < p = lt_of_not-le n in one_turn q p c (omega arith) a m)
+  near_one p q a b m =
+      dite (dec_le p q) (λ le. sym (one_turn p q c le b (sym m))) (λ n. let lt : q < p = lt_of_not-le n in one_turn q p c (omega arith) a m)
 
   module _ (pos : 0 < c) where
     pub next_use : (h : ℕ) → (h + c) / c ≡ h / c + 1
@@ -25,7 +26,9 @@ module _ (c : ℕ) where
 
   -- of two numbers of one slot the later has a later use
   pub later_use : (p q : ℕ) → p < q → p % c ≡ q % c → p / c < q / c
-  later_use p q lt m = let a : ℕ = p / c in let b : ℕ = q / c in let i : ℕ = p % c in let j : ℕ = q % c in let m' : i ≡ j = m in let p' : a * c + i ≡ p = div-add-mod' p c in let q' : b * c + j ≡ q = div-add-mod' q c in
+  later_use p q lt m =
+      let a : ℕ = p / c in let b : ℕ = q / c in let i : ℕ = p % c in let j : ℕ = q % c in let m' : i ≡ j = m in
+      let p' : a * c + i ≡ p = div-add-mod' p c in let q' : b * c + j ≡ q = div-add-mod' q c in
       dite (dec_le b a) (λ le. let x : ℕ = a * c in let y : ℕ = b * c in let le' : y ≤ x = mul-le-mul_right c le in absurd (omega arith)) (λ no. lt_of_not-le no)
 
 -- slots of different lanes are different
@@ -35,4 +38,6 @@ other_lane c w v i j a b n e = dite (dec_le (suc w) v)
     (λ no. let lt : suc v ≤ w = (let g : v < suc w = lt_of_not-le no in omega arith) in let m : suc v * c ≤ w * c = mul-le-mul_right c lt in let x : ℕ = w * c in let y : ℕ = v * c in let m' : y + c ≤ x = omega (arith, suc-mul v c) in let e' : x + i ≡ y + j = e in omega arith)
 
 pub lane_within : (c w n i : ℕ) → w < n → i < c → w * c + i < n * c
-lane_within c w n i a b = let m : suc w * c ≤ n * c = mul-le-mul_right c a in let x : ℕ = w * c in let y : ℕ = n * c in let m' : x + c ≤ y = omega (arith, suc-mul w c) in omega arith
+lane_within c w n i a b =
+    let m : suc w * c ≤ n * c = mul-le-mul_right c a in let x : ℕ = w * c in let y : ℕ = n * c in
+    let m' : x + c ≤ y = omega (arith, suc-mul w c) in omega arith

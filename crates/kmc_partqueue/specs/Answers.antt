@@ -22,7 +22,8 @@ module _ {T : Type 0} where
   abbrev pub TakeAnswers : ReaderState T → ReaderState T → Taken T → Type 0
   TakeAnswers old new (taken.Got x) = (new.got ≡ old.got ++ x ∷ []) × ¬ AllEnded new.writers new.totals
   TakeAnswers old new taken.Empty = ⊥
-  TakeAnswers old new (taken.Finished counts) = (new.got ≡ old.got) × AllEnded new.writers new.totals × AreKeptTotals new.writers new.totals counts
+  TakeAnswers old new (taken.Finished counts) =
+      (new.got ≡ old.got) × AllEnded new.writers new.totals × AreKeptTotals new.writers new.totals counts
 
   abbrev pub IsLast : Taken T → Type 0
   IsLast (taken.Got x) = ⊥

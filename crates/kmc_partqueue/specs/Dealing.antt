@@ -31,7 +31,8 @@ module _ {T : Type 0} where
   fresh_writer k i = record { number = i; per_writer = k.per_writer; sent = []; held = false; done = false }
 
   abbrev pub fresh_reader : QueueShape → ℕ → Reading T
-  fresh_reader k i = record { number = i; writers = k.writers; per_writer = k.per_writer; got = []; held = false; lane = 0; head = 0; ready = false; ends = [] }
+  fresh_reader k i =
+      record { number = i; writers = k.writers; per_writer = k.per_writer; got = []; held = false; lane = 0; head = 0; ready = false; ends = [] }
 
   -- the view of the first seat
   abbrev pub all_seats : QueueShape → View T

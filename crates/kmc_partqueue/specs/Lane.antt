@@ -31,7 +31,8 @@ module _ {T : Type 0} (c head : ℕ) (sent : List T) (mark : ℕ) (home : maybe.
   abbrev pub InPhase : Phase → Type 0
   InPhase free = (mark ≡ 2 * (n / c)) × (length sent ≤ n) × (home ≡ some (some None))
   InPhase writing = (mark ≡ 2 * (n / c)) × (n ≡ length sent) × (home ≡ some none)
-  InPhase full = (mark ≡ 2 * (n / c) + 1) × (head ≤ n) × (n < length sent) × ((x : T) × (get_elem? sent n ≡ some x) × (home ≡ some (some (Some x))))
+  InPhase full =
+      (mark ≡ 2 * (n / c) + 1) × (head ≤ n) × (n < length sent) × ((x : T) × (get_elem? sent n ≡ some x) × (home ≡ some (some (Some x))))
   InPhase (reading r) = (mark ≡ 2 * (n / c) + 1) × (n < head) × (home ≡ some none)
 
 pub record CellOk {T : Type 0} (c head : ℕ) (sent : List T) (held : Bool) (i mark : ℕ) (home : maybe.Option (Home T)) (cell : Cell) : Type 0 where

@@ -54,7 +54,8 @@ module _ {T : Type 0} where
 
   -- store of the mark: the part is put
   abbrev pub published_part : Step (Option T) → Seated T → ℕ → Seated T → Type 0
-  published_part st m r m' = (a : Writing T) (x : T) (c : List (ℕ × Option T)) → m ≡ (one_of_writers a, (next_slot_of a, Some x) ∷ c) → m' ≡ (one_of_writers (sending a x), c)
+  published_part st m r m' =
+      (a : Writing T) (x : T) (c : List (ℕ × Option T)) → m ≡ (one_of_writers a, (next_slot_of a, Some x) ∷ c) → m' ≡ (one_of_writers (sending a x), c)
 
   -- store of the end
   abbrev pub closed_lane : Step (Option T) → Seated T → ℕ → Seated T → Type 0
@@ -62,7 +63,8 @@ module _ {T : Type 0} where
 
   -- load of the head of a lane
   abbrev pub read_head : Step (Option T) → Seated T → ℕ → Seated T → Type 0
-  read_head st m r m' = (b : Reading T) (w : ℕ) → m.0 ≡ one_of_readers b → st.word ≡ b.writers + w → (m' ≡ (one_of_readers (looking b w r), m.1)) × (r ≤ MAX_ITEMS)
+  read_head st m r m' =
+      (b : Reading T) (w : ℕ) → m.0 ≡ one_of_readers b → st.word ≡ b.writers + w → (m' ≡ (one_of_readers (looking b w r), m.1)) × (r ≤ MAX_ITEMS)
 
   -- load of the mark at the head that was seen
   abbrev pub saw_published_part : Step (Option T) → Seated T → ℕ → Seated T → Type 0
@@ -76,7 +78,8 @@ module _ {T : Type 0} where
 
   -- store of the mark: the slot is free again
   abbrev pub released_slot : Step (Option T) → Seated T → ℕ → Seated T → Type 0
-  released_slot st m r m' = (b : Reading T) (c : List (ℕ × Option T)) → m ≡ (one_of_readers b, (seen_slot_of b, None) ∷ c) → m' ≡ (one_of_readers (freeing b), c)
+  released_slot st m r m' =
+      (b : Reading T) (c : List (ℕ × Option T)) → m ≡ (one_of_readers b, (seen_slot_of b, None) ∷ c) → m' ≡ (one_of_readers (freeing b), c)
 
   -- load of the end of the lane that was seen
   abbrev pub read_end : Step (Option T) → Seated T → ℕ → Seated T → Type 0

@@ -34,7 +34,8 @@ AllEnded writers totals = (w : ℕ) → w < writers → (t : ℕ) × (slice_get 
 
 -- these are the totals that are kept
 abbrev pub AreKeptTotals : ℕ → List (Option ℕ) → List ℕ → Type 0
-AreKeptTotals writers totals counts = (length counts ≡ writers) × ((w : ℕ) → w < writers → (t : ℕ) × (slice_get totals w ≡ Some (Some t)) × (slice_get counts w ≡ Some t))
+AreKeptTotals writers totals counts =
+    (length counts ≡ writers) × ((w : ℕ) → w < writers → (t : ℕ) × (slice_get totals w ≡ Some (Some t)) × (slice_get counts w ≡ Some t))
 
 module _ {T : Type 0} where
   -- a seat of a queue with this table and shape
@@ -53,7 +54,8 @@ module _ {T : Type 0} where
   new_writer id shape number = record { table = id; number = number; per_writer = shape.per_writer; sent = [] }
 
   abbrev pub new_reader : TableId → QueueShape → ℕ → ReaderState T
-  new_reader id shape number = record { table = id; number = number; per_writer = shape.per_writer; writers = shape.writers; got = []; totals = replicate MAX_WRITERS None }
+  new_reader id shape number =
+      record { table = id; number = number; per_writer = shape.per_writer; writers = shape.writers; got = []; totals = replicate MAX_WRITERS None }
 
 -- the notes of totals in a view are those that the seat keeps
 pub record Noted (ends : List Ending) (totals : List (Option ℕ)) : Type 0 where
@@ -88,7 +90,8 @@ module _ {T : Type 0} where
 
   -- the seat of a writer between two calls
   abbrev pub AtRest : Seated T → ℕ → ℕ → ℕ → Type 0
-  AtRest me number per_writer count = (me ≡ (one_of_writers (open_writer number per_writer (sent_of me.0) false), [])) × (length (sent_of me.0) ≡ count) × (count ≤ MAX_ITEMS)
+  AtRest me number per_writer count =
+      (me ≡ (one_of_writers (open_writer number per_writer (sent_of me.0) false), [])) × (length (sent_of me.0) ≡ count) × (count ≤ MAX_ITEMS)
 
   -- the seat of a writer that has completed
   abbrev pub AtEnd : Seated T → ℕ → Type 0

@@ -34,7 +34,8 @@ fn drain<T: Drop>(mut closed: Closed<Option<T>, Global>)
 /// The first seat that has seen each lane at its end.
 fn first_finished<T>(readers: &[ReaderSeat<T>]) -> usize
     requires { (s : ReaderState T) × Among s readers.now × AllEnded s.writers s.totals }
-    ensures { (s : ReaderState T) × (slice_get readers.now result ≡ Some s) × AllEnded s.writers s.totals }
+    ensures { (s : ReaderState T) × (slice_get readers.now result ≡ Some s)
+        × AllEnded s.writers s.totals }
 {
     for i in 0..readers.len() {
         if readers[i].finished() {
@@ -48,7 +49,8 @@ impl<T: Drop> Lanes<T> {
     /// What the last state shows beside the seat's view.
     fn close(self, seat: Seat<Option<T>, View<T>>)
         requires { seat.table_id ≡ self.table.shared.table_id }
-        ensures { (s : State (Option T) (View T)) × Seen (IsReached self.table.shared.key) seat.id seat.me.0 s }
+        ensures { (s : State (Option T) (View T))
+            × Seen (IsReached self.table.shared.key) seat.id seat.me.0 s }
     {
         let Lanes { table, shape: _ } = self;
         drain(table.close_with(seat));
@@ -65,8 +67,10 @@ impl<T: Drop> Lanes<T> {
         requires readers { Each (IsReaderOf self.now.table.shared.table_id self.now.shape) readers.items }
         requires writers { Each (IsWriterOf self.now.table.shared.table_id self.now.shape) writers.items }
         ensures queue { (seat.new.table_id ≡ seat.old.table_id) × (seat.new.id ≡ seat.old.id) }
-        ensures readers { (bs : List _) × (seat.new.me.0.readers ≡ bs ++ seat.old.me.0.readers) × Pairs bs readers.items }
-        ensures writers { (ws : List _) × (seat.new.me.0.writers ≡ ws ++ seat.old.me.0.writers) × WriterPairs ws writers.items }
+        ensures readers { (bs : List _) × (seat.new.me.0.readers ≡ bs ++ seat.old.me.0.readers)
+            × Pairs bs readers.items }
+        ensures writers { (ws : List _) × (seat.new.me.0.writers ≡ ws ++ seat.old.me.0.writers)
+            × WriterPairs ws writers.items }
     {
         while let Some(reader) = readers.pop() {
             self.table
@@ -82,13 +86,18 @@ impl<T: Drop> Lanes<T> {
 
     /// All seats of the queue come back, each number once, in any order, one of the readers having seen each lane at its end. Each part that was put was got once, by one reader, and nothing else was. The run had a legal history, in which each part was put, and left to the reader that got it, at its number, and each reader that saw all lanes at their ends was told once that the queue is finished. It answers how many parts each writer put.
     pub fn gather(self, writers: Vec<DoneSeat<T>>, mut readers: Vec<ReaderSeat<T>>) -> Totals
-        requires queue { Each (IsWriterOf self.table.shared.table_id self.shape) writers.items × Each (IsReaderOf self.table.shared.table_id self.shape) readers.items }
-        requires writers { (w : ℕ) → w < self.shape.writers → total_of (λ s. same s.number w) writers.items ≡ 1 }
-        requires readers { (q : ℕ) → q < self.shape.readers → total_of (λ s. same s.number q) readers.items ≡ 1 }
-        requires finished { (s : ReaderState T) × Among s readers.items × AllEnded s.writers s.totals }
+        requires queue { Each (IsWriterOf self.table.shared.table_id self.shape) writers.items
+            × Each (IsReaderOf self.table.shared.table_id self.shape) readers.items }
+        requires writers { (w : ℕ) → w < self.shape.writers
+            → total_of (λ s. same s.number w) writers.items ≡ 1 }
+        requires readers { (q : ℕ) → q < self.shape.readers
+            → total_of (λ s. same s.number q) readers.items ≡ 1 }
+        requires finished { (s : ReaderState T) × Among s readers.items
+            × AllEnded s.writers s.totals }
         ensures gathered { IsGathered writers.items readers.items }
         ensures history { (h : History T) × IsHistoryOf self.shape writers.items readers.items h }
-        ensures totals { (length result ≡ self.shape.writers) × Each (λ s. slice_get result s.number ≡ Some (length s.sent)) writers.items }
+        ensures totals { (length result ≡ self.shape.writers)
+            × Each (λ s. slice_get result s.number ≡ Some (length s.sent)) writers.items }
     {
         let totals = readers[first_finished(readers.as_slice())].all_totals();
         let Some(first) = readers.pop() else {

@@ -31,11 +31,28 @@ impl<T: Drop> Lanes<T> {
         alloc: Global,
         seat: &mut Seat<Option<T>, View<T>>,
     ) -> Result<Vec<WriterSeat<T>>, AllocError>
-        requires fresh { seat.old.me ≡ (record { writers = row_from (fresh_writer self.now.table.shared.key) 0 self.now.shape.writers; readers = row_from (fresh_reader self.now.table.shared.key) 0 self.now.shape.readers }, []) }
+        requires fresh { seat.old.me ≡ (
+          record {
+            writers = row_from
+                (fresh_writer self.now.table.shared.key) 0 self.now.shape.writers;
+            readers = row_from
+                (fresh_reader self.now.table.shared.key) 0 self.now.shape.readers;
+          },
+          [],
+        ) }
         requires queue { seat.old.table_id ≡ self.now.table.shared.table_id }
         ensures queue { IfOk result (λ _. seat.new.table_id ≡ seat.old.table_id) }
-        ensures left { IfOk result (λ _. seat.new.me ≡ (record { writers = []; readers = row_from (fresh_reader self.now.table.shared.key) 0 self.now.shape.readers }, [])) }
-        ensures seats { IfOk result (λ v. v.items ≡ row_from (new_writer self.now.table.shared.table_id self.now.shape) 0 self.now.shape.writers) }
+        ensures left { IfOk result (λ _. seat.new.me
+            ≡ (
+              record {
+                writers = [];
+                readers = row_from
+                    (fresh_reader self.now.table.shared.key) 0 self.now.shape.readers;
+              },
+              [],
+            )) }
+        ensures seats { IfOk result (λ v. v.items
+            ≡ row_from (new_writer self.now.table.shared.table_id self.now.shape) 0 self.now.shape.writers) }
     {
         let mut seats = Vec::new(alloc);
         for number in 0..self.shape.writers {
@@ -51,9 +68,17 @@ impl<T: Drop> Lanes<T> {
         alloc: Global,
         seat: &mut Seat<Option<T>, View<T>>,
     ) -> Result<Vec<ReaderSeat<T>>, AllocError>
-        requires fresh { seat.old.me ≡ (record { writers = []; readers = row_from (fresh_reader self.now.table.shared.key) 0 self.now.shape.readers }, []) }
+        requires fresh { seat.old.me ≡ (
+          record {
+            writers = [];
+            readers = row_from
+                (fresh_reader self.now.table.shared.key) 0 self.now.shape.readers;
+          },
+          [],
+        ) }
         requires queue { seat.old.table_id ≡ self.now.table.shared.table_id }
-        ensures seats { IfOk result (λ v. v.items ≡ row_from (new_reader self.now.table.shared.table_id self.now.shape) 0 self.now.shape.readers) }
+        ensures seats { IfOk result (λ v. v.items
+            ≡ row_from (new_reader self.now.table.shared.table_id self.now.shape) 0 self.now.shape.readers) }
     {
         let mut seats = Vec::new(alloc);
         for number in 0..self.shape.readers {
@@ -69,8 +94,10 @@ impl<T: Drop> Lanes<T> {
         shape: QueueShape,
     ) -> Result<(Lanes<T>, Vec<WriterSeat<T>>, Vec<ReaderSeat<T>>), AllocError>
         ensures shape { IfOk result (λ q. q.0.shape ≡ shape) }
-        ensures writers { IfOk result (λ q. q.1.items ≡ row_from (new_writer q.0.table.shared.table_id shape) 0 shape.writers) }
-        ensures readers { IfOk result (λ q. q.2.items ≡ row_from (new_reader q.0.table.shared.table_id shape) 0 shape.readers) }
+        ensures writers { IfOk result (λ q. q.1.items
+            ≡ row_from (new_writer q.0.table.shared.table_id shape) 0 shape.writers) }
+        ensures readers { IfOk result (λ q. q.2.items
+            ≡ row_from (new_reader q.0.table.shared.table_id shape) 0 shape.readers) }
     {
         let slots = shape.writers * shape.per_writer;
         let words = Vec::from_elem(alloc, 0u64, 2 * shape.writers + slots)?;

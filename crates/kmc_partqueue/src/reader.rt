@@ -86,7 +86,8 @@ impl<T> ReaderSeat<T> {
     fn is_open(&self, lane: usize) -> bool
         requires { (lane < self.now.writers) × (lane < 16) }
         ensures open { result ≡ true → slice_get self.now.totals lane ≡ Some None }
-        ensures ended { result ≡ false → (t : ℕ) × (slice_get self.now.totals lane ≡ Some (Some t)) }
+        ensures ended { result ≡ false → (t : ℕ)
+            × (slice_get self.now.totals lane ≡ Some (Some t)) }
     {
         match self.totals[lane] {
             None => true,
@@ -136,7 +137,9 @@ impl<T> Lanes<T> {
     fn move_out(&self, seat: &mut Seat<Option<T>, View<T>>, slot: usize) -> T
         requires queue { seat.old.table_id ≡ self.now.table.shared.table_id }
         requires holds { (x : T) × (seat.old.me.1 ≡ (slot, Some x) ∷ []) }
-        ensures { (seat.new.table_id ≡ seat.old.table_id) × (seat.new.id ≡ seat.old.id) × (seat.old.me.1 ≡ (slot, Some result) ∷ []) × (seat.new.me ≡ (seat.old.me.0, (slot, None) ∷ [])) }
+        ensures { (seat.new.table_id ≡ seat.old.table_id) × (seat.new.id ≡ seat.old.id)
+            × (seat.old.me.1 ≡ (slot, Some result) ∷ [])
+            × (seat.new.me ≡ (seat.old.me.0, (slot, None) ∷ [])) }
     {
         match self.table.shared.exchange(seat, slot, None) {
             Some(item) => item,
@@ -147,9 +150,12 @@ impl<T> Lanes<T> {
     /// Tries the head of one lane, once.
     fn try_lane<G: Gate>(&self, s: &mut ReaderSeat<T>, lane: usize, gate: &G) -> Option<Received<T>>
         requires queue { IsReaderOf self.now.table.shared.table_id self.now.shape s.old }
-        requires lane { (lane < self.now.shape.writers) × (slice_get s.old.totals lane ≡ Some None) }
-        ensures seat { (s.new.table ≡ s.old.table) × (s.new.number ≡ s.old.number) × (s.new.per_writer ≡ s.old.per_writer) × (s.new.writers ≡ s.old.writers) }
-        ensures got { MatchOption result (s.new.got ≡ s.old.got) (λ x. (s.new.got ≡ s.old.got ++ x ∷ []) × (s.new.totals ≡ s.old.totals)) }
+        requires lane { (lane < self.now.shape.writers)
+            × (slice_get s.old.totals lane ≡ Some None) }
+        ensures seat { (s.new.table ≡ s.old.table) × (s.new.number ≡ s.old.number)
+            × (s.new.per_writer ≡ s.old.per_writer) × (s.new.writers ≡ s.old.writers) }
+        ensures got { MatchOption result (s.new.got ≡ s.old.got)
+            (λ x. (s.new.got ≡ s.old.got ++ x ∷ []) × (s.new.totals ≡ s.old.totals)) }
         ensures notes { KeepsNotes s.old s.new }
     {
         let words = &self.table.shared;
@@ -194,7 +200,8 @@ impl<T> Lanes<T> {
     /// Takes a part, if it finds one, at once. It goes once round the lanes, from the one after that it last took from, and tries each head once; a lane that it has seen at its end is passed over.
     pub fn try_take<G: Gate>(&self, s: &mut ReaderSeat<T>, gate: &G) -> TryTaken<T>
         requires { IsReaderOf self.now.table.shared.table_id self.now.shape s.old }
-        ensures seat { (s.new.table ≡ s.old.table) × (s.new.number ≡ s.old.number) × (s.new.per_writer ≡ s.old.per_writer) × (s.new.writers ≡ s.old.writers) }
+        ensures seat { (s.new.table ≡ s.old.table) × (s.new.number ≡ s.old.number)
+            × (s.new.per_writer ≡ s.old.per_writer) × (s.new.writers ≡ s.old.writers) }
         ensures answer { Answers s.old s.new result }
         ensures notes { KeepsNotes s.old s.new }
         ensures again { AllEnded s.old.writers s.old.totals → (s.new ≡ s.old) × IsFinished result }
@@ -223,7 +230,8 @@ impl<T> Lanes<T> {
     /// Takes a part, or is told that there will be none. It tries again, and yields between two tries, for as long as a round takes nothing.
     pub fn take<R: Wait, G: Gate>(&self, rt: &R, s: &mut ReaderSeat<T>, gate: &G) -> Taken<T>
         requires { IsReaderOf self.now.table.shared.table_id self.now.shape s.old }
-        ensures seat { (s.new.table ≡ s.old.table) × (s.new.number ≡ s.old.number) × (s.new.per_writer ≡ s.old.per_writer) × (s.new.writers ≡ s.old.writers) }
+        ensures seat { (s.new.table ≡ s.old.table) × (s.new.number ≡ s.old.number)
+            × (s.new.per_writer ≡ s.old.per_writer) × (s.new.writers ≡ s.old.writers) }
         ensures answer { TakeAnswers s.old s.new result }
         ensures notes { KeepsNotes s.old s.new }
         ensures again { AllEnded s.old.writers s.old.totals → (s.new ≡ s.old) × IsLast result }

@@ -83,8 +83,10 @@ pub type PutResult<T> = Result<u64, (TryPutError, T)>;
 impl<T> Lanes<T> {
     /// Moves a part into the slot that the seat holds.
     fn move_in(&self, seat: &mut Seat<Option<T>, View<T>>, slot: usize, part: T)
-        requires { (seat.old.table_id ≡ self.now.table.shared.table_id) × (seat.old.me.1 ≡ (slot, None) ∷ []) }
-        ensures { (seat.new.table_id ≡ seat.old.table_id) × (seat.new.id ≡ seat.old.id) × (seat.new.me ≡ (seat.old.me.0, (slot, Some part) ∷ [])) }
+        requires { (seat.old.table_id ≡ self.now.table.shared.table_id)
+            × (seat.old.me.1 ≡ (slot, None) ∷ []) }
+        ensures { (seat.new.table_id ≡ seat.old.table_id) × (seat.new.id ≡ seat.old.id)
+            × (seat.new.me ≡ (seat.old.me.0, (slot, Some part) ∷ [])) }
     {
         match self.table.shared.exchange(seat, slot, Some(part)) {
             None => {}
@@ -96,8 +98,11 @@ impl<T> Lanes<T> {
     /// The first `per_writer` puts of a seat are never refused as Full.
     pub fn try_put<G: Gate>(&self, s: &mut WriterSeat<T>, part: T, gate: &G) -> PutResult<T>
         requires { IsWriterOf self.now.table.shared.table_id self.now.shape s.old }
-        ensures seat { (s.new.table ≡ s.old.table) × (s.new.number ≡ s.old.number) × (s.new.per_writer ≡ s.old.per_writer) }
-        ensures put { MatchResult result (λ n. (n ≡ length s.old.sent) × (s.new.sent ≡ s.old.sent ++ part ∷ [])) (λ e. (e.1 ≡ part) × (s.new.sent ≡ s.old.sent)) }
+        ensures seat { (s.new.table ≡ s.old.table) × (s.new.number ≡ s.old.number)
+            × (s.new.per_writer ≡ s.old.per_writer) }
+        ensures put { MatchResult result
+            (λ n. (n ≡ length s.old.sent) × (s.new.sent ≡ s.old.sent ++ part ∷ []))
+            (λ e. (e.1 ≡ part) × (s.new.sent ≡ s.old.sent)) }
         ensures refused { IfErr result (λ e. Refused (length s.old.sent) s.old.per_writer e.0) }
         ensures spent { length s.old.sent ≡ MAX_ITEMS → result ≡ Err (NumbersSpent, part) }
     {
@@ -143,8 +148,11 @@ impl<T> Lanes<T> {
         gate: &G,
     ) -> PutResult<T>
         requires { IsWriterOf self.now.table.shared.table_id self.now.shape s.old }
-        ensures seat { (s.new.table ≡ s.old.table) × (s.new.number ≡ s.old.number) × (s.new.per_writer ≡ s.old.per_writer) }
-        ensures put { MatchResult result (λ n. (n ≡ length s.old.sent) × (s.new.sent ≡ s.old.sent ++ part ∷ [])) (λ e. (e ≡ (NumbersSpent, part)) × (s.new.sent ≡ s.old.sent)) }
+        ensures seat { (s.new.table ≡ s.old.table) × (s.new.number ≡ s.old.number)
+            × (s.new.per_writer ≡ s.old.per_writer) }
+        ensures put { MatchResult result
+            (λ n. (n ≡ length s.old.sent) × (s.new.sent ≡ s.old.sent ++ part ∷ []))
+            (λ e. (e ≡ (NumbersSpent, part)) × (s.new.sent ≡ s.old.sent)) }
         ensures spent { (result ≡ Err (NumbersSpent, part)) ↔ (length s.old.sent ≡ MAX_ITEMS) }
     {
         let mut part = part;

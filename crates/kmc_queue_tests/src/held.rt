@@ -58,7 +58,8 @@ type Item = Option<(usize, u64, u8)>;
 
 fn take_held(lanes: &Lanes<u8>, mut seat: ReaderSeat<u8>, gate: &Hold) -> (Item, ReaderSeat<u8>)
     requires { IsReaderOf lanes.now.table.shared.table_id lanes.now.shape seat }
-    ensures { IsReaderOf lanes.now.table.shared.table_id lanes.now.shape result.1 × (result.1.number ≡ seat.number) }
+    ensures { IsReaderOf lanes.now.table.shared.table_id lanes.now.shape result.1
+        × (result.1.number ≡ seat.number) }
 {
     let item = got(lanes.try_take(&mut seat, gate));
     (item, seat)
@@ -184,8 +185,10 @@ fn finish_beside(
 ) -> (bool, DoneSeat<u8>, ReaderSeat<u8>)
     requires writer { IsWriterOf lanes.now.table.shared.table_id lanes.now.shape writer }
     requires reader { IsReaderOf lanes.now.table.shared.table_id lanes.now.shape reader }
-    ensures writer { IsWriterOf lanes.now.table.shared.table_id lanes.now.shape result.1 × (result.1.number ≡ writer.number) }
-    ensures reader { IsReaderOf lanes.now.table.shared.table_id lanes.now.shape result.2 × (result.2.number ≡ reader.number) }
+    ensures writer { IsWriterOf lanes.now.table.shared.table_id lanes.now.shape result.1
+        × (result.1.number ≡ writer.number) }
+    ensures reader { IsReaderOf lanes.now.table.shared.table_id lanes.now.shape result.2
+        × (result.2.number ≡ reader.number) }
 {
     let held = is_seen(&gate.reached);
     let item = got(lanes.try_take(&mut reader, &NoGate));
@@ -208,7 +211,8 @@ fn gathered_by_two(
     requires shape { (lanes.shape.writers ≡ 1) × (lanes.shape.readers ≡ 2) }
     requires writer { IsWriterOf lanes.table.shared.table_id lanes.shape done × (done.number ≡ 0) }
     requires first { IsReaderOf lanes.table.shared.table_id lanes.shape first × (first.number ≡ 0) }
-    requires second { IsReaderOf lanes.table.shared.table_id lanes.shape second × (second.number ≡ 1) }
+    requires second { IsReaderOf lanes.table.shared.table_id lanes.shape second
+        × (second.number ≡ 1) }
 {
     let writers = Vec::from_array(rt.alloc(), [done])?;
     let readers = Vec::from_array(rt.alloc(), [first, second])?;

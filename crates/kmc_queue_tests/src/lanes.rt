@@ -56,7 +56,8 @@ fn gathered_by_one(
 ) -> Result<Option<Totals>, Fail>
     requires shape { (lanes.shape.writers ≡ 1) × (lanes.shape.readers ≡ 1) }
     requires writer { IsWriterOf lanes.table.shared.table_id lanes.shape done × (done.number ≡ 0) }
-    requires reader { IsReaderOf lanes.table.shared.table_id lanes.shape reader × (reader.number ≡ 0) }
+    requires reader { IsReaderOf lanes.table.shared.table_id lanes.shape reader
+        × (reader.number ≡ 0) }
 {
     let writers = Vec::from_array(rt.alloc(), [done])?;
     let readers = Vec::from_array(rt.alloc(), [reader])?;

@@ -50,16 +50,35 @@ impl Feeder {
     /// Takes the next piece of the text. A line is judged once its line feed has come, so the answer
     /// is never `Truncated`. The reads that the piece ends wait until they are taken.
     pub fn feed(&mut self, piece: &[u8]) -> Result<(), ReadsError>
-        ensures stands { (format : Format) (text : List ℕ) (taken : List (List ℕ)) → StandsAt format text taken self.old → OnOk result (StandsAt format (text ++ piece.now) taken self.new) }
-        ensures sound { (format : Format) (text : List ℕ) (taken : List (List ℕ)) → StandsAt format text taken self.old → OnOk result (fault format (text ++ piece.now) ≡ None) }
-        ensures refused { (format : Format) (text : List ℕ) (taken : List (List ℕ)) → StandsAt format text taken self.old → IfErr result (λ e. e ≢ ReadsError.Memory → (fault format (text ++ piece.now) ≡ Some e) × Refuses e self.new) }
-        ensures memory { (format : Format) (text : List ℕ) (taken : List (List ℕ)) → StandsAt format text taken self.old → IsErrOf result ReadsError.Memory → StandsAt format text taken self.new }
-        ensures again { (e : ReadsError) → Refuses e self.old → (result ≡ Err e) × (self.new ≡ self.old) }
+        ensures stands { (format : Format) (text : List ℕ) (taken : List (List ℕ))
+            → StandsAt format text taken self.old
+            → OnOk result (StandsAt format (text ++ piece.now) taken self.new) }
+        ensures sound { (format : Format) (text : List ℕ) (taken : List (List ℕ))
+            → StandsAt format text taken self.old
+            → OnOk result (fault format (text ++ piece.now) ≡ None) }
+        ensures refused { (format : Format) (text : List ℕ) (taken : List (List ℕ))
+            → StandsAt format text taken self.old
+            → IfErr result
+            (λ e. e ≢ ReadsError.Memory → (fault format (text ++ piece.now) ≡ Some e)
+            × Refuses e self.new) }
+        ensures memory { (format : Format) (text : List ℕ) (taken : List (List ℕ))
+            → StandsAt format text taken self.old → IsErrOf result ReadsError.Memory
+            → StandsAt format text taken self.new }
+        ensures again { (e : ReadsError) → Refuses e self.old → (result ≡ Err e)
+            × (self.new ≡ self.old) }
 
         // The same where open reads were handed out in pieces.
-        ensures cut { (overlap : ℕ) (format : Format) (text : List ℕ) (taken : List (List ℕ)) → StandsCut overlap format text taken self.old → OnOk result (StandsCut overlap format (text ++ piece.now) taken self.new) }
-        ensures cut_refused { (overlap : ℕ) (format : Format) (text : List ℕ) (taken : List (List ℕ)) → StandsCut overlap format text taken self.old → IfErr result (λ e. e ≢ ReadsError.Memory → (fault format (text ++ piece.now) ≡ Some e) × Refuses e self.new) }
-        ensures cut_memory { (overlap : ℕ) (format : Format) (text : List ℕ) (taken : List (List ℕ)) → StandsCut overlap format text taken self.old → IsErrOf result ReadsError.Memory → StandsCut overlap format text taken self.new }
+        ensures cut { (overlap : ℕ) (format : Format) (text : List ℕ) (taken : List (List ℕ))
+            → StandsCut overlap format text taken self.old
+            → OnOk result (StandsCut overlap format (text ++ piece.now) taken self.new) }
+        ensures cut_refused { (overlap : ℕ) (format : Format) (text : List ℕ)
+            (taken : List (List ℕ)) → StandsCut overlap format text taken self.old
+            → IfErr result
+            (λ e. e ≢ ReadsError.Memory → (fault format (text ++ piece.now) ≡ Some e)
+            × Refuses e self.new) }
+        ensures cut_memory { (overlap : ℕ) (format : Format) (text : List ℕ)
+            (taken : List (List ℕ)) → StandsCut overlap format text taken self.old
+            → IsErrOf result ReadsError.Memory → StandsCut overlap format text taken self.new }
     {
         if let Some(e) = self.refusal {
             return Err(e);
@@ -78,14 +97,18 @@ impl Feeder {
 
     /// How many reads have ended and were not taken yet.
     pub fn waiting(&self) -> usize
-        ensures { (format : Format) (text : List ℕ) (taken : List (List ℕ)) → StandsAt format text taken self.now → length (ended format text) ≡ length taken + result }
+        ensures { (format : Format) (text : List ℕ) (taken : List (List ℕ))
+            → StandsAt format text taken self.now
+            → length (ended format text) ≡ length taken + result }
     {
         self.scan.count()
     }
 
     /// How many symbols these reads have in all.
     pub fn waiting_symbols(&self) -> usize
-        ensures { (format : Format) (text : List ℕ) (taken : List (List ℕ)) → StandsAt format text taken self.now → length (concat (ended format text)) ≡ length (concat taken) + result }
+        ensures { (format : Format) (text : List ℕ) (taken : List (List ℕ))
+            → StandsAt format text taken self.now
+            → length (concat (ended format text)) ≡ length (concat taken) + result }
     {
         self.scan.symbols()
     }
@@ -93,8 +116,12 @@ impl Feeder {
     /// Hands out the reads that have ended and were not taken yet. It copies the open read, so take
     /// them a round at a time, and not after each piece. A feeder that has refused the text goes on refusing.
     pub fn take(&mut self, alloc: Global) -> Result<Reads, AllocError>
-        ensures all { (format : Format) (text : List ℕ) (taken : List (List ℕ)) → StandsAt format text taken self.old → IfOk result (λ reads. ended format text ≡ taken ++ reads) }
-        ensures stands { (format : Format) (text : List ℕ) (taken : List (List ℕ)) → StandsAt format text taken self.old → IfOk result (λ reads. StandsAt format text (taken ++ reads) self.new) }
+        ensures all { (format : Format) (text : List ℕ) (taken : List (List ℕ))
+            → StandsAt format text taken self.old
+            → IfOk result (λ reads. ended format text ≡ taken ++ reads) }
+        ensures stands { (format : Format) (text : List ℕ) (taken : List (List ℕ))
+            → StandsAt format text taken self.old
+            → IfOk result (λ reads. StandsAt format text (taken ++ reads) self.new) }
         ensures memory { OnErr result (self.new ≡ self.old) }
         ensures refused { (e : ReadsError) → Refuses e self.old → Refuses e self.new }
     {
@@ -106,8 +133,12 @@ impl Feeder {
     /// length passes in little memory. Where no more symbols are open, or a carriage return came last, it is [`Feeder::take`],
     /// and so it is for FASTQ, where the length of a read is wanted for its quality line.
     pub fn take_open(&mut self, alloc: Global, overlap: usize) -> Result<Reads, AllocError>
-        ensures stands { (format : Format) (text : List ℕ) (taken : List (List ℕ)) → StandsCut overlap format text taken self.old → IfOk result (λ reads. StandsCut overlap format text (taken ++ reads) self.new) }
-        ensures memory { (format : Format) (text : List ℕ) (taken : List (List ℕ)) → StandsCut overlap format text taken self.old → OnErr result (StandsCut overlap format text taken self.new) }
+        ensures stands { (format : Format) (text : List ℕ) (taken : List (List ℕ))
+            → StandsCut overlap format text taken self.old
+            → IfOk result (λ reads. StandsCut overlap format text (taken ++ reads) self.new) }
+        ensures memory { (format : Format) (text : List ℕ) (taken : List (List ℕ))
+            → StandsCut overlap format text taken self.old
+            → OnErr result (StandsCut overlap format text taken self.new) }
         ensures handed { OnOk result (IsHandedOut overlap self.new.scan) }
         ensures refused { (e : ReadsError) → Refuses e self.old → Refuses e self.new }
     {
@@ -116,7 +147,8 @@ impl Feeder {
 
     /// How many symbols of the open read [`Feeder::take_open`] can hand out.
     pub fn open_symbols(&self) -> usize
-        ensures { (at : IsSomewhere self.now.scan) → result ≡ length (open_symbols at.spot.stage at.spot.read (strip_last 13 at.front)) }
+        ensures { (at : IsSomewhere self.now.scan)
+            → result ≡ length (open_symbols at.spot.stage at.spot.read (strip_last 13 at.front)) }
     {
         self.scan.open()
     }
@@ -124,14 +156,28 @@ impl Feeder {
     /// Ends the text: the reads that were not taken yet, or the refusal of the first faulty line, with
     /// the feeder.
     pub fn finish(self) -> Result<Reads, (ReadsError, Feeder)>
-        ensures all { (format : Format) (text : List ℕ) (taken : List (List ℕ)) → StandsAt format text taken self → IfOk result (λ reads. reads_of format text ≡ Ok (taken ++ reads)) }
-        ensures refused { (format : Format) (text : List ℕ) (taken : List (List ℕ)) → StandsAt format text taken self → IfErr result (λ p. p.0 ≢ ReadsError.Memory → (reads_of format text ≡ Err p.0) × Refuses p.0 p.1) }
-        ensures memory { (format : Format) (text : List ℕ) (taken : List (List ℕ)) → StandsAt format text taken self → IfErr result (λ p. p.0 ≡ ReadsError.Memory → StandsAt format text taken p.1) }
+        ensures all { (format : Format) (text : List ℕ) (taken : List (List ℕ))
+            → StandsAt format text taken self
+            → IfOk result (λ reads. reads_of format text ≡ Ok (taken ++ reads)) }
+        ensures refused { (format : Format) (text : List ℕ) (taken : List (List ℕ))
+            → StandsAt format text taken self
+            → IfErr result
+            (λ p. p.0 ≢ ReadsError.Memory → (reads_of format text ≡ Err p.0) × Refuses p.0 p.1) }
+        ensures memory { (format : Format) (text : List ℕ) (taken : List (List ℕ))
+            → StandsAt format text taken self
+            → IfErr result (λ p. p.0 ≡ ReadsError.Memory → StandsAt format text taken p.1) }
         ensures again { (e : ReadsError) → Refuses e self → result ≡ Err (e, self) }
 
         // The same where open reads were handed out in pieces.
-        ensures cut { (overlap : ℕ) (format : Format) (text : List ℕ) (taken : List (List ℕ)) → StandsCut overlap format text taken self → IfOk result (λ reads. (whole : List (List ℕ)) × (reads_of format text ≡ Ok whole) × AreCut overlap whole (taken ++ reads)) }
-        ensures cut_refused { (overlap : ℕ) (format : Format) (text : List ℕ) (taken : List (List ℕ)) → StandsCut overlap format text taken self → IfErr result (λ p. p.0 ≢ ReadsError.Memory → (reads_of format text ≡ Err p.0) × Refuses p.0 p.1) }
+        ensures cut { (overlap : ℕ) (format : Format) (text : List ℕ) (taken : List (List ℕ))
+            → StandsCut overlap format text taken self
+            → IfOk result
+            (λ reads. (whole : List (List ℕ)) × (reads_of format text ≡ Ok whole)
+            × AreCut overlap whole (taken ++ reads)) }
+        ensures cut_refused { (overlap : ℕ) (format : Format) (text : List ℕ)
+            (taken : List (List ℕ)) → StandsCut overlap format text taken self
+            → IfErr result
+            (λ p. p.0 ≢ ReadsError.Memory → (reads_of format text ≡ Err p.0) × Refuses p.0 p.1) }
     {
         let mut feeder = self;
         if let Some(e) = feeder.refusal {

@@ -12,14 +12,13 @@ use std::alloc::Global;
 ///
 /// One pass over the text; each read is copied twice. A feeder hands them out in one buffer.
 pub fn read_all(alloc: Global, bytes: &[u8], format: Format) -> Result<Vec<Vec<u8>>, ReadsError>
-    ensures ok { IfOk result (λ reads. reads_of format bytes.now ≡ Ok (map (λ r. r.items) reads.items)) }
-    ensures refused { IfErr result (λ e. e ≢ ReadsError.Memory → reads_of format bytes.now ≡ Err e) }
+    ensures ok { IfOk result (λ reads. reads_of format bytes.now
+        ≡ Ok (map (λ r. r.items) reads.items)) }
+    ensures refused { IfErr result
+        (λ e. e ≢ ReadsError.Memory → reads_of format bytes.now ≡ Err e) }
 {
     let mut feeder = Feeder::new(alloc, format);
-    match feeder.feed(bytes) {
-        Ok(()) => {}
-        Err(e) => return Err(e),
-    }
+    feeder.feed(bytes)?;
     match feeder.finish() {
         Ok(reads) => Ok(reads.to_vecs(alloc)?),
         Err((e, _)) => Err(e),

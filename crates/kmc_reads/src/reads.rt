@@ -93,7 +93,8 @@ pub fn slices_of(alloc: Global, reads: &[Vec<u8>]) -> Result<Vec<&[u8]>, AllocEr
 
 /// Adds a copy of a read.
 fn push_read(alloc: Global, reads: &mut Vec<Vec<u8>>, read: &[u8]) -> Result<(), AllocError>
-    ensures { OnOk result (map (λ r. r.items) reads.new.items ≡ map (λ r. r.items) reads.old.items ++ read.now ∷ []) }
+    ensures { OnOk result (map (λ r. r.items) reads.new.items
+        ≡ map (λ r. r.items) reads.old.items ++ read.now ∷ []) }
 {
     reads.push(Vec::from_slice(alloc, read)?)?;
     Ok(())

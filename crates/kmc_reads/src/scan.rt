@@ -47,7 +47,8 @@ pub struct Scan {
 fn emptied(place: Place) -> Place
     ensures between { place.length ≡ 0 → result.stage ≡ place.stage }
     ensures inside { 0 < place.length → result.stage ≡ Rest }
-    ensures rest { (result.number ≡ place.number) × (result.length ≡ 0) × (result.held ≡ place.held) × (result.start ≡ 0) }
+    ensures rest { (result.number ≡ place.number) × (result.length ≡ 0)
+        × (result.held ≡ place.held) × (result.start ≡ 0) }
 {
     let mut next = place;
     if place.length > 0 {
@@ -88,9 +89,12 @@ impl Scan {
 
     /// More content of the open line.
     fn add(&mut self, content: &[u8]) -> Result<(), AllocError>
-        ensures keeps { (rows : List (List ℕ)) (spot : Spot) (line : List ℕ) → Keeps rows spot line self.old → OnOk result (Keeps rows spot (line ++ content.now) self.new) }
+        ensures keeps { (rows : List (List ℕ)) (spot : Spot) (line : List ℕ)
+            → Keeps rows spot line self.old
+            → OnOk result (Keeps rows spot (line ++ content.now) self.new) }
         ensures held { self.new.place.held ≡ self.old.place.held }
-        ensures bytes { take (length self.old.bytes.items) self.new.bytes.items ≡ self.old.bytes.items }
+        ensures bytes { take (length self.old.bytes.items) self.new.bytes.items
+            ≡ self.old.bytes.items }
         ensures ends { self.new.ends.items ≡ self.old.ends.items }
     {
         match self.place.stage {
@@ -106,8 +110,10 @@ impl Scan {
 
     /// A carriage return that was held back is content after all.
     fn release(&mut self) -> Result<(), AllocError>
-        ensures keeps { (rows : List (List ℕ)) (spot : Spot) (front : List ℕ) → At rows spot front self.old → OnOk result (Keeps rows spot front self.new) }
-        ensures bytes { take (length self.old.bytes.items) self.new.bytes.items ≡ self.old.bytes.items }
+        ensures keeps { (rows : List (List ℕ)) (spot : Spot) (front : List ℕ)
+            → At rows spot front self.old → OnOk result (Keeps rows spot front self.new) }
+        ensures bytes { take (length self.old.bytes.items) self.new.bytes.items
+            ≡ self.old.bytes.items }
         ensures ends { self.new.ends.items ≡ self.old.ends.items }
     {
         if self.place.held {
@@ -119,8 +125,12 @@ impl Scan {
     /// More bytes of the open line, which do not tell that it is a header. A carriage return at their
     /// end is held back.
     fn grow(&mut self, piece: &[u8]) -> Result<(), AllocError>
-        ensures at { (rows : List (List ℕ)) (spot : Spot) (front : List ℕ) → At rows spot front self.old → 0 < length piece.now → begun_by spot.stage spot.read (front ++ piece.now) ≡ [] → OnOk result (At rows spot (front ++ piece.now) self.new) }
-        ensures bytes { take (length self.old.bytes.items) self.new.bytes.items ≡ self.old.bytes.items }
+        ensures at { (rows : List (List ℕ)) (spot : Spot) (front : List ℕ)
+            → At rows spot front self.old → 0 < length piece.now
+            → begun_by spot.stage spot.read (front ++ piece.now) ≡ []
+            → OnOk result (At rows spot (front ++ piece.now) self.new) }
+        ensures bytes { take (length self.old.bytes.items) self.new.bytes.items
+            ≡ self.old.bytes.items }
         ensures ends { self.new.ends.items ≡ self.old.ends.items }
     {
         self.release()?;
@@ -132,38 +142,48 @@ impl Scan {
 
     /// The open read is whole.
     fn close(&mut self) -> Result<(), AllocError>
-        ensures keeps { (rows : List (List ℕ)) (spot : Spot) (line : List ℕ) → Keeps rows spot line self.old → kept spot.stage line ≡ [] → OnOk result (Keeps (rows ++ spot.read ∷ []) (record { number = spot.number; stage = spot.stage; read = [] }) line self.new) }
+        ensures keeps { (rows : List (List ℕ)) (spot : Spot) (line : List ℕ)
+            → Keeps rows spot line self.old → kept spot.stage line ≡ []
+            → OnOk result
+            (Keeps (rows ++ spot.read ∷ [])
+            (record { number = spot.number; stage = spot.stage; read = [] }) line self.new) }
         ensures held { self.new.place.held ≡ self.old.place.held }
         ensures bytes { self.new.bytes.items ≡ self.old.bytes.items }
         ensures ends { take (length self.old.ends.items) self.new.ends.items ≡ self.old.ends.items }
     {
-        match self.ends.push(self.bytes.len()) {
-            Ok(_) => {}
-            Err(e) => return Err(AllocError::from(e)),
-        }
+        self.ends.push(self.bytes.len())?;
         self.place.start = self.bytes.len();
         Ok(())
     }
 
     /// Whether no line is open.
     fn is_between(&self) -> bool
-        ensures none { (rows : List (List ℕ)) (spot : Spot) (front : List ℕ) → At rows spot front self.now → result ≡ true → front ≡ [] }
-        ensures some { (rows : List (List ℕ)) (spot : Spot) (front : List ℕ) → At rows spot front self.now → result ≡ false → front ≡ [] → ⊥ }
+        ensures none { (rows : List (List ℕ)) (spot : Spot) (front : List ℕ)
+            → At rows spot front self.now → result ≡ true → front ≡ [] }
+        ensures some { (rows : List (List ℕ)) (spot : Spot) (front : List ℕ)
+            → At rows spot front self.now → result ≡ false → front ≡ [] → ⊥ }
     {
         !self.place.held && self.place.length == 0
     }
 
     /// Whether these bytes of a line begin the header that ends the open read.
     fn begins_name(&self, piece: &[u8]) -> bool
-        ensures name { (rows : List (List ℕ)) (spot : Spot) (front : List ℕ) → At rows spot front self.now → result ≡ true → IsName spot front piece.now }
-        ensures none { (rows : List (List ℕ)) (spot : Spot) (front : List ℕ) → At rows spot front self.now → result ≡ false → begun_by spot.stage spot.read (front ++ piece.now) ≡ [] }
+        ensures name { (rows : List (List ℕ)) (spot : Spot) (front : List ℕ)
+            → At rows spot front self.now → result ≡ true → IsName spot front piece.now }
+        ensures none { (rows : List (List ℕ)) (spot : Spot) (front : List ℕ)
+            → At rows spot front self.now → result ≡ false
+            → begun_by spot.stage spot.read (front ++ piece.now) ≡ [] }
     {
         self.place.stage == Stage::Body && self.is_between() && begins_header(piece)
     }
 
     /// A header begins, and the open read is whole.
     fn name(&mut self) -> Result<(), AllocError>
-        ensures at { (rows : List (List ℕ)) (spot : Spot) → At rows spot [] self.old → spot.stage ≡ Body → OnOk result (At (rows ++ spot.read ∷ []) (record { number = spot.number; stage = Name; read = [] }) [] self.new) }
+        ensures at { (rows : List (List ℕ)) (spot : Spot) → At rows spot [] self.old
+            → spot.stage ≡ Body
+            → OnOk result
+            (At (rows ++ spot.read ∷ [])
+            (record { number = spot.number; stage = Name; read = [] }) [] self.new) }
         ensures bytes { self.new.bytes.items ≡ self.old.bytes.items }
         ensures ends { take (length self.old.ends.items) self.new.ends.items ≡ self.old.ends.items }
     {
@@ -174,8 +194,11 @@ impl Scan {
 
     /// More bytes of the open line.
     fn extend(&mut self, piece: &[u8]) -> Result<(), AllocError>
-        ensures goes { (rows : List (List ℕ)) (spot : Spot) (front : List ℕ) → At rows spot front self.old → HasNoFeed piece.now → OnOk result (Goes rows spot front piece.now self.new) }
-        ensures bytes { take (length self.old.bytes.items) self.new.bytes.items ≡ self.old.bytes.items }
+        ensures goes { (rows : List (List ℕ)) (spot : Spot) (front : List ℕ)
+            → At rows spot front self.old → HasNoFeed piece.now
+            → OnOk result (Goes rows spot front piece.now self.new) }
+        ensures bytes { take (length self.old.bytes.items) self.new.bytes.items
+            ≡ self.old.bytes.items }
         ensures ends { take (length self.old.ends.items) self.new.ends.items ≡ self.old.ends.items }
     {
         if piece.len() == 0 {
@@ -192,8 +215,12 @@ impl Scan {
 
     /// The fault of the open line, which is whole.
     fn judge(&self) -> Result<(), ReadsError>
-        ensures fine { (rows : List (List ℕ)) (spot : Spot) (line : List ℕ) → Keeps rows spot line self.now → OnOk result (fault_of spot.number spot.stage spot.read line ≡ None) }
-        ensures fault { (rows : List (List ℕ)) (spot : Spot) (line : List ℕ) → Keeps rows spot line self.now → IfErr result (λ e. fault_of spot.number spot.stage spot.read line ≡ Some e) }
+        ensures fine { (rows : List (List ℕ)) (spot : Spot) (line : List ℕ)
+            → Keeps rows spot line self.now
+            → OnOk result (fault_of spot.number spot.stage spot.read line ≡ None) }
+        ensures fault { (rows : List (List ℕ)) (spot : Spot) (line : List ℕ)
+            → Keeps rows spot line self.now
+            → IfErr result (λ e. fault_of spot.number spot.stage spot.read line ≡ Some e) }
     {
         let place = self.place;
         match place.stage {
@@ -215,7 +242,9 @@ impl Scan {
 
     /// The line after the open one begins.
     fn next_line(&mut self)
-        ensures at { (rows : List (List ℕ)) (spot : Spot) (line : List ℕ) → Keeps rows spot line self.old → (spot.stage ≡ Stage.Quality → spot.read ≡ []) → begun_by spot.stage spot.read line ≡ [] → At rows (past spot line) [] self.new }
+        ensures at { (rows : List (List ℕ)) (spot : Spot) (line : List ℕ)
+            → Keeps rows spot line self.old → (spot.stage ≡ Stage.Quality → spot.read ≡ [])
+            → begun_by spot.stage spot.read line ≡ [] → At rows (past spot line) [] self.new }
         ensures bytes { self.new.bytes.items ≡ self.old.bytes.items }
         ensures ends { self.new.ends.items ≡ self.old.ends.items }
     {
@@ -236,9 +265,19 @@ impl Scan {
 
     /// The open line is whole.
     fn end_line(&mut self) -> Result<(), ReadsError>
-        ensures fine { (rows : List (List ℕ)) (spot : Spot) (front : List ℕ) → At rows spot front self.old → OnOk result (fault_of spot.number spot.stage spot.read (strip_last 13 front) ≡ None) }
-        ensures at { (rows : List (List ℕ)) (spot : Spot) (front : List ℕ) → At rows spot front self.old → OnOk result (At (rows ++ given_by spot.stage spot.read (strip_last 13 front)) (past spot (strip_last 13 front)) [] self.new) }
-        ensures fault { (rows : List (List ℕ)) (spot : Spot) (front : List ℕ) → At rows spot front self.old → IfErr result (λ e. e ≢ ReadsError.Memory → fault_of spot.number spot.stage spot.read (strip_last 13 front) ≡ Some e) }
+        ensures fine { (rows : List (List ℕ)) (spot : Spot) (front : List ℕ)
+            → At rows spot front self.old
+            → OnOk result (fault_of spot.number spot.stage spot.read (strip_last 13 front) ≡ None) }
+        ensures at { (rows : List (List ℕ)) (spot : Spot) (front : List ℕ)
+            → At rows spot front self.old
+            → OnOk result
+            (At (rows ++ given_by spot.stage spot.read (strip_last 13 front))
+            (past spot (strip_last 13 front)) [] self.new) }
+        ensures fault { (rows : List (List ℕ)) (spot : Spot) (front : List ℕ)
+            → At rows spot front self.old
+            → IfErr result
+            (λ e. e ≢ ReadsError.Memory
+            → fault_of spot.number spot.stage spot.read (strip_last 13 front) ≡ Some e) }
         ensures bytes { self.new.bytes.items ≡ self.old.bytes.items }
         ensures ends { take (length self.old.ends.items) self.new.ends.items ≡ self.old.ends.items }
     {
@@ -253,18 +292,19 @@ impl Scan {
 
     /// Goes over a piece.
     fn go(&mut self, piece: &[u8]) -> Result<(), ReadsError>
-        ensures goes { (rows : List (List ℕ)) (spot : Spot) (front : List ℕ) → At rows spot front self.old → OnOk result (Goes rows spot front piece.now self.new) }
-        ensures fault { (rows : List (List ℕ)) (spot : Spot) (front : List ℕ) → At rows spot front self.old → IfErr result (λ e. e ≢ ReadsError.Memory → HasFault spot front piece.now e) }
-        ensures bytes { take (length self.old.bytes.items) self.new.bytes.items ≡ self.old.bytes.items }
+        ensures goes { (rows : List (List ℕ)) (spot : Spot) (front : List ℕ)
+            → At rows spot front self.old → OnOk result (Goes rows spot front piece.now self.new) }
+        ensures fault { (rows : List (List ℕ)) (spot : Spot) (front : List ℕ)
+            → At rows spot front self.old
+            → IfErr result (λ e. e ≢ ReadsError.Memory → HasFault spot front piece.now e) }
+        ensures bytes { take (length self.old.bytes.items) self.new.bytes.items
+            ≡ self.old.bytes.items }
         ensures ends { take (length self.old.ends.items) self.new.ends.items ≡ self.old.ends.items }
     {
         let mut rest = piece;
         while let Some((line, after)) = cut_line(rest) {
             self.extend(line)?;
-            match self.end_line() {
-                Ok(()) => {}
-                Err(e) => return Err(e),
-            }
+            self.end_line()?;
             rest = after;
         }
         self.extend(rest)?;
@@ -284,8 +324,11 @@ impl Scan {
 
     /// Goes over the next piece of the text, or leaves all as it was.
     pub fn feed(&mut self, piece: &[u8]) -> Result<(), ReadsError>
-        ensures goes { (rows : List (List ℕ)) (spot : Spot) (front : List ℕ) → At rows spot front self.old → OnOk result (Goes rows spot front piece.now self.new) }
-        ensures fault { (rows : List (List ℕ)) (spot : Spot) (front : List ℕ) → At rows spot front self.old → IfErr result (λ e. e ≢ ReadsError.Memory → HasFault spot front piece.now e) }
+        ensures goes { (rows : List (List ℕ)) (spot : Spot) (front : List ℕ)
+            → At rows spot front self.old → OnOk result (Goes rows spot front piece.now self.new) }
+        ensures fault { (rows : List (List ℕ)) (spot : Spot) (front : List ℕ)
+            → At rows spot front self.old
+            → IfErr result (λ e. e ≢ ReadsError.Memory → HasFault spot front piece.now e) }
         ensures again { OnErr result (IsAgain self.old self.new) }
     {
         let (bytes, ends, place) = (self.bytes.len(), self.ends.len(), self.place);
@@ -300,24 +343,28 @@ impl Scan {
 
     /// The open line is the last of the text, if it has a byte.
     fn end_open(&mut self) -> Result<(), ReadsError>
-        ensures whole { (rows : List (List ℕ)) (spot : Spot) (front : List ℕ) → At rows spot front self.old → OnOk result (EndsLine rows spot front self.new) }
-        ensures refused { (rows : List (List ℕ)) (spot : Spot) (front : List ℕ) → At rows spot front self.old → IfErr result (λ e. e ≢ ReadsError.Memory → reads_from spot (last_line front) ≡ Err e) }
+        ensures whole { (rows : List (List ℕ)) (spot : Spot) (front : List ℕ)
+            → At rows spot front self.old → OnOk result (EndsLine rows spot front self.new) }
+        ensures refused { (rows : List (List ℕ)) (spot : Spot) (front : List ℕ)
+            → At rows spot front self.old
+            → IfErr result
+            (λ e. e ≢ ReadsError.Memory → reads_from spot (last_line front) ≡ Err e) }
         ensures bytes { self.new.bytes.items ≡ self.old.bytes.items }
         ensures ends { take (length self.old.ends.items) self.new.ends.items ≡ self.old.ends.items }
     {
         if self.is_between() {
             return Ok(());
         }
-        match self.end_line() {
-            Ok(()) => Ok(()),
-            Err(e) => Err(e),
-        }
+        self.end_line()
     }
 
     /// No line is left: the open read is whole, or it was cut short.
     fn end_read(&mut self) -> Result<(), ReadsError>
-        ensures whole { (rows : List (List ℕ)) (spot : Spot) → At rows spot [] self.old → OnOk result (EndsRead rows spot self.new) }
-        ensures refused { (rows : List (List ℕ)) (spot : Spot) → At rows spot [] self.old → IfErr result (λ e. e ≢ ReadsError.Memory → answer_at_end spot.number spot.stage spot.read ≡ Err e) }
+        ensures whole { (rows : List (List ℕ)) (spot : Spot) → At rows spot [] self.old
+            → OnOk result (EndsRead rows spot self.new) }
+        ensures refused { (rows : List (List ℕ)) (spot : Spot) → At rows spot [] self.old
+            → IfErr result
+            (λ e. e ≢ ReadsError.Memory → answer_at_end spot.number spot.stage spot.read ≡ Err e) }
         ensures bytes { self.new.bytes.items ≡ self.old.bytes.items }
         ensures ends { take (length self.old.ends.items) self.new.ends.items ≡ self.old.ends.items }
     {
@@ -336,25 +383,27 @@ impl Scan {
 
     /// The text ends here.
     fn end_text(&mut self) -> Result<(), ReadsError>
-        ensures whole { (rows : List (List ℕ)) (spot : Spot) (front : List ℕ) → At rows spot front self.old → OnOk result (EndsText rows spot front self.new) }
-        ensures refused { (rows : List (List ℕ)) (spot : Spot) (front : List ℕ) → At rows spot front self.old → IfErr result (λ e. e ≢ ReadsError.Memory → reads_from spot (last_line front) ≡ Err e) }
+        ensures whole { (rows : List (List ℕ)) (spot : Spot) (front : List ℕ)
+            → At rows spot front self.old → OnOk result (EndsText rows spot front self.new) }
+        ensures refused { (rows : List (List ℕ)) (spot : Spot) (front : List ℕ)
+            → At rows spot front self.old
+            → IfErr result
+            (λ e. e ≢ ReadsError.Memory → reads_from spot (last_line front) ≡ Err e) }
         ensures bytes { self.new.bytes.items ≡ self.old.bytes.items }
         ensures ends { take (length self.old.ends.items) self.new.ends.items ≡ self.old.ends.items }
     {
-        match self.end_open() {
-            Ok(()) => {}
-            Err(e) => return Err(e),
-        }
-        match self.end_read() {
-            Ok(()) => Ok(()),
-            Err(e) => Err(e),
-        }
+        self.end_open()?;
+        self.end_read()
     }
 
     /// Ends the text here, or leaves all as it was.
     pub fn end(&mut self) -> Result<(), ReadsError>
-        ensures whole { (rows : List (List ℕ)) (spot : Spot) (front : List ℕ) → At rows spot front self.old → OnOk result (EndsText rows spot front self.new) }
-        ensures refused { (rows : List (List ℕ)) (spot : Spot) (front : List ℕ) → At rows spot front self.old → IfErr result (λ e. e ≢ ReadsError.Memory → reads_from spot (last_line front) ≡ Err e) }
+        ensures whole { (rows : List (List ℕ)) (spot : Spot) (front : List ℕ)
+            → At rows spot front self.old → OnOk result (EndsText rows spot front self.new) }
+        ensures refused { (rows : List (List ℕ)) (spot : Spot) (front : List ℕ)
+            → At rows spot front self.old
+            → IfErr result
+            (λ e. e ≢ ReadsError.Memory → reads_from spot (last_line front) ≡ Err e) }
         ensures again { OnErr result (IsAgain self.old self.new) }
     {
         let (bytes, ends, place) = (self.bytes.len(), self.ends.len(), self.place);
@@ -370,7 +419,9 @@ impl Scan {
     /// Hands out the reads that have ended, and keeps the open one.
     pub fn take(&mut self, alloc: Global) -> Result<Reads, AllocError>
         requires { IsSomewhere self.old }
-        ensures taken { (rows : List (List ℕ)) (spot : Spot) (front : List ℕ) → At rows spot front self.old → IfOk result (λ reads. (reads ≡ rows) × At [] spot front self.new) }
+        ensures taken { (rows : List (List ℕ)) (spot : Spot) (front : List ℕ)
+            → At rows spot front self.old
+            → IfOk result (λ reads. (reads ≡ rows) × At [] spot front self.new) }
         ensures moved { OnOk result (Moves self.old self.new) }
         ensures same { OnErr result (self.new ≡ self.old) }
     {
@@ -388,15 +439,14 @@ impl Scan {
         requires stage { (self.old.place.stage ≡ Body) ⊎ (self.old.place.stage ≡ Rest) }
         requires held { self.old.place.held ≡ false }
         requires open { self.old.place.start + overlap ≤ length self.old.bytes.items }
-        ensures taken { (rows : List (List ℕ)) (spot : Spot) (front : List ℕ) → At rows spot front self.old → IfOk result (λ reads. Hands overlap rows spot front reads self.new) }
+        ensures taken { (rows : List (List ℕ)) (spot : Spot) (front : List ℕ)
+            → At rows spot front self.old
+            → IfOk result (λ reads. Hands overlap rows spot front reads self.new) }
         ensures handed { OnOk result (IsHandedOut overlap self.new) }
         ensures again { OnErr result (IsAgain self.old self.new) }
     {
         let kept = Vec::from_slice(alloc, &self.bytes[self.bytes.len() - overlap..])?;
-        match self.ends.push(self.bytes.len()) {
-            Ok(_) => {}
-            Err(e) => return Err(AllocError::from(e)),
-        }
+        self.ends.push(self.bytes.len())?;
         let next = with_room(kept, self.bytes.len());
         let bytes = mem::replace(&mut self.bytes, next);
         let ends = mem::replace(&mut self.ends, Vec::new(alloc));
@@ -408,7 +458,9 @@ impl Scan {
     /// carriage return came last, these as a piece, whose last `overlap` symbols stay open.
     pub fn take_open(&mut self, alloc: Global, overlap: usize) -> Result<Reads, AllocError>
         requires { IsSomewhere self.old }
-        ensures taken { (rows : List (List ℕ)) (spot : Spot) (front : List ℕ) → At rows spot front self.old → IfOk result (λ reads. Hands overlap rows spot front reads self.new) }
+        ensures taken { (rows : List (List ℕ)) (spot : Spot) (front : List ℕ)
+            → At rows spot front self.old
+            → IfOk result (λ reads. Hands overlap rows spot front reads self.new) }
         ensures handed { OnOk result (IsHandedOut overlap self.new) }
         ensures again { OnErr result (IsAgain self.old self.new) }
     {
@@ -422,7 +474,9 @@ impl Scan {
     /// How many symbols of the open read can be handed out.
     pub fn open(&self) -> usize
         requires { IsSomewhere self.now }
-        ensures { (rows : List (List ℕ)) (spot : Spot) (front : List ℕ) → At rows spot front self.now → result ≡ length (open_symbols spot.stage spot.read (strip_last 13 front)) }
+        ensures { (rows : List (List ℕ)) (spot : Spot) (front : List ℕ)
+            → At rows spot front self.now
+            → result ≡ length (open_symbols spot.stage spot.read (strip_last 13 front)) }
     {
         match self.place.stage {
             Stage::Body | Stage::Rest => self.bytes.len() - self.place.start,
@@ -432,14 +486,16 @@ impl Scan {
 
     /// How many reads have ended.
     pub fn count(&self) -> usize
-        ensures { (rows : List (List ℕ)) (spot : Spot) (front : List ℕ) → At rows spot front self.now → result ≡ length rows }
+        ensures { (rows : List (List ℕ)) (spot : Spot) (front : List ℕ)
+            → At rows spot front self.now → result ≡ length rows }
     {
         self.ends.len()
     }
 
     /// How many symbols they have in all.
     pub fn symbols(&self) -> usize
-        ensures { (rows : List (List ℕ)) (spot : Spot) (front : List ℕ) → At rows spot front self.now → result ≡ length (concat rows) }
+        ensures { (rows : List (List ℕ)) (spot : Spot) (front : List ℕ)
+            → At rows spot front self.now → result ≡ length (concat rows) }
     {
         self.place.start
     }

@@ -26,8 +26,10 @@ pub fn push_body<W: Word + Drop>(
     requires most { k ≤ W.most }
     requires limit { k ≤ MAX_K }
     ensures ok { OnOk result ((ss : List (List ℕ)) × IsBodyOf k ss body.now
-        × (map W.number words.new.items ≡ map W.number words.old.items ++ map pack (record_keys strands k ss))) }
-    ensures damaged { (fault : RecordFault) (offset : ℕ) → IsErrOf result (BodyError.Damaged fault offset) → IsFirstFault k fault offset body.now }
+        × (map W.number words.new.items
+        ≡ map W.number words.old.items ++ map pack (record_keys strands k ss))) }
+    ensures damaged { (fault : RecordFault) (offset : ℕ)
+        → IsErrOf result (BodyError.Damaged fault offset) → IsFirstFault k fault offset body.now }
     ensures memory { IsErrOf result BodyError.Memory → StopsAtRecord k body.now }
 {
     let mut offset = 0;

@@ -127,7 +127,8 @@ impl Part {
     /// Appends the record of these codes of a super-k-mer of the bin, which has so many words.
     pub(crate) fn push(&mut self, codes: &[u8], words: usize) -> Result<(), AllocError>
         requires spelled { IsSpelled self.old.shape.k codes.now }
-        requires belong { All (λ w. signature_of self.old.shape.m w % self.old.shape.n ≡ self.old.bin) (windows self.old.shape.k codes.now) }
+        requires belong { All (λ w. signature_of self.old.shape.m w % self.old.shape.n
+            ≡ self.old.bin) (windows self.old.shape.k codes.now) }
         requires words { words ≡ length (windows self.old.shape.k codes.now) }
         ensures ok { OnOk result (self.new ≡ grown self.old.shape.k (codes.now ∷ []) self.old) }
         ensures err { OnErr result (self.new ≡ self.old) }

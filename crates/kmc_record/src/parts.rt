@@ -22,7 +22,8 @@ pub struct Chunk {
 
 /// The empty part of each bin.
 fn empty_parts(alloc: Global, number: u64, shape: Shape) -> Result<Vec<Part>, AllocError>
-    ensures { IfOk result (λ parts. parts.items ≡ map (empty_part number shape) (range_with_len 0 shape.n)) }
+    ensures { IfOk result (λ parts. parts.items
+        ≡ map (empty_part number shape) (range_with_len 0 shape.n)) }
 {
     let mut parts = Vec::new(alloc);
     for bin in 0..shape.n() {
@@ -36,7 +37,8 @@ fn push_run(codes: &[u8], run: Run, shape: Shape, parts: &mut Vec<Part>) -> Resu
     requires bins { AreForBins shape parts.old.items }
     requires codes { All (λ c. c < 4) codes.now }
     requires run { IsRunOf shape.k shape.m codes.now run }
-    ensures { OnOk result (HaveGrown shape.k (λ j. bin_runs shape.k shape.n j codes.now (run ∷ [])) parts.old.items parts.new.items) }
+    ensures { OnOk result (HaveGrown shape.k
+        (λ j. bin_runs shape.k shape.n j codes.now (run ∷ [])) parts.old.items parts.new.items) }
 {
     let more = shape.k() - 1;
     let bin = run.signature.bin(shape.n());
@@ -55,7 +57,8 @@ fn push_runs(
     requires bins { AreForBins shape parts.old.items }
     requires codes { All (λ c. c < 4) codes.now }
     requires runs { All (IsRunOf shape.k shape.m codes.now) runs.now }
-    ensures { OnOk result (HaveGrown shape.k (λ j. bin_runs shape.k shape.n j codes.now runs.now) parts.old.items parts.new.items) }
+    ensures { OnOk result (HaveGrown shape.k
+        (λ j. bin_runs shape.k shape.n j codes.now runs.now) parts.old.items parts.new.items) }
 {
     for run in runs {
         push_run(codes, *run, shape, parts)?;
@@ -75,7 +78,10 @@ fn push_stretch(
     requires bins { AreForBins shape parts.old.items }
     requires codes { All (λ c. c < 4) codes.now }
     ensures some { 1 ≤ shape.k }
-    ensures taken { OnOk result ((start : ℕ) → HaveTaken shape (filter (λ s. nat_le shape.k (length s.codes)) (record { start = start; codes = codes.now } ∷ [])) parts.old.items parts.new.items) }
+    ensures taken { OnOk result ((start : ℕ)
+        → HaveTaken shape
+        (filter (λ s. nat_le shape.k (length s.codes))
+        (record { start = start; codes = codes.now } ∷ [])) parts.old.items parts.new.items) }
 {
     let k = shape.k();
     if codes.len() < k {
@@ -97,7 +103,8 @@ fn push_read(
     parts: &mut Vec<Part>,
 ) -> Result<(), AllocError>
     requires { AreForBins shape parts.old.items }
-    ensures { OnOk result (HaveTaken shape (segments_of shape.k read.now) parts.old.items parts.new.items) }
+    ensures { OnOk result (HaveTaken shape
+        (segments_of shape.k read.now) parts.old.items parts.new.items) }
 {
     let mut place = 0;
     while place < read.len() {
@@ -117,7 +124,8 @@ pub fn parts_of_reads(
     reads: &[&[u8]],
     shape: Shape,
 ) -> Result<Vec<Part>, AllocError>
-    ensures { IfOk result (λ parts. ArePartsOf number (map (λ r. r.now) reads.now) shape parts.items) }
+    ensures { IfOk result (λ parts. ArePartsOf number
+        (map (λ r. r.now) reads.now) shape parts.items) }
 {
     let mut parts = empty_parts(alloc, number, shape)?;
     let mut codes = Vec::new(alloc);
@@ -132,7 +140,8 @@ pub fn parts_of_reads(
 
 /// The parts of a chunk: those of its reads.
 pub fn parts_of(alloc: Global, chunk: &Chunk, shape: Shape) -> Result<Vec<Part>, AllocError>
-    ensures { IfOk result (λ parts. ArePartsOf chunk.now.number (map (λ r. r.items) chunk.now.reads.items) shape parts.items) }
+    ensures { IfOk result (λ parts. ArePartsOf chunk.now.number
+        (map (λ r. r.items) chunk.now.reads.items) shape parts.items) }
 {
     let mut reads = Vec::with_capacity(alloc, chunk.reads.len())?;
     for read in &chunk.reads {

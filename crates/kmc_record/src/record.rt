@@ -29,7 +29,9 @@ fn rest_is_zero(bytes: &[u8], start: usize) -> bool
     requires within { start ≤ 4 * length bytes.now }
     requires last { 4 * length bytes.now < start + 4 }
     ensures yes { IsTrue result → All (λ c. c ≡ 0) (drop start (codes_in bytes.now)) }
-    ensures no { ¬ (IsTrue result) → ((i : ℕ) × (start ≤ i) × (i < 4 * length bytes.now) × (slice_index (codes_in bytes.now) i ≢ 0)) }
+    ensures no { ¬ (IsTrue result)
+        → ((i : ℕ) × (start ≤ i) × (i < 4 * length bytes.now)
+        × (slice_index (codes_in bytes.now) i ≢ 0)) }
 {
     if bytes.len() == 0 {
         return true;
@@ -43,7 +45,8 @@ pub fn first_symbols(bytes: &[u8], k: usize) -> Result<usize, RecordFault>
     requires most { k ≤ MAX_K }
     ensures count { IfOk result (λ n. n ≡ slice_index bytes.now 0 + k) }
     ensures inside { IfOk result (λ n. 1 + size_of n ≤ length bytes.now) }
-    ensures rest { IfOk result (λ n. All (λ c. c ≡ 0) (drop n (codes_in (take (size_of n) (drop 1 bytes.now))))) }
+    ensures rest { IfOk result (λ n. All (λ c. c ≡ 0)
+        (drop n (codes_in (take (size_of n) (drop 1 bytes.now))))) }
     ensures fault { IfErr result (λ e. HasFault k e bytes.now) }
 {
     let symbols = usize::from(bytes[0]) + k;
@@ -82,7 +85,9 @@ fn push_code<W: Word + Drop>(
     requires room { vec_len words.old < vec_capacity words.old }
     ensures ahead { W.number result.0 ≡ ahead (W.number top) (W.number forward) code }
     ensures behind { W.number result.1 ≡ behind (W.number top) (W.number back) code }
-    ensures pushed { map W.number words.new.items ≡ map W.number words.old.items ++ packed_key strands (W.number result.0) (W.number result.1) ∷ [] }
+    ensures pushed { map W.number words.new.items
+        ≡ map W.number words.old.items
+        ++ packed_key strands (W.number result.0) (W.number result.1) ∷ [] }
     ensures len { vec_len words.new ≡ vec_len words.old + 1 }
     ensures capacity { vec_capacity words.new ≡ vec_capacity words.old }
 {
@@ -105,7 +110,8 @@ pub fn push_record<W: Word + Drop>(
     requires inside { symbols ≤ 4 * length bytes.now }
     requires few { length bytes.now < 1000 }
     ensures { OnOk result (map W.number words.new.items
-        ≡ map W.number words.old.items ++ map pack (keys rule.strands rule.k (take symbols (codes_in bytes.now)))) }
+        ≡ map W.number words.old.items
+        ++ map pack (keys rule.strands rule.k (take symbols (codes_in bytes.now)))) }
 {
     let k = rule.k;
     words.reserve(symbols + 1 - k)?;

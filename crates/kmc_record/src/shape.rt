@@ -37,7 +37,8 @@ impl Shape {
     /// The shape for words of 1 to 64 symbols, m-mers of p symbols, 5 to 11, or of k where that is less, and 1 to 2000
     /// bins; none beyond these limits.
     pub fn new(k: usize, p: usize, n: usize) -> Option<Shape>
-        ensures { MatchOption result (¬ (AreWithinLimits k p n)) (λ s. (s.k ≡ k) × (s.m ≡ min p k) × (s.n ≡ n) × AreWithinLimits k p n) }
+        ensures { MatchOption result (¬ (AreWithinLimits k p n))
+            (λ s. (s.k ≡ k) × (s.m ≡ min p k) × (s.n ≡ n) × AreWithinLimits k p n) }
     {
         let words = 1 <= k && k <= MAX_K;
         let mmers = LEAST_P <= p && p <= MAX_M;

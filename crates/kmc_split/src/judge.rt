@@ -68,7 +68,8 @@ fn judge(values: &mut [u32], m: usize)
     requires some { 1 ≤ m }
     requires most { m ≤ MAX_M }
     requires fit { (i : ℕ) → i < length values.old → slice_index values.old i < 4 ^ m }
-    ensures { (i : ℕ) → i < length values.new → slice_index values.new i ≡ packed_offer m (slice_index values.old i) }
+    ensures { (i : ℕ) → i < length values.new
+        → slice_index values.new i ≡ packed_offer m (slice_index values.old i) }
 {
     let marks = marks_for(m - 1);
     let none = 1 << (2 * m);
@@ -83,7 +84,8 @@ pub(crate) fn offers(codes: &[u8], m: usize, out: &mut [u32])
     requires most { m ≤ MAX_M }
     requires long { length out.old + m ≡ length codes.now + 1 }
     requires codes { All (λ c. c < 4) codes.now }
-    ensures each { (i : ℕ) → i < length out.new → slice_index out.new i ≡ offer m (window m codes.now i) }
+    ensures each { (i : ℕ) → i < length out.new
+        → slice_index out.new i ≡ offer m (window m codes.now i) }
     ensures fit { (i : ℕ) → i < length out.new → slice_index out.new i ≤ 4 ^ m }
 {
     canonical_values(codes, m, out);

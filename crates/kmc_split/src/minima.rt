@@ -8,7 +8,8 @@ use std::mem;
 /// The lesser of the values at each place and d places on.
 fn lower(values: &[u32], d: usize, out: &mut [u32])
     requires { length out.old + d ≤ length values.now }
-    ensures { (i : ℕ) → i < length out.new → slice_index out.new i ≡ min (slice_index values.now i) (slice_index values.now (i + d)) }
+    ensures { (i : ℕ) → i < length out.new
+        → slice_index out.new i ≡ min (slice_index values.now i) (slice_index values.now (i + d)) }
 {
     for i in 0..out.len() {
         out[i] = values[i].min(values[i + d]);
@@ -20,7 +21,8 @@ pub(crate) fn lows(values: &mut Vec<u32>, spare: &mut Vec<u32>, w: usize) -> Res
     requires some { 1 ≤ w }
     requires most { w ≤ length values.old.items }
     ensures long { OnOk result (length values.new.items + w ≡ length values.old.items + 1) }
-    ensures each { OnOk result ((i : ℕ) → i < length values.new.items → slice_index values.new.items i ≡ low (slice_index values.old.items) w i) }
+    ensures each { OnOk result ((i : ℕ) → i < length values.new.items
+        → slice_index values.new.items i ≡ low (slice_index values.old.items) w i) }
 {
     let mut width = 1;
     while width < w {

@@ -13,7 +13,8 @@ pub(crate) fn canonical_values(codes: &[u8], m: usize, out: &mut [u32])
     requires long { length out.old + m ≡ length codes.now + 1 }
     requires codes { All (λ c. c < 4) codes.now }
     ensures fit { (i : ℕ) → i < length out.new → slice_index out.new i < 4 ^ m }
-    ensures each { (i : ℕ) → i < length out.new → unpack m (slice_index out.new i) ≡ canonical (window m codes.now i) }
+    ensures each { (i : ℕ) → i < length out.new
+        → unpack m (slice_index out.new i) ≡ canonical (window m codes.now i) }
 {
     let before = m - 1;
     let top = weight(before);

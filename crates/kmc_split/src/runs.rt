@@ -25,7 +25,8 @@ fn row_ends(values: &[u32], ends: &mut [usize]) -> usize
     requires some { 0 < length values.now }
     requires long { length ends.old ≡ length values.now }
     ensures within { result ≤ length ends.new }
-    ensures rows { AreRowEnds (λ i. slice_index values.now i) 0 (length values.now) (take result ends.new) }
+    ensures rows { AreRowEnds (λ i. slice_index values.now i) 0 (length values.now)
+        (take result ends.new) }
 {
     let mut count = 0;
     for i in 1..values.len() {
@@ -50,7 +51,8 @@ fn push_row(
     requires runs { AreRuns (λ i. slice_index signatures.now i) 0 start runs.old.items }
     requires apart { MayFollow (slice_index signatures.now start) runs.old.items }
     ensures runs { OnOk result (AreRuns (λ i. slice_index signatures.now i) 0 end runs.new.items) }
-    ensures last { OnOk result (Last (λ r. r.signature ≡ slice_index signatures.now start) runs.new.items) }
+    ensures last { OnOk result (Last
+        (λ r. r.signature ≡ slice_index signatures.now start) runs.new.items) }
 {
     let signature = Sig::of_value(signatures[start]);
     let mut place = start;
@@ -78,7 +80,8 @@ pub(crate) fn group(
 ) -> Result<(), AllocError>
     requires some { 0 < length signatures.now }
     requires fit { (i : ℕ) → i < length signatures.now → slice_index signatures.now i ≤ 4 ^ MAX_M }
-    ensures { OnOk result (AreRuns (λ i. slice_index signatures.now i) 0 (length signatures.now) runs.new.items) }
+    ensures { OnOk result (AreRuns (λ i. slice_index signatures.now i) 0
+        (length signatures.now) runs.new.items) }
 {
     runs.clear();
     ends.resize(signatures.len(), 0)?;

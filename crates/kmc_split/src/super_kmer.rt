@@ -44,7 +44,8 @@ impl SuperKmer {
     /// The super-k-mer of these codes, where k and their number are within the limits and none is above 3. The codes
     /// are dropped where there is none.
     pub fn new(codes: Vec<u8>, k: usize) -> Option<SuperKmer>
-        ensures { MatchOption result (¬ (IsSuperKmer k codes.items)) (λ s. (s.k ≡ k) × (s.codes ≡ codes.items) × IsSuperKmer k codes.items) }
+        ensures { MatchOption result (¬ (IsSuperKmer k codes.items))
+            (λ s. (s.k ≡ k) × (s.codes ≡ codes.items) × IsSuperKmer k codes.items) }
     {
         let long = k <= codes.len() && codes.len() - k <= MOST_ABOVE;
         let fits = 1 <= k && k <= MAX_K && long;
@@ -127,7 +128,9 @@ fn lows_in_bin(values: &[u32], width: usize, n: usize, bin: usize) -> bool
     requires some { 1 ≤ width }
     requires most { width ≤ length values.now }
     requires bins { 1 ≤ n }
-    ensures { IsTrue result ↔ ((i : ℕ) → i + width ≤ length values.now → low (slice_index values.now) width i % n ≡ bin) }
+    ensures { IsTrue result
+        ↔ ((i : ℕ) → i + width ≤ length values.now
+        → low (slice_index values.now) width i % n ≡ bin) }
 {
     for i in 0..values.len() + 1 - width {
         if lowest(&values[i..i + width]) as usize % n != bin {

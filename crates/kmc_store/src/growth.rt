@@ -51,7 +51,10 @@ pub(crate) fn append_bodies(own: &mut Vec<Vec<u8>>, more: &mut Vec<Vec<u8>>)
     requires room { HaveRoom own.old.items more.old.items }
     requires same { length own.old.items ≡ length more.old.items }
     ensures wide { length own.new.items ≡ length own.old.items }
-    ensures each { (i : ℕ) → i < length own.old.items → body_at (map (λ v. v.items) own.new.items) i ≡ body_at (map (λ v. v.items) own.old.items) i ++ body_at (map (λ v. v.items) more.old.items) i }
+    ensures each { (i : ℕ) → i < length own.old.items
+        → body_at (map (λ v. v.items) own.new.items) i
+        ≡ body_at (map (λ v. v.items) own.old.items) i
+        ++ body_at (map (λ v. v.items) more.old.items) i }
 {
     for i in 0..own.len() {
         append_body(&mut own[i], &mut more[i]);
@@ -62,7 +65,9 @@ pub(crate) fn append_bodies(own: &mut Vec<Vec<u8>>, more: &mut Vec<Vec<u8>>)
 pub(crate) fn add_words(own: &mut Vec<u64>, more: &[u64])
     requires { length own.old.items ≡ length more.now }
     ensures wide { length own.new.items ≡ length own.old.items }
-    ensures each { (i : ℕ) → i < length own.old.items → slice_index own.new.items i ≡ capped (slice_index own.old.items i + slice_index more.now i) }
+    ensures each { (i : ℕ) → i < length own.old.items
+        → slice_index own.new.items i
+        ≡ capped (slice_index own.old.items i + slice_index more.now i) }
 {
     for i in 0..more.len() {
         own[i] = own[i].saturating_add(more[i]);

@@ -39,9 +39,11 @@ fn settle(heads: &mut [Head], node: usize)
 /// Settles this place and those above it, where all other places are settled.
 pub fn mend(heads: &mut [Head], node: usize)
     requires inside { 2 * node + 1 < length heads.old }
-    requires others { (j : ℕ) → j ≢ node → 1 ≤ j → 2 * j + 1 < length heads.old → IsWinner heads.old j }
+    requires others { (j : ℕ) → j ≢ node → 1 ≤ j → 2 * j + 1 < length heads.old
+        → IsWinner heads.old j }
     ensures tree { IsTree heads.new }
-    ensures leaves { (j : ℕ) → length heads.old ≤ 2 * j → head_at heads.new j ≡ head_at heads.old j }
+    ensures leaves { (j : ℕ) → length heads.old ≤ 2 * j
+        → head_at heads.new j ≡ head_at heads.old j }
 {
     let mut node = node;
     while node > 0 {
@@ -53,7 +55,8 @@ pub fn mend(heads: &mut [Head], node: usize)
 /// Settles each place that has two below it.
 pub fn build(heads: &mut [Head])
     ensures tree { IsTree heads.new }
-    ensures leaves { (j : ℕ) → length heads.old ≤ 2 * j → head_at heads.new j ≡ head_at heads.old j }
+    ensures leaves { (j : ℕ) → length heads.old ≤ 2 * j
+        → head_at heads.new j ≡ head_at heads.old j }
 {
     let mut node = heads.len() / 2;
     while node > 1 {

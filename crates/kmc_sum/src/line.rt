@@ -37,7 +37,8 @@ fn letters(bytes: &[u8]) -> (usize, u128)
     ensures fits { result.1 < 4 ^ result.0 }
     ensures word { take result.0 bytes.now ≡ map letter (unpack result.0 result.1) }
     ensures each { (i : ℕ) → i < result.0 → IsLetter (slice_index bytes.now i) }
-    ensures ends { result.0 < MAX_K → result.0 < length bytes.now → ¬ (IsLetter (slice_index bytes.now result.0)) }
+    ensures ends { result.0 < MAX_K → result.0 < length bytes.now
+        → ¬ (IsLetter (slice_index bytes.now result.0)) }
 {
     let most = bytes.len().min(MAX_K);
     let mut packed: u128 = 0;
@@ -59,7 +60,8 @@ fn digits(bytes: &[u8]) -> (usize, u128)
     ensures within { result.0 ≤ length bytes.now }
     ensures value { result.1 ≡ digits_value 10 (take result.0 bytes.now) }
     ensures each { (i : ℕ) → i < result.0 → IsInRange 48 57 (slice_index bytes.now i) }
-    ensures ends { result.0 < DIGITS → result.0 < length bytes.now → ¬ (IsInRange 48 57 (slice_index bytes.now result.0)) }
+    ensures ends { result.0 < DIGITS → result.0 < length bytes.now
+        → ¬ (IsInRange 48 57 (slice_index bytes.now result.0)) }
 {
     let most = bytes.len().min(DIGITS);
     let mut value: u128 = 0;
@@ -75,8 +77,10 @@ fn digits(bytes: &[u8]) -> (usize, u128)
 
 /// A number from 1 to 2^64 - 1 with no leading zero and a line feed at the front of the bytes, and where they end.
 fn number(bytes: &[u8]) -> Option<(u64, usize)>
-    ensures { MatchOption result ((n : ℕ) (more : List ℕ) → 1 ≤ n → n < 2 ^ 64 → bytes.now ≡ decimal n ++ 10 ∷ more → ⊥)
-        (λ r. (1 ≤ r.0) × (r.0 < 2 ^ 64) × (r.1 ≤ length bytes.now) × (take r.1 bytes.now ≡ decimal r.0 ++ 10 ∷ [])) }
+    ensures { MatchOption result
+        ((n : ℕ) (more : List ℕ) → 1 ≤ n → n < 2 ^ 64 → bytes.now ≡ decimal n ++ 10 ∷ more → ⊥)
+        (λ r. (1 ≤ r.0) × (r.0 < 2 ^ 64) × (r.1 ≤ length bytes.now)
+        × (take r.1 bytes.now ≡ decimal r.0 ++ 10 ∷ [])) }
 {
     let (n, value) = digits(bytes);
     if n == 0 || n == bytes.len() {

@@ -35,21 +35,35 @@ fn drain<R: Read, W: Write>(
     requires tree { IsTree heads.old }
     requires long { IsLength k }
     requires writer { writer.old.failures < 2 ^ 64 - 1 }
-    ensures written { IfOk result (λ lines. (starts : List (Option (List ℕ))) (lists : List (List (List ℕ × ℕ)))
-        → AreSources k starts (map (λ r. R.remaining r.inner) readers.old) rooms.old heads.old lists → ((x : List ℕ) → sum_of lists x ≡ 0)
-        → IsWritten k limits.now starts (map (λ r. R.remaining r.inner) readers.new) lines (W.contents writer.old.inner) (W.contents writer.new.inner)) }
-    ensures fault { (source line : ℕ) (fault : LineFault) → IsErrOf result (SumError.Line source line fault)
+    ensures written { IfOk result (λ lines. (starts : List (Option (List ℕ)))
+        (lists : List (List (List ℕ × ℕ)))
+        → AreSources k starts
+        (map (λ r. R.remaining r.inner) readers.old) rooms.old heads.old lists
+        → ((x : List ℕ) → sum_of lists x ≡ 0)
+        → IsWritten k limits.now starts (map (λ r. R.remaining r.inner) readers.new) lines
+        (W.contents writer.old.inner) (W.contents writer.new.inner)) }
+    ensures fault { (source line : ℕ) (fault : LineFault)
+        → IsErrOf result (SumError.Line source line fault)
         → (starts : List (Option (List ℕ))) (lists : List (List (List ℕ × ℕ)))
-        → AreSources k starts (map (λ r. R.remaining r.inner) readers.old) rooms.old heads.old lists → ((x : List ℕ) → sum_of lists x ≡ 0)
+        → AreSources k starts
+        (map (λ r. R.remaining r.inner) readers.old) rooms.old heads.old lists
+        → ((x : List ℕ) → sum_of lists x ≡ 0)
         → IsFirstFault k starts (map (λ r. R.remaining r.inner) readers.new) source line fault }
-    ensures read { (source : ℕ) → IsErrOf result (SumError.Read source) → HasFailed source (map (λ r. r.failures) readers.old) (map (λ r. r.failures) readers.new) }
-    ensures write { IsErrOf result SumError.Write → RisesByOne writer.old.failures writer.new.failures }
-    ensures long { IsErrOf result SumError.TooLong → (starts : List (Option (List ℕ))) (lists : List (List (List ℕ × ℕ)))
+    ensures read { (source : ℕ) → IsErrOf result (SumError.Read source)
+        → HasFailed source (map (λ r. r.failures) readers.old) (map (λ r. r.failures) readers.new) }
+    ensures write { IsErrOf result SumError.Write
+        → RisesByOne writer.old.failures writer.new.failures }
+    ensures long { IsErrOf result SumError.TooLong
+        → (starts : List (Option (List ℕ))) (lists : List (List (List ℕ × ℕ)))
         → AreSources k starts (map (λ r. R.remaining r.inner) readers.old) rooms.old heads.old lists
         → HaveTooMany k starts (map (λ r. R.remaining r.inner) readers.new) }
-    ensures begun { OnErr result ((starts : List (Option (List ℕ))) (lists : List (List (List ℕ × ℕ)))
-        → AreSources k starts (map (λ r. R.remaining r.inner) readers.old) rooms.old heads.old lists → ((x : List ℕ) → sum_of lists x ≡ 0)
-        → IsBegun k limits.now starts (map (λ r. R.remaining r.inner) readers.new) (W.contents writer.old.inner) (W.contents writer.new.inner)) }
+    ensures begun { OnErr result
+        ((starts : List (Option (List ℕ))) (lists : List (List (List ℕ × ℕ)))
+        → AreSources k starts
+        (map (λ r. R.remaining r.inner) readers.old) rooms.old heads.old lists
+        → ((x : List ℕ) → sum_of lists x ≡ 0)
+        → IsBegun k limits.now starts (map (λ r. R.remaining r.inner) readers.new)
+        (W.contents writer.old.inner) (W.contents writer.new.inner)) }
 {
     let mut room = [0; ROOM];
     let mut filled = 0;
@@ -75,10 +89,7 @@ fn drain<R: Read, W: Write>(
             packed = next;
             count = more;
         }
-        match advance(readers, rooms, heads, k) {
-            Ok(()) => {}
-            Err(error) => return Err(error),
-        }
+        advance(readers, rooms, heads, k)?;
     }
     if heads[1].live {
         return Err(SumError::TooLong);
@@ -101,23 +112,33 @@ fn merge_in<R: Read, W: Write>(
     writer: &mut Counted<W>,
 ) -> Result<u64, SumError>
     requires some { 1 ≤ length readers.old }
-    requires rooms { (length rooms.old ≡ length readers.old) × ((i : ℕ) (room : _) → i < length readers.old → IsFresh (slice_index_or rooms.old i room)) }
+    requires rooms { (length rooms.old ≡ length readers.old)
+        × ((i : ℕ) (room : _) → i < length readers.old
+        → IsFresh (slice_index_or rooms.old i room)) }
     requires heads { length heads.old ≡ 2 * length readers.old }
     requires writer { writer.old.failures < 2 ^ 64 - 1 }
-    ensures ok { IfOk result (λ lines. IsSumWritten limits.now (map (λ r. R.remaining r.inner) readers.old) (map (λ r. R.remaining r.inner) readers.new) lines
+    ensures ok { IfOk result (λ lines. IsSumWritten limits.now
+        (map (λ r. R.remaining r.inner) readers.old)
+        (map (λ r. R.remaining r.inner) readers.new) lines
         (W.contents writer.old.inner) (W.contents writer.new.inner)) }
-    ensures fault { (source line : ℕ) (fault : LineFault) → IsErrOf result (SumError.Line source line fault)
-        → (k : ℕ) × IsLength k × IsFirstFault k (map (λ r. R.remaining r.inner) readers.old) (map (λ r. R.remaining r.inner) readers.new) source line fault }
-    ensures read { (source : ℕ) → IsErrOf result (SumError.Read source) → HasFailed source (map (λ r. r.failures) readers.old) (map (λ r. r.failures) readers.new) }
-    ensures write { IsErrOf result SumError.Write → RisesByOne writer.old.failures writer.new.failures }
-    ensures long { IsErrOf result SumError.TooLong → (k : ℕ) × IsLength k × HaveTooMany k (map (λ r. R.remaining r.inner) readers.old) (map (λ r. R.remaining r.inner) readers.new) }
-    ensures begun { OnErr result ((k : ℕ) × IsBegun k limits.now (map (λ r. R.remaining r.inner) readers.old) (map (λ r. R.remaining r.inner) readers.new)
+    ensures fault { (source line : ℕ) (fault : LineFault)
+        → IsErrOf result (SumError.Line source line fault)
+        → (k : ℕ) × IsLength k
+        × IsFirstFault k (map (λ r. R.remaining r.inner) readers.old)
+        (map (λ r. R.remaining r.inner) readers.new) source line fault }
+    ensures read { (source : ℕ) → IsErrOf result (SumError.Read source)
+        → HasFailed source (map (λ r. r.failures) readers.old) (map (λ r. r.failures) readers.new) }
+    ensures write { IsErrOf result SumError.Write
+        → RisesByOne writer.old.failures writer.new.failures }
+    ensures long { IsErrOf result SumError.TooLong → (k : ℕ) × IsLength k
+        × HaveTooMany k (map (λ r. R.remaining r.inner) readers.old)
+        (map (λ r. R.remaining r.inner) readers.new) }
+    ensures begun { OnErr result
+        ((k : ℕ) × IsBegun k limits.now (map (λ r. R.remaining r.inner) readers.old)
+        (map (λ r. R.remaining r.inner) readers.new)
         (W.contents writer.old.inner) (W.contents writer.new.inner)) }
 {
-    let k = match open(readers, rooms, heads) {
-        Ok(k) => k,
-        Err(error) => return Err(error),
-    };
+    let k = open(readers, rooms, heads)?;
     build(heads);
     drain(readers, rooms, heads, k, limits, writer)
 }
@@ -138,14 +159,25 @@ pub fn merge<R: Read, W: Write>(
     requires some { 1 ≤ length readers.old }
     requires most { length readers.old ≤ MOST_SOURCES }
     requires writer { writer.old.failures < 2 ^ 64 - 1 }
-    ensures ok { IfOk result (λ lines. IsSumWritten limits.now (map (λ r. R.remaining r.inner) readers.old) (map (λ r. R.remaining r.inner) readers.new) lines
+    ensures ok { IfOk result (λ lines. IsSumWritten limits.now
+        (map (λ r. R.remaining r.inner) readers.old)
+        (map (λ r. R.remaining r.inner) readers.new) lines
         (W.contents writer.old.inner) (W.contents writer.new.inner)) }
-    ensures fault { (source line : ℕ) (fault : LineFault) → IsErrOf result (SumError.Line source line fault)
-        → (k : ℕ) × IsLength k × IsFirstFault k (map (λ r. R.remaining r.inner) readers.old) (map (λ r. R.remaining r.inner) readers.new) source line fault }
-    ensures read { (source : ℕ) → IsErrOf result (SumError.Read source) → HasFailed source (map (λ r. r.failures) readers.old) (map (λ r. r.failures) readers.new) }
-    ensures write { IsErrOf result SumError.Write → RisesByOne writer.old.failures writer.new.failures }
-    ensures long { IsErrOf result SumError.TooLong → (k : ℕ) × IsLength k × HaveTooMany k (map (λ r. R.remaining r.inner) readers.old) (map (λ r. R.remaining r.inner) readers.new) }
-    ensures begun { OnErr result ((k : ℕ) × IsBegun k limits.now (map (λ r. R.remaining r.inner) readers.old) (map (λ r. R.remaining r.inner) readers.new)
+    ensures fault { (source line : ℕ) (fault : LineFault)
+        → IsErrOf result (SumError.Line source line fault)
+        → (k : ℕ) × IsLength k
+        × IsFirstFault k (map (λ r. R.remaining r.inner) readers.old)
+        (map (λ r. R.remaining r.inner) readers.new) source line fault }
+    ensures read { (source : ℕ) → IsErrOf result (SumError.Read source)
+        → HasFailed source (map (λ r. r.failures) readers.old) (map (λ r. r.failures) readers.new) }
+    ensures write { IsErrOf result SumError.Write
+        → RisesByOne writer.old.failures writer.new.failures }
+    ensures long { IsErrOf result SumError.TooLong → (k : ℕ) × IsLength k
+        × HaveTooMany k (map (λ r. R.remaining r.inner) readers.old)
+        (map (λ r. R.remaining r.inner) readers.new) }
+    ensures begun { OnErr result
+        ((k : ℕ) × IsBegun k limits.now (map (λ r. R.remaining r.inner) readers.old)
+        (map (λ r. R.remaining r.inner) readers.new)
         (W.contents writer.old.inner) (W.contents writer.new.inner)) }
 {
     let count = readers.len();

@@ -19,7 +19,8 @@ use std::io::Read;
 
 /// So many rooms.
 pub fn rooms_for(alloc: Global, count: usize) -> Result<Vec<Room>, AllocError>
-    ensures { IfOk result (λ rooms. (length rooms.items ≡ count) × ((i : ℕ) (room : _) → i < count → IsFresh (slice_index_or rooms.items i room))) }
+    ensures { IfOk result (λ rooms. (length rooms.items ≡ count)
+        × ((i : ℕ) (room : _) → i < count → IsFresh (slice_index_or rooms.items i room))) }
 {
     let mut rooms = Vec::new(alloc);
     for _i in 0..count {
@@ -54,15 +55,23 @@ fn first_head<R: Read>(
     requires fresh { IsFresh room.old }
     requires most { k ≤ MAX_K }
     ensures room { IsRoom room.new }
-    ensures length { IfOk result (λ r. (r.0.source ≡ source) × (r.1 ≤ MAX_K) × ((k ≡ 0) ⊎ (r.1 ≡ k))) }
+    ensures length { IfOk result (λ r. (r.0.source ≡ source) × (r.1 ≤ MAX_K)
+        × ((k ≡ 0) ⊎ (r.1 ≡ k))) }
     ensures fits { IfOk result (λ r. (m : ℕ) → Agrees r.1 m → r.0.packed < 4 ^ m) }
-    ensures ok { IfOk result (λ r. (m : ℕ) → Agrees r.1 m → IsSource m (R.remaining reader.old.inner) (R.remaining reader.new.inner) room.new r.0 []) }
-    ensures fault { (s line : ℕ) (fault : LineFault) → IsErrOf result (SumError.Line s line fault) → (s ≡ source)
-        × ((m : ℕ) × IsLength m × IsFaultAt m (R.remaining reader.old.inner) (R.remaining reader.new.inner) line fault) }
+    ensures ok { IfOk result (λ r. (m : ℕ) → Agrees r.1 m
+        → IsSource m (R.remaining reader.old.inner)
+        (R.remaining reader.new.inner) room.new r.0 []) }
+    ensures fault { (s line : ℕ) (fault : LineFault) → IsErrOf result (SumError.Line s line fault)
+        → (s ≡ source)
+        × ((m : ℕ) × IsLength m
+        × IsFaultAt m (R.remaining reader.old.inner) (R.remaining reader.new.inner) line fault) }
     ensures kept { OnOk result (reader.new.failures ≡ reader.old.failures) }
-    ensures read { (s : ℕ) → IsErrOf result (SumError.Read s) → (s ≡ source) × RisesByOne reader.old.failures reader.new.failures }
+    ensures read { (s : ℕ) → IsErrOf result (SumError.Read s) → (s ≡ source)
+        × RisesByOne reader.old.failures reader.new.failures }
     ensures other { IfErr result IsOfSource }
-    ensures lost { OnErr result ((m : ℕ) → (rest : List ℕ) × GaveFront m (R.remaining reader.old.inner) (R.remaining reader.new.inner) [] rest) }
+    ensures lost { OnErr result
+        ((m : ℕ) → (rest : List ℕ)
+        × GaveFront m (R.remaining reader.old.inner) (R.remaining reader.new.inner) [] rest) }
 {
     match next_line(reader, room) {
         Ok(Some(line)) => {
@@ -97,30 +106,35 @@ pub fn open<R: Read>(
     rooms: &mut [Room],
     heads: &mut [Head],
 ) -> Result<usize, SumError>
-    requires rooms { (length rooms.old ≡ length readers.old) × ((i : ℕ) (room : _) → i < length readers.old → IsFresh (slice_index_or rooms.old i room)) }
+    requires rooms { (length rooms.old ≡ length readers.old)
+        × ((i : ℕ) (room : _) → i < length readers.old
+        → IsFresh (slice_index_or rooms.old i room)) }
     requires heads { length heads.old ≡ 2 * length readers.old }
     ensures length { IfOk result IsLength }
     ensures ready { IfOk result (λ k. AreReady k (length readers.new) rooms.new heads.new) }
     ensures sources { IfOk result (λ k. let starts = map (λ r. R.remaining r.inner) readers.old in
-        AreSources k starts (map (λ r. R.remaining r.inner) readers.new) rooms.new heads.new (no_lists starts)) }
-    ensures fault { (source line : ℕ) (fault : LineFault) → IsErrOf result (SumError.Line source line fault)
-        → (m : ℕ) × IsLength m × IsFirstFault m (map (λ r. R.remaining r.inner) readers.old) (map (λ r. R.remaining r.inner) readers.new) source line fault }
-    ensures kept { OnOk result (map (λ r. r.failures) readers.new ≡ map (λ r. r.failures) readers.old) }
-    ensures read { (source : ℕ) → IsErrOf result (SumError.Read source) → HasFailed source (map (λ r. r.failures) readers.old) (map (λ r. r.failures) readers.new) }
+        AreSources k starts (map (λ r. R.remaining r.inner) readers.new) rooms.new heads.new
+        (no_lists starts)) }
+    ensures fault { (source line : ℕ) (fault : LineFault)
+        → IsErrOf result (SumError.Line source line fault)
+        → (m : ℕ) × IsLength m
+        × IsFirstFault m (map (λ r. R.remaining r.inner) readers.old)
+        (map (λ r. R.remaining r.inner) readers.new) source line fault }
+    ensures kept { OnOk result (map (λ r. r.failures) readers.new
+        ≡ map (λ r. r.failures) readers.old) }
+    ensures read { (source : ℕ) → IsErrOf result (SumError.Read source)
+        → HasFailed source (map (λ r. r.failures) readers.old) (map (λ r. r.failures) readers.new) }
     ensures other { IfErr result IsOfSource }
-    ensures lost { OnErr result ((m : ℕ) → let starts = map (λ r. R.remaining r.inner) readers.old in
+    ensures lost { OnErr result
+        ((m : ℕ) → let starts = map (λ r. R.remaining r.inner) readers.old in
         GaveFronts m starts (map (λ r. R.remaining r.inner) readers.new) (no_lists starts)) }
 {
     let count = readers.len();
     let mut k = 0;
     for i in 0..count {
-        match first_head(&mut readers[i], &mut rooms[i], i, k) {
-            Ok((head, found)) => {
-                heads[count + i] = head;
-                k = found;
-            }
-            Err(error) => return Err(error),
-        }
+        let (head, found) = first_head(&mut readers[i], &mut rooms[i], i, k)?;
+        heads[count + i] = head;
+        k = found;
     }
     if k == 0 { Ok(1) } else { Ok(k) }
 }

@@ -94,7 +94,8 @@ fn opened<T: Files + Eprint + Alloc<A = Global>>(
     rt: &T,
     files: &[String],
 ) -> Result<Vec<Counted<T::File>>, ExitCode>
-    ensures { MatchResult result (λ readers. length readers.items ≡ length files.now) (λ status. exit_status status ≡ 1) }
+    ensures { MatchResult result (λ readers. length readers.items ≡ length files.now)
+        (λ status. exit_status status ≡ 1) }
 {
     let mut readers = Vec::new(rt.alloc());
     for name in files {
@@ -118,10 +119,14 @@ pub fn sum_files<T: Files + Eprint + Alloc<A = Global>, W: Write>(
     writer: &mut Counted<W>,
 ) -> ExitCode
     requires { writer.old.failures < 2 ^ 64 - 1 }
-    ensures done { exit_status result ≡ 0 → IsAnswered (map string_bytes words.items) (W.contents writer.old.inner) (W.contents writer.new.inner) }
-    ensures misused { exit_status result ≡ 2 → AsksForNothing MOST_SOURCES (map string_bytes words.items) × (writer.new ≡ writer.old) }
+    ensures done { exit_status result ≡ 0
+        → IsAnswered (map string_bytes words.items) (W.contents writer.old.inner)
+        (W.contents writer.new.inner) }
+    ensures misused { exit_status result ≡ 2
+        → AsksForNothing MOST_SOURCES (map string_bytes words.items) × (writer.new ≡ writer.old) }
     ensures failed { exit_status result ≡ 1 → (writer.new ≡ writer.old)
-        ⊎ IsGivenUp (map string_bytes words.items) (W.contents writer.old.inner) (W.contents writer.new.inner) }
+        ⊎ IsGivenUp (map string_bytes words.items) (W.contents writer.old.inner)
+        (W.contents writer.new.inner) }
     ensures statuses { exit_status result ≤ 2 }
 {
     let asked = match asked_for(words, MOST_SOURCES) {
@@ -144,10 +149,12 @@ pub fn program<T: Files + Env + Eprint + Alloc<A = Global>, W: Write>(
     writer: &mut Counted<W>,
 ) -> ExitCode
     requires { writer.old.failures < 2 ^ 64 - 1 }
-    ensures done { exit_status result ≡ 0 → (words : List Word) × IsAnswered words (W.contents writer.old.inner) (W.contents writer.new.inner) }
+    ensures done { exit_status result ≡ 0 → (words : List Word)
+        × IsAnswered words (W.contents writer.old.inner) (W.contents writer.new.inner) }
     ensures misused { exit_status result ≡ 2 → writer.new ≡ writer.old }
     ensures failed { exit_status result ≡ 1 → (writer.new ≡ writer.old)
-        ⊎ ((words : List Word) × IsGivenUp words (W.contents writer.old.inner) (W.contents writer.new.inner)) }
+        ⊎ ((words : List Word)
+        × IsGivenUp words (W.contents writer.old.inner) (W.contents writer.new.inner)) }
     ensures statuses { exit_status result ≤ 2 }
 {
     match arguments(rt) {

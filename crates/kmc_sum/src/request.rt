@@ -61,7 +61,8 @@ fn is_option(word: &str) -> bool
 
 /// Whether each word names a file or is an option.
 fn are_known(words: &[String]) -> bool
-    ensures { result ≡ list_all (λ word. is_file word || is_option word) (map string_bytes words.now) }
+    ensures { result ≡ list_all (λ word. is_file word || is_option word)
+        (map string_bytes words.now) }
 {
     for word in words {
         if !is_file(word) && !is_option(word) {
@@ -73,8 +74,11 @@ fn are_known(words: &[String]) -> bool
 
 /// What the words glue to an option, where it is given once.
 fn given<'a>(name: &str, words: &'a [String]) -> Result<Option<&'a str>, RequestError>
-    ensures once { IfOk result (λ text. given name.now (map string_bytes words.entry.now) ≡ texts_of (option_map (λ t. t.now) text)) }
-    ensures twice { IfErr result (λ e. (e ≡ RequestError.Usage) × (2 ≤ length (given name.now (map string_bytes words.entry.now)))) }
+    ensures once { IfOk result (λ text. given name.now (map string_bytes words.entry.now)
+        ≡ texts_of (option_map (λ t. t.now) text)) }
+    ensures twice { IfErr result
+        (λ e. (e ≡ RequestError.Usage)
+        × (2 ≤ length (given name.now (map string_bytes words.entry.now)))) }
 {
     let mut text = None;
     for word in words {
@@ -90,8 +94,12 @@ fn given<'a>(name: &str, words: &'a [String]) -> Result<Option<&'a str>, Request
 
 /// The number of an option.
 fn limit(name: &str, words: &[String], default: u64) -> Result<u64, RequestError>
-    ensures { MatchResult result (λ n. IsLimit (given name.now (map string_bytes words.now)) default n)
-        (λ e. (e ≢ RequestError.Memory) × (e ≡ RequestError.Usage → 2 ≤ length (given name.now (map string_bytes words.now))) × ((n : ℕ) → IsLimit (given name.now (map string_bytes words.now)) default n → 2 ^ 64 ≤ n)) }
+    ensures { MatchResult result
+        (λ n. IsLimit (given name.now (map string_bytes words.now)) default n)
+        (λ e. (e ≢ RequestError.Memory)
+        × (e ≡ RequestError.Usage → 2 ≤ length (given name.now (map string_bytes words.now)))
+        × ((n : ℕ) → IsLimit (given name.now (map string_bytes words.now)) default n
+        → 2 ^ 64 ≤ n)) }
 {
     match given(name, words)? {
         None => Ok(default),
@@ -104,10 +112,14 @@ fn limit(name: &str, words: &[String], default: u64) -> Result<u64, RequestError
 
 /// What the words ask for: `-ci<n>`, `-cx<n>` and `-cs<n>`, each at most once, and the names of 1 to `most` files.
 pub fn asked_for(words: Vec<String>, most: usize) -> Result<Request, RequestError>
-    ensures asked { IfOk result (λ r. IsRequest most (map string_bytes words.items) r.limits (map string_bytes r.files.items)) }
-    ensures refused { IfErr result (λ e. (e ≢ RequestError.Memory) × AsksForNothing most (map string_bytes words.items)) }
-    ensures usage { IsErrOf result RequestError.Usage → IsTaken most (map string_bytes words.items) → ⊥ }
-    ensures range { IsErrOf result RequestError.OutOfRange → GivesNoLimits (map string_bytes words.items) }
+    ensures asked { IfOk result (λ r. IsRequest most (map string_bytes words.items) r.limits
+        (map string_bytes r.files.items)) }
+    ensures refused { IfErr result
+        (λ e. (e ≢ RequestError.Memory) × AsksForNothing most (map string_bytes words.items)) }
+    ensures usage { IsErrOf result RequestError.Usage → IsTaken most (map string_bytes words.items)
+        → ⊥ }
+    ensures range { IsErrOf result RequestError.OutOfRange
+        → GivesNoLimits (map string_bytes words.items) }
 {
     if !are_known(&words) {
         return Err(RequestError::Usage);

@@ -69,12 +69,15 @@ fn read_behind<R: Read>(
     to: usize,
 ) -> Result<usize, NextFault>
     requires { to < length bytes.old }
-    ensures ok { IfOk result (λ end. (to ≤ end) × (end ≤ length bytes.new) × (end ≡ to → IsAtEnd (R.remaining reader.new.inner))
-        × GoesOn (R.remaining reader.old.inner) (R.remaining reader.new.inner) (take to bytes.old) (take end bytes.new)) }
+    ensures ok { IfOk result (λ end. (to ≤ end) × (end ≤ length bytes.new)
+        × (end ≡ to → IsAtEnd (R.remaining reader.new.inner))
+        × GoesOn (R.remaining reader.old.inner) (R.remaining reader.new.inner) (take to bytes.old)
+        (take end bytes.new)) }
     ensures kept { OnOk result (reader.new.failures ≡ reader.old.failures) }
     ensures failed { OnErr result (RisesByOne reader.old.failures reader.new.failures) }
     ensures device { (e : NextFault) → IsErrOf result e → e ≡ NextFault.Device }
-    ensures bytes { OnErr result (Keeps (R.remaining reader.old.inner) (R.remaining reader.new.inner)) }
+    ensures bytes { OnErr result
+        (Keeps (R.remaining reader.old.inner) (R.remaining reader.new.inner)) }
 {
     match reader.read(&mut bytes[to..]) {
         Ok(n) => Ok(to + n),
@@ -87,12 +90,16 @@ fn fill<R: Read>(reader: &mut Counted<R>, room: &mut Room) -> Result<(), NextFau
     requires { IsRoom room.old }
     ensures room { IsRoom room.new }
     ensures lines { room.new.lines ≡ room.old.lines }
-    ensures ok { OnOk result (GoesOn (R.remaining reader.old.inner) (R.remaining reader.new.inner) (unread room.old) (unread room.new)) }
+    ensures ok { OnOk result (GoesOn (R.remaining reader.old.inner) (R.remaining reader.new.inner)
+        (unread room.old) (unread room.new)) }
     ensures enough { OnOk result (IsEnough (unread room.new) (R.remaining reader.new.inner)) }
     ensures kept { OnOk result (reader.new.failures ≡ reader.old.failures) }
     ensures failed { OnErr result (RisesByOne reader.old.failures reader.new.failures) }
     ensures device { (e : NextFault) → IsErrOf result e → e ≡ NextFault.Device }
-    ensures lost { OnErr result ((rest : List ℕ) × GoesOn (R.remaining reader.old.inner) (R.remaining reader.new.inner) (unread room.old) rest) }
+    ensures lost { OnErr result
+        ((rest : List ℕ)
+        × GoesOn (R.remaining reader.old.inner) (R.remaining reader.new.inner)
+        (unread room.old) rest) }
 {
     if room.to - room.from >= LONGEST_LINE {
         return Ok(());
@@ -101,15 +108,11 @@ fn fill<R: Read>(reader: &mut Counted<R>, room: &mut Room) -> Result<(), NextFau
     room.to -= room.from;
     room.from = 0;
     while room.to < LONGEST_LINE {
-        match read_behind(reader, room.bytes.as_mut_slice(), room.to) {
-            Ok(end) => {
-                if end == room.to {
-                    return Ok(());
-                }
-                room.to = end;
-            }
-            Err(fault) => return Err(fault),
+        let end = read_behind(reader, room.bytes.as_mut_slice(), room.to)?;
+        if end == room.to {
+            return Ok(());
         }
+        room.to = end;
     }
     Ok(())
 }
@@ -121,14 +124,26 @@ pub fn next_line<R: Read>(
 ) -> Result<Option<Line>, NextFault>
     requires { IsRoom room.old }
     ensures room { IsRoom room.new }
-    ensures ok { IfOk result (λ answer. (rest : List ℕ) × GoesOn (R.remaining reader.old.inner) (R.remaining reader.new.inner) (unread room.old) rest
-        × MatchOption answer ((rest ≡ []) × (unread room.new ≡ []) × (room.new.lines ≡ room.old.lines) × IsAtEnd (R.remaining reader.new.inner))
-        (λ l. IsLineOf l rest × (unread room.new ≡ drop l.end rest) × (room.new.lines ≡ min (room.old.lines + 1) (2 ^ 64 - 1)))) }
-    ensures malformed { IsErrOf result NextFault.Malformed → (rest : List ℕ) × GoesOn (R.remaining reader.old.inner) (R.remaining reader.new.inner) (unread room.old) rest
-        × (rest ≢ []) × IsEnough rest (R.remaining reader.new.inner) × BeginsNoLine rest × (room.new.lines ≡ room.old.lines) }
+    ensures ok { IfOk result (λ answer. (rest : List ℕ)
+        × GoesOn (R.remaining reader.old.inner) (R.remaining reader.new.inner)
+        (unread room.old) rest
+        × MatchOption answer
+        ((rest ≡ []) × (unread room.new ≡ []) × (room.new.lines ≡ room.old.lines)
+        × IsAtEnd (R.remaining reader.new.inner))
+        (λ l. IsLineOf l rest × (unread room.new ≡ drop l.end rest)
+        × (room.new.lines ≡ min (room.old.lines + 1) (2 ^ 64 - 1)))) }
+    ensures malformed { IsErrOf result NextFault.Malformed → (rest : List ℕ)
+        × GoesOn (R.remaining reader.old.inner) (R.remaining reader.new.inner)
+        (unread room.old) rest
+        × (rest ≢ []) × IsEnough rest (R.remaining reader.new.inner) × BeginsNoLine rest
+        × (room.new.lines ≡ room.old.lines) }
     ensures kept { OnOk result (reader.new.failures ≡ reader.old.failures) }
-    ensures device { IsErrOf result NextFault.Device → RisesByOne reader.old.failures reader.new.failures }
-    ensures lost { OnErr result ((rest : List ℕ) × GoesOn (R.remaining reader.old.inner) (R.remaining reader.new.inner) (unread room.old) rest) }
+    ensures device { IsErrOf result NextFault.Device
+        → RisesByOne reader.old.failures reader.new.failures }
+    ensures lost { OnErr result
+        ((rest : List ℕ)
+        × GoesOn (R.remaining reader.old.inner) (R.remaining reader.new.inner)
+        (unread room.old) rest) }
 {
     match fill(reader, room) {
         Ok(()) => {}
@@ -165,17 +180,27 @@ pub fn next_pair<R: Read>(
 ) -> Result<Option<Line>, PairFault>
     requires { IsRoom room.old }
     ensures room { IsRoom room.new }
-    ensures ok { IfOk result (λ answer. (start : Option (List ℕ)) (pairs : List (List ℕ × ℕ)) → EndsIn k last pairs
+    ensures ok { IfOk result (λ answer. (start : Option (List ℕ)) (pairs : List (List ℕ × ℕ))
+        → EndsIn k last pairs
         → GaveFront k start (R.remaining reader.old.inner) pairs (unread room.old)
-        → GaveFront k start (R.remaining reader.new.inner) (pairs ++ pairs_of k answer) (unread room.new)) }
-    ensures ended { IfOk result (λ answer. answer ≡ None → (unread room.new ≡ []) × IsAtEnd (R.remaining reader.new.inner) × (room.new.lines ≡ room.old.lines)) }
-    ensures more { IfOk result (λ answer. IfSome answer (λ l. (last < l.packed) × (l.packed < 4 ^ k) × (l.count < 2 ^ 64)
+        → GaveFront k start (R.remaining reader.new.inner) (pairs ++ pairs_of k answer)
+        (unread room.new)) }
+    ensures ended { IfOk result (λ answer. answer ≡ None → (unread room.new ≡ [])
+        × IsAtEnd (R.remaining reader.new.inner) × (room.new.lines ≡ room.old.lines)) }
+    ensures more { IfOk result (λ answer. IfSome answer
+        (λ l. (last < l.packed) × (l.packed < 4 ^ k) × (l.count < 2 ^ 64)
         × (room.new.lines ≡ min (room.old.lines + 1) (2 ^ 64 - 1)))) }
-    ensures fault { (f : LineFault) → IsErrOf result (PairFault.Line f) → (start : Option (List ℕ)) (pairs : List (List ℕ × ℕ)) → EndsIn k last pairs
-        → GaveFront k start (R.remaining reader.old.inner) pairs (unread room.old) → IsFaultAt k start (R.remaining reader.new.inner) (line_after pairs) f }
+    ensures fault { (f : LineFault) → IsErrOf result (PairFault.Line f)
+        → (start : Option (List ℕ)) (pairs : List (List ℕ × ℕ)) → EndsIn k last pairs
+        → GaveFront k start (R.remaining reader.old.inner) pairs (unread room.old)
+        → IsFaultAt k start (R.remaining reader.new.inner) (line_after pairs) f }
     ensures kept { OnOk result (reader.new.failures ≡ reader.old.failures) }
-    ensures device { IsErrOf result PairFault.Device → RisesByOne reader.old.failures reader.new.failures }
-    ensures lost { OnErr result ((rest : List ℕ) × GoesOn (R.remaining reader.old.inner) (R.remaining reader.new.inner) (unread room.old) rest) }
+    ensures device { IsErrOf result PairFault.Device
+        → RisesByOne reader.old.failures reader.new.failures }
+    ensures lost { OnErr result
+        ((rest : List ℕ)
+        × GoesOn (R.remaining reader.old.inner) (R.remaining reader.new.inner)
+        (unread room.old) rest) }
 {
     match next_line(reader, room) {
         Ok(Some(line)) => {

@@ -24,15 +24,21 @@ fn next_head<R: Read>(
 ) -> Result<Head, SumError>
     requires { IsRoom room.old }
     ensures room { IsRoom room.new }
-    ensures ok { IfOk result (λ h. (start : Option (List ℕ)) (head : Head) (taken : List (List ℕ × ℕ)) → head.live ≡ true → head.packed ≡ packed
+    ensures ok { IfOk result (λ h. (start : Option (List ℕ)) (head : Head)
+        (taken : List (List ℕ × ℕ)) → head.live ≡ true → head.packed ≡ packed
         → IsSource k start (R.remaining reader.old.inner) room.old head taken
         → IsSource k start (R.remaining reader.new.inner) room.new h (taken ++ pending k head)) }
-    ensures behind { IfOk result (λ h. (h.source ≡ source) × (packed ≤ rank h) × (h.packed < 4 ^ k)) }
-    ensures fault { (s line : ℕ) (fault : LineFault) → IsErrOf result (SumError.Line s line fault) → (s ≡ source)
-        × ((start : Option (List ℕ)) (head : Head) (taken : List (List ℕ × ℕ)) → head.live ≡ true → head.packed ≡ packed
-        → IsSource k start (R.remaining reader.old.inner) room.old head taken → IsFaultAt k start (R.remaining reader.new.inner) line fault) }
+    ensures behind { IfOk result (λ h. (h.source ≡ source) × (packed ≤ rank h)
+        × (h.packed < 4 ^ k)) }
+    ensures fault { (s line : ℕ) (fault : LineFault) → IsErrOf result (SumError.Line s line fault)
+        → (s ≡ source)
+        × ((start : Option (List ℕ)) (head : Head) (taken : List (List ℕ × ℕ)) → head.live ≡ true
+        → head.packed ≡ packed
+        → IsSource k start (R.remaining reader.old.inner) room.old head taken
+        → IsFaultAt k start (R.remaining reader.new.inner) line fault) }
     ensures kept { OnOk result (reader.new.failures ≡ reader.old.failures) }
-    ensures read { (s : ℕ) → IsErrOf result (SumError.Read s) → (s ≡ source) × RisesByOne reader.old.failures reader.new.failures }
+    ensures read { (s : ℕ) → IsErrOf result (SumError.Read s) → (s ≡ source)
+        × RisesByOne reader.old.failures reader.new.failures }
     ensures other { IfErr result IsOfSource }
     ensures lost { OnErr result ((start : Option (List ℕ)) (head : Head) (taken : List (List ℕ × ℕ))
         → IsSource k start (R.remaining reader.old.inner) room.old head taken
@@ -70,32 +76,35 @@ pub fn advance<R: Read>(
     requires tree { IsTree heads.old }
     requires live { (head_at heads.old 1).live ≡ true }
     ensures ready { OnOk result (AreReady k (length readers.new) rooms.new heads.new) }
-    ensures sources { OnOk result ((starts : List (Option (List ℕ))) (lists : List (List (List ℕ × ℕ)))
+    ensures sources { OnOk result ((starts : List (Option (List ℕ)))
+        (lists : List (List (List ℕ × ℕ)))
         → AreSources k starts (map (λ r. R.remaining r.inner) readers.old) rooms.old heads.old lists
-        → AreSources k starts (map (λ r. R.remaining r.inner) readers.new) rooms.new heads.new (with_first k heads.old lists)) }
+        → AreSources k starts (map (λ r. R.remaining r.inner) readers.new) rooms.new heads.new
+        (with_first k heads.old lists)) }
     ensures tree { OnOk result (IsTree heads.new) }
-    ensures behind { OnOk result ((j : ℕ) → length readers.old ≤ j → j < 2 * length readers.old → (head_at heads.old 1).packed ≤ rank (head_at heads.new j)) }
-    ensures fault { (source line : ℕ) (fault : LineFault) → IsErrOf result (SumError.Line source line fault)
+    ensures behind { OnOk result ((j : ℕ) → length readers.old ≤ j → j < 2 * length readers.old
+        → (head_at heads.old 1).packed ≤ rank (head_at heads.new j)) }
+    ensures fault { (source line : ℕ) (fault : LineFault)
+        → IsErrOf result (SumError.Line source line fault)
         → (starts : List (Option (List ℕ))) (lists : List (List (List ℕ × ℕ)))
         → AreSources k starts (map (λ r. R.remaining r.inner) readers.old) rooms.old heads.old lists
         → IsFirstFault k starts (map (λ r. R.remaining r.inner) readers.new) source line fault }
-    ensures kept { OnOk result (map (λ r. r.failures) readers.new ≡ map (λ r. r.failures) readers.old) }
-    ensures read { (source : ℕ) → IsErrOf result (SumError.Read source) → HasFailed source (map (λ r. r.failures) readers.old) (map (λ r. r.failures) readers.new) }
+    ensures kept { OnOk result (map (λ r. r.failures) readers.new
+        ≡ map (λ r. r.failures) readers.old) }
+    ensures read { (source : ℕ) → IsErrOf result (SumError.Read source)
+        → HasFailed source (map (λ r. r.failures) readers.old) (map (λ r. r.failures) readers.new) }
     ensures other { IfErr result IsOfSource }
-    ensures lost { OnErr result ((starts : List (Option (List ℕ))) (lists : List (List (List ℕ × ℕ)))
+    ensures lost { OnErr result
+        ((starts : List (Option (List ℕ))) (lists : List (List (List ℕ × ℕ)))
         → AreSources k starts (map (λ r. R.remaining r.inner) readers.old) rooms.old heads.old lists
         → GaveFronts k starts (map (λ r. R.remaining r.inner) readers.new) lists) }
 {
     let count = readers.len();
     let source = heads[1].source;
     let packed = heads[1].packed;
-    match next_head(&mut readers[source], &mut rooms[source], source, k, packed) {
-        Ok(head) => {
-            let leaf = count + source;
-            heads[leaf] = head;
-            mend(heads, leaf / 2);
-            Ok(())
-        }
-        Err(error) => Err(error),
-    }
+    let head = next_head(&mut readers[source], &mut rooms[source], source, k, packed)?;
+    let leaf = count + source;
+    heads[leaf] = head;
+    mend(heads, leaf / 2);
+    Ok(())
 }

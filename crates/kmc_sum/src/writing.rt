@@ -30,25 +30,28 @@ pub fn put_pair<W: Write>(
     requires fits { packed < 4 ^ k }
     requires within { filled ≤ length room.old }
     requires long { LINE ≤ length room.old }
-    ensures ok { IfOk result (λ r. (r.0 ≤ length room.new) × (r.1 ≤ 1) × (r.1 ≡ length (kept_pair limits.now (unpack k packed) count))
+    ensures ok { IfOk result (λ r. (r.0 ≤ length room.new) × (r.1 ≤ 1)
+        × (r.1 ≡ length (kept_pair limits.now (unpack k packed) count))
         × (writer.new.failures ≡ writer.old.failures)) }
-    ensures text { IfOk result (λ r. (start : Option (List ℕ)) (text : List ℕ) → WritesOut start (W.contents writer.old.inner) text (take filled room.old)
-        → WritesOut start (W.contents writer.new.inner) (text ++ text_of (kept_pair limits.now (unpack k packed) count)) (take r.0 room.new)) }
+    ensures text { IfOk result (λ r. (start : Option (List ℕ)) (text : List ℕ)
+        → WritesOut start (W.contents writer.old.inner) text (take filled room.old)
+        → WritesOut start (W.contents writer.new.inner)
+        (text ++ text_of (kept_pair limits.now (unpack k packed) count)) (take r.0 room.new)) }
     ensures failed { OnErr result (RisesByOne writer.old.failures writer.new.failures) }
-    ensures front { OnErr result ((start : Option (List ℕ)) (text : List ℕ) → WritesOut start (W.contents writer.old.inner) text (take filled room.old)
+    ensures front { OnErr result
+        ((start : Option (List ℕ)) (text : List ℕ)
+        → WritesOut start (W.contents writer.old.inner) text (take filled room.old)
         → AppendsFront start (W.contents writer.new.inner) text) }
 {
     if count == 0 {
         return Ok((filled, 0));
     }
     match limits.keep(count) {
-        Some(shown) => match make_room(writer, room, filled, line_room(k, DIGITS)) {
-            Ok(at) => {
-                let word = Kmer::of_packed(packed, k);
-                Ok((put_line(room, at, &word, shown), 1))
-            }
-            Err(fault) => Err(fault),
-        },
+        Some(shown) => {
+            let at = make_room(writer, room, filled, line_room(k, DIGITS))?;
+            let word = Kmer::of_packed(packed, k);
+            Ok((put_line(room, at, &word, shown), 1))
+        }
         None => Ok((filled, 0)),
     }
 }
@@ -61,17 +64,17 @@ pub fn close<W: Write>(
 ) -> Result<(), WriteFault>
     requires failures { writer.old.failures < 2 ^ 64 - 1 }
     requires within { filled ≤ length room.now }
-    ensures ok { OnOk result ((start : Option (List ℕ)) (text : List ℕ) → WritesOut start (W.contents writer.old.inner) text (take filled room.now)
+    ensures ok { OnOk result ((start : Option (List ℕ)) (text : List ℕ)
+        → WritesOut start (W.contents writer.old.inner) text (take filled room.now)
         → Appends start (W.contents writer.new.inner) text) }
     ensures kept { OnOk result (writer.new.failures ≡ writer.old.failures) }
     ensures failed { OnErr result (RisesByOne writer.old.failures writer.new.failures) }
-    ensures front { OnErr result ((start : Option (List ℕ)) (text : List ℕ) → WritesOut start (W.contents writer.old.inner) text (take filled room.now)
+    ensures front { OnErr result
+        ((start : Option (List ℕ)) (text : List ℕ)
+        → WritesOut start (W.contents writer.old.inner) text (take filled room.now)
         → AppendsFront start (W.contents writer.new.inner) text) }
 {
-    match write_text(writer, &room[..filled]) {
-        Ok(()) => {}
-        Err(fault) => return Err(fault),
-    }
+    write_text(writer, &room[..filled])?;
     match writer.flush() {
         Ok(()) => Ok(()),
         Err(_) => Err(WriteFault),

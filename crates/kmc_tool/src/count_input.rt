@@ -39,10 +39,18 @@ pub fn count_input<T: Threads + Wait + Sync, R: Read, G: Gate + Sync>(
     requires most { max_reads ≤ 2 ^ 32 }
     ensures merge { IfOk result (λ lists. CanBeMerged params.now.k (lists_of lists)) }
     ensures dump { IfOk result (λ lists. IsDumpOfInput params.now.format params.now.strands params.now.k params.now.limits
-        (R.remaining reader.old.inner) (R.remaining reader.new.inner) (spelled params.now.k (whole (lists_of lists)))) }
-    ensures sound { OnOk result ((reader.new.failures ≡ reader.old.failures) × (reader.old.reads ≤ reader.new.reads) × (reader.new.reads < reader.old.reads + max_reads)) }
-    ensures counts { IfErr result (AreCountsOf (reader.old.reads + max_reads) reader.old.reads reader.new.reads reader.old.failures reader.new.failures) }
-    ensures cause { IfErr result (IsInputError params.now.format max_reads (R.remaining reader.old.inner) (R.remaining reader.new.inner)) }
+        (R.remaining reader.old.inner) (R.remaining reader.new.inner)
+        (spelled params.now.k (whole (lists_of lists)))) }
+    ensures sound { OnOk result ((reader.new.failures ≡ reader.old.failures)
+        × (reader.old.reads ≤ reader.new.reads)
+        × (reader.new.reads < reader.old.reads + max_reads)) }
+    ensures counts { IfErr result
+        (AreCountsOf
+        (reader.old.reads
+        + max_reads) reader.old.reads reader.new.reads reader.old.failures reader.new.failures) }
+    ensures cause { IfErr result
+        (IsInputError params.now.format max_reads (R.remaining reader.old.inner)
+        (R.remaining reader.new.inner)) }
 {
     held_reads_are_counted();
     cut_reads_are_counted();

@@ -50,8 +50,11 @@ pub(crate) fn store_round<T: Threads + Wait + Sync, G: Gate + Sync>(
 ) -> Result<(), AllocError>
     requires { bins.old.shape ≡ shape_of dealing.now.params }
     ensures shape { bins.new.shape ≡ shape_of dealing.now.params }
-    ensures holds { (held : List (List ℕ)) → HoldsPieces (shape_of dealing.now.params) dealing.now.limit held bins.old.bodies
-        → OnOk result (HoldsPieces (shape_of dealing.now.params) dealing.now.limit (held ++ round.now) bins.new.bodies) }
+    ensures holds { (held : List (List ℕ))
+        → HoldsPieces (shape_of dealing.now.params) dealing.now.limit held bins.old.bodies
+        → OnOk result
+        (HoldsPieces (shape_of dealing.now.params) dealing.now.limit
+        (held ++ round.now) bins.new.bodies) }
 {
     let alloc = dealing.alloc;
     let params = &dealing.params;

@@ -22,9 +22,12 @@ const ROUND: usize = 1 << 24;
 fn read_and_feed<R: Read>(reader: &mut Counted<R>, feeder: &mut Feeder) -> Result<bool, RunError>
     requires failures { reader.old.failures < 2 ^ 64 - 1 }
     requires reads { reader.old.reads < 2 ^ 64 - 1 }
-    ensures counts { AreCounts (reader.old.reads + 1) reader.old.reads reader.new.reads reader.old.failures reader.new.failures result }
-    ensures fed { (overlap : ℕ) (format : Format) (text : List ℕ) (taken : List (List ℕ)) → StandsCut overlap format text taken feeder.old
-        → IsFedBy overlap format (R.remaining reader.old.inner) (R.remaining reader.new.inner) reader.old.reads reader.new.reads text taken feeder.new result }
+    ensures counts { AreCounts (reader.old.reads
+        + 1) reader.old.reads reader.new.reads reader.old.failures reader.new.failures result }
+    ensures fed { (overlap : ℕ) (format : Format) (text : List ℕ) (taken : List (List ℕ))
+        → StandsCut overlap format text taken feeder.old
+        → IsFedBy overlap format (R.remaining reader.old.inner)
+        (R.remaining reader.new.inner) reader.old.reads reader.new.reads text taken feeder.new result }
     ensures at_end { result ≡ Ok false → IsAtEnd (R.remaining reader.new.inner) }
     ensures short { IsErrOf result RunError.TooLong → ⊥ }
 {
@@ -56,8 +59,10 @@ pub fn fill_round<R: Read>(
     requires failures { reader.old.failures < 2 ^ 64 - 1 }
     requires reads { reader.old.reads ≤ most }
     ensures counts { AreCounts most reader.old.reads reader.new.reads reader.old.failures reader.new.failures result }
-    ensures fed { (overlap : ℕ) (format : Format) (text : List ℕ) (taken : List (List ℕ)) → StandsCut overlap format text taken feeder.old
-        → IsFedBy overlap format (R.remaining reader.old.inner) (R.remaining reader.new.inner) reader.old.reads reader.new.reads text taken feeder.new result }
+    ensures fed { (overlap : ℕ) (format : Format) (text : List ℕ) (taken : List (List ℕ))
+        → StandsCut overlap format text taken feeder.old
+        → IsFedBy overlap format (R.remaining reader.old.inner)
+        (R.remaining reader.new.inner) reader.old.reads reader.new.reads text taken feeder.new result }
     ensures at_end { result ≡ Ok false → IsAtEnd (R.remaining reader.new.inner) }
 {
     for _ in 0..1u64 << 32 {

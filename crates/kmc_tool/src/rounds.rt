@@ -43,11 +43,16 @@ fn feed_round<T: Threads + Wait + Sync, R: Read, G: Gate + Sync>(
     requires failures { reader.old.failures < 2 ^ 64 - 1 }
     requires reads { reader.old.reads ≤ most }
     ensures shape { bins.new.shape ≡ shape_of dealing.now.params }
-    ensures holds { (held : List (List ℕ)) → HoldsPieces (shape_of dealing.now.params) dealing.now.limit held bins.old.bodies
-        → OnOk result.0 (HoldsPieces (shape_of dealing.now.params) dealing.now.limit (held ++ round.now) bins.new.bodies) }
+    ensures holds { (held : List (List ℕ))
+        → HoldsPieces (shape_of dealing.now.params) dealing.now.limit held bins.old.bodies
+        → OnOk result.0
+        (HoldsPieces (shape_of dealing.now.params) dealing.now.limit
+        (held ++ round.now) bins.new.bodies) }
     ensures counts { AreCounts most reader.old.reads reader.new.reads reader.old.failures reader.new.failures result.1 }
-    ensures fed { (overlap : ℕ) (format : Format) (text : List ℕ) (taken : List (List ℕ)) → StandsCut overlap format text taken feeder.old
-        → IsFedBy overlap format (R.remaining reader.old.inner) (R.remaining reader.new.inner) reader.old.reads reader.new.reads text taken feeder.new result.1 }
+    ensures fed { (overlap : ℕ) (format : Format) (text : List ℕ) (taken : List (List ℕ))
+        → StandsCut overlap format text taken feeder.old
+        → IsFedBy overlap format (R.remaining reader.old.inner)
+        (R.remaining reader.new.inner) reader.old.reads reader.new.reads text taken feeder.new result.1 }
     ensures at_end { result.1 ≡ Ok false → IsAtEnd (R.remaining reader.new.inner) }
 {
     let reads = round_of(&dealing.params);
@@ -56,15 +61,21 @@ fn feed_round<T: Threads + Wait + Sync, R: Read, G: Gate + Sync>(
         &mut || -> Result<(), AllocError>
             requires { bins.now.shape ≡ shape_of dealing.now.params }
             ensures shape { bins.exit.now.shape ≡ shape_of dealing.entry.now.params }
-            ensures holds { (held : List (List ℕ)) → HoldsPieces (shape_of dealing.entry.now.params) dealing.entry.now.limit held bins.entry.now.bodies
-                → OnOk result (HoldsPieces (shape_of dealing.entry.now.params) dealing.entry.now.limit (held ++ round.entry.now) bins.exit.now.bodies) }
+            ensures holds { (held : List (List ℕ))
+                → HoldsPieces
+                (shape_of dealing.entry.now.params) dealing.entry.now.limit held bins.entry.now.bodies
+                → OnOk result
+                (HoldsPieces (shape_of dealing.entry.now.params) dealing.entry.now.limit
+                (held ++ round.entry.now) bins.exit.now.bodies) }
         { store_round(rt, bins, round, dealing) },
         &mut || -> Result<bool, RunError>
             requires failures { reader.now.failures < 2 ^ 64 - 1 }
             requires reads { reader.now.reads ≤ most }
             ensures counts { AreCounts most reader.entry.now.reads reader.exit.now.reads reader.entry.now.failures reader.exit.now.failures result }
-            ensures fed { (overlap : ℕ) (format : Format) (text : List ℕ) (taken : List (List ℕ)) → StandsCut overlap format text taken feeder.entry.now
-                → IsFedBy overlap format (R.remaining reader.entry.now.inner) (R.remaining reader.exit.now.inner) reader.entry.now.reads reader.exit.now.reads text taken feeder.exit.now result }
+            ensures fed { (overlap : ℕ) (format : Format) (text : List ℕ) (taken : List (List ℕ))
+                → StandsCut overlap format text taken feeder.entry.now
+                → IsFedBy overlap format (R.remaining reader.entry.now.inner)
+                (R.remaining reader.exit.now.inner) reader.entry.now.reads reader.exit.now.reads text taken feeder.exit.now result }
             ensures at_end { result ≡ Ok false → IsAtEnd (R.remaining reader.exit.now.inner) }
         { fill_round(reader, feeder, most, reads) },
     )
@@ -79,9 +90,16 @@ fn last_round<T: Threads + Wait + Sync, G: Gate + Sync>(
 ) -> Result<Bins, RunError>
     requires { bins.shape ≡ shape_of dealing.now.params }
     ensures shape { IfOk result (λ b. b.shape ≡ shape_of dealing.now.params) }
-    ensures holds { (format : Format) (text : List ℕ) (taken : List (List ℕ)) → StandsCut (dealing.now.params.k - 1) format text taken feeder → HoldsPieces (shape_of dealing.now.params) dealing.now.limit taken bins.bodies
-        → IfOk result (λ b. (reads cuts : List (List ℕ)) × (reads_of format text ≡ Ok reads) × AreCut (dealing.now.params.k - 1) reads cuts × HoldsPieces (shape_of dealing.now.params) dealing.now.limit cuts b.bodies) }
-    ensures cause { (format : Format) (text : List ℕ) (taken : List (List ℕ)) → StandsCut (dealing.now.params.k - 1) format text taken feeder → IfErr result (IsLastError format text) }
+    ensures holds { (format : Format) (text : List ℕ) (taken : List (List ℕ))
+        → StandsCut (dealing.now.params.k - 1) format text taken feeder
+        → HoldsPieces (shape_of dealing.now.params) dealing.now.limit taken bins.bodies
+        → IfOk result
+        (λ b. (reads cuts : List (List ℕ)) × (reads_of format text ≡ Ok reads)
+        × AreCut (dealing.now.params.k - 1) reads cuts
+        × HoldsPieces (shape_of dealing.now.params) dealing.now.limit cuts b.bodies) }
+    ensures cause { (format : Format) (text : List ℕ) (taken : List (List ℕ))
+        → StandsCut (dealing.now.params.k - 1) format text taken feeder
+        → IfErr result (IsLastError format text) }
 {
     let reads = match feeder.finish() {
         Ok(reads) => reads,
@@ -113,10 +131,18 @@ pub fn bins_of_input<T: Threads + Wait + Sync, R: Read, G: Gate + Sync>(
     requires reads { reader.old.reads + max_reads < 2 ^ 64 }
     requires most { max_reads ≤ 2 ^ 32 }
     requires limit { params.now.k ≤ limit }
-    ensures ok { IfOk result (HoldsInput params.now.format (shape_of params.now) limit (R.remaining reader.old.inner) (R.remaining reader.new.inner)) }
-    ensures sound { OnOk result ((reader.new.failures ≡ reader.old.failures) × (reader.old.reads ≤ reader.new.reads) × (reader.new.reads < reader.old.reads + max_reads)) }
-    ensures counts { IfErr result (AreCountsOf (reader.old.reads + max_reads) reader.old.reads reader.new.reads reader.old.failures reader.new.failures) }
-    ensures cause { IfErr result (IsInputError params.now.format max_reads (R.remaining reader.old.inner) (R.remaining reader.new.inner)) }
+    ensures ok { IfOk result (HoldsInput params.now.format (shape_of params.now) limit
+        (R.remaining reader.old.inner) (R.remaining reader.new.inner)) }
+    ensures sound { OnOk result ((reader.new.failures ≡ reader.old.failures)
+        × (reader.old.reads ≤ reader.new.reads)
+        × (reader.new.reads < reader.old.reads + max_reads)) }
+    ensures counts { IfErr result
+        (AreCountsOf
+        (reader.old.reads
+        + max_reads) reader.old.reads reader.new.reads reader.old.failures reader.new.failures) }
+    ensures cause { IfErr result
+        (IsInputError params.now.format max_reads (R.remaining reader.old.inner)
+        (R.remaining reader.new.inner)) }
 {
     empty_bins_hold_no_reads();
     let dealing = Dealing {
@@ -128,27 +154,15 @@ pub fn bins_of_input<T: Threads + Wait + Sync, R: Read, G: Gate + Sync>(
     let mut bins = Bins::new(alloc, params.shape())?;
     let mut feeder = Feeder::new(alloc, params.format);
     let most = reader.reads() + max_reads;
-    let mut more = match fill_round(reader, &mut feeder, most, round_of(params)) {
-        Ok(more) => more,
-        Err(e) => return Err(e),
-    };
+    let mut more = fill_round(reader, &mut feeder, most, round_of(params))?;
     for _ in 0..1u64 << 32 {
         if !more {
-            return match last_round(rt, bins, feeder, &dealing) {
-                Ok(bins) => Ok(bins),
-                Err(e) => Err(e),
-            };
+            return last_round(rt, bins, feeder, &dealing);
         }
         let round = feeder.take_open(alloc, params.k - 1)?;
         let (stored, fed) = feed_round(rt, &mut bins, &round, &dealing, reader, &mut feeder, most);
-        more = match fed {
-            Ok(more) => more,
-            Err(e) => return Err(e),
-        };
-        match stored {
-            Ok(()) => {}
-            Err(_) => return Err(RunError::Memory),
-        }
+        more = fed?;
+        stored?;
     }
     Err(RunError::TooLong)
 }

@@ -39,24 +39,34 @@ pub fn run<T: Threads + Wait + Sync, R: Read, W: Write, G: Gate + Sync>(
     requires reads { reader.old.reads + 2 ^ 32 < 2 ^ 64 }
 
     // What was written is the dump of what the reader gave to its end, and the answer is its number of lines.
-    ensures ok { IfOk result (λ lines. (bytes text : List ℕ) × GaveAll (R.remaining reader.old.inner) (R.remaining reader.new.inner) bytes
+    ensures ok { IfOk result (λ lines. (bytes text : List ℕ)
+        × GaveAll (R.remaining reader.old.inner) (R.remaining reader.new.inner) bytes
         × IsDumpOf params.now.format bytes params.now.strands params.now.k params.now.limits text lines × Appends (W.contents writer.old.inner) (W.contents writer.new.inner) text) }
-    ensures sound { IfOk result (λ lines. (reader.new.failures ≡ reader.old.failures) × (writer.new.failures ≡ writer.old.failures) × (reader.new.reads < reader.old.reads + 2 ^ 32)) }
+    ensures sound { IfOk result (λ lines. (reader.new.failures ≡ reader.old.failures)
+        × (writer.new.failures ≡ writer.old.failures)
+        × (reader.new.reads < reader.old.reads + 2 ^ 32)) }
 
     // Each refusal has its cause.
-    ensures read { IsErrOf result RunError.Read → (reader.new.failures ≡ reader.old.failures + 1) × (reader.new.reads < reader.old.reads + 2 ^ 32) }
+    ensures read { IsErrOf result RunError.Read → (reader.new.failures ≡ reader.old.failures + 1)
+        × (reader.new.reads < reader.old.reads + 2 ^ 32) }
     ensures write { IsErrOf result RunError.Write → (writer.new.failures ≡ writer.old.failures + 1)
-        × (bytes text : List ℕ) × (lines : ℕ) × GaveAll (R.remaining reader.old.inner) (R.remaining reader.new.inner) bytes
+        × (bytes text : List ℕ) × (lines : ℕ)
+        × GaveAll (R.remaining reader.old.inner) (R.remaining reader.new.inner) bytes
         × IsDumpOf params.now.format bytes params.now.strands params.now.k params.now.limits text lines × AppendsFront (W.contents writer.old.inner) (W.contents writer.new.inner) text }
-    ensures input { (e : ReadsError) → IsErrOf result (RunError.Input e) → IsRefused params.now.format (R.remaining reader.old.inner) (R.remaining reader.new.inner) [] e }
+    ensures input { (e : ReadsError) → IsErrOf result (RunError.Input e)
+        → IsRefused params.now.format (R.remaining reader.old.inner)
+        (R.remaining reader.new.inner) [] e }
     ensures long { IsErrOf result RunError.TooLong → (reader.new.reads ≡ reader.old.reads + 2 ^ 32)
-        × (bytes : List ℕ) × Consumes (R.remaining reader.old.inner) (R.remaining reader.new.inner) bytes × (2 ^ 32 ≤ length bytes) }
+        × (bytes : List ℕ)
+        × Consumes (R.remaining reader.old.inner) (R.remaining reader.new.inner) bytes
+        × (2 ^ 32 ≤ length bytes) }
 
     ensures faulty { IfErr result (λ e. e ≢ RunError.Input ReadsError.Memory) }
 
     // Only a failed write leaves anything written, and no other refusal passes over a failure.
     ensures silent { IfErr result (λ e. e ≢ RunError.Write → writer.new ≡ writer.old) }
-    ensures reader_kept { IfErr result (λ e. e ≢ RunError.Read → reader.new.failures ≡ reader.old.failures) }
+    ensures reader_kept { IfErr result
+        (λ e. e ≢ RunError.Read → reader.new.failures ≡ reader.old.failures) }
     ensures reads_most { reader.new.reads ≤ reader.old.reads + 2 ^ 32 }
 {
     memory_is_no_fault();

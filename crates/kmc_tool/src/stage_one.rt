@@ -40,7 +40,8 @@ pub fn store_reads<R: Threads + Wait + Sync, G: Gate + Sync>(
     requires { bins.shape ≡ shape_of params.now }
     ensures shape { IfOk result (λ b. b.shape ≡ shape_of params.now) }
     ensures holds { (held : List (List ℕ)) → HoldsReads (shape_of params.now) held bins.bodies
-        → IfOk result (λ b. HoldsReads (shape_of params.now) (held ++ map (λ r. r.now) reads.now) b.bodies) }
+        → IfOk result
+        (λ b. HoldsReads (shape_of params.now) (held ++ map (λ r. r.now) reads.now) b.bodies) }
 {
     a_chunk_each_spends_no_numbers();
     let plan = Plan {
@@ -63,7 +64,8 @@ pub fn stage_one<R: Threads + Wait + Sync, G: Gate + Sync>(
     gate: &G,
 ) -> Result<Bins, AllocError>
     ensures shape { IfOk result (λ b. b.shape ≡ shape_of params.now) }
-    ensures holds { IfOk result (λ b. HoldsReads (shape_of params.now) (map (λ r. r.now) reads.now) b.bodies) }
+    ensures holds { IfOk result (λ b. HoldsReads (shape_of params.now)
+        (map (λ r. r.now) reads.now) b.bodies) }
 {
     empty_bins_hold_no_reads();
     let bins = Bins::new(alloc, params.shape())?;

@@ -34,8 +34,10 @@ fn merge_shards(
     requires { Each (λ h. h.bins.shape ≡ shape) shards.items }
     ensures shape { IfOk result (λ r. r.0.shape ≡ shape) }
     ensures seats { IfOk result (λ r. r.1.items ≡ map (λ h. h.seat) shards.items) }
-    ensures bodies { (before : BinList) → 0 < length shards.items → before.shape ≡ shape → AreGrown before shards.items
-        → IfOk result (λ r. AreAdded shape before.bodies r.0.bodies (flat_map (λ s. items_of s.got) r.1.items)) }
+    ensures bodies { (before : BinList) → 0 < length shards.items → before.shape ≡ shape
+        → AreGrown before shards.items
+        → IfOk result
+        (λ r. AreAdded shape before.bodies r.0.bodies (flat_map (λ s. items_of s.got) r.1.items)) }
 {
     // what some seats got stays added with each shard
     no_parts_are_added();
@@ -70,8 +72,10 @@ pub fn fill_bins<R: Threads + Wait + Sync, G: Gate + Sync>(
     ensures shape { IfOk result (λ b. b.0.shape ≡ plan.shape) }
     ensures holds { (held : List (List ℕ)) → HoldsReads plan.shape held bins.bodies
         → IfOk result (λ b. HoldsReads plan.shape (held ++ map (λ r. r.now) reads.now) b.0.bodies) }
-    ensures passage { IfOk result (λ b. IsPassage plan.shape plan.batch (map (λ r. r.now) reads.now) queue bins.bodies b.0.bodies) }
-    ensures cause { IfErr result (IsCause plan.shape plan.batch (map (λ r. r.now) reads.now) queue.writers) }
+    ensures passage { IfOk result (λ b. IsPassage plan.shape plan.batch
+        (map (λ r. r.now) reads.now) queue bins.bodies b.0.bodies) }
+    ensures cause { IfErr result
+        (IsCause plan.shape plan.batch (map (λ r. r.now) reads.now) queue.writers) }
 {
     // what was sent was got once, so bins to which what was got is added hold the reads
     gathered::<Part>();

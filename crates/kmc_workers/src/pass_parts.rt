@@ -48,10 +48,15 @@ fn with_bins(
 /// these bins.
 fn open_way(alloc: Global, queue: QueueShape, bins: Bins) -> Result<(Way, Seats), AllocError>
     ensures shape { IfOk result (λ q. q.0.lanes.shape ≡ queue) }
-    ensures writers { IfOk result (λ q. q.1.writers.items ≡ row_from (new_writer q.0.lanes.table.shared.table_id queue) 0 queue.writers) }
-    ensures shards { IfOk result (λ q. q.1.shards.items ≡ begun bins (row_from (new_reader q.0.lanes.table.shared.table_id queue) 0 queue.readers)) }
-    ensures open { IfOk result (λ q. Each (IsFreshWriter q.0.lanes.table.shared.table_id q.0.lanes.shape) q.1.writers.items) }
-    ensures fresh { IfOk result (λ q. Each (IsFreshShard q.0.lanes.table.shared.table_id q.0.lanes.shape bins.shape) q.1.shards.items) }
+    ensures writers { IfOk result (λ q. q.1.writers.items
+        ≡ row_from (new_writer q.0.lanes.table.shared.table_id queue) 0 queue.writers) }
+    ensures shards { IfOk result (λ q. q.1.shards.items
+        ≡ begun bins
+        (row_from (new_reader q.0.lanes.table.shared.table_id queue) 0 queue.readers)) }
+    ensures open { IfOk result (λ q. Each
+        (IsFreshWriter q.0.lanes.table.shared.table_id q.0.lanes.shape) q.1.writers.items) }
+    ensures fresh { IfOk result (λ q. Each
+        (IsFreshShard q.0.lanes.table.shared.table_id q.0.lanes.shape bins.shape) q.1.shards.items) }
 {
     let (lanes, writers, readers) = Lanes::new(alloc, queue)?;
     let way = Way::new(lanes, queue.writers, alloc);
@@ -75,11 +80,14 @@ pub fn pass_parts<R: Threads + Wait + Sync, G: Gate + Sync>(
 ) -> Result<(Lanes<Part>, Vec<DoneSeat<Part>>, Vec<Shard>), Refusal>
     requires { bins.shape ≡ plan.shape }
     ensures queue { IfOk result (λ q. q.0.shape ≡ queue) }
-    ensures done { IfOk result (λ q. AllZip (IsDone plan.shape plan.batch (map (λ r. r.now) reads.now) queue.writers)
+    ensures done { IfOk result (λ q. AllZip
+        (IsDone plan.shape plan.batch (map (λ r. r.now) reads.now) queue.writers)
         (row_from (new_writer q.0.table.shared.table_id queue) 0 queue.writers) q.1.items) }
     ensures shards { IfOk result (λ q. AllZip IsShard
-        (begun bins (row_from (new_reader q.0.table.shared.table_id queue) 0 queue.readers)) q.2.items) }
-    ensures cause { IfErr result (IsCause plan.shape plan.batch (map (λ r. r.now) reads.now) queue.writers) }
+        (begun bins (row_from
+        (new_reader q.0.table.shared.table_id queue) 0 queue.readers)) q.2.items) }
+    ensures cause { IfErr result
+        (IsCause plan.shape plan.batch (map (λ r. r.now) reads.now) queue.writers) }
 {
     let (way, seats) = open_way(alloc, queue, bins)?;
     let shared = &way;
@@ -89,9 +97,13 @@ pub fn pass_parts<R: Threads + Wait + Sync, G: Gate + Sync>(
         move |scope| -> Result<(Vec<DoneSeat<Part>>, Vec<Shard>), Refusal>
             requires shards { Each (IsFreshShard shared.now.lanes.table.shared.table_id shared.now.lanes.shape plan.shape) seats.shards.items }
             requires writers { Each (IsFreshWriter shared.now.lanes.table.shared.table_id shared.now.lanes.shape) seats.writers.items }
-            ensures done { IfOk result (λ q. AllZip (IsDone plan.shape plan.batch (map (λ v. v.now) reads.entry.now) shared.entry.now.writers) seats.writers.items q.0.items) }
+            ensures done { IfOk result (λ q. AllZip
+                (IsDone plan.shape plan.batch
+                (map (λ v. v.now) reads.entry.now) shared.entry.now.writers) seats.writers.items q.0.items) }
             ensures shards { IfOk result (λ q. AllZip IsShard seats.shards.items q.1.items) }
-            ensures cause { IfErr result (IsCause plan.shape plan.batch (map (λ v. v.now) reads.entry.now) shared.entry.now.writers) }
+            ensures cause { IfErr result
+                (IsCause plan.shape plan.batch
+                (map (λ v. v.now) reads.entry.now) shared.entry.now.writers) }
         { store_all(rt, scope, shared, seats, reads, plan, gate) },
     );
     let (done, shards) = back?;

@@ -60,7 +60,8 @@ fn put_all<R: Wait, G: Gate>(
     requires { IsWriterOf way.now.lanes.table.shared.table_id way.now.lanes.shape s.old }
     ensures seat { IsSameWriter s.old s.new }
     ensures put { OnOk result (s.new.sent ≡ s.old.sent ++ parts.items) }
-    ensures spent { IsErrOf result Refusal.NumbersSpent → MAX_ITEMS < length (s.old.sent ++ parts.items) }
+    ensures spent { IsErrOf result Refusal.NumbersSpent
+        → MAX_ITEMS < length (s.old.sent ++ parts.items) }
 {
     for part in parts {
         put_part(rt, way, s, part, gate)?;
@@ -99,8 +100,10 @@ pub(crate) fn split<R: Wait, G: Gate>(
     gate: &G,
 ) -> Result<DoneSeat<Part>, Refusal>
     requires { IsFreshWriter way.now.lanes.table.shared.table_id way.now.lanes.shape s }
-    ensures done { IfOk result (λ d. IsDone plan.shape plan.batch (map (λ r. r.now) reads.now) way.now.writers s d) }
-    ensures cause { IfErr result (IsCause plan.shape plan.batch (map (λ r. r.now) reads.now) way.now.writers) }
+    ensures done { IfOk result (λ d. IsDone plan.shape plan.batch
+        (map (λ r. r.now) reads.now) way.now.writers s d) }
+    ensures cause { IfErr result
+        (IsCause plan.shape plan.batch (map (λ r. r.now) reads.now) way.now.writers) }
 {
     for c in 0..chunks(reads.len(), plan.batch) {
         if c % way.writers == s.number() {

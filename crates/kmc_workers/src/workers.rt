@@ -88,7 +88,9 @@ fn split_all<'s, E, R: Threads + Wait + Sync, G: Gate + Sync>(
 ) -> Result<Vec<DoneSeat<Part>>, Refusal>
     requires { Each (IsFreshWriter way.now.lanes.table.shared.table_id way.now.lanes.shape) seats.items }
     ensures { MatchResult result
-        (λ v. AllZip (IsDone plan.shape plan.batch (map (λ v. v.now) reads.now) way.now.writers) seats.items v.items)
+        (λ v. AllZip
+        (IsDone plan.shape plan.batch
+        (map (λ v. v.now) reads.now) way.now.writers) seats.items v.items)
         (IsCause plan.shape plan.batch (map (λ v. v.now) reads.now) way.now.writers) }
 {
     let Some(seat) = seats.pop() else {
@@ -109,8 +111,10 @@ fn split_all<'s, E, R: Threads + Wait + Sync, G: Gate + Sync>(
         move || -> Result<DoneSeat<Part>, Refusal>
             requires { IsFreshWriter way.now.lanes.table.shared.table_id way.now.lanes.shape seat }
             ensures { MatchResult result
-                (λ d. IsDone plan.shape plan.batch (map (λ v. v.now) reads.entry.now) way.entry.now.writers seat d)
-                (IsCause plan.shape plan.batch (map (λ v. v.now) reads.entry.now) way.entry.now.writers) }
+                (λ d. IsDone plan.shape plan.batch
+                (map (λ v. v.now) reads.entry.now) way.entry.now.writers seat d)
+                (IsCause plan.shape plan.batch
+                (map (λ v. v.now) reads.entry.now) way.entry.now.writers) }
         { split_one(rt, way, seat, reads, plan, gate) },
     );
     let child = match started {
@@ -156,9 +160,12 @@ pub(crate) fn store_all<'s, E, R: Threads + Wait + Sync, G: Gate + Sync>(
 ) -> Result<(Vec<DoneSeat<Part>>, Vec<Shard>), Refusal>
     requires shards { Each (IsFreshShard way.now.lanes.table.shared.table_id way.now.lanes.shape plan.shape) seats.shards.items }
     requires writers { Each (IsFreshWriter way.now.lanes.table.shared.table_id way.now.lanes.shape) seats.writers.items }
-    ensures done { IfOk result (λ q. AllZip (IsDone plan.shape plan.batch (map (λ v. v.now) reads.now) way.now.writers) seats.writers.items q.0.items) }
+    ensures done { IfOk result (λ q. AllZip
+        (IsDone plan.shape plan.batch
+        (map (λ v. v.now) reads.now) way.now.writers) seats.writers.items q.0.items) }
     ensures shards { IfOk result (λ q. AllZip IsShard seats.shards.items q.1.items) }
-    ensures cause { IfErr result (IsCause plan.shape plan.batch (map (λ v. v.now) reads.now) way.now.writers) }
+    ensures cause { IfErr result
+        (IsCause plan.shape plan.batch (map (λ v. v.now) reads.now) way.now.writers) }
 {
     let Seats {
         writers,

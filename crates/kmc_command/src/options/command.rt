@@ -44,7 +44,8 @@ fn with_each<'a, N: Named>(
     all: &[N],
 ) -> Result<Command<'a>, AllocError>
     ensures { IfOk result (λ r. app_of r
-        ≡ fold with_rule (app_of plain.entry) (map (λ n. rule_of N.action (N.known_as n)) all.now)) }
+        ≡ fold with_rule (app_of plain.entry)
+        (map (λ n. rule_of N.action (N.known_as n)) all.now)) }
 {
     let mut command = plain;
     for named in all {

@@ -19,7 +19,8 @@ use kmc_tool::setting::Setting;
 
 /// The settings, or the first fault in the order of [`OPTIONS`](crate::named::OPTIONS) after the format's.
 pub fn given(matches: &ArgMatches<'_>) -> Result<Params, ParamsError>
-    ensures { MatchResult result (λ r. AreGiven (rows_of (found_of matches.now)) r × HasUsualQueue r)
+    ensures { MatchResult result
+        (λ r. AreGiven (rows_of (found_of matches.now)) r × HasUsualQueue r)
         (Faults (rows_of (found_of matches.now))) }
 {
     let format = format(matches)?;

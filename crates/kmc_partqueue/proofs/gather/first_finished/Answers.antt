@@ -15,4 +15,6 @@ loop-i-preserved g c = λ j lt s e all. let i : ℕ = c.loop-i.i in let r = c.in
     (λ ne. c.loop-i.invariant j (omega arith) s e all)
 
 pub unreachable-requires : goal.unreachable-requires
-unreachable-requires g c = let r = c.requires in let lt = at_within c.args.readers.now r.1.0 r.0 r.1.1 in let end = c.loop-i-test.false in c.loop-i.invariant r.1.0 (omega arith) r.0 r.1.1 r.2
+unreachable-requires g c =
+    let r = c.requires in let lt = at_within c.args.readers.now r.1.0 r.0 r.1.1 in let end = c.loop-i-test.false in
+    c.loop-i.invariant r.1.0 (omega arith) r.0 r.1.1 r.2

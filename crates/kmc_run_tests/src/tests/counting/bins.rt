@@ -160,7 +160,8 @@ fn names_the_first_damaged_bin(rt: HostRuntime) -> Result<(), Fail> {
 
 /// The lists of three bins: G; none; A and T.
 fn lists_of_bins(alloc: Global) -> Result<Vec<Vec<(Kmer, u64)>>, AllocError>
-    ensures { IfOk result (λ lists. map (λ l. l.items) lists.items ≡ ((2 ∷ [], 3) ∷ []) ∷ [] ∷ ((0 ∷ [], 2) ∷ (3 ∷ [], 1) ∷ []) ∷ []) }
+    ensures { IfOk result (λ lists. map (λ l. l.items) lists.items
+        ≡ ((2 ∷ [], 3) ∷ []) ∷ [] ∷ ((0 ∷ [], 2) ∷ (3 ∷ [], 1) ∷ []) ∷ []) }
 {
     let mut first = Vec::new(alloc);
     first.push((Kmer::of_packed(2, 1), 3))?;

@@ -56,7 +56,8 @@ fn split_in_turn<G: Gate>(
     gate: &G,
 ) -> Result<(), AllocError>
     requires queue { lanes.now.shape.writers ≡ 2 }
-    requires seats { seats.items ≡ row_from (new_writer lanes.now.table.shared.table_id lanes.now.shape) 0 2 }
+    requires seats { seats.items ≡ row_from
+        (new_writer lanes.now.table.shared.table_id lanes.now.shape) 0 2 }
 {
     assert!(rt; reads.len() == 2);
     let second = seats.pop().expect(rt, "a writer");
@@ -72,7 +73,8 @@ fn store_in_turn<G: Gate>(
     mut seats: Vec<ReaderSeat<Part>>,
     gate: &G,
 )
-    requires { seats.items ≡ row_from (new_reader lanes.now.table.shared.table_id lanes.now.shape) 0 2 }
+    requires { seats.items ≡ row_from
+        (new_reader lanes.now.table.shared.table_id lanes.now.shape) 0 2 }
 {
     let second = seats.pop().expect(rt, "a reader");
     let first = seats.pop().expect(rt, "a reader");

@@ -7,14 +7,17 @@ use Rattle.kmc_partqueue.proofs.lanes.Lanes.complete.Goals as goal
 
 pub store-requires : goal.store-requires
 store-requires g c = let me = c.args.self.now in let vi = c.s.view_is in let n : ℕ = c.s.inside.number in let m : ℕ = c.s.inside.count in
-    let near : n < me.shape.writers = subst (λ (z : ℕ). z < me.shape.writers) (sym (ap (λ v. v.number) vi)) c.requires.2 in let all : ℕ = me.shape.writers * me.shape.per_writer in (
+    let near : n < me.shape.writers = subst (λ (z : ℕ). z < me.shape.writers) (sym (ap (λ v. v.number) vi)) c.requires.2 in
+    let all : ℕ = me.shape.writers * me.shape.per_writer in (
       ap (λ v. v.table) vi ∙ c.requires.0,
       subst (λ (z : ℕ). n < z) (sym me.sized.0) (let x : n < 2 * me.shape.writers + all = omega arith in x),
       end_call me.table.shared.key _ _ c.s.inside.seat.me n c.s.inside.per_writer m _ _ c.s.invariant refl (let x : m + 1 ≡ suc m = omega arith in x),
     )
 
-ended : (g : Over) (c : After-store g) → c.store.new.seat.me ≡ resting c.s.inside.number c.s.inside.per_writer (sent_of c.s.inside.seat.me.0) true
-ended g c = ended_after c.s.inside.seat.me c.store.new.seat.me c.s.inside.number c.s.inside.per_writer c.s.inside.count c.s.invariant 0 c.store.ensures.2
+ended : (g : Over) (c : After-store g)
+    → c.store.new.seat.me ≡ resting c.s.inside.number c.s.inside.per_writer (sent_of c.s.inside.seat.me.0) true
+ended g c =
+    ended_after c.s.inside.seat.me c.store.new.seat.me c.s.inside.number c.s.inside.per_writer c.s.inside.count c.s.invariant 0 c.store.ensures.2
 
 pub invariant_of-result : goal.invariant_of-result
 invariant_of-result g c = let now = ended g (goal.at.invariant_of-result g c).After-store in

@@ -3,7 +3,8 @@ use Rattle.kmc_partqueue.specs.Seats.{AllEnded}
 use Rattle.kmc_partqueue.proofs.lanes.Lanes.take.Goals as goal
 
 pub returns-in-Got-clause-again : goal.returns-in-Got-clause-again
-returns-in-Got-clause-again g c = λ all. absurd (c.in-Got.ensures.again (subst (λ v. AllEnded v.writers v.totals) (sym (c.loop.invariant.6 all)) all)).1
+returns-in-Got-clause-again g c =
+    λ all. absurd (c.in-Got.ensures.again (subst (λ v. AllEnded v.writers v.totals) (sym (c.loop.invariant.6 all)) all)).1
 
 pub returns-in-Finished-clause-again : goal.returns-in-Finished-clause-again
 returns-in-Finished-clause-again g c = λ all. let same = c.loop.invariant.6 all in ((c.in-Finished.ensures.again (subst (λ v. AllEnded v.writers v.totals) (sym same) all)).0 ∙ same, tt)

@@ -12,7 +12,10 @@ returns-in-Some-clause-again g c = λ all. let inv = c.loop.invariant in let sam
     absurd (open_or_ended (ap (λ v. slice_get v.totals c.loop.lane) (sym same) ∙ c.is_open.ensures.open c.if-is_open.true) (all c.loop.lane (subst (λ (z : ℕ). c.loop.lane < z) (sym c.requires.2) inv.5)).1)
 
 pub loop-preserved : goal.loop-preserved
-loop-preserved g c = let inv = c.loop.invariant in let all : ℕ = c.args.self.now.shape.writers in let pos : 0 < all = c.args.self.now.shape.within.0 in let at : ℕ = c.if-lane-self.lane in let lane : at < all = (elim c.if-lane-self.branch [ then-lane-self w ↦ (let a = w.if-lane-self.true in let e = w.lane-is in omega arith) | else-lane-self w ↦ (let e : at ≡ 0 = w.lane-is in omega arith) ]) in
+loop-preserved g c =
+    let inv = c.loop.invariant in let all : ℕ = c.args.self.now.shape.writers in
+    let pos : 0 < all = c.args.self.now.shape.within.0 in let at : ℕ = c.if-lane-self.lane in
+    let lane : at < all = (elim c.if-lane-self.branch [ then-lane-self w ↦ (let a = w.if-lane-self.true in let e = w.lane-is in omega arith) | else-lane-self w ↦ (let e : at ≡ 0 = w.lane-is in omega arith) ]) in
     elim c.if-is_open.branch [
       | then-is_open+in-None w ↦ (let t = w.in-None.ensures in let is = w.s-is in (
         ap (λ v. v.table) is ∙ t.seat.0 ∙ inv.0,

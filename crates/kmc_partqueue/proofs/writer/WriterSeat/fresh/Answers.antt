@@ -7,4 +7,5 @@ pub invariant_of-result : goal.invariant_of-result
 invariant_of-result g c = rests c.args.seat.me c.args.number c.args.per_writer 0 [] c.requires refl (omega arith)
 
 pub returns : goal.returns
-returns g c = λ j. record { table = c.args.seat.table_id; number = c.args.number; per_writer = c.args.per_writer; sent = ap (λ m. sent_of m.0) c.requires j }
+returns g c =
+    λ j. record { table = c.args.seat.table_id; number = c.args.number; per_writer = c.args.per_writer; sent = ap (λ m. sent_of m.0) c.requires j }
