@@ -228,54 +228,41 @@ fn words_of_body(
     }
 }
 
+/// The answer where a body's record is damaged.
+fn damaged(fault: RecordFault, offset: usize) -> Result<u64, PartError> {
+    Err(PartError::Damaged(fault, offset))
+}
+
+/// The answer where a body's record belongs to another bin.
+fn of_another_bin(offset: usize) -> Result<u64, PartError> {
+    Err(PartError::WrongBin(offset))
+}
+
 #[test]
 fn takes_bodies_of_whole_records_of_the_bin(rt: HostRuntime) -> Result<(), Fail> {
     let alloc = rt.alloc();
+    let short = RecordFault::Short;
+    let padding = RecordFault::Padding;
     for (sizes, bin, bytes, want) in [
         ((4, 9, 7), 6, [0, 0x1B, 0, 0x1B].as_slice(), Ok(2)),
-        (
-            (4, 9, 7),
-            6,
-            [0, 0x1B, 0].as_slice(),
-            Err(PartError::Damaged(RecordFault::Short, 2)),
-        ),
-        (
-            (4, 9, 7),
-            6,
-            [0].as_slice(),
-            Err(PartError::Damaged(RecordFault::Short, 0)),
-        ),
+        ((4, 9, 7), 6, [0, 0x1B, 0].as_slice(), damaged(short, 2)),
+        ((4, 9, 7), 6, [0].as_slice(), damaged(short, 0)),
         ((4, 9, 7), 6, [].as_slice(), Ok(0)),
         (
             (4, 9, 7),
             6,
             [0, 0x1B, 0, 0x6C].as_slice(),
-            Err(PartError::WrongBin(2)),
+            of_another_bin(2),
         ),
-        (
-            (4, 9, 7),
-            6,
-            [0, 0x6C, 0].as_slice(),
-            Err(PartError::WrongBin(0)),
-        ),
-        (
-            (4, 9, 7),
-            6,
-            [1, 0x1B, 0].as_slice(),
-            Err(PartError::WrongBin(0)),
-        ),
-        (
-            (4, 9, 7),
-            3,
-            [1, 0x1B, 0].as_slice(),
-            Err(PartError::WrongBin(0)),
-        ),
+        ((4, 9, 7), 6, [0, 0x6C, 0].as_slice(), of_another_bin(0)),
+        ((4, 9, 7), 6, [1, 0x1B, 0].as_slice(), of_another_bin(0)),
+        ((4, 9, 7), 3, [1, 0x1B, 0].as_slice(), of_another_bin(0)),
         ((4, 9, 1), 0, [1, 0x1B, 0].as_slice(), Ok(2)),
         (
             (5, 5, 1),
             0,
             [1, 0x1B, 0x11].as_slice(),
-            Err(PartError::Damaged(RecordFault::Padding, 0)),
+            damaged(padding, 0),
         ),
         ((5, 5, 1), 0, [1, 0x1B, 0x10].as_slice(), Ok(2)),
     ] {
