@@ -355,7 +355,8 @@ impl Scan {
         if self.is_between() {
             return Ok(());
         }
-        self.end_line()
+        self.end_line()?;
+        Ok(())
     }
 
     /// No line is left: the open read is whole, or it was cut short.
@@ -393,7 +394,8 @@ impl Scan {
         ensures ends { take (length self.old.ends.items) self.new.ends.items ≡ self.old.ends.items }
     {
         self.end_open()?;
-        self.end_read()
+        self.end_read()?;
+        Ok(())
     }
 
     /// Ends the text here, or leaves all as it was.

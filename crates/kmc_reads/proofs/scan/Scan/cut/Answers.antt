@@ -15,7 +15,7 @@ of_rows-requires c =
     let old = c.args.self.now in
     let counted : c.len-2.result ≡ length old.bytes.items = search rules in
     let bytes : c.replace-bytes.result.items ≡ old.bytes.items = ap items c.replace-bytes.ensures.value in
-    let ends : c.replace-ends.result.items ≡ old.ends.items ++ length old.bytes.items ∷ [] = ap items c.replace-ends.ensures.value ∙ c.in-Ok.ensures.items ∙ ap (λ n. old.ends.items ++ n ∷ []) counted in
+    let ends : c.replace-ends.result.items ≡ old.ends.items ++ length old.bytes.items ∷ [] = ap items c.replace-ends.ensures.value ∙ c.in_ok-push.ensures.items ∙ ap (λ n. old.ends.items ++ n ∷ []) counted in
     subst (λ t. AreEnds 0 t (length c.replace-bytes.result.items)) (sym ends) (subst (λ t. AreEnds 0 (old.ends.items ++ length old.bytes.items ∷ []) (length t)) (sym bytes)
     (rising w.rows (w.spot.read ++ kept w.spot.stage (strip_last 13 w.front)) old.ends.items old.bytes.items k.ends k.bytes))
 
@@ -24,7 +24,7 @@ returns-clause-taken c = λ rows spot front at.
     let old = c.args.self.now in
     let counted : c.len-2.result ≡ length old.bytes.items = search rules in
     let bytes : c.replace-bytes.result.items ≡ old.bytes.items = ap items c.replace-bytes.ensures.value in
-    let ends : c.replace-ends.result.items ≡ old.ends.items ++ length old.bytes.items ∷ [] = ap items c.replace-ends.ensures.value ∙ c.in-Ok.ensures.items ∙ ap (λ n. old.ends.items ++ n ∷ []) counted in
+    let ends : c.replace-ends.result.items ≡ old.ends.items ++ length old.bytes.items ∷ [] = ap items c.replace-ends.ensures.value ∙ c.in_ok-push.ensures.items ∙ ap (λ n. old.ends.items ++ n ∷ []) counted in
     let first : c.len.result ≡ length old.bytes.items = search rules in
     let rest = c.emptied-self.ensures.rest in
     hands c.args.overlap rows spot front old _ c.of_rows.result

@@ -4,6 +4,7 @@ use Rattle.kmc_reads.specs.Pieces.{last_line}
 use Rattle.kmc_reads.specs.Stages.{reads_from, past, given_by, answer_past, answer_at_end}
 use Rattle.kmc_reads.specs.Standing.{At}
 use Rattle.kmc_reads.proofs.Feeding.{last_is_line}
+use Rattle.kmc_reads.proofs.PassedOn.{passed_on}
 use Rattle.kmc_reads.proofs.Answers.{with_none}
 use Rattle.kmc_reads.proofs.scan.Scan.end_open.Goals as goal
 
@@ -17,21 +18,24 @@ returns-then-is_between-clause-whole c = λ rows spot front at.
       stands = subst (λ t. At t spot [] c.args.self.now) (sym (append-nil rows)) (subst (λ t. At rows spot t c.args.self.now) empty at);
     }
 
-pub returns-in-Ok-clause-whole : goal.returns-in-Ok-clause-whole
-returns-in-Ok-clause-whole c = λ rows spot front at.
+pub returns-clause-whole : goal.returns-clause-whole
+returns-clause-whole c = λ rows spot front at.
     let line = strip_last 13 front in
     let given = given_by spot.stage spot.read line in let next = past spot line in
     let some = c.is_between.ensures.some rows spot front at c.if-is_between.false in
     record {
       more = given;
       next = next;
-      reads = ap (reads_from spot) (last_is_line front some) ∙ ap (λ o. answer_past o given (answer_at_end next.number next.stage next.read)) (c.in-Ok.ensures.fine rows spot front at);
-      stands = c.in-Ok.ensures.at rows spot front at;
+      reads = ap (reads_from spot) (last_is_line front some) ∙ ap (λ o. answer_past o given (answer_at_end next.number next.stage next.read)) (c.in_ok-end_line.ensures.fine rows spot front at);
+      stands = c.in_ok-end_line.ensures.at rows spot front at;
     }
 
-pub returns-in-Err-clause-refused : goal.returns-in-Err-clause-refused
-returns-in-Err-clause-refused c = λ rows spot front at other.
+pub returns-in_err-end_line-clause-refused : goal.returns-in_err-end_line-clause-refused
+returns-in_err-end_line-clause-refused c = λ rows spot front at.
     let line = strip_last 13 front in
     let given = given_by spot.stage spot.read line in let next = past spot line in
     let some = c.is_between.ensures.some rows spot front at c.if-is_between.false in
-    ap (reads_from spot) (last_is_line front some) ∙ ap (λ o. answer_past o given (answer_at_end next.number next.stage next.read)) (c.in-Err.ensures.fault rows spot front at other)
+    passed_on c.end_line.result c.from_residual.result _ _ _ c.in_err-end_line.was
+    (c.end_line.ensures.fault rows spot front at) c.from_residual.ensures.1
+    λ e found other.
+    ap (reads_from spot) (last_is_line front some) ∙ ap (λ o. answer_past o given (answer_at_end next.number next.stage next.read)) (found other)

@@ -1,5 +1,6 @@
 use Rattle.std.proofs.Common.{◌≡◌, ℕ, List, ◌++◌, [], ◌∷◌, take, length, refl, ap, subst, ◌∙◌, take_all, arith}
 use Rattle.kmc_reads.specs.Standing.{Goes, HasFault}
+use Rattle.kmc_reads.proofs.PassedOn.{passed_on}
 use Rattle.kmc_reads.proofs.Walking.{here, then_goes, fed, feed_faults, then_faults, faults_on, over_split, take_front}
 use Rattle.kmc_reads.proofs.scan.Scan.go.Goals as goal
 
@@ -21,25 +22,28 @@ loop-line-preserved c =
       goes = λ rows spot front at.
           let w = u.goes rows spot front at in let g = w.goes in
           let h = c.in_ok-extend.ensures.goes (rows ++ g.more) g.next g.left g.stands cut.unbroken in
-          let fine = c.in-Ok.ensures.fine ((rows ++ g.more) ++ h.more) h.next h.left h.stands in
-          let next = c.in-Ok.ensures.at ((rows ++ g.more) ++ h.more) h.next h.left h.stands in
+          let fine = c.in_ok-end_line.ensures.fine ((rows ++ g.more) ++ h.more) h.next h.left h.stands in
+          let next = c.in_ok-end_line.ensures.at ((rows ++ g.more) ++ h.more) h.next h.left h.stands in
           record {
             over = w.over ++ (line ++ 10 ∷ []);
             whole = over_split w.over line after _ _ cut w.whole;
             goes = then_goes rows spot front w.over (line ++ 10 ∷ []) c.loop-line.self new g
                 (then_goes (rows ++ g.more) g.next g.left line (10 ∷ []) between new h (fed ((rows ++ g.more) ++ h.more) h.next h.left new fine next));
           };
-      bytes = ap (take (length c.args.self.now.bytes.items)) c.in-Ok.ensures.bytes ∙ take_front c.args.self.now.bytes.items c.loop-line.self.bytes.items between.bytes.items u.bytes c.in_ok-extend.ensures.bytes;
+      bytes = ap (take (length c.args.self.now.bytes.items)) c.in_ok-end_line.ensures.bytes ∙ take_front c.args.self.now.bytes.items c.loop-line.self.bytes.items between.bytes.items u.bytes c.in_ok-extend.ensures.bytes;
       ends = take_front c.args.self.now.ends.items between.ends.items new.ends.items
-          (take_front c.args.self.now.ends.items c.loop-line.self.ends.items between.ends.items u.ends c.in_ok-extend.ensures.ends) c.in-Ok.ensures.ends;
+          (take_front c.args.self.now.ends.items c.loop-line.self.ends.items between.ends.items u.ends c.in_ok-extend.ensures.ends) c.in_ok-end_line.ensures.ends;
     }
 
-pub returns-in-Err-clause-fault : goal.returns-in-Err-clause-fault
-returns-in-Err-clause-fault c = λ rows spot front at other.
+pub returns-in_err-end_line-clause-fault : goal.returns-in_err-end_line-clause-fault
+returns-in_err-end_line-clause-fault c = λ rows spot front at.
     let u = c.loop-line.invariant in let w = u.goes rows spot front at in let g = w.goes in
-    let line = c.in-Some.line.now in let after = c.in-Some.after.now in let e = c.in-Err.e in
+    let line = c.in-Some.line.now in let after = c.in-Some.after.now in
     let h = c.in_ok-extend.ensures.goes (rows ++ g.more) g.next g.left g.stands c.in-Some.ensures.unbroken in
-    let faulty = feed_faults h.next h.left e (c.in-Err.ensures.fault ((rows ++ g.more) ++ h.more) h.next h.left h.stands other) in
+    passed_on c.end_line.result c.from_residual-in_err-end_line.result _ _ _ c.in_err-end_line.was
+    (c.end_line.ensures.fault ((rows ++ g.more) ++ h.more) h.next h.left h.stands) c.from_residual-in_err-end_line.ensures.1
+    λ e found other.
+    let faulty = feed_faults h.next h.left e (found other) in
     subst (λ t. HasFault spot front t e) (over_split w.over line after _ _ c.in-Some.ensures w.whole)
     (faults_on spot front (w.over ++ (line ++ 10 ∷ [])) after e
     (then_faults spot g.next front g.left w.over (line ++ 10 ∷ []) g.more e g.leads (then_faults g.next h.next g.left h.left line (10 ∷ []) h.more e h.leads faulty)))

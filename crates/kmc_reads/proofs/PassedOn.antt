@@ -1,0 +1,10 @@
+-- What holds of an error that a `?` passes on as it is.
+use Rattle.std.proofs.Common.{◌≡◌, Result, Err, IfErr, sym, subst}
+use Rattle.std.specs.Result.{IsErrAnd}
+use Rattle.std.proofs.lemmas.Result.{IfErr-at_err, err_from_is_err_and}
+
+pub passed_on : {T U E : Type 0} (from : Result U E) (to : Result T E) (P Q : E → Type 0) (d : E) → from ≡ Err d
+    → IfErr from P → IsErrAnd to (λ x. x ≡ d) → ((e : E) → P e → Q e) → IfErr to Q
+passed_on from to P Q d was holds made weaker =
+    let p = err_from_is_err_and to made in
+    subst (λ r. IfErr r Q) (sym p.1) (weaker p.0 (subst P (sym p.2) (IfErr-at_err P was holds)))
