@@ -68,14 +68,7 @@ impl<T: Drop> Lanes<T> {
         alloc: Global,
         seat: &mut Seat<Option<T>, View<T>>,
     ) -> Result<Vec<ReaderSeat<T>>, AllocError>
-        requires fresh { seat.old.me ≡ (
-          record {
-            writers = [];
-            readers = row_from
-                (fresh_reader self.now.table.shared.key) 0 self.now.shape.readers;
-          },
-          [],
-        ) }
+        requires fresh { seat.old.me ≡ (record { writers = []; readers = row_from (fresh_reader self.now.table.shared.key) 0 self.now.shape.readers }, []) }
         requires queue { seat.old.table_id ≡ self.now.table.shared.table_id }
         ensures seats { IfOk result (λ v. v.items
             ≡ row_from (new_reader self.now.table.shared.table_id self.now.shape) 0 self.now.shape.readers) }

@@ -230,8 +230,7 @@ impl<T> Lanes<T> {
     /// Takes a part, or is told that there will be none. It tries again, and yields between two tries, for as long as a round takes nothing.
     pub fn take<R: Wait, G: Gate>(&self, rt: &R, s: &mut ReaderSeat<T>, gate: &G) -> Taken<T>
         requires { IsReaderOf self.now.table.shared.table_id self.now.shape s.old }
-        ensures seat { (s.new.table ≡ s.old.table) × (s.new.number ≡ s.old.number)
-            × (s.new.per_writer ≡ s.old.per_writer) × (s.new.writers ≡ s.old.writers) }
+        ensures seat { (s.new.table ≡ s.old.table) × (s.new.number ≡ s.old.number) × (s.new.per_writer ≡ s.old.per_writer) × (s.new.writers ≡ s.old.writers) }
         ensures answer { TakeAnswers s.old s.new result }
         ensures notes { KeepsNotes s.old s.new }
         ensures again { AllEnded s.old.writers s.old.totals → (s.new ≡ s.old) × IsLast result }

@@ -14,10 +14,8 @@ pub fn gathered<T: Drop>(
 ) -> Option<Totals>
     requires queue { Each (IsWriterOf lanes.table.shared.table_id lanes.shape) writers.items
         × Each (IsReaderOf lanes.table.shared.table_id lanes.shape) readers.items }
-    requires writers { (w : ℕ) → w < lanes.shape.writers
-        → total_of (λ s. same s.number w) writers.items ≡ 1 }
-    requires readers { (q : ℕ) → q < lanes.shape.readers
-        → total_of (λ s. same s.number q) readers.items ≡ 1 }
+    requires writers { (w : ℕ) → w < lanes.shape.writers → total_of (λ s. same s.number w) writers.items ≡ 1 }
+    requires readers { (q : ℕ) → q < lanes.shape.readers → total_of (λ s. same s.number q) readers.items ≡ 1 }
     ensures { IfSome result (λ t. length t ≡ lanes.shape.writers) }
 {
     if readers.is_empty() || !readers[0].finished() {

@@ -39,12 +39,9 @@ pub fn run<T: Threads + Wait + Sync, R: Read, W: Write, G: Gate + Sync>(
     requires reads { reader.old.reads + 2 ^ 32 < 2 ^ 64 }
 
     // What was written is the dump of what the reader gave to its end, and the answer is its number of lines.
-    ensures ok { IfOk result (λ lines. (bytes text : List ℕ)
-        × GaveAll (R.remaining reader.old.inner) (R.remaining reader.new.inner) bytes
+    ensures ok { IfOk result (λ lines. (bytes text : List ℕ) × GaveAll (R.remaining reader.old.inner) (R.remaining reader.new.inner) bytes
         × IsDumpOf params.now.format bytes params.now.strands params.now.k params.now.limits text lines × Appends (W.contents writer.old.inner) (W.contents writer.new.inner) text) }
-    ensures sound { IfOk result (λ lines. (reader.new.failures ≡ reader.old.failures)
-        × (writer.new.failures ≡ writer.old.failures)
-        × (reader.new.reads < reader.old.reads + 2 ^ 32)) }
+    ensures sound { IfOk result (λ lines. (reader.new.failures ≡ reader.old.failures) × (writer.new.failures ≡ writer.old.failures) × (reader.new.reads < reader.old.reads + 2 ^ 32)) }
 
     // Each refusal has its cause.
     ensures read { IsErrOf result RunError.Read → (reader.new.failures ≡ reader.old.failures + 1)

@@ -13,8 +13,7 @@ abbrev pub decreases-loop-reader : goal.decreases-loop-reader
 decreases-loop-reader g l = vec_len l.readers
 
 abbrev pub invariant-loop-writer : goal.invariant-loop-writer
-invariant-loop-writer g l =
-    (l.seat.table_id ≡ l.initial.seat.table_id) × (l.seat.id ≡ l.initial.seat.id) × (l.seat.me.0.readers ≡ l.initial.seat.me.0.readers)
+invariant-loop-writer g l = (l.seat.table_id ≡ l.initial.seat.table_id) × (l.seat.id ≡ l.initial.seat.id) × (l.seat.me.0.readers ≡ l.initial.seat.me.0.readers)
     × Joined (IsWriterOf l.self.table.shared.table_id l.self.shape) WriterPairs l.initial.seat.me.0.writers l.seat.me.0.writers l.fn.writers.items l.writers.items
 
 abbrev pub decreases-loop-writer : goal.decreases-loop-writer

@@ -76,13 +76,10 @@ invariant_of-s-2 g c =
     rests c.store.new.seat.me n c.s.inside.per_writer (m + 1) (s ++ c.args.part ∷ []) put (length-append s (c.args.part ∷ []) ∙ ap (λ (z : ℕ). z + 1) at.1) (let le : m ≤ 4294967295 = at.2 in omega arith)
 
 pub returns-clause-put : goal.returns-clause-put
-returns-clause-put g c =
-    let me = c.args.self.now in let vi = c.s.view_is in let is = ap (λ v. v.per_writer) vi ∙ c.requires.1 in
-    let m : ℕ = c.s.inside.count in let n : ℕ = c.s.inside.number in
+returns-clause-put g c = let me = c.args.self.now in let vi = c.s.view_is in let is = ap (λ v. v.per_writer) vi ∙ c.requires.1 in let m : ℕ = c.s.inside.count in let n : ℕ = c.s.inside.number in
     let at = c.s.invariant in let slot : ℕ = n * c.s.inside.per_writer + m % c.s.inside.per_writer in
     let held = held_after c.s.inside.seat.me c.load-found.new.seat.me n c.s.inside.per_writer m at c.load-found.result slot c.load-found.ensures.2 (c.if-found-turn.false ∙ ap (λ (z : ℕ). 2 * (m / z)) (sym is)) refl in
-    let s = sent_of c.s.inside.seat.me.0 in
-    let now = c.move_in.ensures.2 ∙ (λ j. ((held j).0, (n * sym is j + m % sym is j, Some c.args.part) ∷ [])) in
+    let s = sent_of c.s.inside.seat.me.0 in let now = c.move_in.ensures.2 ∙ (λ j. ((held j).0, (n * sym is j + m % sym is j, Some c.args.part) ∷ [])) in
     let put = sent_after c.move_in.new.seat.me c.store.new.seat.me n c.s.inside.per_writer 0 slot m s c.args.part now at.1 refl c.store.ensures.2 in
     (sym at.1 ∙ ap length (ap (λ v. v.sent) vi), ap (λ x. sent_of x.0) put ∙ ap (λ z. z ++ c.args.part ∷ []) (ap (λ v. v.sent) vi))
 
