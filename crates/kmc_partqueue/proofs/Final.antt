@@ -61,6 +61,7 @@ module _ {T : Type 0} where
   pairs_each P Q go [] (s ∷ ss) p e = absurd p
   pairs_each P Q go (b ∷ bs) [] p e = absurd p
   pairs_each P Q go (b ∷ bs) (s ∷ ss) p e = (go b s p.0 e.0, pairs_each P Q go bs ss p.1 e.1)
+
   pub writers_each : (P : Writing T → Type 0) (Q : WriterState T → Type 0) → ((a : Writing T) (s : WriterState T) → WriterTells a s → P a → Q s) → (ws : List (Writing T)) (ss : List (WriterState T)) → WriterPairs ws ss → Each P ws → Each Q ss
   writers_each P Q go [] [] p e = tt
   writers_each P Q go [] (s ∷ ss) p e = absurd p
