@@ -197,10 +197,7 @@ pub fn next_pair<R: Read>(
     ensures kept { OnOk result (reader.new.failures ≡ reader.old.failures) }
     ensures device { IsErrOf result PairFault.Device
         → RisesByOne reader.old.failures reader.new.failures }
-    ensures lost { OnErr result
-        ((rest : List ℕ)
-        × GoesOn (R.remaining reader.old.inner) (R.remaining reader.new.inner)
-        (unread room.old) rest) }
+    ensures lost { OnErr result ((rest : List ℕ) × GoesOn (R.remaining reader.old.inner) (R.remaining reader.new.inner) (unread room.old) rest) }
 {
     match next_line(reader, room) {
         Ok(Some(line)) => {

@@ -37,8 +37,7 @@ fn next_head<R: Read>(
         → IsSource k start (R.remaining reader.old.inner) room.old head taken
         → IsFaultAt k start (R.remaining reader.new.inner) line fault) }
     ensures kept { OnOk result (reader.new.failures ≡ reader.old.failures) }
-    ensures read { (s : ℕ) → IsErrOf result (SumError.Read s) → (s ≡ source)
-        × RisesByOne reader.old.failures reader.new.failures }
+    ensures read { (s : ℕ) → IsErrOf result (SumError.Read s) → (s ≡ source) × RisesByOne reader.old.failures reader.new.failures }
     ensures other { IfErr result IsOfSource }
     ensures lost { OnErr result ((start : Option (List ℕ)) (head : Head) (taken : List (List ℕ × ℕ))
         → IsSource k start (R.remaining reader.old.inner) room.old head taken
@@ -89,10 +88,8 @@ pub fn advance<R: Read>(
         → (starts : List (Option (List ℕ))) (lists : List (List (List ℕ × ℕ)))
         → AreSources k starts (map (λ r. R.remaining r.inner) readers.old) rooms.old heads.old lists
         → IsFirstFault k starts (map (λ r. R.remaining r.inner) readers.new) source line fault }
-    ensures kept { OnOk result (map (λ r. r.failures) readers.new
-        ≡ map (λ r. r.failures) readers.old) }
-    ensures read { (source : ℕ) → IsErrOf result (SumError.Read source)
-        → HasFailed source (map (λ r. r.failures) readers.old) (map (λ r. r.failures) readers.new) }
+    ensures kept { OnOk result (map (λ r. r.failures) readers.new ≡ map (λ r. r.failures) readers.old) }
+    ensures read { (source : ℕ) → IsErrOf result (SumError.Read source) → HasFailed source (map (λ r. r.failures) readers.old) (map (λ r. r.failures) readers.new) }
     ensures other { IfErr result IsOfSource }
     ensures lost { OnErr result
         ((starts : List (Option (List ℕ))) (lists : List (List (List ℕ × ℕ)))
