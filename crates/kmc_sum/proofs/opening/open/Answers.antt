@@ -1,8 +1,9 @@
-use Rattle.std.proofs.Common.{◌≡◌, ◌<◌, length, Err, refl, sym, ap, subst, ◌∙◌, arith, inl, inr}
+use Rattle.std.proofs.Common.{◌<◌, length, refl, sym, subst, ◌∙◌, arith, inl, inr}
 use Rattle.std.proofs.lemmas.List.{length-set}
+use Rattle.kmc_count.proofs.PassedOn.{passed_on}
 use Rattle.kmc_device.specs.Device.{Watched}
+use Rattle.kmc_device.proofs.Devices.{on_err}
 use Rattle.kmc_sum.specs.Sources.{AreReady}
-use Rattle.kmc_sum.specs.declared.error.SumError.TheVariants.{Line, Read}
 use Rattle.kmc_sum.proofs.Advances.{failed_at, failed_after, kept_at}
 use Rattle.kmc_sum.proofs.Openings.{all_ready, all_sources, reader_opened, reader_at_fault, reader_lost}
 use Rattle.kmc_sum.proofs.opening.open.Goals as goal
@@ -14,34 +15,38 @@ loop-i-preserved g c =
     let inv = c.loop-i.invariant in
     record {
       many = length-set readers i c.first_head.new.reader ∙ inv.many;
-      same = kept_at readers i c.index-readers-i.result c.first_head.new.reader (omega (arith, inv.many, c.loop-i-test.true)) c.in-Ok.ensures.kept ∙ inv.same;
-      most = c.in-Ok.ensures.length.1;
+      same = kept_at readers i c.index-readers-i.result c.first_head.new.reader (omega (arith, inv.many, c.loop-i-test.true))
+          c.in_ok-head.ensures.kept ∙ inv.same;
+      most = c.in_ok-head.ensures.length.1;
       opened = reader_opened (λ (r : Watched g.row.R.Denot). g.R.Read.remaining r.inner) readers c.index-readers-i.result c.first_head.new.reader _ _ i _ _ _ inv.opened c.index-rooms-i.result c.loop-i-test.true
-          c.in-Ok.found c.first_head.new.room c.in-Ok.head c.in-Ok.ensures.length.2 c.in-Ok.ensures.room c.in-Ok.ensures.length.0 c.in-Ok.ensures.fits c.in-Ok.ensures.ok;
+          c.in_ok-head.found c.first_head.new.room c.in_ok-head.head c.in_ok-head.ensures.length.2 c.in_ok-head.ensures.room
+          c.in_ok-head.ensures.length.0 c.in_ok-head.ensures.fits c.in_ok-head.ensures.ok;
     }
 
-pub returns-in-Err-clause-fault : goal.returns-in-Err-clause-fault
-returns-in-Err-clause-fault g c = λ source line fault is.
-    let e : c.in-Err.error ≡ Line source line fault = cc is in
-    let h = c.in-Err.ensures.fault source line fault (ap Err e) in (
+pub returns-in_err-head-clause-fault : goal.returns-in_err-head-clause-fault
+returns-in_err-head-clause-fault g c = λ source line fault is.
+    let h = c.first_head.ensures.fault source line fault
+    (passed_on c.first_head.result c.from_residual.result _ _ c.in_err-head.was c.from_residual.ensures.1 is) in (
       h.1.0,
       h.1.1,
       reader_at_fault (λ (r : Watched g.row.R.Denot). g.R.Read.remaining r.inner) c.loop-i.readers c.index-readers-i.result c.first_head.new.reader _ _ _ _ _ _ c.loop-i.invariant.opened c.index-rooms-i.result c.loop-i-test.true
           h.1.0 source line fault h.0 h.1.2,
     )
 
-pub returns-in-Err-clause-read : goal.returns-in-Err-clause-read
-returns-in-Err-clause-read g c = λ source is.
+pub returns-in_err-head-clause-read : goal.returns-in_err-head-clause-read
+returns-in_err-head-clause-read g c = λ source is.
     let i = c.loop-i.i in
     let inv = c.loop-i.invariant in
     let inside : i < length c.args.readers.now = c.loop-i-test.true in
-    let e : c.in-Err.error ≡ Read source = cc is in
-    let here = c.in-Err.ensures.read source (ap Err e) in
+    let here = c.first_head.ensures.read source
+    (passed_on c.first_head.result c.from_residual.result _ _ c.in_err-head.was c.from_residual.ensures.1 is) in
     failed_after source _ _ _ inv.same (failed_at c.loop-i.readers i c.index-readers-i.result c.first_head.new.reader (omega (arith, inv.many, inside)) source here.0 here.1)
 
-pub returns-in-Err-clause-lost : goal.returns-in-Err-clause-lost
-returns-in-Err-clause-lost g c = λ m.
-    reader_lost (λ (r : Watched g.row.R.Denot). g.R.Read.remaining r.inner) c.loop-i.readers c.index-readers-i.result c.first_head.new.reader _ _ _ _ _ _ c.loop-i.invariant.opened c.index-rooms-i.result c.loop-i-test.true m (c.in-Err.ensures.lost m)
+pub returns-in_err-head-clause-lost : goal.returns-in_err-head-clause-lost
+returns-in_err-head-clause-lost g c = on_err c.from_residual.result _ (λ m.
+    reader_lost (λ (r : Watched g.row.R.Denot). g.R.Read.remaining r.inner) c.loop-i.readers c.index-readers-i.result
+    c.first_head.new.reader _ _ _ _ _ _ c.loop-i.invariant.opened c.index-rooms-i.result c.loop-i-test.true m
+    (c.in_err-head.ensures.lost m))
 
 pub returns-then-k-eq0-clause-ready : goal.returns-then-k-eq0-clause-ready
 returns-then-k-eq0-clause-ready g c =

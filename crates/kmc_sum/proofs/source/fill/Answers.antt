@@ -1,4 +1,5 @@
 use Rattle.std.proofs.Common.{length, ap, arith, ◌∙◌}
+use Rattle.kmc_device.proofs.Devices.{on_err}
 use Rattle.kmc_sum.proofs.Rooms.{goes_trans, goes_like, goes_to, goes_kept, shifted, read_on, rewritten_length}
 use Rattle.kmc_sum.specs.Source.{unread}
 use Rattle.kmc_sum.proofs.source.fill.Goals as goal
@@ -10,7 +11,7 @@ returns-then-end-room-clause-ok g c =
     let moved = shifted r.bytes c.as_mut_slice.result.now c.shift.new.bytes c.as_mut_slice.ensures.value c.shift.auto.bytes r.from r.to c.shift.ensures in
     goes_trans _ _ _ _ _ _ (goes_like _ _ _ _ _ moved c.loop-room.invariant.goes)
     (read_on here.bytes c.as_mut_slice-in-loop-room.result.now c.read_behind.new.bytes c.as_mut_slice-in-loop-room.ensures.value c.read_behind.auto.bytes _ _ here.from here.to here.to
-    c.loop-room.invariant.front (goes_to _ _ _ _ _ _ c.if-end-room.true c.in-Ok.ensures.ok.3))
+    c.loop-room.invariant.front (goes_to _ _ _ _ _ _ c.if-end-room.true c.in_ok-end.ensures.ok.3))
 
 pub loop-room-preserved : goal.loop-room-preserved
 loop-room-preserved g c =
@@ -19,20 +20,31 @@ loop-room-preserved g c =
     record {
       room = record {
         order = omega (arith, c.loop-room.invariant.front);
-        inside = omega (arith, same, c.read_behind.auto.bytes, ap length c.as_mut_slice-in-loop-room.ensures.value, c.in-Ok.ensures.ok.1);
+        inside = omega (
+          arith,
+          same,
+          c.read_behind.auto.bytes,
+          ap length c.as_mut_slice-in-loop-room.ensures.value,
+          c.in_ok-end.ensures.ok.1,
+        );
         place = omega (arith, same, c.loop-room.invariant.room.place);
       };
       front = c.loop-room.invariant.front;
       lines = c.loop-room.invariant.lines;
-      kept = c.in-Ok.ensures.kept ∙ c.loop-room.invariant.kept;
+      kept = c.in_ok-end.ensures.kept ∙ c.loop-room.invariant.kept;
       goes = goes_trans _ _ _ _ _ _ c.loop-room.invariant.goes
-          (read_on here.bytes c.as_mut_slice-in-loop-room.result.now c.read_behind.new.bytes c.as_mut_slice-in-loop-room.ensures.value c.read_behind.auto.bytes _ _ here.from here.to c.in-Ok.end
-          c.loop-room.invariant.front c.in-Ok.ensures.ok.3);
+          (read_on here.bytes c.as_mut_slice-in-loop-room.result.now c.read_behind.new.bytes c.as_mut_slice-in-loop-room.ensures.value
+          c.read_behind.auto.bytes _ _ here.from here.to c.in_ok-end.end
+          c.loop-room.invariant.front c.in_ok-end.ensures.ok.3);
     }
 
-pub returns-in-Err-clause-lost : goal.returns-in-Err-clause-lost
-returns-in-Err-clause-lost g c =
+pub returns-in_err-end-clause-lost : goal.returns-in_err-end-clause-lost
+returns-in_err-end-clause-lost g c =
     let r = c.args.room.now in
     let here = c.loop-room.room in
     let moved = shifted r.bytes c.as_mut_slice.result.now c.shift.new.bytes c.as_mut_slice.ensures.value c.shift.auto.bytes r.from r.to c.shift.ensures in
-    (unread here, goes_kept _ _ _ _ _ (goes_like _ _ _ _ _ moved c.loop-room.invariant.goes) c.in-Err.ensures.bytes)
+    on_err c.from_residual.result _ (
+      unread here,
+      goes_kept _ _ _ _ _ (goes_like _ _ _ _ _ moved c.loop-room.invariant.goes)
+          c.in_err-end.ensures.bytes,
+    )

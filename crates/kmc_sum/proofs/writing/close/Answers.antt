@@ -1,5 +1,10 @@
-use Rattle.kmc_sum.proofs.Written.{out_kept}
+use Rattle.kmc_device.proofs.Devices.{on_err}
+use Rattle.kmc_sum.proofs.Written.{out_front, out_kept}
 use Rattle.kmc_sum.proofs.writing.close.Goals as goal
 
-pub returns-in-Err-flush-clause-front : goal.returns-in-Err-flush-clause-front
-returns-in-Err-flush-clause-front g c = λ start text h. out_kept start _ _ _ text _ h c.in-Ok.ensures.ok c.in-Err-flush.ensures.bytes
+pub returns-in_err-write_text-clause-front : goal.returns-in_err-write_text-clause-front
+returns-in_err-write_text-clause-front g c =
+    on_err c.from_residual.result _ (λ start text h. out_front start _ _ text _ h c.in_err-write_text.ensures.front)
+
+pub returns-in-Err-clause-front : goal.returns-in-Err-clause-front
+returns-in-Err-clause-front g c = λ start text h. out_kept start _ _ _ text _ h c.in_ok-write_text.ensures.ok c.in-Err.ensures.bytes

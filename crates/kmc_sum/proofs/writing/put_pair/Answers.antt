@@ -7,14 +7,22 @@ use Rattle.kmc_device.proofs.Devices.{gathered_more}
 use Rattle.kmc_sum.proofs.Written.{line_kept}
 use Rattle.kmc_sum.proofs.writing.put_pair.Goals as goal
 
-pub returns-in-Ok-clause-text : goal.returns-in-Ok-clause-text
-returns-in-Ok-clause-text g c = λ start text h.
+pub returns-in_ok-at-in-Some-clause-text : goal.returns-in_ok-at-in-Some-clause-text
+returns-in_ok-at-in-Some-clause-text g c = λ start text h.
     let x = unpack c.args.k c.args.packed in
     let keep = sym c.keep.ensures ∙ c.in-Some.is in
-    let line : take c.put_line.result c.put_line.new.room ≡ take c.in-Ok.at c.args.room.now ++ text_of (kept_pair c.args.limits.now x c.args.count) =
-    c.put_line.ensures.line
-    ∙ (λ i. take c.in-Ok.at c.args.room.now ++ (ap (λ (w : List ℕ). line_of (w, c.in-Some.shown)) c.of_packed-word.ensures ∙ sym (line_kept c.args.limits.now x c.args.count c.in-Some.shown c.if-count-eq0.false keep)) i) in
-    gathered_more start _ _ text _ _ _ _ h c.in-Ok.ensures.ok.2 line
+    let old = take c.in_ok-at-in-Some.at c.args.room.now in
+    let one = ap (λ (w : List ℕ). line_of (w, c.in-Some.shown)) c.of_packed-word.ensures in
+    let same = sym (line_kept c.args.limits.now x c.args.count c.in-Some.shown c.if-count-eq0.false keep) in
+    let line : take c.put_line.result c.put_line.new.room ≡ old ++ text_of (kept_pair c.args.limits.now x c.args.count) =
+    c.put_line.ensures.line ∙ (λ i. old ++ (one ∙ same) i) in
+    gathered_more start _ _ text _ _ _ _ h c.in_ok-at-in-Some.ensures.ok.2 line
 
 pub put_line-requires : goal.put_line-requires
-put_line-requires g c = omega (arith, c.in-Ok.ensures.ok.0, c.line_room.ensures.is, ap length c.of_packed-word.ensures, length_unpack c.args.k c.args.packed)
+put_line-requires g c = omega (
+  arith,
+  c.in_ok-at-in-Some.ensures.ok.0,
+  c.line_room.ensures.is,
+  ap length c.of_packed-word.ensures,
+  length_unpack c.args.k c.args.packed,
+)
