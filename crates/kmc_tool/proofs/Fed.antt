@@ -1,8 +1,9 @@
 -- Bytes that a feeder took, a read after the other.
-use Rattle.std.proofs.Common.{◌≡◌, ◌⊎◌, inl, inr, ℕ, zero, suc, ◌+◌, ◌-◌, ◌<◌, ◌≤◌, Bool, true, false, List, [], ◌++◌, Option, Some, None, Result, Ok, Err, refl, sym, ap, subst, ◌∙◌, append_assoc, append-nil, length-append, arith}
+use Rattle.std.proofs.Common.{◌≡◌, ◌⊎◌, inl, inr, ℕ, zero, suc, ◌+◌, ◌-◌, ◌<◌, ◌≤◌, Bool, true, false, List, [], ◌++◌, Option, Some, None, Result, Ok, Err, IfOk, IfErr, refl, sym, ap, subst, ◌∙◌, append_assoc, append-nil, length-append, arith}
 use Rattle.std.specs.Io.KnownBytes.{Consumes, IsAtEnd}
 use Rattle.kmc_reads.specs.declared.error.ReadsError.{ReadsError}
 use Rattle.kmc_reads.specs.declared.format.Format.{Format}
+use Rattle.kmc_reads.specs.Cuts.{AreCut}
 use Rattle.kmc_reads.specs.Laws.{FaultStays}
 use Rattle.kmc_reads.specs.Reads.{reads_of}
 use Rattle.kmc_reads.specs.Stages.{fault}
@@ -11,7 +12,7 @@ use Rattle.kmc_record.specs.Shapes.{Sizes}
 use Rattle.kmc_store.specs.Bins.{BinList}
 use Rattle.kmc_tool.specs.declared.error.RunError.{RunError}
 use Rattle.kmc_tool.specs.declared.error.RunError.TheVariants.{Memory, Read, Write, Input, TooLong}
-use Rattle.kmc_tool.specs.Rounds.{IsFed, IsFedBy, IsRefused, AreCounts, AreCountsOf, HoldsPieces, IsLastError, IsInputError}
+use Rattle.kmc_tool.specs.Rounds.{IsFed, IsFedBy, IsRefused, AreCounts, AreCountsOf, HoldsPieces, HoldsInput, IsLastError, IsInputError}
 
 pub consumes_none : (old : Option (List ℕ)) → Consumes old old []
 consumes_none None = tt
@@ -127,20 +128,44 @@ module _ (overlap : ℕ) (format : Format) (most : ℕ) (old new : Option (List 
   fed_cause before after failed fails taken v TooLong f c = (f.bytes, f.given, omega (arith, f.many, c.2))
 
   -- a refusal of the last round
-  pub last_counts : (bound before after failed fails : ℕ) (text : List ℕ) (e : RunError) → fails ≡ failed → before ≤ after → after ≤ bound → IsLastError format text e → AreCountsOf bound before after failed fails e
-  last_counts bound before after failed fails text Memory same least below h = (same, least, below)
-  last_counts bound before after failed fails text Read same least below h = absurd h
-  last_counts bound before after failed fails text Write same least below h = absurd h
-  last_counts bound before after failed fails text (Input e) same least below h = (same, least, below)
-  last_counts bound before after failed fails text TooLong same least below h = absurd h
+  pub last_counts : {A : Type 0} (bound before after failed fails : ℕ) (text : List ℕ) (r : Result A RunError)
+      → fails ≡ failed → before ≤ after → after ≤ bound
+      → IfErr r (IsLastError format text) → IfErr r (AreCountsOf bound before after failed fails)
+  last_counts bound before after failed fails text (Ok bins) same least below h = tt
+  last_counts bound before after failed fails text (Err Memory) same least below h = (same, least, below)
+  last_counts bound before after failed fails text (Err Read) same least below h = absurd h
+  last_counts bound before after failed fails text (Err Write) same least below h = absurd h
+  last_counts bound before after failed fails text (Err (Input e)) same least below h = (same, least, below)
+  last_counts bound before after failed fails text (Err TooLong) same least below h = absurd h
 
-  pub last_input : (before after : ℕ) (taken : List (List ℕ)) (v : FeederState) (e : RunError) (f : IsFed overlap format old new before after [] taken v) → IsAtEnd new
-      → IsLastError format f.bytes e → IsInputError format most old new e
-  last_input before after taken v Memory f end h = tt
-  last_input before after taken v Read f end h = tt
-  last_input before after taken v Write f end h = h
-  last_input before after taken v (Input e) f end h = record { bytes = f.bytes; given = f.given; refused = h; for_good = inr end }
-  last_input before after taken v TooLong f end h = absurd h
+  pub last_input : {A : Type 0} (before after : ℕ) (taken : List (List ℕ)) (v : FeederState) (r : Result A RunError)
+      (f : IsFed overlap format old new before after [] taken v) → IsAtEnd new
+      → IfErr r (IsLastError format f.bytes) → IfErr r (IsInputError format most old new)
+  last_input before after taken v (Ok bins) f end h = tt
+  last_input before after taken v (Err Memory) f end h = tt
+  last_input before after taken v (Err Read) f end h = tt
+  last_input before after taken v (Err Write) f end h = h
+  last_input before after taken v (Err (Input e)) f end h = record { bytes = f.bytes; given = f.given; refused = h; for_good = inr end }
+  last_input before after taken v (Err TooLong) f end h = absurd h
+
+-- the bins of the last round
+pub last_bins : (format : Format) (shape : Sizes) (limit : ℕ) (old new : Option (List ℕ)) (before after : ℕ) (taken : List (List ℕ))
+    (v : FeederState) (r : Result BinList RunError) (f : IsFed (shape.k - 1) format old new before after [] taken v) → IsAtEnd new
+    → IfOk r (λ b. b.shape ≡ shape)
+    → IfOk r (λ b. (reads cuts : List (List ℕ)) × (reads_of format f.bytes ≡ Ok reads) × AreCut (shape.k - 1) reads cuts
+    × HoldsPieces shape limit cuts b.bodies)
+    → IfOk r (HoldsInput format shape limit old new)
+last_bins format shape limit old new before after taken v (Ok bins) f end shaped h = record {
+  bytes = f.bytes;
+  given = (f.given, end);
+  reads = h.0;
+  are_reads = h.2;
+  cuts = h.1;
+  cut = h.3;
+  shaped = shaped;
+  holds = h.4;
+}
+last_bins format shape limit old new before after taken v (Err e) f end shaped h = tt
 
 -- the reads that were ended were taken
 abbrev pub taken_fed : (overlap : ℕ) (format : Format) (old new : Option (List ℕ)) (a b : ℕ) (taken more : List (List ℕ)) (v w : FeederState) (f : IsFed overlap format old new a b [] taken v) → StandsCut overlap format f.bytes (taken ++ more) w → IsFed overlap format old new a b [] (taken ++ more) w
