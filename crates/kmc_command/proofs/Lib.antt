@@ -1,3 +1,1 @@
-pub mod Building
-pub mod Judging
 pub mod Statuses

@@ -4,8 +4,8 @@ use Rattle.std.specs.Prelude.{Result, Ok, Err, IfErr, IsErrOf}
 use Rattle.kmc_command.specs.Status.{status_of_answer}
 use Rattle.kmc_command.specs.declared.fault.Fault.{Fault}
 use Rattle.kmc_command.specs.declared.fault.Fault.TheVariants.{Options, Run}
-use Rattle.kmc_command.specs.declared.options.error.ParamsError.{ParamsError}
-use Rattle.kmc_command.specs.declared.options.error.ParamsError.TheVariants.{Memory, OutOfRange, Usage}
+use Rattle.kmc_options.specs.declared.error.ParamsError.{ParamsError}
+use Rattle.kmc_options.specs.declared.error.ParamsError.TheVariants.{Memory, OutOfRange, Usage}
 use Rattle.kmc_tool.specs.declared.error.RunError.TheVariants as run
 
 -- status 2 comes of the command line alone

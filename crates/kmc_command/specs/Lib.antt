@@ -1,7 +1,2 @@
-pub mod Names
-pub mod Glued
-pub mod CommandLine
-pub mod Options
-pub mod Parsed
 pub mod Status
 pub mod Program

@@ -1,10 +1,10 @@
 -- What the program's arguments ask for, and what it answers.
 use Rattle.std.specs.Prelude.{◌≡◌, ℕ, true, List}
 use Rattle.kmc_tool.specs.Run.{IsDumpOf}
-use Rattle.kmc_tool.specs.declared.params.Params.{Params}
+use Rattle.kmc_settings.specs.declared.params.Params.{Params}
 use Rattle.kmc_argument.specs.Words.{Word}
-use Rattle.kmc_command.specs.CommandLine.{found}
-use Rattle.kmc_command.specs.Options.{AreGiven, is_taken}
+use Rattle.kmc_options.specs.CommandLine.{found}
+use Rattle.kmc_options.specs.Options.{AreGiven, is_taken}
 
 -- the words, in long form, give settings
 pub record IsAsked (words : List Word) : Type 0 where

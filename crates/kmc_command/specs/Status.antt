@@ -2,7 +2,7 @@
 use Rattle.std.specs.Prelude.{ℕ, Result, Ok, Err}
 use Rattle.kmc_command.specs.declared.fault.Fault.{Fault}
 use Rattle.kmc_command.specs.declared.fault.Fault.TheVariants.{Options, Run}
-use Rattle.kmc_command.specs.declared.options.error.ParamsError.TheVariants.{Memory, OutOfRange, Usage}
+use Rattle.kmc_options.specs.declared.error.ParamsError.TheVariants.{Memory, OutOfRange, Usage}
 
 -- 2 where the command line is at fault, and 1 where the run failed
 abbrev pub status_of : Fault → ℕ

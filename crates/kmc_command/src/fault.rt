@@ -2,7 +2,7 @@
 ghost use Rattle.std.specs.Prelude.{◌≡◌, ◌≢◌, not, true};
 ghost use Rattle.kmc_command.specs.declared.fault.Fault.TheVariants.{Options, Run};
 
-use crate::options::error::ParamsError;
+use kmc_options::error::ParamsError;
 use kmc_tool::error::RunError;
 use std::fmt;
 

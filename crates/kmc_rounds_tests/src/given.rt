@@ -1,7 +1,7 @@
 //! The settings of the tests.
 use kmc_count::limits::Limits;
 use kmc_reads::format::Format;
-use kmc_tool::params::Params;
+use kmc_settings::params::Params;
 use std::process::Abort;
 
 /// Settings for words of k symbols, all of them listed, 7 bins, so many splitters and so many reads a round for each.

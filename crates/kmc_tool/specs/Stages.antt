@@ -1,19 +1,13 @@
--- How settings cut reads into parts, and what bins are counted to.
-use Rattle.std.specs.Prelude.{ℕ, min, List, map}
+-- What bins are counted to.
+use Rattle.std.specs.Prelude.{ℕ, List, map}
 use Rattle.std.specs.List.{AllZip}
 use Rattle.kmc_base.specs.declared.strands.Strands.{Strands}
-use Rattle.kmc_record.specs.Shapes.{Sizes}
 use Rattle.kmc_record.specs.Record.{IsBodyOf}
 use Rattle.kmc_record.specs.RecordWords.{record_keys}
 use Rattle.kmc_count.specs.declared.limits.Limits.{Limits}
 use Rattle.kmc_count.specs.Occurrences.{occurrences}
 use Rattle.kmc_count.specs.Dump.{IsDump}
 use Rattle.kmc_count.specs.Merge.{joined}
-use Rattle.kmc_tool.specs.declared.params.Params.{Params}
-
--- how the settings cut reads into parts
-abbrev pub shape_of : Params → Sizes
-shape_of p = record { k = p.k; m = min p.p p.k; n = p.n }
 
 -- the bodies are whole records, and the pairs are the dump of the words of them all
 pub record IsDumpOfBins (strands : Strands) (k : ℕ) (l : Limits) (bodies : List (List ℕ)) (pairs : List (List ℕ × ℕ)) : Type 0 where

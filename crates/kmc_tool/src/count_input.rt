@@ -8,13 +8,13 @@ ghost use Rattle.kmc_tool.specs.Run.{IsDumpOfInput};
 
 use crate::error::RunError;
 use crate::laws::{cut_reads_are_counted, held_reads_are_counted};
-use crate::params::Params;
 use crate::rounds::bins_of_input;
 use crate::stage_two::stage_two;
 use kmc_count::laws::pieces_are_counted_as_reads;
 use kmc_device::counted::Counted;
 use kmc_dump::lists::BinLists;
 use kmc_partqueue::Gate;
+use kmc_settings::params::Params;
 use std::alloc::Global;
 use std::io::Read;
 use std::sync::Wait;

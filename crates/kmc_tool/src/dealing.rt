@@ -3,13 +3,13 @@ ghost use Rattle.std.specs.Prelude.{◌≡◌, ℕ, ◌≤◌, List, ◌++◌, m
 ghost use Rattle.std.specs.List.{flat_map};
 ghost use Rattle.kmc_base.specs.Pieces.{pieces};
 ghost use Rattle.kmc_tool.specs.Rounds.{HoldsPieces};
-ghost use Rattle.kmc_tool.specs.Stages.{shape_of};
+ghost use Rattle.kmc_settings.specs.Shape.{shape_of};
 
-use crate::params::Params;
 use crate::stage_one::store_reads;
 use kmc_base::pieces::push_pieces;
 use kmc_partqueue::Gate;
 use kmc_reads::reads::Reads;
+use kmc_settings::params::Params;
 use kmc_store::bins::Bins;
 use std::alloc::{AllocError, Global};
 use std::mem::replace;

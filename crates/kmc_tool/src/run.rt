@@ -7,13 +7,13 @@ ghost use Rattle.kmc_tool.specs.Run.{IsDumpOf};
 
 use crate::count_input::count_input;
 use crate::error::RunError;
-use crate::params::Params;
 use kmc_device::counted::Counted;
 use kmc_dump::lists::write_bins;
 use kmc_dump::write::DumpError;
 use kmc_partqueue::Gate;
 use kmc_reads::error::ReadsError;
 use kmc_reads::laws::memory_is_no_fault;
+use kmc_settings::params::Params;
 use std::alloc::Global;
 use std::io::{Read, Write};
 use std::sync::Wait;

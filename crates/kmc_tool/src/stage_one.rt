@@ -1,10 +1,10 @@
 //! Stage one: the parts of the reads, through a queue, into bins.
 ghost use Rattle.std.specs.Prelude.{◌≡◌, ℕ, ◌*◌, ◌<◌, ◌≤◌, List, ◌++◌, map, IfOk};
 ghost use Rattle.kmc_store.specs.Holds.{HoldsReads};
-ghost use Rattle.kmc_tool.specs.Stages.{shape_of};
+ghost use Rattle.kmc_settings.specs.Shape.{shape_of};
 
-use crate::params::Params;
 use kmc_partqueue::Gate;
+use kmc_settings::params::Params;
 use kmc_store::bins::Bins;
 use kmc_store::laws::empty_bins_hold_no_reads;
 use kmc_workers::fill_bins::fill_bins;

@@ -4,15 +4,16 @@ ghost use Rattle.kmc_dump.specs.Bodies.{AreListsOfBodies};
 ghost use Rattle.kmc_dump.specs.Listed.{spelled};
 ghost use Rattle.kmc_dump.specs.Lists.{lists_of};
 ghost use Rattle.kmc_dump.specs.Ranges.{CanBeMerged, whole};
-ghost use Rattle.kmc_tool.specs.Stages.{shape_of, IsDumpOfBins};
+ghost use Rattle.kmc_settings.specs.Shape.{shape_of};
+ghost use Rattle.kmc_tool.specs.Stages.{IsDumpOfBins};
 
 use crate::laws::bins_share_no_key;
-use crate::params::Params;
 use kmc_count::bin::CountError;
 use kmc_count::laws::dumps_of_bodies_are_of_keys;
 use kmc_dump::laws::packed_dumps_are_one;
 use kmc_dump::lists::{BinLists, list_bins};
 use kmc_record::laws::whole_body_has_no_fault;
+use kmc_settings::params::Params;
 use kmc_store::bins::Bins;
 use std::alloc::{AllocError, Global};
 use std::thread::Threads;

@@ -1,9 +1,9 @@
 use kmc_base::strands::Strands;
-use kmc_command::options::error::ParamsError;
-use kmc_command::options::{params, words};
+use kmc_options::command_line::{params, words};
+use kmc_options::error::ParamsError;
 use kmc_reads::format::Format;
-use kmc_tool::params::Params;
-use kmc_tool::setting::Setting;
+use kmc_settings::params::Params;
+use kmc_settings::setting::Setting;
 use std::alloc::{AllocError, Global};
 use std::process::Abort;
 use std::test::Fail;

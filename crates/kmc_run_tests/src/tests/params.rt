@@ -1,7 +1,7 @@
 use kmc_base::strands::Strands;
 use kmc_count::limits::Limits;
 use kmc_reads::format::Format;
-use kmc_tool::params::Params;
+use kmc_settings::params::Params;
 use std::test::Fail;
 
 fn sized(k: usize, p: usize, n: usize, sp: usize, sr: usize) -> Option<Params> {

@@ -1,7 +1,7 @@
 //! Runs over random texts of both formats, by options and queues of many sizes, against the plain count of another program.
 use super::random_rows::{COUNT, ROWS};
 use super::*;
-use kmc_command::options::settings;
+use kmc_options::command_line::settings;
 use std::process::Abort;
 
 /// The text of a row, with its ends of lines.

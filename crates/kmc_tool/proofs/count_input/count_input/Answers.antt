@@ -7,7 +7,7 @@ use Rattle.kmc_count.specs.Merge.{joined}
 use Rattle.kmc_dump.specs.Listed.{spelled}
 use Rattle.kmc_dump.specs.Lists.{lists_of}
 use Rattle.kmc_dump.specs.Ranges.{whole}
-use Rattle.kmc_tool.specs.Stages.{shape_of}
+use Rattle.kmc_settings.specs.Shape.{shape_of}
 use Rattle.kmc_tool.specs.declared.count_input.TheConstants.{PIECE_SYMBOLS}
 use Rattle.kmc_tool.proofs.SameCounts.{same_dump}
 use Rattle.kmc_tool.proofs.count_input.count_input.Goals as goal

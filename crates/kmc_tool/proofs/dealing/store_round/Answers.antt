@@ -4,7 +4,7 @@ use Rattle.std.proofs.lemmas.Grind.{flat_map-append}
 use Rattle.kmc_base.specs.Pieces.{pieces}
 use Rattle.kmc_store.specs.Bins.{BinList}
 use Rattle.kmc_store.specs.Holds.{HoldsReads}
-use Rattle.kmc_tool.specs.Stages.{shape_of}
+use Rattle.kmc_settings.specs.Shape.{shape_of}
 use Rattle.kmc_tool.proofs.dealing.store_round.Goals as goal
 
 pub returns-clause-holds : goal.returns-clause-holds

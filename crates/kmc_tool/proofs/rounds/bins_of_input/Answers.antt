@@ -2,7 +2,7 @@ use Rattle.std.proofs.Common.{◌≡◌, ◌+◌, ◌-◌, [], ◌++◌, Ok, OnO
 use Rattle.kmc_store.specs.Bins.{BinList, empty_bins}
 use Rattle.kmc_store.specs.Holds.{HoldsReads}
 use Rattle.kmc_tool.specs.Rounds.{AreCounts, AreCountsOf, HoldsPieces, IsFedBy}
-use Rattle.kmc_tool.specs.Stages.{shape_of}
+use Rattle.kmc_settings.specs.Shape.{shape_of}
 use Rattle.kmc_tool.specs.declared.error.RunError.TheVariants.{Memory}
 use Rattle.kmc_tool.proofs.Causes.{passed_on}
 use Rattle.kmc_tool.proofs.Fed.{risen, counts_on, fed_on, fed_by, fed_cause, last_bins, last_counts, last_input, memory_on, taken_fed}

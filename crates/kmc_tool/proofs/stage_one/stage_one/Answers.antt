@@ -1,7 +1,7 @@
 use Rattle.std.proofs.Common.{◌≡◌, [], sym, ap, subst, ◌∙◌}
 use Rattle.kmc_store.specs.Bins.{BinList, empty_bins}
 use Rattle.kmc_store.specs.Holds.{HoldsReads}
-use Rattle.kmc_tool.specs.Stages.{shape_of}
+use Rattle.kmc_settings.specs.Shape.{shape_of}
 use Rattle.kmc_tool.proofs.stage_one.stage_one.Goals as goal
 
 pub returns-clause-holds : goal.returns-clause-holds

@@ -1,0 +1,178 @@
+#!/usr/bin/env python3
+"""Proves what a program of crates.txt stands on, several libraries at a time, then proves and builds the program itself.
+
+usage: build/program.py PROGRAM, at the top of the repository. The program is left as crates/PROGRAM/out/PROGRAM.
+
+It asks the kit's compiler for each library as `rt ci` does: from nothing, and what stands above a library reads its statements
+and not its proofs. A library is begun once those that it names are done, first the one with the longest chain above it; the
+others take what that one leaves of the processors. What was built before from the same files is kept. `rt` in a crate's folder
+makes libraries of its own, in the place of these, and neither takes the other's.
+"""
+import fcntl
+import hashlib
+import os
+import shutil
+import subprocess
+import sys
+import time
+from concurrent.futures import FIRST_COMPLETED, ThreadPoolExecutor, wait
+
+PARTS = ("src", "specs", "proofs")
+# a check takes up to so many bytes of memory
+MEMORY_OF_A_CHECK = 4 << 30
+# a chain of so much of the longest one's lines gets as many processes, and what is on no such chain gives way
+NEAR = 0.6
+GIVES_WAY = 10
+
+
+def kit():
+    """The folder of the kit whose `rt` is in PATH."""
+    page = subprocess.run(["rt", "doc"], stdout=subprocess.PIPE, text=True, check=True).stdout.strip()
+    return os.path.dirname(page)
+
+
+def listed():
+    """The crates of crates.txt, each with what it names."""
+    found = {}
+    with open("crates.txt", encoding="utf-8") as lines:
+        for line in lines:
+            name, colon, names = line.partition("#")[0].partition(":")
+            if colon:
+                found[name.strip()] = names.split()
+    return found
+
+
+def below(crates, name):
+    """The libraries of the repository that a crate stands on, each after those that it stands on."""
+    found = []
+    for it in crates[name]:
+        if it in crates:
+            found += [deep for deep in [*below(crates, it), it] if deep not in found]
+    return found
+
+
+def files_of(name):
+    """The files that a crate is made from."""
+    found = []
+    for part in PARTS:
+        for folder, _, files in os.walk(f"crates/{name}/{part}"):
+            found += [f"{folder}/{it}" for it in files]
+    return sorted(found)
+
+
+def text_of(file):
+    with open(file, "rb") as it:
+        return it.read()
+
+
+def mark_of(name):
+    """The file beside a built library, or a built program, that tells what it was built from."""
+    return f"crates/{name}/out/rlib/{name}.built"
+
+
+def sum_of(crates, name):
+    """A sum of all that a crate is built from: its files, the kit, and the marks of the libraries below it."""
+    found = hashlib.sha256(text_of(f"{KIT}/KIT-ID"))
+    for file in files_of(name):
+        found.update(repr((file, text_of(file))).encode())
+    for it in crates[name]:
+        found.update(text_of(mark_of(it)) if it in crates else it.encode())
+    return found.hexdigest()
+
+
+def is_built(crates, name):
+    """Whether the crate was built from the very files and libraries that are there."""
+    marks = [mark_of(it) for it in [name, *crates[name]] if it in crates]
+    return all(map(os.path.isfile, marks)) and text_of(mark_of(name)).startswith(sum_of(crates, name).encode())
+
+
+def words(crates, name, root):
+    """How the compiler is called for a crate, but for the number of its processes."""
+    above = os.path.abspath("crates")
+    found = ["--crate-name", name, root, "--extern", f"std={KIT}/rlibs/std.rlib"]
+    for it in crates[name]:
+        place = f"{above}/{it}/out/rlib" if it in crates else f"{KIT}/rlibs"
+        found += ["--extern", f"{it}={place}/{it}.rlib"]
+    for place in [f"{KIT}/rlibs", *[f"{above}/{it}/out/rlib" for it in below(crates, name)]]:
+        found += ["-L", f"dependency={place}"]
+    return [*found, "--antt-project", f"{KIT}/rattle/logic/antt-project.json", "--logic-built", f"{KIT}/logic_built", "--links", f"{name}="]
+
+
+def call(name, *command):
+    """Runs a command in the crate's folder. What it prints is shown where it fails."""
+    how = {"cwd": f"crates/{name}", "stdin": subprocess.DEVNULL, "stdout": subprocess.PIPE, "stderr": subprocess.STDOUT, "errors": "replace"}
+    ran = subprocess.run(command, **how)
+    if ran.returncode:
+        sys.exit(f"{ran.stdout}build: {name} is not built")
+
+
+def build(crates, name, jobs, niceness):
+    """Proves and builds a crate, unless it is there."""
+    if is_built(crates, name):
+        return
+    began = time.time()
+    made, is_program = f"crates/{name}/out/rlib", os.path.isfile(f"crates/{name}/src/main.rt")
+    shutil.rmtree(made, ignore_errors=True)
+    os.makedirs(made)
+    built_from = sum_of(crates, name)
+    command = ["nice", "-n", str(niceness), f"{KIT}/bin/rattle", "build", *words(crates, name, f"src/{'main' if is_program else 'lib'}.rt"), "--jobs", str(jobs)]
+    if is_program:
+        tools = ["--toolchain", f"{KIT}/toolchain"]
+        call(name, *command, *tools, "--backend", "llvm", "-o", f"out/{name}.o")
+        of_system = [f"{KIT}/c/libos_c.a", f"{KIT}/c/liblibc_c.a"]
+        call(name, f"{KIT}/bin/rattle-link", "--target", "x86_64-unknown-linux-gnu", *tools, "-o", f"out/{name}", f"out/{name}.o", *of_system)
+    else:
+        call(name, *command, "--statements", "-o", f"out/rlib/{name}.rlib")
+    with open(mark_of(name), "w", encoding="utf-8") as it:
+        # (what stands above is built anew after each build of a library)
+        it.write(f"{built_from} {time.time_ns()}\n")
+    print(f"build: {name}, {time.time() - began:.0f} s", flush=True)
+
+
+def weights(crates, order):
+    """How many lines of code are to be proved from each crate on, along the longest chain of those above it."""
+    found = {}
+    for name in reversed(order):
+        above = [found[it] for it in found if name in crates[it]]
+        found[name] = max(above, default=0) + sum(text_of(it).count(b"\n") for it in files_of(name) if it.endswith(".rt"))
+    return found
+
+
+def build_all(crates, order):
+    """Builds the crates side by side, each after those that it names."""
+    cores = len(os.sched_getaffinity(0))
+    room = os.sysconf("SC_AVPHYS_PAGES") * os.sysconf("SC_PAGE_SIZE") // MEMORY_OF_A_CHECK
+    at_once, weight = max(1, min(cores, room)), weights(crates, order)
+    left, running, done = sorted(order, key=lambda it: -weight[it]), {}, set()
+    with ThreadPoolExecutor(at_once) as pool:
+        while left or running:
+            ready = [it for it in left if all(other in done for other in crates[it] if other in crates)]
+            longest = max(weight[it] for it in order if it not in done)
+            are_few = len(ready) + len(running) <= 2
+            for name in ready[: at_once - len(running)]:
+                is_near = weight[name] >= NEAR * longest
+                left.remove(name)
+                running[pool.submit(build, crates, name, cores if is_near or are_few else 1, 0 if is_near else GIVES_WAY)] = name
+            for it in wait(running, return_when=FIRST_COMPLETED).done:
+                it.result()
+                done.add(running.pop(it))
+
+
+def lock(names):
+    """Waits until no other build, and no `rt`, works in these crates' folders."""
+    for name in sorted(names):
+        fcntl.flock(os.open(f"crates/{name}", os.O_RDONLY), fcntl.LOCK_EX)
+
+
+def main(program):
+    crates = listed()
+    order = [*below(crates, program), program]
+    lock(order)
+    build_all(crates, order)
+
+
+if __name__ == "__main__":
+    if len(sys.argv) != 2:
+        sys.exit("usage: build/program.py PROGRAM")
+    KIT = kit()
+    main(sys.argv[1])

@@ -1,8 +1,0 @@
--- The first value of an entry is that of the entry's row.
-use Rattle.std.proofs.Common.{◌∙◌}
-use Rattle.clap.proofs.WalkLemmas.{first_value-rows}
-use Rattle.clap.specs.Matches.{found_of}
-use Rattle.kmc_command.proofs.options.given.given_text.Goals as goal
-
-pub returns : goal.returns
-returns c = c.get_str.ensures ∙ first_value-rows (found_of c.args.matches.now) c.args.id.now

@@ -1,0 +1,5 @@
+pub mod Names
+pub mod Glued
+pub mod CommandLine
+pub mod Options
+pub mod Parsed

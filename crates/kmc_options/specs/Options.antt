@@ -1,0 +1,50 @@
+-- What the answers to a command line in long form mean.
+use Rattle.std.specs.Prelude.{◌≡◌, ◌&&◌, Bool, true, false, not, List, Option, Some, None, find, is_some}
+use Rattle.clap.specs.Walk.{Row}
+use Rattle.kmc_options.specs.CommandLine.{format_of, found, is_accepted, strands_of, value_of}
+use Rattle.kmc_argument.specs.Words.{Word}
+use Rattle.kmc_options.specs.Names.{settings}
+use Rattle.kmc_options.specs.declared.error.ParamsError.{ParamsError}
+use Rattle.kmc_options.specs.declared.error.ParamsError.TheVariants.{Memory, OutOfRange, Usage}
+use Rattle.kmc_settings.specs.declared.params.Params.{Params}
+use Rattle.kmc_settings.specs.declared.setting.Setting.{Setting}
+use Rattle.kmc_settings.specs.declared.setting.Setting.TheVariants.{K, P, N, Ci, Cx, Cs, Sp, Sr}
+
+-- `clap` accepts the words, and at most one format flag stands among them
+abbrev pub is_taken : List Word → Bool
+is_taken words = is_accepted words && is_some (format_of (found words))
+
+-- the first option, in the order of `settings`, whose value is out of range
+abbrev pub first_out_of_range : List Row → Option Setting
+first_out_of_range rows = find (λ s. not (is_some (value_of rows s))) settings
+
+-- the settings are those that the options give, with defaults where they give none
+pub record AreGiven (rows : List Row) (r : Params) : Type 0 where
+  pub format : format_of rows ≡ Some r.format
+  pub strands : r.strands ≡ strands_of rows
+  pub k : value_of rows K ≡ Some r.k
+  pub p : value_of rows P ≡ Some r.p
+  pub n : value_of rows N ≡ Some r.n
+  pub ci : value_of rows Ci ≡ Some r.limits.ci
+  pub cx : value_of rows Cx ≡ Some r.limits.cx
+  pub cs : value_of rows Cs ≡ Some r.limits.cs
+  pub sp : value_of rows Sp ≡ Some r.sp
+  pub sr : value_of rows Sr ≡ Some r.sr
+
+-- the program's own queue: one storer, up to 64 parts of a splitter in the queue, 32768 reads in a chunk
+abbrev pub HasProgramQueue : Params → Type 0
+HasProgramQueue r = (r.readers ≡ 1) × (r.per_writer ≡ 64) × (r.batch ≡ 32768)
+
+-- why the options give no settings
+abbrev pub Faults : List Row → ParamsError → Type 0
+Faults rows Usage = format_of rows ≡ None
+Faults rows (OutOfRange s) =
+    (is_some (format_of rows) ≡ true) × (first_out_of_range rows ≡ Some s)
+Faults rows Memory = ⊥
+
+-- why the words give no settings; want of memory says nothing of them
+abbrev pub Explains : List Word → ParamsError → Type 0
+Explains words Usage = is_taken words ≡ false
+Explains words (OutOfRange s) =
+    (is_taken words ≡ true) × (first_out_of_range (found words) ≡ Some s)
+Explains words Memory = Unit {0}

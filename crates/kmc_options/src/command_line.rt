@@ -1,0 +1,70 @@
+//! The command line: KMC's glued options put into long form, and the settings that they give.
+ghost use Rattle.std.specs.Prelude.{◌≡◌, IfErr, IfOk, MatchResult, None, map, string_bytes, true};
+ghost use Rattle.kmc_options.specs.CommandLine.{found};
+ghost use Rattle.kmc_options.specs.Glued.{long_forms};
+ghost use Rattle.kmc_options.specs.Options.{AreGiven, Explains, HasProgramQueue, first_out_of_range, is_taken};
+ghost use Rattle.kmc_settings.specs.Kept.{HasUsualQueue};
+ghost use Rattle.kmc_options.specs.declared.error.ParamsError.TheVariants.{Memory};
+
+use crate::command::parse;
+use crate::error::ParamsError;
+use crate::given::given;
+use crate::glued::long_form;
+use kmc_settings::params::Params;
+use std::alloc::{AllocError, Global};
+
+/// The command line in long form, word by word: KMC's `-k31` becomes `--k=31`, its `-fa` becomes
+/// `--fa`, and every word that is no glued option or flag stays. Fails only for want of memory.
+pub fn words(alloc: Global, argv: Vec<String>) -> Result<Vec<String>, AllocError>
+    ensures { IfOk result (λ r.
+        map string_bytes r.items ≡ long_forms (map string_bytes argv.items)) }
+{
+    let mut words = Vec::with_capacity(alloc, argv.len())?;
+    for word in argv {
+        words.push(long_form(alloc, word)?)?;
+    }
+    Ok(words)
+}
+
+/// The settings that a command line in long form gives; an option that it leaves out has its
+/// default. The refusals are judged in this order: words that the command does not take, an option
+/// that is given twice or without its value, more than one format (Usage); then the first of k, p,
+/// n, ci, cx, cs, sp, sr whose value is no number or out of its range (OutOfRange). A number is one
+/// or more ASCII digits.
+pub fn params(alloc: Global, words: Vec<String>) -> Result<Params, ParamsError>
+    ensures answer { let texts = map string_bytes words.items in MatchResult result
+        (λ r. (is_taken texts ≡ true) × AreGiven (found texts) r × HasUsualQueue r)
+        (Explains texts) }
+    ensures complete { let texts = map string_bytes words.items in
+        is_taken texts ≡ true → first_out_of_range (found texts) ≡ None
+        → IfErr result (λ e. e ≡ Memory) }
+{
+    let matches = parse(alloc, words.as_slice())?;
+    given(&matches)
+}
+
+/// The threads that store parts: one keeps up with four that cut reads.
+const STORERS: usize = 1;
+
+/// The parts that one splitter may have in the queue.
+const WAITING_PARTS: usize = 64;
+
+/// The reads of a chunk: fewer make many small parts. As many chunks as there are splitters make a round.
+const CHUNK_READS: usize = 32768;
+
+/// The settings of a run that the words of a command line give, glued or in long form, with the program's own queue.
+pub fn settings(alloc: Global, argv: Vec<String>) -> Result<Params, ParamsError>
+    ensures answer { let texts = long_forms (map string_bytes argv.items) in MatchResult result
+        (λ r. (is_taken texts ≡ true) × AreGiven (found texts) r × HasProgramQueue r)
+        (Explains texts) }
+    ensures complete { let texts = long_forms (map string_bytes argv.items) in
+        is_taken texts ≡ true → first_out_of_range (found texts) ≡ None
+        → IfErr result (λ e. e ≡ Memory) }
+{
+    let words = words(alloc, argv)?;
+    let params = params(alloc, words)?;
+    match params.with_queue(STORERS, WAITING_PARTS, CHUNK_READS) {
+        Some(params) => Ok(params),
+        None => unreachable!(),
+    }
+}

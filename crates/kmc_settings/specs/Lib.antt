@@ -1,0 +1,4 @@
+pub mod Settings
+pub mod Ranges
+pub mod Kept
+pub mod Shape

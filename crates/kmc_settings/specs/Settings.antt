@@ -1,0 +1,20 @@
+-- Which numbers the settings of a run may have.
+use Rattle.std.specs.Prelude.{ℕ, ◌≤◌, ◌^◌}
+use Rattle.kmc_settings.specs.declared.setting.Bounds.{Bounds}
+use Rattle.kmc_settings.specs.declared.setting.Setting.{Setting}
+use Rattle.kmc_settings.specs.declared.setting.Setting.TheVariants.{K, P, N, Ci, Cx, Cs, Sp, Sr}
+
+-- the least and the greatest number that a setting may have, and the one that stands where none is given
+abbrev pub bounds_of : Setting → Bounds
+bounds_of K = record { least = 1; most = 64; default = 25 }
+bounds_of P = record { least = 5; most = 11; default = 9 }
+bounds_of N = record { least = 1; most = 2000; default = 512 }
+bounds_of Ci = record { least = 0; most = 2 ^ 63; default = 2 }
+bounds_of Cx = record { least = 0; most = 2 ^ 63; default = 1000000000 }
+bounds_of Cs = record { least = 1; most = 2 ^ 63; default = 255 }
+bounds_of Sp = record { least = 1; most = 16; default = 2 }
+bounds_of Sr = record { least = 1; most = 16; default = 2 }
+
+-- the setting may have this number
+abbrev pub IsFor : Setting → ℕ → Type 0
+IsFor s n = ((bounds_of s).least ≤ n) × (n ≤ (bounds_of s).most)
