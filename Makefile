@@ -17,33 +17,25 @@ MAN = $(DESTDIR)$(PREFIX)/share/man/man1
 
 all: count $(KMC_MERGE)
 
-# call proved,JOBS,LIBRARY ..: one library after the other, each after those that it stands on, with so many processes; what fails
-# here is told by what follows
-proved = for library in $(2); do (cd crates/$$library && rt lib --jobs $(1) > /dev/null 2>&1) || true; done
-
-# call built,CRATE,INPUT,WORDS: what is left of what the program stands on is proved, it is built, and run once
+# call built,CRATE: what the program stands on is proved, several libraries at a time, then the program itself, and it is built
 define built
-	@cd crates/$(1) && rt run $(3) < $(2) > /dev/null 2> out.log || { cat out.log; rm -f out.log; exit 1; }
-	@rm -f crates/$(1)/out.log
+	@build/program.py $(1)
 	@cp crates/$(1)/out/$(1) $@
 endef
 
 SOURCES := crates.txt $(shell find crates -path '*/out' -prune -o -type f -name '*.rt' -print -o -type f -name '*.antt' -print)
 
-# two lanes of libraries that share none are proved side by side, then those that stand on both
 $(KMC): $(SOURCES)
 	@echo "make: proving and building kmc (some minutes the first time)"
-	@($(call proved,1,kmc_partcore kmc_partqueue kmc_reads kmc_argument)) & $(call proved,3,kmc_base kmc_split kmc_record kmc_store kmc_device kmc_count kmc_dump); wait
-	@$(call proved,4,kmc_workers kmc_tool kmc_command)
-	$(call built,kmc,stdin)
+	$(call built,kmc)
 
 $(KMC_MERGE): $(SOURCES)
 	@echo "make: proving and building kmc_merge (some minutes the first time)"
-	$(call built,kmc_merge,/dev/null,-- data/a.dump)
+	$(call built,kmc_merge)
 
 $(REFUSED) $(BODIES) $(MANY): ./%: $(SOURCES)
 	@echo "make: proving and building $* (some minutes the first time)"
-	$(call built,$*,stdin)
+	$(call built,$*)
 
 count: $(KMC)
 	@$(KMC) < examples/reads.fastq > examples/.counted

@@ -4,8 +4,8 @@
 usage: build/program.py PROGRAM, at the top of the repository. The program is left as crates/PROGRAM/out/PROGRAM.
 
 It asks the kit's compiler for each library as `rt ci` does: from nothing, and what stands above a library reads its statements
-and not its proofs. A library is begun once those that it names are done, first the one with the longest chain above it; the
-others take what that one leaves of the processors. What was built before from the same files is kept. `rt` in a crate's folder
+and not its proofs. A library is begun once those that it names are done, first the one with the longest chain above it, which gets
+a process for each processor; the others get one each. What was built before from the same files is kept. `rt` in a crate's folder
 makes libraries of its own, in the place of these, and neither takes the other's.
 """
 import fcntl
@@ -20,7 +20,7 @@ from concurrent.futures import FIRST_COMPLETED, ThreadPoolExecutor, wait
 PARTS = ("src", "specs", "proofs")
 # a check takes up to so many bytes of memory
 MEMORY_OF_A_CHECK = 4 << 30
-# a chain of so much of the longest one's lines gets as many processes, and what is on no such chain gives way
+# what begins a chain of less than so much of the longest one's lines gives way
 NEAR = 0.6
 GIVES_WAY = 10
 
@@ -150,9 +150,10 @@ def build_all(crates, order):
             longest = max(weight[it] for it in order if it not in done)
             are_few = len(ready) + len(running) <= 2
             for name in ready[: at_once - len(running)]:
-                is_near = weight[name] >= NEAR * longest
+                jobs = cores if are_few or weight[name] == max(weight[it] for it in left) else 1
+                niceness = 0 if weight[name] >= NEAR * longest else GIVES_WAY
                 left.remove(name)
-                running[pool.submit(build, crates, name, cores if is_near or are_few else 1, 0 if is_near else GIVES_WAY)] = name
+                running[pool.submit(build, crates, name, jobs, niceness)] = name
             for it in wait(running, return_when=FIRST_COMPLETED).done:
                 it.result()
                 done.add(running.pop(it))
