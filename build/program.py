@@ -138,10 +138,15 @@ def weights(crates, order):
     return found
 
 
+def free_memory():
+    """The bytes of memory that the system can give."""
+    with open("/proc/meminfo", encoding="ascii") as lines:
+        return next(1024 * int(it.split()[1]) for it in lines if it.startswith("MemAvailable:"))
+
+
 def build_all(crates, order):
     """Builds the crates side by side, each after those that it names."""
-    cores = len(os.sched_getaffinity(0))
-    room = os.sysconf("SC_AVPHYS_PAGES") * os.sysconf("SC_PAGE_SIZE") // MEMORY_OF_A_CHECK
+    cores, room = len(os.sched_getaffinity(0)), free_memory() // MEMORY_OF_A_CHECK
     at_once, weight = max(1, min(cores, room)), weights(crates, order)
     left, running, done = sorted(order, key=lambda it: -weight[it]), {}, set()
     with ThreadPoolExecutor(at_once) as pool:
