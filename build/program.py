@@ -18,6 +18,7 @@ import time
 from concurrent.futures import FIRST_COMPLETED, ThreadPoolExecutor, wait
 
 PARTS = ("src", "specs", "proofs")
+TARGET = "x86_64-unknown-linux-gnu"
 # a check takes up to so many bytes of memory
 MEMORY_OF_A_CHECK = 4 << 30
 # what begins a chain of less than so much of the longest one's lines gives way
@@ -65,9 +66,21 @@ def text_of(file):
         return it.read()
 
 
+def is_program(name):
+    return os.path.isfile(f"crates/{name}/src/main.rt")
+
+
 def mark_of(name):
-    """The file beside a built library, or a built program, that tells what it was built from."""
+    """The file that tells what a library or a program was built from, and a word that the next build changes."""
     return f"crates/{name}/out/rlib/{name}.built"
+
+
+def word_of(name):
+    """What a mark says of what was built: a program's sum, and of a library when it was built, so that what stands above it is built
+    anew with each of its builds."""
+    if is_program(name):
+        return hashlib.sha256(text_of(f"crates/{name}/out/{name}")).hexdigest()
+    return str(time.time_ns())
 
 
 def sum_of(crates, name):
@@ -83,12 +96,17 @@ def sum_of(crates, name):
 def is_built(crates, name):
     """Whether the crate was built from the very files and libraries that are there."""
     marks = [mark_of(it) for it in [name, *crates[name]] if it in crates]
-    return all(map(os.path.isfile, marks)) and text_of(mark_of(name)).startswith(sum_of(crates, name).encode())
+    if not all(map(os.path.isfile, marks)):
+        return False
+    built_from, word = text_of(mark_of(name)).decode().split()
+    if is_program(name):
+        return os.path.isfile(f"crates/{name}/out/{name}") and word == word_of(name) and built_from == sum_of(crates, name)
+    return built_from == sum_of(crates, name)
 
 
-def words(crates, name, root):
+def words(crates, name):
     """How the compiler is called for a crate, but for the number of its processes."""
-    above = os.path.abspath("crates")
+    above, root = os.path.abspath("crates"), "src/main.rt" if is_program(name) else "src/lib.rt"
     found = ["--crate-name", name, root, "--extern", f"std={KIT}/rlibs/std.rlib"]
     for it in crates[name]:
         place = f"{above}/{it}/out/rlib" if it in crates else f"{KIT}/rlibs"
@@ -103,29 +121,28 @@ def call(name, *command):
     how = {"cwd": f"crates/{name}", "stdin": subprocess.DEVNULL, "stdout": subprocess.PIPE, "stderr": subprocess.STDOUT, "errors": "replace"}
     ran = subprocess.run(command, **how)
     if ran.returncode:
-        sys.exit(f"{ran.stdout}build: {name} is not built")
+        print(f"{ran.stdout}build: {name} is not built", file=sys.stderr, flush=True)
+        sys.exit(1)
 
 
 def build(crates, name, jobs, niceness):
     """Proves and builds a crate, unless it is there."""
     if is_built(crates, name):
         return
-    began = time.time()
-    made, is_program = f"crates/{name}/out/rlib", os.path.isfile(f"crates/{name}/src/main.rt")
+    began, made = time.time(), f"crates/{name}/out/rlib"
     shutil.rmtree(made, ignore_errors=True)
     os.makedirs(made)
     built_from = sum_of(crates, name)
-    command = ["nice", "-n", str(niceness), f"{KIT}/bin/rattle", "build", *words(crates, name, f"src/{'main' if is_program else 'lib'}.rt"), "--jobs", str(jobs)]
-    if is_program:
+    command = ["nice", "-n", str(niceness), f"{KIT}/bin/rattle", "build", *words(crates, name), "--jobs", str(jobs)]
+    if is_program(name):
         tools = ["--toolchain", f"{KIT}/toolchain"]
         call(name, *command, *tools, "--backend", "llvm", "-o", f"out/{name}.o")
         of_system = [f"{KIT}/c/libos_c.a", f"{KIT}/c/liblibc_c.a"]
-        call(name, f"{KIT}/bin/rattle-link", "--target", "x86_64-unknown-linux-gnu", *tools, "-o", f"out/{name}", f"out/{name}.o", *of_system)
+        call(name, f"{KIT}/bin/rattle-link", "--target", TARGET, *tools, "-o", f"out/{name}", f"out/{name}.o", *of_system)
     else:
         call(name, *command, "--statements", "-o", f"out/rlib/{name}.rlib")
     with open(mark_of(name), "w", encoding="utf-8") as it:
-        # (what stands above is built anew after each build of a library)
-        it.write(f"{built_from} {time.time_ns()}\n")
+        it.write(f"{built_from} {word_of(name)}\n")
     print(f"build: {name}, {time.time() - began:.0f} s", flush=True)
 
 
