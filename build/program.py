@@ -21,9 +21,11 @@ PARTS = ("src", "specs", "proofs")
 TARGET = "x86_64-unknown-linux-gnu"
 # a check takes up to so many bytes of memory
 MEMORY_OF_A_CHECK = 4 << 30
+# the compiler's allocator keeps what is freed, in place of giving it back to the system and asking for it again
+KEEPS_FREED = {"MIMALLOC_PURGE_DELAY": "-1"}
 # what begins a chain of less than so much of the longest one's lines gives way
 NEAR = 0.6
-GIVES_WAY = 10
+GIVES_WAY = 5
 
 
 def kit():
@@ -118,8 +120,8 @@ def words(crates, name):
 
 def call(name, *command):
     """Runs a command in the crate's folder. What it prints is shown where it fails."""
-    how = {"cwd": f"crates/{name}", "stdin": subprocess.DEVNULL, "stdout": subprocess.PIPE, "stderr": subprocess.STDOUT, "errors": "replace"}
-    ran = subprocess.run(command, **how)
+    how = {"stdin": subprocess.DEVNULL, "stdout": subprocess.PIPE, "stderr": subprocess.STDOUT, "errors": "replace"}
+    ran = subprocess.run(command, cwd=f"crates/{name}", env={**KEEPS_FREED, **os.environ}, **how)
     if ran.returncode:
         print(f"{ran.stdout}build: {name} is not built", file=sys.stderr, flush=True)
         sys.exit(1)
