@@ -1,9 +1,9 @@
 //! The program `kmc`: reads on standard input, their dump on standard output, by KMC's options. On a fault it
-//! writes one line to standard error and ends with the fault's status. All of it is `kmc_command`'s.
+//! writes one line to standard error and ends with the fault's status. All of it is `kmc_tool`'s.
 #![tactic(auto)]
 
-use kmc_command::program::program;
 use kmc_device::counted::Counted;
+use kmc_tool::program::program;
 use std::io;
 use std::process::ExitCode;
 

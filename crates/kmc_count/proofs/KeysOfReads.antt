@@ -1,14 +1,12 @@
 -- The list of all keys holds each word as often as it has places.
-use Rattle.std.proofs.Common.{◌≡◌, ℕ, ◌+◌, ◌<◌, ◌^◌, All, cond, List, [], ◌∷◌, ◌++◌, length, map, Option, None, Some, refl, sym, ap, subst, ◌∙◌, zero-add, append-nil}
+use Rattle.std.proofs.Common.{◌≡◌, ℕ, ◌+◌, ◌<◌, ◌^◌, All, cond, List, [], ◌∷◌, length, map, Option, None, Some, refl, sym, ap, subst, ◌∙◌, zero-add}
 use Rattle.std.specs.Option.{option_map}
 use Rattle.std.specs.List.{filter_map, flat_map, cons_option, count_by, range_with_len}
 use Rattle.std.proofs.lemmas.List.Sums.{sum_by-cons, sum_by-append}
-use Rattle.std.proofs.lemmas.List.{map-append}
-use Rattle.std.proofs.lemmas.Grind.{flat_map-append}
 use Rattle.std.proofs.lemmas.List.Sorted.{sum_by-IsPermutation, All-permutation}
 use Rattle.std.specs.List.Sorted.{IsPermutation}
 use Rattle.kmc_base.specs.Packed.{pack, unpack}
-use Rattle.kmc_base.specs.Lemmas.Keys.{AreWords, words_append, counted_keys_are_words, unpack_all, packs_fit}
+use Rattle.kmc_base.specs.Lemmas.Keys.{AreWords, unpack_all, packs_fit}
 use Rattle.kmc_count.proofs.PackedRuns.{occurrences_packed}
 use Rattle.kmc_base.specs.declared.strands.Strands.{Strands}
 use Rattle.kmc_base.specs.Places.{word_at, counted_words}
@@ -40,21 +38,6 @@ module _ (strands : Strands) (k : ℕ) (x : List ℕ) where
       ∙ sym (sum_by-cons (λ (r : List ℕ). count_by (λ i. is_key_of strands x (word_at k r i)) (range_with_len 0 (length r))) read reads)
 
 -- ---- the keys in a sorted list of packed words
-
-pub keys_of_reads_are_words : (strands : Strands) (k : ℕ) (reads : List (List ℕ)) → AreWords k (keys_of_reads strands k reads)
-keys_of_reads_are_words strands k [] = tt
-keys_of_reads_are_words strands k (read ∷ reads) =
-    words_append k (map (placed_key strands) (counted_words k read)) (keys_of_reads strands k reads) (counted_keys_are_words strands k read) (keys_of_reads_are_words strands k reads)
-
--- the packed keys of one read more
-pub read_added : (strands : Strands) (k : ℕ) (read : List ℕ) (old reads : List (List ℕ)) (before after : List ℕ) → before ≡ map pack (keys_of_reads strands k old) → reads ≡ old ++ read ∷ []
-    → after ≡ before ++ map pack (map (placed_key strands) (counted_words k read)) → after ≡ map pack (keys_of_reads strands k reads)
-read_added strands k read old reads before after was more is =
-    let here = map (placed_key strands) (counted_words k read) in
-    let f : List ℕ → List (List ℕ) = λ r. map (placed_key strands) (counted_words k r) in
-    is ∙ ap (λ (t : List ℕ). t ++ map pack here) was ∙ sym (map-append pack (keys_of_reads strands k old) here)
-    ∙ ap (λ (t : List (List ℕ)). map pack (keys_of_reads strands k old ++ t)) (sym (append-nil here))
-    ∙ ap (map pack) (sym (flat_map-append f old (read ∷ [])) ∙ ap (flat_map f) (sym more))
 
 module _ (k : ℕ) (ws : List (List ℕ)) (are : AreWords k ws) (ns sorted : List ℕ) (is : ns ≡ map pack ws) (moves : IsPermutation ns sorted) where
   pub sorted_fit : All (λ n. n < 4 ^ k) sorted

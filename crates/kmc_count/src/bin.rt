@@ -1,22 +1,19 @@
 //! The count of a bin: the packed words of its body in one list, sorted.
-ghost use Rattle.std.specs.Prelude.{◌≡◌, ℕ, ◌<◌, ◌≤◌, [], map, OnOk, IfOk, IsErrOf};
+ghost use Rattle.std.specs.Prelude.{◌≡◌, ℕ, ◌≤◌, [], map, OnOk, IsErrOf};
 ghost use Rattle.kmc_record.specs.Faults.{IsFirstFault};
 ghost use Rattle.kmc_record.specs.Refusals.{StopsAtRecord};
 ghost use Rattle.kmc_record.specs.declared.fault.RecordFault.{RecordFault};
 ghost use Rattle.kmc_count.specs.Bodies.{AreSortedKeys, IsDumpOfBody, WantsMemory};
 ghost use Rattle.kmc_count.specs.declared.bin.CountError.TheVariants.{Memory};
 
-use crate::direct::NARROW_K;
 use crate::limits::Limits;
 use crate::pair_list::PairList;
 use crate::tally::tally;
 use kmc_base::key_rule::KeyRule;
-use kmc_base::kmer::{Kmer, MAX_K};
-use kmc_base::strands::Strands;
 use kmc_base::word::Word;
 use kmc_record::body::push_body;
 use kmc_record::fault::{BodyError, RecordFault};
-use std::alloc::{AllocError, Global};
+use std::alloc::AllocError;
 
 /// Why a count of bodies was given up.
 #[derive(Clone, Copy, Debug, PartialEq, Eq)]
@@ -83,33 +80,4 @@ pub fn count_into<W: Word + Drop, L: PairList<W>>(
     sorted_keys(words, body, rule)?;
     tally(pairs, words, rule, limits)?;
     Ok(())
-}
-
-/// The dump of the records of a body: each key of their words, rising, with the number of words that have it
-/// as far as the limits list it. It takes 8 bytes a word, 16 above k = 32. A body that is damaged is not
-/// counted in part. The pairs are in plain form, 48 bytes each.
-pub fn count_bin(
-    alloc: Global,
-    body: &[u8],
-    k: usize,
-    strands: Strands,
-    limits: &Limits,
-) -> Result<Vec<(Kmer, u64)>, CountError>
-    requires some { 1 ≤ k }
-    requires most { k ≤ MAX_K }
-    ensures ok { IfOk result (λ pairs. IsDumpOfBody strands k limits.now body.now pairs.items) }
-    ensures damaged { (fault : RecordFault) (offset : ℕ)
-        → IsErrOf result (CountError.Damaged fault offset) → IsFirstFault k fault offset body.now }
-    ensures memory { IsErrOf result CountError.Memory → WantsMemory k body.now }
-{
-    let rule = KeyRule { k, strands };
-    let mut pairs = Vec::new(alloc);
-    if k <= NARROW_K {
-        let mut words: Vec<u64> = Vec::new(alloc);
-        count_into(&mut words, &mut pairs, body, rule, limits)?;
-    } else {
-        let mut words: Vec<u128> = Vec::new(alloc);
-        count_into(&mut words, &mut pairs, body, rule, limits)?;
-    }
-    Ok(pairs)
 }

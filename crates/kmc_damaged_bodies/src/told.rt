@@ -2,10 +2,11 @@
 ghost use Rattle.std.specs.Prelude.{◌<◌};
 
 use kmc_base::strands::Strands;
-use kmc_count::bin::{CountError, count_bin};
-use kmc_count::dump::write_dump;
+use kmc_count::bin::CountError;
 use kmc_count::limits::Limits;
 use kmc_device::counted::Counted;
+use kmc_plain_count::bin::count_bin;
+use kmc_plain_count::dump::write_dump;
 use kmc_record::fault::{PartError, RecordFault};
 use kmc_record::part::Part;
 use kmc_record::shape::Shape;

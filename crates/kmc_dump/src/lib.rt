@@ -1,6 +1,6 @@
 //! Counts in packed form, and the dump that is written from the lists of bins by ranges of words. It stands on the words
-//! of kmc_base and on kmc_count for limits, for the dump's lines and for devices whose failures are counted. The layer
-//! above uses that a list is the dump of its words, that the pairs of lists that share no word are one dump in order,
+//! of kmc_base, on kmc_count for limits, and on kmc_device for the dump's lines and for devices whose failures are counted.
+//! The layer above uses that a list is the dump of its words, that the pairs of lists that share no word are one dump in order,
 //! and that this dump is written whole or the device failed.
 #![tactic(auto)]
 

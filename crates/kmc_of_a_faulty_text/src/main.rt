@@ -1,8 +1,8 @@
 //! The program `kmc` once more, run by the gate on other arguments: a text whose third line is faulty: one line on standard error, status 1 and nothing written.
 #![tactic(auto)]
 
-use kmc_command::program::program;
 use kmc_device::counted::Counted;
+use kmc_tool::program::program;
 use std::io;
 use std::process::ExitCode;
 

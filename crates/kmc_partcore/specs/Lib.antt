@@ -2,5 +2,3 @@ pub mod Limits
 pub mod History
 pub mod State
 pub mod Legal
-pub mod CoreState
-pub mod Laws

@@ -2,10 +2,11 @@
 //! and then each call with its answer, as `tests_model/queue_model.py` spells them.
 use crate::lists;
 use kmc_partcore::{
-    CompleteError, Event, MAX_WRITERS, PartCore, PutError, QueueShape, Received, RegisterError,
-    Reply, TakeError, Taken, Totals, run,
+    CompleteError, Event, MAX_WRITERS, PutError, QueueShape, Received, RegisterError, Reply,
+    TakeError, Taken, Totals,
 };
 use kmc_partqueue::TryTaken;
+use kmc_pure_queue::{PartCore, run};
 use std::alloc::{AllocError, Global};
 use std::process::Abort;
 use std::test::Fail;

@@ -13,13 +13,6 @@ use kmc_split::cut::{Scratch, cut};
 use kmc_split::runs::Run;
 use std::alloc::{AllocError, Global};
 
-/// Some reads of an input, and which chunk of it they are.
-#[derive(Debug, PartialEq, Eq, Drop)]
-pub struct Chunk {
-    pub number: u64,
-    pub reads: Vec<Vec<u8>>,
-}
-
 /// The empty part of each bin.
 fn empty_parts(alloc: Global, number: u64, shape: Shape) -> Result<Vec<Part>, AllocError>
     ensures { IfOk result (λ parts. parts.items
@@ -136,16 +129,4 @@ pub fn parts_of_reads(
     }
     parts.retain(|part| part.has_records());
     Ok(parts)
-}
-
-/// The parts of a chunk: those of its reads.
-pub fn parts_of(alloc: Global, chunk: &Chunk, shape: Shape) -> Result<Vec<Part>, AllocError>
-    ensures { IfOk result (λ parts. ArePartsOf chunk.now.number
-        (map (λ r. r.items) chunk.now.reads.items) shape parts.items) }
-{
-    let mut reads = Vec::with_capacity(alloc, chunk.reads.len())?;
-    for read in &chunk.reads {
-        reads.push(read.as_slice())?;
-    }
-    parts_of_reads(alloc, chunk.number, &reads, shape)
 }

@@ -4,7 +4,6 @@ ghost use Rattle.std.specs.List.{AllByRecursion};
 ghost use Rattle.kmc_record.specs.Record.{packed_codes, spelling, IsSpelled, size_of};
 
 use kmc_base::kmer::MAX_K;
-use kmc_split::super_kmer::SuperKmer;
 use std::alloc::AllocError;
 
 /// The code at a place, and 0 behind the last.
@@ -49,7 +48,7 @@ fn whole_byte_at(codes: &[u8], i: usize) -> u8
 }
 
 /// Appends the record of these codes of a super-k-mer; `out` stays as it was where its growth is refused.
-pub(crate) fn push_record_of(codes: &[u8], k: usize, out: &mut Vec<u8>) -> Result<(), AllocError>
+pub fn push_record_of(codes: &[u8], k: usize, out: &mut Vec<u8>) -> Result<(), AllocError>
     requires most { k ≤ MAX_K }
     requires spelled { IsSpelled k codes.now }
     ensures ok { OnOk result (out.new.items ≡ out.old.items ++ spelling k codes.now) }
@@ -65,13 +64,4 @@ pub(crate) fn push_record_of(codes: &[u8], k: usize, out: &mut Vec<u8>) -> Resul
         out.push_reserved(byte_at(codes, 4 * whole));
     }
     Ok(())
-}
-
-/// Appends the record of a super-k-mer: one byte for the number of its symbols above k, then its codes, four in a
-/// byte, the first in the highest bits, with zeros behind the last. `out` stays as it was where its growth is refused.
-pub fn encode(s: &SuperKmer, out: &mut Vec<u8>) -> Result<(), AllocError>
-    ensures ok { OnOk result (out.new.items ≡ out.old.items ++ spelling s.now.k s.now.codes) }
-    ensures err { OnErr result (out.new.items ≡ out.old.items) }
-{
-    push_record_of(s.codes(), s.k(), out)
 }

@@ -1,9 +1,9 @@
 //! Bins: `absorb` and `merge`.
 use crate::records::print_bytes;
 use crate::tell;
-use kmc_record::parts::{Chunk, parts_of};
 use kmc_record::shape::Shape;
 use kmc_store::bins::Bins;
+use kmc_super_kmers::chunk::{Chunk, parts_of};
 use std::alloc::{AllocError, Global};
 
 const READS: [&[u8]; 3] = [

@@ -5,8 +5,8 @@ use crate::tell;
 use kmc_record::fault::PartError;
 use kmc_record::part::Part;
 use kmc_record::shape::Shape;
-use kmc_record::spell::encode;
 use kmc_split::super_kmer::SuperKmer;
+use kmc_super_kmers::encode::encode;
 use std::alloc::{AllocError, Global};
 
 /// Prints bytes in hex, and ends the line.

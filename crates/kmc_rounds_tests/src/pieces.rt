@@ -1,10 +1,10 @@
 //! Reads that are longer than a piece may be: they are counted as whole reads.
 use crate::given::settings;
-use kmc_count::direct::count_direct;
-use kmc_count::dump::write_dump;
 use kmc_device::counted::Counted;
 use kmc_dump::lists::write_bins;
 use kmc_partqueue::NoGate;
+use kmc_plain_count::direct::count_direct;
+use kmc_plain_count::dump::write_dump;
 use kmc_reads::format::Format;
 use kmc_reads::read_all::read_all;
 use kmc_settings::params::Params;

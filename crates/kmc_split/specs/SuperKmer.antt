@@ -1,6 +1,6 @@
 -- Super-k-mers: overlapping words of one signature.
 use Rattle.std.specs.Prelude.{ℕ, ◌+◌, ◌<◌, ◌≤◌, List, length}
-use Rattle.std.specs.List.{All, flat_map}
+use Rattle.std.specs.List.{All}
 use Rattle.kmc_base.specs.declared.kmer.TheConstants.{MAX_K}
 use Rattle.kmc_base.specs.Words.{windows}
 
@@ -20,7 +20,3 @@ pub record IsSuperKmer (k : ℕ) (w : List ℕ) : Type 0 where
 -- the words of a super-k-mer, in the order of their places
 abbrev pub piece_words : Piece → List (List ℕ)
 piece_words s = windows s.k s.codes
-
--- the words of super-k-mers, one super-k-mer after another
-abbrev pub all_words : List Piece → List (List ℕ)
-all_words pieces = flat_map piece_words pieces

@@ -1,8 +1,8 @@
 //! Signatures of words and the cut of a segment into super-k-mers, exactly. It stands on kmc_base for words,
 //! canonical forms and segments. The layer above takes the cut of a segment from [`cut::cut`], as runs in a
-//! vector that is used again, or from [`super_kmer::super_kmers`], as values; it asks a super-k-mer whether its
-//! words belong to a bin; and it learns from `laws` that a word and its reverse complement share a signature,
-//! that a segment has one cut, and that the cut loses and doubles no word.
+//! vector that is used again; it makes a super-k-mer of codes or of a run, and asks it whether its words belong
+//! to a bin; and it learns from `laws` that a word and its reverse complement share a signature, that a segment
+//! has one cut, and that the cut loses and doubles no word.
 #![tactic(auto)]
 
 pub mod cut;

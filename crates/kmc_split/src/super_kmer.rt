@@ -4,16 +4,14 @@ ghost use Rattle.std.specs.List.{All};
 ghost use Rattle.kmc_base.specs.Words.{window, windows};
 ghost use Rattle.kmc_split.specs.Signature.{signature_of};
 ghost use Rattle.kmc_split.specs.Minima.{low};
-ghost use Rattle.kmc_split.specs.SuperKmer.{IsSuperKmer, piece_words, all_words};
-ghost use Rattle.kmc_split.specs.Pieces.{IsCutInto, piece};
+ghost use Rattle.kmc_split.specs.SuperKmer.{IsSuperKmer, piece_words};
+ghost use Rattle.kmc_split.specs.Pieces.{piece};
 
-use crate::cut::{Scratch, cut};
 use crate::judge::offers;
 use crate::minima::lowest;
 use crate::runs::Run;
-use crate::signature::{MAX_M, Sig};
+use crate::signature::MAX_M;
 use kmc_base::kmer::{Kmer, MAX_K};
-use kmc_base::segment::Segment;
 use std::alloc::{AllocError, Global};
 use std::marker::Model;
 
@@ -140,33 +138,8 @@ fn lows_in_bin(values: &[u32], width: usize, n: usize, bin: usize) -> bool
     true
 }
 
-/// The super-k-mers of a segment: the runs of its cut, in order.
-pub fn super_kmers(
-    alloc: Global,
-    s: &Segment,
-    k: usize,
-    m: usize,
-) -> Result<Vec<SuperKmer>, AllocError>
-    requires some { 1 ≤ m }
-    requires most { m ≤ MAX_M }
-    requires within { m ≤ k }
-    requires limit { k ≤ MAX_K }
-    requires long { k ≤ length s.now.codes.items }
-    ensures cut { IfOk result (λ pieces. IsCutInto k m s.now.codes.items pieces.items) }
-    ensures words { IfOk result (λ pieces. all_words pieces.items ≡ windows k s.now.codes.items) }
-{
-    let mut scratch = Scratch::new(alloc);
-    let mut runs = Vec::new(alloc);
-    cut(&s.codes, k, m, &mut scratch, &mut runs)?;
-    let mut pieces = Vec::new(alloc);
-    for r in &runs {
-        pieces.push(super_kmer(alloc, &s.codes, k, *r)?)?;
-    }
-    Ok(pieces)
-}
-
 /// The super-k-mer of a run.
-fn super_kmer(alloc: Global, codes: &[u8], k: usize, r: Run) -> Result<SuperKmer, AllocError>
+pub fn super_kmer(alloc: Global, codes: &[u8], k: usize, r: Run) -> Result<SuperKmer, AllocError>
     requires some { 1 ≤ k }
     requires limit { k ≤ MAX_K }
     requires codes { All (λ c. c < 4) codes.now }

@@ -1,8 +1,8 @@
 //! The program `kmc` once more, run by the gate on other arguments: several options, glued, over a FASTA text of several chunks of reads.
 #![tactic(auto)]
 
-use kmc_command::program::program;
 use kmc_device::counted::Counted;
+use kmc_tool::program::program;
 use std::io;
 use std::process::ExitCode;
 

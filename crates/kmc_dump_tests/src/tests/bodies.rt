@@ -2,11 +2,11 @@
 use kmc_base::kmer::Kmer;
 use kmc_base::strands::Strands;
 use kmc_base::word::Word;
-use kmc_count::bin::count_bin;
 use kmc_count::limits::Limits;
 use kmc_dump::counts::Counts;
 use kmc_dump::lists::{BinLists, SizedLists, list_bins};
 use kmc_dump::shown::Shown;
+use kmc_plain_count::bin::count_bin;
 use kmc_testing::dice::Dice;
 use std::alloc::{AllocError, Global};
 use std::test::Fail;

@@ -3,12 +3,12 @@ ghost use Rattle.std.specs.Prelude.{IfSome};
 ghost use Rattle.kmc_dump.specs.Lists.{lists_of};
 ghost use Rattle.kmc_dump.specs.Ranges.{CanBeMerged};
 
-use kmc_count::direct::count_direct;
-use kmc_count::dump::write_dump;
 use kmc_count::limits::Limits;
 use kmc_device::counted::Counted;
 use kmc_dump::lists::{BinLists, write_bins};
 use kmc_partqueue::NoGate;
+use kmc_plain_count::direct::count_direct;
+use kmc_plain_count::dump::write_dump;
 use kmc_reads::format::Format;
 use kmc_reads::reads::slices_of;
 use kmc_settings::params::Params;

@@ -1,8 +1,8 @@
 mod bins;
 
 use kmc_base::strands::Strands;
-use kmc_count::direct::count_direct;
 use kmc_count::limits::Limits;
+use kmc_plain_count::direct::count_direct;
 use std::test::Fail;
 
 const MOST: u64 = 1 << 63;

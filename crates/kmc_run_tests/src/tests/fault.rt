@@ -1,8 +1,8 @@
-use kmc_command::fault::Fault;
 use kmc_options::error::ParamsError;
 use kmc_reads::error::ReadsError;
 use kmc_settings::setting::Setting;
 use kmc_tool::error::RunError;
+use kmc_tool::fault::Fault;
 use std::alloc::Global;
 use std::process::Abort;
 use std::test::Fail;

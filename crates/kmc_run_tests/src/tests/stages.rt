@@ -1,19 +1,19 @@
 //! Bins filled part by part in any order, and what stage two makes of them, against the direct count of the same reads.
 use kmc_base::strands::Strands;
-use kmc_count::direct::count_direct;
-use kmc_count::dump::write_dump;
 use kmc_count::limits::Limits;
 use kmc_device::counted::Counted;
 use kmc_dump::lists::write_bins;
 use kmc_dump::write::DumpError;
 use kmc_partqueue::NoGate;
+use kmc_plain_count::direct::count_direct;
+use kmc_plain_count::dump::write_dump;
 use kmc_reads::format::Format;
 use kmc_reads::reads::slices_of;
 use kmc_record::part::Part;
-use kmc_record::parts::{Chunk, parts_of};
 use kmc_record::shape::Shape;
 use kmc_settings::params::Params;
 use kmc_store::bins::Bins;
+use kmc_super_kmers::chunk::{Chunk, parts_of};
 use kmc_testing::dice::Dice;
 use kmc_tool::stage_one::stage_one;
 use kmc_tool::stage_two::stage_two;

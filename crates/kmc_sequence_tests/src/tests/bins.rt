@@ -1,10 +1,10 @@
 //! Bins filled part by part, and merged.
 use crate::tests::given::{chunk_of, long_read, push_bin, shape_of};
 use kmc_record::part::Part;
-use kmc_record::parts::parts_of;
 use kmc_record::shape::Shape;
 use kmc_store::bins::Bins;
 use kmc_store::laws;
+use kmc_super_kmers::chunk::parts_of;
 use std::alloc::{AllocError, Global};
 use std::process::Abort;
 use std::test::Fail;

@@ -1,12 +1,13 @@
 //! Codes of bases, words, segments and keys.
 use crate::tests::given::{one_segment, word_of};
-use kmc_base::base::code;
-use kmc_base::keys::push_keys;
 use kmc_base::kmer::{Kmer, MAX_K};
 use kmc_base::laws;
 use kmc_base::pieces::{piece_count, push_pieces};
 use kmc_base::strands::Strands;
-use kmc_base::stretch::{leading_codes, segments};
+use kmc_base::stretch::leading_codes;
+use kmc_segments::base::code;
+use kmc_segments::keys::push_keys;
+use kmc_segments::stretch::segments;
 use std::alloc::{AllocError, Global};
 use std::process::Abort;
 use std::test::Fail;

@@ -1,9 +1,9 @@
 //! What the tests are given: segments, words, chunks of reads, written as texts.
 use kmc_base::kmer::Kmer;
 use kmc_base::segment::Segment;
-use kmc_base::stretch::segments;
-use kmc_record::parts::Chunk;
 use kmc_record::shape::Shape;
+use kmc_segments::stretch::segments;
+use kmc_super_kmers::chunk::Chunk;
 use std::alloc::{AllocError, Global};
 use std::process::Abort;
 use std::test::Fail;

@@ -4,19 +4,20 @@ mod rows;
 use crate::tests::given::{
     chunk_of, long_read, mixed_reads, number, one_segment, push_bin, same_bytes, shape_of,
 };
-use kmc_base::keys::push_keys;
 use kmc_base::strands::Strands;
-use kmc_base::stretch::segments;
 use kmc_record::body::push_body;
 use kmc_record::decode::decode;
 use kmc_record::fault::{BodyError, PartError, RecordError, RecordFault};
 use kmc_record::laws;
 use kmc_record::part::Part;
-use kmc_record::parts::parts_of;
 use kmc_record::shape::Shape;
-use kmc_record::spell::encode;
+use kmc_segments::keys::push_keys;
+use kmc_segments::stretch::segments;
 use kmc_split::signature::signature;
-use kmc_split::super_kmer::{SuperKmer, super_kmers};
+use kmc_split::super_kmer::SuperKmer;
+use kmc_super_kmers::chunk::parts_of;
+use kmc_super_kmers::encode::encode;
+use kmc_super_kmers::super_kmer::super_kmers;
 use rows::rows;
 use std::alloc::{AllocError, Global};
 use std::process::Abort;

@@ -1,4 +1,4 @@
-use Rattle.std.proofs.Common.{◌≡◌, ◌^◌, ◌<◌, map, All, subst, sym}
+use Rattle.std.proofs.Common.{◌^◌, ◌<◌, map, All, subst, sym}
 use Rattle.std.specs.List.Sorted.{IsSorted}
 use Rattle.std.specs.Ordering.{nat_cmp}
 use Rattle.kmc_base.specs.Packed.{unpack}

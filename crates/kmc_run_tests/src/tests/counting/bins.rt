@@ -3,12 +3,13 @@ ghost use Rattle.std.specs.Prelude.{◌≡◌, [], ◌∷◌, map, IfOk};
 
 use kmc_base::kmer::Kmer;
 use kmc_base::strands::Strands;
-use kmc_count::bin::{CountError, count_bin};
-use kmc_count::dump::write_dump;
+use kmc_count::bin::CountError;
 use kmc_count::limits::Limits;
-use kmc_count::merge::merge_bins;
 use kmc_device::counted::Counted;
 use kmc_dump::lists::{BinLists, SizedLists, list_bins};
+use kmc_plain_count::bin::count_bin;
+use kmc_plain_count::dump::write_dump;
+use kmc_plain_count::merge::merge_bins;
 use kmc_record::fault::RecordFault;
 use std::alloc::{AllocError, Global};
 use std::process::Abort;

@@ -1,8 +1,8 @@
 //! Runs over queues of many shapes: whichever worker is first, the dump is that of the direct count.
 use super::*;
 use crate::tests::passes::Passes;
-use kmc_count::direct::count_direct;
-use kmc_count::dump::write_dump;
+use kmc_plain_count::direct::count_direct;
+use kmc_plain_count::dump::write_dump;
 
 /// The dump of the direct count of these reads.
 fn direct_dump(alloc: Global, reads: &[&[u8]], params: &Params) -> Result<Vec<u8>, Fail> {

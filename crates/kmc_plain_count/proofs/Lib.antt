@@ -1,0 +1,3 @@
+pub mod DumpText
+pub mod GatheredKeys
+pub mod Merging

@@ -1,0 +1,2 @@
+pub mod CoreState
+pub mod Laws

@@ -1,0 +1,38 @@
+-- What an exit status says of an answer.
+use Rattle.std.proofs.Common.{◌≡◌, ◌≢◌, ◌≤◌, ◌⊎◌, ℕ, inl, inr, refl, subst, arith}
+use Rattle.std.specs.Prelude.{Result, Ok, Err, IfErr, IsErrOf}
+use Rattle.kmc_tool.specs.Status.{status_of_answer}
+use Rattle.kmc_tool.specs.declared.fault.Fault.{Fault}
+use Rattle.kmc_tool.specs.declared.fault.Fault.TheVariants.{Options, Run}
+use Rattle.kmc_options.specs.declared.error.ParamsError.{ParamsError}
+use Rattle.kmc_options.specs.declared.error.ParamsError.TheVariants.{Memory, OutOfRange, Usage}
+use Rattle.kmc_tool.specs.declared.error.RunError.TheVariants as run
+
+-- status 2 comes of the command line alone
+pub only_misuse : (r : Result ℕ Fault) → status_of_answer r ≡ 2 → (e : ParamsError) × (r ≡ Err (Options e))
+only_misuse (Ok lines) h = absurd (omega arith)
+only_misuse (Err (Options e)) h = (e, refl)
+only_misuse (Err (Run e)) h = absurd (omega arith)
+
+pub of_err : {A E : Type 0} (P : E → Type 0) (r : Result A E) (e : E) → r ≡ Err e → IfErr r P → P e
+of_err P r e is h = subst (λ x. IfErr x P) is h
+
+pub at_most_2 : (r : Result ℕ Fault) → status_of_answer r ≤ 2
+at_most_2 (Ok lines) = omega arith
+at_most_2 (Err (Options Usage)) = omega arith
+at_most_2 (Err (Options (OutOfRange s))) = omega arith
+at_most_2 (Err (Options Memory)) = omega arith
+at_most_2 (Err (Run e)) = omega arith
+
+-- status 1: what holds after every fault but a failed write, or what holds after that
+pub one_or_other : {P Q : Type 0} (r : Result ℕ Fault) → status_of_answer r ≡ 1
+    → IfErr r (λ e. e ≢ Run run.Write → P) → (IsErrOf r (Run run.Write) → Q) → P ⊎ Q
+one_or_other (Ok lines) h p q = absurd (omega arith)
+one_or_other (Err (Options Usage)) h p q = absurd (omega arith)
+one_or_other (Err (Options (OutOfRange s))) h p q = absurd (omega arith)
+one_or_other (Err (Options Memory)) h p q = inl (p (λ is. absurd (cc)))
+one_or_other (Err (Run run.Memory)) h p q = inl (p (λ is. absurd (cc)))
+one_or_other (Err (Run run.Read)) h p q = inl (p (λ is. absurd (cc)))
+one_or_other (Err (Run run.Write)) h p q = inr (q refl)
+one_or_other (Err (Run (run.Input e))) h p q = inl (p (λ is. absurd (cc)))
+one_or_other (Err (Run run.TooLong)) h p q = inl (p (λ is. absurd (cc)))
