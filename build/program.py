@@ -4,8 +4,8 @@
 usage: build/program.py PROGRAM, at the top of the repository. The program is left as crates/PROGRAM/out/PROGRAM.
 
 It asks the kit's compiler for each library as `rt ci` does: from nothing, and what stands above a library reads its statements
-and not its proofs. A library is begun once those that it names are done, first the one with the longest chain above it: it gets two
-processes, as others do with chains nearly as long, and else one; where no more than two can be built, each gets one for each processor.
+and not its proofs. A library is begun once those that it names are done, first the one with the longest chain above it, which gets
+a process for each processor but one; the others get one each, and where no more than two can be built, each gets one for each processor.
 What was built before from the same files is kept. `rt` in a crate's folder makes libraries of its own, in the place of these, and
 neither takes the other's.
 """
@@ -24,7 +24,7 @@ TARGET = "x86_64-unknown-linux-gnu"
 MEMORY_OF_A_CHECK = 4 << 30
 # the compiler's allocator keeps what is freed, in place of giving it back to the system and asking for it again
 KEEPS_FREED = {"MIMALLOC_PURGE_DELAY": "-1"}
-# what begins a chain of less than so much of the longest one's lines gives way, and what begins one of more gets a second process
+# what begins a chain of less than so much of the longest one's lines gives way
 NEAR = 0.8
 GIVES_WAY = 5
 
@@ -150,11 +150,11 @@ def build(crates, name, jobs, niceness):
 
 
 def weights(crates, order):
-    """How many lines are to be proved from each crate on, along the longest chain of those above it."""
+    """How many lines of code are to be proved from each crate on, along the longest chain of those above it."""
     found = {}
     for name in reversed(order):
         above = [found[it] for it in found if name in crates[it]]
-        found[name] = max(above, default=0) + sum(text_of(it).count(b"\n") for it in files_of(name))
+        found[name] = max(above, default=0) + sum(text_of(it).count(b"\n") for it in files_of(name) if it.endswith(".rt"))
     return found
 
 
@@ -175,9 +175,9 @@ def build_all(crates, order):
             longest = max(weight[it] for it in order if it not in done)
             are_few = len(ready) + len(running) <= 2
             for name in ready[: at_once - len(running)]:
-                is_near = weight[name] >= NEAR * longest
-                jobs = cores if are_few else min(cores, 2) if is_near else 1
-                niceness = 0 if is_near else GIVES_WAY
+                is_longest = weight[name] == max(weight[it] for it in left)
+                jobs = cores if are_few else max(1, cores - 1) if is_longest else 1
+                niceness = 0 if weight[name] >= NEAR * longest else GIVES_WAY
                 left.remove(name)
                 running[pool.submit(build, crates, name, jobs, niceness)] = name
             for it in wait(running, return_when=FIRST_COMPLETED).done:
