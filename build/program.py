@@ -25,7 +25,7 @@ MEMORY_OF_A_CHECK = 4 << 30
 # the compiler's allocator keeps what is freed, in place of giving it back to the system and asking for it again
 KEEPS_FREED = {"MIMALLOC_PURGE_DELAY": "-1"}
 # what begins a chain of less than so much of the longest one's lines gives way
-NEAR = 0.6
+NEAR = 0.8
 GIVES_WAY = 5
 
 
