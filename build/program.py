@@ -15,6 +15,7 @@ import os
 import shutil
 import subprocess
 import sys
+import tempfile
 import time
 from concurrent.futures import FIRST_COMPLETED, ThreadPoolExecutor, wait
 
@@ -24,6 +25,10 @@ TARGET = "x86_64-unknown-linux-gnu"
 MEMORY_OF_A_CHECK = 4 << 30
 # the compiler's allocator keeps what is freed, in place of giving it back to the system and asking for it again
 KEEPS_FREED = {"MIMALLOC_PURGE_DELAY": "-1"}
+# where the copies of one check hand on what they checked, 64 MiB and more for each crate: a file system in memory, where there is one
+# with so many bytes of room
+IN_MEMORY = "/dev/shm"
+ROOM_TO_HAND_ON = 2 << 30
 # what begins a chain of less than so much of the longest one's lines gives way
 NEAR = 0.8
 GIVES_WAY = 5
@@ -122,7 +127,7 @@ def words(crates, name):
 def call(name, *command):
     """Runs a command in the crate's folder. What it prints is shown where it fails."""
     how = {"stdin": subprocess.DEVNULL, "stdout": subprocess.PIPE, "stderr": subprocess.STDOUT, "errors": "replace"}
-    ran = subprocess.run(command, cwd=f"crates/{name}", env={**KEEPS_FREED, **os.environ}, **how)
+    ran = subprocess.run(command, cwd=f"crates/{name}", env={**KEEPS_FREED, "TMPDIR": HANDED_ON, **os.environ}, **how)
     if ran.returncode:
         print(f"{ran.stdout}build: {name} is not built", file=sys.stderr, flush=True)
         sys.exit(1)
@@ -185,6 +190,12 @@ def build_all(crates, order):
                 done.add(running.pop(it))
 
 
+def room_to_hand_on():
+    """A folder that is removed at the end, in memory where there is room for it."""
+    has_room = os.access(IN_MEMORY, os.W_OK) and shutil.disk_usage(IN_MEMORY).free >= ROOM_TO_HAND_ON
+    return tempfile.TemporaryDirectory(prefix="kmc-build-", dir=IN_MEMORY if has_room else None)
+
+
 def lock(names):
     """Waits until no other build, and no `rt`, works in these crates' folders."""
     for name in sorted(names):
@@ -202,4 +213,5 @@ if __name__ == "__main__":
     if len(sys.argv) != 2:
         sys.exit("usage: build/program.py PROGRAM")
     KIT = kit()
-    main(sys.argv[1])
+    with room_to_hand_on() as HANDED_ON:
+        main(sys.argv[1])
