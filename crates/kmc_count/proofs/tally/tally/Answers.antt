@@ -1,6 +1,7 @@
 use Rattle.std.proofs.Common.{◌≡◌, ℕ, ◌+◌, ◌<◌, ◌^◌, List, [], ◌++◌, length, map, drop, get_or, sym, ap, ◌∙◌, subst, arith, drop_of_length-le}
 use Rattle.std.proofs.lemmas.List.{length-map, get_or-map}
 use Rattle.std.proofs.lemmas.List.Elements.{All-rest}
+use Rattle.std.proofs.lemmas.Grind.{common_steps}
 use Rattle.kmc_base.specs.Packed.{unpack}
 use Rattle.kmc_count.proofs.Listing.{kept_pairs}
 use Rattle.kmc_count.proofs.Runs.{runs_from}
@@ -60,3 +61,6 @@ returns-clause-dump g c =
     all_runs c.args.limits.now (unpack k (num c.loop-next.word)) first c.loop-next.count c.loop-next.next-index (map (unpack k) (map num c.args.words.now)) rest _ _
     end (ap (λ v. map (unpack k) (map num v)) c.in-Some.ensures.cases.0) (sorted_words k (map num c.args.words.now) c.requires.fit c.requires.sorted) c.in_ok-push_kept-2.ensures.pairs
     (c.loop-next.invariant.whole ∙ ap (λ (t : List (List ℕ × ℕ)). t ++ whole) c.requires.empty)
+
+pub loop-next-init : goal.loop-next-init
+loop-next-init g c = grind (arith, common_steps)

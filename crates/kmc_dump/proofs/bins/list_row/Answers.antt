@@ -1,4 +1,5 @@
 use Rattle.std.proofs.Common.{◌≡◌, ℕ, List, ◌∷◌, [], ◌++◌, sym, ap, subst, ◌∙◌, append_assoc, length, length-append, arith, Vec, Global}
+use Rattle.std.proofs.lemmas.Grind.{common_steps}
 use Rattle.std.specs.Vec.Iter.{into_iter_items}
 use Rattle.kmc_count.proofs.PassedOn.{passed_on}
 use Rattle.kmc_dump.proofs.ManyBodies.{texts}
@@ -26,3 +27,6 @@ loop-body-preserved g c = record {
   counted = subst (λ (t : List Listed). AreListsOfBodies c.args.rule.strands c.args.rule.k c.args.limits.now (texts (c.loop-body.yielded ++ c.in-Some.body ∷ [])) t) (sym c.push_reserved.ensures.items)
       (one_listed c.args.rule.strands c.args.rule.k c.args.limits.now c.loop-body.yielded c.in-Some.body c.deref.result.now c.loop-body.lists.items c.in_ok-list.list c.loop-body.invariant.counted c.deref.ensures.value c.in_ok-list.ensures.list c.in_ok-list.ensures.ok);
 }
+
+pub returns-clause-ok : goal.returns-clause-ok
+returns-clause-ok g c = grind (arith, common_steps)

@@ -5,6 +5,7 @@ use Rattle.std.proofs.lemmas.List.Elements.{All-append, All-drop}
 use Rattle.std.specs.Io.KnownBytes.{Appends}
 use Rattle.kmc_device.specs.Line.{line_room}
 use Rattle.std.proofs.KnownBytes.{Appends-nil}
+use Rattle.std.proofs.lemmas.Grind.{common_steps}
 use Rattle.kmc_device.specs.Device.{AppendsFront}
 use Rattle.kmc_device.proofs.Devices.{on_err, front_all}
 use Rattle.kmc_dump.proofs.Texts.{no_text, all_text}
@@ -53,3 +54,9 @@ returns-in-Ok-clause-ok g c =
     subst (Appends old new) (all_text c.args.ranges.now c.args.lists.now c.requires.ranges)
     (all_out c.args.ranges.now.k (2 ^ c.args.ranges.now.shift) (pow_pos c.args.ranges.now.shift) c.args.lists.now c.args.ranges.now.bounds.items (λ i inside. (c.requires.ranges.bounds i inside).0)
     c.loop-first.first (length c.args.ranges.now.bounds.items - 1) old _ new (omega (arith, c.loop-first-test.false, c.loop-first.invariant.inside)) c.loop-first.invariant.out c.in-Ok.ensures.bytes)
+
+pub fill_wave-requires-clause-pairs : goal.fill_wave-requires-clause-pairs
+fill_wave-requires-clause-pairs g c κs within = grind (arith, common_steps)
+
+pub fill_wave-requires-clause-text : goal.fill_wave-requires-clause-text
+fill_wave-requires-clause-text g c κs within = grind (arith, common_steps)

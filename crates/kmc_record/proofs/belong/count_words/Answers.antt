@@ -1,5 +1,6 @@
 use Rattle.std.proofs.Common.{rules, ◌≡◌, IsTrue, ◌++◌, take, refl, sym, subst, ◌∙◌, arith}
 use Rattle.std.proofs.lemmas.List.{take_rest}
+use Rattle.std.proofs.lemmas.Grind.{common_steps}
 use Rattle.kmc_record.specs.Record.{spelling, IsSpelled}
 use Rattle.kmc_record.specs.Refusals.{IsRefused}
 use Rattle.kmc_record.specs.Bodies.{IsFirstError}
@@ -53,3 +54,9 @@ loop-offset-preserved c =
           (counted_here shape k c.words.result s s same c.in-Ok.ensures.k refl c.words.ensures.is)
           (omega (arith, c.saturating_add-words.ensures));
     }
+
+pub overflow_sub-offset : goal.overflow_sub-offset
+overflow_sub-offset c = grind (arith, common_steps)
+
+pub loop-offset-smaller : goal.loop-offset-smaller
+loop-offset-smaller c = grind (arith, common_steps)

@@ -1,5 +1,6 @@
 use Rattle.std.proofs.Common.{◌≡◌, ◌+◌, ◌-◌, ◌/◌, ◌++◌, [], ◌∷◌, length, map, take, drop, ap, ◌∙◌, arith, length-drop}
 use Rattle.std.proofs.lemmas.List.{take_rest}
+use Rattle.std.proofs.lemmas.Grind.{common_steps}
 use Rattle.kmc_base.specs.Packed.{pack}
 use Rattle.kmc_base.specs.Strands.{keys}
 use Rattle.kmc_record.specs.Record.{codes_in}
@@ -44,3 +45,9 @@ loop-offset-preserved g c =
             (c.in_ok-push_record.ensures ∙ ap (λ m. map num c.loop-offset.words.items ++ map pack (keys c.args.strands c.args.k (take n (codes_in (take m (drop 1 rest)))))) same),
       );
     }
+
+pub overflow_add-size : goal.overflow_add-size
+overflow_add-size g c = grind (arith, common_steps)
+
+pub push_record-requires-clause-few : goal.push_record-requires-clause-few
+push_record-requires-clause-few g c = grind (arith, common_steps)

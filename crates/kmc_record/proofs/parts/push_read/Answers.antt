@@ -1,5 +1,6 @@
 use Rattle.std.proofs.Common.{ap, length, drop, length-drop, ◌-◌, ◌∙◌, arith, subst, List, ℕ, ◌∷◌, []}
 use Rattle.std.proofs.lemmas.List.{take_all}
+use Rattle.std.proofs.lemmas.Grind.{common_steps}
 use Rattle.kmc_base.specs.Stretches.{leading}
 use Rattle.kmc_base.proofs.Stretching.{long_enough}
 use Rattle.kmc_record.specs.Growing.{HaveTaken}
@@ -15,3 +16,6 @@ loop-place-preserved c =
     stretch_more c.args.shape c.args.read.now c.leading_codes.new.codes.items place c.len.result _ _ _ _ c.push_stretch.ensures.some (c.in_ok-leading_codes.ensures.are ∙ ap leading (take_all (length read - place) (drop place read) (omega (arith, length-drop place read))))
     (omega (arith, c.len.ensures, c.leading_codes.new.codes.ok.0))
     c.loop-place.invariant taken
+
+pub returns : goal.returns
+returns c = grind (arith, common_steps)

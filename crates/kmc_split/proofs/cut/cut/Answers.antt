@@ -1,5 +1,6 @@
 use Rattle.std.proofs.Common.{◌≡◌, ℕ, ◌<◌, ◌≤◌, ◌++◌, length, take, drop, slice_index, ◌+◌, ◌-◌, List, sym, ap, subst, ◌∙◌, arith, ◌^◌}
 use Rattle.std.proofs.Math.Seq.{take-append_seam}
+use Rattle.std.proofs.lemmas.Grind.{common_steps}
 use Rattle.kmc_split.specs.Cut.{AreRuns}
 use Rattle.kmc_split.specs.Minima.{low}
 use Rattle.kmc_split.proofs.Lowest.{lows_fit, fits_most}
@@ -52,3 +53,9 @@ returns-clause-each c = runs_are c.args.k c.args.m c.args.codes.now _ (omega ari
 
 pub returns-clause-words : goal.returns-clause-words
 returns-clause-words c = words_are c.args.k c.args.m c.args.codes.now _ (omega arith) c.requires.long (returns-clause-cut c)
+
+pub lows-requires-clause-most : goal.lows-requires-clause-most
+lows-requires-clause-most c = grind (arith, common_steps)
+
+pub group-requires-clause-some : goal.group-requires-clause-some
+group-requires-clause-some c = grind (arith, common_steps)

@@ -1,5 +1,6 @@
 use Rattle.std.proofs.Common.{◌≡◌, ℕ, List, length, take, slice_index, sym, subst, ◌∙◌, refl, arith}
 use Rattle.std.proofs.lemmas.List.{with_items_is}
+use Rattle.std.proofs.lemmas.Grind.{common_steps}
 use Rattle.kmc_split.specs.Cut.{AreRuns}
 use Rattle.kmc_split.specs.Rows.{AreRowEnds, MayFollow}
 use Rattle.kmc_split.proofs.RowEnds.{next_row, other_may_follow}
@@ -28,3 +29,15 @@ loop-end-preserved c =
       runs = c.in_ok-push_row.ensures.runs;
       apart = other_may_follow (at c.loop-end.start) _ c.push_row.new.runs.items next.3 c.in_ok-push_row.ensures.last;
     }
+
+pub push_row-requires-clause-some : goal.push_row-requires-clause-some
+push_row-requires-clause-some c = grind (arith, common_steps)
+
+pub push_row-requires-clause-row : goal.push_row-requires-clause-row
+push_row-requires-clause-row c = grind (arith, common_steps)
+
+pub push_row-requires-2-clause-some : goal.push_row-requires-2-clause-some
+push_row-requires-2-clause-some c = grind (arith, common_steps)
+
+pub push_row-requires-2-clause-row : goal.push_row-requires-2-clause-row
+push_row-requires-2-clause-row c = grind (arith, common_steps)

@@ -1,3 +1,5 @@
+use Rattle.std.proofs.Common.{arith}
+use Rattle.std.proofs.lemmas.Grind.{common_steps}
 use Rattle.kmc_sum.proofs.Merges.{begun_none, gave_nothing}
 use Rattle.kmc_sum.proofs.merge.merge.Goals as goal
 
@@ -6,3 +8,6 @@ returns-in-Err-clause-begun g c = (1, begun_none 1 c.args.limits.now _ _ _ (gave
 
 pub returns-in-Err-heads_for-clause-begun : goal.returns-in-Err-heads_for-clause-begun
 returns-in-Err-heads_for-clause-begun g c = (1, begun_none 1 c.args.limits.now _ _ _ (gave_nothing 1 _))
+
+pub merge_in-requires-clause-rooms : goal.merge_in-requires-clause-rooms
+merge_in-requires-clause-rooms g c = grind (arith, common_steps)

@@ -1,4 +1,5 @@
-use Rattle.std.proofs.Common.{map, ◌∙◌}
+use Rattle.std.proofs.Common.{map, ◌∙◌, arith}
+use Rattle.std.proofs.lemmas.Grind.{common_steps}
 use Rattle.kmc_count.proofs.PassedOn.{passed_on}
 use Rattle.kmc_device.specs.Device.{Watched}
 use Rattle.kmc_device.proofs.Devices.{on_err, on_err_then}
@@ -47,3 +48,9 @@ returns-clause-long g c = λ is.
     let are = sources_built (λ (r : Watched g.row.R.Denot). g.R.Read.remaining r.inner) c.args.readers.now _ _ _ _ c.build.new.heads _
     c.build.ensures.leaves (c.open.auto.heads ∙ c.requires.heads) c.in_ok-k.ensures.sources in
     (c.in_ok-k.k, c.in_ok-k.ensures.length, c.drain.ensures.long is _ _ are)
+
+pub returns-in_err-k-clause-fault : goal.returns-in_err-k-clause-fault
+returns-in_err-k-clause-fault g c = grind (arith, common_steps)
+
+pub drain-requires-clause-ready : goal.drain-requires-clause-ready
+drain-requires-clause-ready g c = grind (arith, common_steps)

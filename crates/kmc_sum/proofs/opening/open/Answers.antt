@@ -1,5 +1,6 @@
 use Rattle.std.proofs.Common.{◌<◌, length, refl, sym, subst, ◌∙◌, arith, inl, inr}
 use Rattle.std.proofs.lemmas.List.{length-set}
+use Rattle.std.proofs.lemmas.Grind.{common_steps}
 use Rattle.kmc_count.proofs.PassedOn.{passed_on}
 use Rattle.kmc_device.specs.Device.{Watched}
 use Rattle.kmc_device.proofs.Devices.{on_err}
@@ -69,3 +70,6 @@ returns-then-k-eq0-clause-kept g c = c.loop-i.invariant.same
 
 pub returns-else-k-eq0-clause-kept : goal.returns-else-k-eq0-clause-kept
 returns-else-k-eq0-clause-kept g c = c.loop-i.invariant.same
+
+pub loop-i-init : goal.loop-i-init
+loop-i-init g c = grind (arith, common_steps)

@@ -1,6 +1,7 @@
-use Rattle.std.proofs.Common.{length, inr, ap, ◌∙◌}
+use Rattle.std.proofs.Common.{length, inr, ap, ◌∙◌, arith}
 use Rattle.std.specs.Prelude.{string_bytes}
 use Rattle.std.proofs.lemmas.List.{length-map}
+use Rattle.std.proofs.lemmas.Grind.{common_steps}
 use Rattle.kmc_sum.proofs.Asked.{are_read}
 use Rattle.kmc_sum.proofs.program.sum_files.Goals as goal
 
@@ -17,3 +18,9 @@ returns-clause-failed g c = λ is. inr (record {
   k = c.in-Err-merge.ensures.begun.0;
   begun = c.in-Err-merge.ensures.begun.1;
 })
+
+pub merge-requires-clause-some : goal.merge-requires-clause-some
+merge-requires-clause-some g c = grind (arith, common_steps)
+
+pub merge-requires-clause-most : goal.merge-requires-clause-most
+merge-requires-clause-most g c = grind (arith, common_steps)

@@ -1,4 +1,5 @@
-use Rattle.std.proofs.Common.{◌≡◌, false, refl, sym, ap, ◌∙◌}
+use Rattle.std.proofs.Common.{◌≡◌, false, refl, sym, ap, ◌∙◌, arith}
+use Rattle.std.proofs.lemmas.Grind.{common_steps}
 use Rattle.std.specs.Prelude.{string_bytes, ◌||◌}
 use Rattle.kmc_sum.specs.Request.{is_file, is_option}
 use Rattle.kmc_sum.proofs.Requests.{one_fails}
@@ -10,3 +11,9 @@ returns-then-not-is_option c =
     let no_file : is_file word ≡ false = ap is_file (sym c.deref.ensures) ∙ sym (c.if-not-is_file.ensures) in
     let no_option : is_option word ≡ false = ap is_option (sym c.deref-then-not-is_file.ensures) ∙ sym (c.if-not-is_option.ensures) in
     one_fails string_bytes (λ w. is_file w || is_option w) c.args.words.now c.loop-word.word-index c.word-item.result c.loop-word-test.true (sym c.word-item.is) (rw (no_file, no_option) refl)
+
+pub loop-word-preserved : goal.loop-word-preserved
+loop-word-preserved c = grind (arith, common_steps)
+
+pub returns : goal.returns
+returns c = grind (arith, common_steps)

@@ -1,4 +1,5 @@
 use Rattle.std.proofs.Common.{◌≡◌, ◌+◌, ◌≤◌, ◌<◌, ℕ, List, [], ◌∷◌, ◌++◌, length, map, take, Option, Some, None, refl, sym, ap, ◌∙◌, arith, append-nil, length-append}
+use Rattle.std.proofs.lemmas.Grind.{common_steps}
 use Rattle.std.specs.Prelude.{string_bytes, option_map}
 use Rattle.kmc_argument.specs.Words.{rest_after}
 use Rattle.kmc_sum.specs.Request.{given, texts_of}
@@ -35,3 +36,6 @@ loop-word-preserved c =
           ap (rest_after name) (sym c.deref.ensures) ∙ sym c.rest_after.ensures ∙ ap (option_map (λ r. r.now)) w.in_default.is in
           next None here ∙ append-nil _ ∙ c.loop-word.invariant ∙ ap (λ o. texts_of (option_map (λ t. t.now) o)) (sym w.text-is)
     ]
+
+pub returns-clause-once : goal.returns-clause-once
+returns-clause-once c = grind (arith, common_steps)

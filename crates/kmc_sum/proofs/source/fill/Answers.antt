@@ -1,4 +1,5 @@
 use Rattle.std.proofs.Common.{length, ap, arith, ◌∙◌}
+use Rattle.std.proofs.lemmas.Grind.{common_steps}
 use Rattle.kmc_device.proofs.Devices.{on_err}
 use Rattle.kmc_sum.proofs.Rooms.{goes_trans, goes_like, goes_to, goes_kept, shifted, read_on, rewritten_length}
 use Rattle.kmc_sum.specs.Source.{unread}
@@ -48,3 +49,18 @@ returns-in_err-end-clause-lost g c =
       goes_kept _ _ _ _ _ (goes_like _ _ _ _ _ moved c.loop-room.invariant.goes)
           c.in_err-end.ensures.bytes,
     )
+
+pub loop-room-init : goal.loop-room-init
+loop-room-init g c = grind (arith, common_steps)
+
+pub returns-in_err-end-clause-room : goal.returns-in_err-end-clause-room
+returns-in_err-end-clause-room g c = grind (arith, common_steps)
+
+pub returns-then-end-room-clause-room : goal.returns-then-end-room-clause-room
+returns-then-end-room-clause-room g c = grind (arith, common_steps)
+
+pub loop-room-smaller : goal.loop-room-smaller
+loop-room-smaller g c = grind (arith, common_steps)
+
+pub returns-clause-ok : goal.returns-clause-ok
+returns-clause-ok g c = grind (arith, common_steps)

@@ -1,4 +1,5 @@
-use Rattle.std.proofs.Common.{◌≡◌, ℕ, List, [], ◌∷◌, ◌++◌, sym, subst}
+use Rattle.std.proofs.Common.{◌≡◌, ℕ, List, [], ◌∷◌, ◌++◌, sym, subst, arith}
+use Rattle.std.proofs.lemmas.Grind.{common_steps}
 use Rattle.kmc_base.specs.Packed.{unpack}
 use Rattle.kmc_sum.proofs.Gave.{other_length, not_rising, goes_up}
 use Rattle.kmc_sum.specs.declared.error.LineFault.{LineFault}
@@ -25,3 +26,6 @@ returns-else-line-last-clause-ok g c = λ start pairs ends gave.
     let o = rw c.in-Ok-Some.field-0-is at c.in-Ok-Some.ensures.ok in
     subst (λ (t : List ℕ). GaveFront c.args.k start (g.R.Read.remaining c.next_line.new.reader.inner) (pairs ++ (unpack c.args.k c.in-Ok-Some.line.packed, c.in-Ok-Some.line.count) ∷ []) t) (sym o.2.1)
     (goes_up c.args.k c.args.last start _ _ pairs _ o.0 c.in-Ok-Some.line ends gave o.1 o.2.0 c.if-line-k.false c.if-line-last.false)
+
+pub returns-in-Err-Malformed-clause-fault : goal.returns-in-Err-Malformed-clause-fault
+returns-in-Err-Malformed-clause-fault g c = grind (arith, common_steps)

@@ -1,4 +1,5 @@
 use Rattle.std.proofs.Common.{◌≡◌, ◌++◌, Err, refl, ap, subst, arith}
+use Rattle.std.proofs.lemmas.Grind.{common_steps}
 use Rattle.kmc_base.specs.Lemmas.Powers.{pow_some}
 use Rattle.kmc_sum.proofs.Gave.{source_ends, lost_front}
 use Rattle.kmc_sum.specs.declared.error.LineFault.{LineFault}
@@ -28,3 +29,6 @@ returns-in-Err-Line-clause-fault g c = λ s line fault is.
 
 pub returns-in-Ok-None-clause-behind : goal.returns-in-Ok-None-clause-behind
 returns-in-Ok-None-clause-behind g c = (refl, omega arith, pow_some c.args.k)
+
+pub returns-in-Ok-Some-clause-ok : goal.returns-in-Ok-Some-clause-ok
+returns-in-Ok-Some-clause-ok g c = grind (arith, common_steps)

@@ -1,3 +1,5 @@
+use Rattle.std.proofs.Common.{arith}
+use Rattle.std.proofs.lemmas.Grind.{common_steps}
 use Rattle.kmc_device.proofs.Devices.{on_err}
 use Rattle.kmc_sum.proofs.Written.{out_front, out_kept}
 use Rattle.kmc_sum.proofs.writing.close.Goals as goal
@@ -8,3 +10,6 @@ returns-in_err-write_text-clause-front g c =
 
 pub returns-in-Err-clause-front : goal.returns-in-Err-clause-front
 returns-in-Err-clause-front g c = λ start text h. out_kept start _ _ _ text _ h c.in_ok-write_text.ensures.ok c.in-Err.ensures.bytes
+
+pub returns-in-Ok-clause-ok : goal.returns-in-Ok-clause-ok
+returns-in-Ok-clause-ok g c = grind (arith, common_steps)

@@ -1,4 +1,5 @@
 use Rattle.std.proofs.Common.{◌≡◌, ℕ, List, ◌++◌, length, take, sym, ap, ◌∙◌, arith}
+use Rattle.std.proofs.lemmas.Grind.{common_steps}
 use Rattle.kmc_base.specs.Packed.{unpack}
 use Rattle.kmc_base.specs.Lemmas.Packing.{length_unpack}
 use Rattle.kmc_device.specs.Line.{line_of, text_of}
@@ -26,3 +27,9 @@ put_line-requires g c = omega (
   ap length c.of_packed-word.ensures,
   length_unpack c.args.k c.args.packed,
 )
+
+pub returns-in_err-at-in-Some-clause-front : goal.returns-in_err-at-in-Some-clause-front
+returns-in_err-at-in-Some-clause-front g c = grind (arith, common_steps)
+
+pub returns-in_ok-at-in-Some-clause-ok : goal.returns-in_ok-at-in-Some-clause-ok
+returns-in_ok-at-in-Some-clause-ok g c = grind (arith, common_steps)

@@ -1,5 +1,6 @@
 use Rattle.std.proofs.Common.{◌≡◌, List, [], ◌∷◌, ◌++◌, map, sym, ap, subst, ◌∙◌, append_assoc, length-append, arith}
 use Rattle.std.proofs.lemmas.List.{map-append}
+use Rattle.std.proofs.lemmas.Grind.{common_steps}
 use Rattle.std.specs.Vec.Iter.{into_iter_items}
 use Rattle.kmc_record.specs.Parts.{Parcel}
 use Rattle.kmc_partqueue.specs.Counts.{Each}
@@ -31,3 +32,9 @@ loop-shard-preserved c =
           let merged = one_more c.merged_parts_are_added.ensures seen shard bins c.loop-shard.bins c.merge.new.self (before.added bins shaped grown) own c.in-Ok.ensures.ok in
           subst (λ (b : BinList). AreAdded bins.shape b.bodies c.merge.new.self.bodies (all_got (map (λ (s : Shard). s.seat) (seen ++ shard ∷ [])))) (sym (all_before (seen ++ shard ∷ []) bins (omega (arith, length-append seen (shard ∷ []))))) merged;
     }
+
+pub loop-shard-init : goal.loop-shard-init
+loop-shard-init c = grind (arith, common_steps)
+
+pub returns-clause-seats : goal.returns-clause-seats
+returns-clause-seats c = grind (arith, common_steps)

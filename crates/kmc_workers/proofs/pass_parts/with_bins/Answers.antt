@@ -1,4 +1,5 @@
-use Rattle.std.proofs.Common.{[], ◌∷◌, ◌++◌, List, sym, ap, ◌∙◌, append_assoc}
+use Rattle.std.proofs.Common.{[], ◌∷◌, ◌++◌, List, sym, ap, ◌∙◌, append_assoc, arith}
+use Rattle.std.proofs.lemmas.Grind.{common_steps}
 use Rattle.std.specs.Vec.Iter.{into_iter_items}
 use Rattle.kmc_record.specs.Parts.{Parcel}
 use Rattle.kmc_partqueue.specs.Seats.{ReaderState}
@@ -20,3 +21,6 @@ loop-seat-preserved c =
           ∙ sym (begun_more bins seen seat);
       next = c.replace.ensures.after ∙ c.in_ok-empty.ensures ∙ ap empty_bins c.shape-shape.ensures.is ∙ sym (next_more seen seat bins);
     }
+
+pub returns : goal.returns
+returns c = grind (arith, common_steps)

@@ -1,6 +1,7 @@
-use Rattle.std.proofs.Common.{ℕ, ◌<◌, ◌≡◌, length, map, sym, ap, subst, ◌∙◌}
+use Rattle.std.proofs.Common.{ℕ, ◌<◌, ◌≡◌, length, map, sym, ap, subst, ◌∙◌, arith}
 use Rattle.std.specs.Prelude.{Err}
 use Rattle.std.proofs.lemmas.List.{length-map}
+use Rattle.std.proofs.lemmas.Grind.{common_steps}
 use Rattle.kmc_record.specs.Parts.{ArePartsOf}
 use Rattle.kmc_workers.specs.Causes.{IsCause}
 use Rattle.kmc_workers.specs.Workers.{chunks_of, IsSameWriter}
@@ -34,3 +35,6 @@ loop-c-preserved g c = let inv = c.loop-c.invariant in let a = c.args in let p =
         next_other p.shape p.batch reads a.way.now.writers a.s.number c.loop-c.c c.loop-c.s.sent c.if-c-way.s.sent (λ here. w.if-c-way.false (here ∙ sym (c.number.ensures ∙ inv.0.number))) inv.1 (ap (λ s. s.sent) w.s-is),
       )
     ]
+
+pub returns-clause-done : goal.returns-clause-done
+returns-clause-done g c = grind (arith, common_steps)

@@ -1,4 +1,5 @@
-use Rattle.std.proofs.Common.{[], ◌∷◌, ◌++◌, sym, subst}
+use Rattle.std.proofs.Common.{[], ◌∷◌, ◌++◌, sym, subst, arith}
+use Rattle.std.proofs.lemmas.Grind.{common_steps, elements}
 use Rattle.std.specs.Prelude.{IfOk}
 use Rattle.std.specs.List.{AllZip}
 use Rattle.kmc_workers.specs.Shards.{IsShard}
@@ -16,3 +17,9 @@ returns-clause-shards g t c =
     let told = subst (λ z. P z own) c.of.ensures kept in
     subst (AllZip P a.seats.shards.items) (sym c.in_ok-with_one.ensures) (subst (λ z. AllZip P z (shards ++ own ∷ [])) (sym c.in-Some.ensures.items)
     (zip_more P c.pop.new.self.items shards c.in-Some.shard own rest told))
+
+pub spawn_with-started-requires-clause-runs : goal.spawn_with-started-requires-clause-runs
+spawn_with-started-requires-clause-runs g t c κs within = grind (arith, elements)
+
+pub store_all-rest-requires-clause-shards : goal.store_all-rest-requires-clause-shards
+store_all-rest-requires-clause-shards g t c κs within = grind (arith, common_steps)

@@ -1,4 +1,5 @@
-use Rattle.std.proofs.Common.{◌≡◌, sym, ap, ◌∙◌, ℕ, ◌<◌, ◌++◌, ◌∷◌, [], subst, slice_get, Some}
+use Rattle.std.proofs.Common.{◌≡◌, sym, ap, ◌∙◌, ℕ, ◌<◌, ◌++◌, ◌∷◌, [], subst, slice_get, Some, arith}
+use Rattle.std.proofs.lemmas.Grind.{elements}
 use Rattle.kmc_partqueue.specs.Counts.{Each, total_of, same}
 use Rattle.kmc_partqueue.specs.Seats.{ReaderState, IsReaderOf, IsWriterOf, AreKeptTotals, AllEnded}
 use Rattle.kmc_partcore.specs.History.{History}
@@ -87,3 +88,6 @@ returns-clause-totals g c =
     let near = each_map (IsWriterOf me.table.shared.table_id me.shape) (λ s. s.number < me.shape.writers) (λ s p. p.2) c.args.writers.items c.requires.queue.0 in
     let counts = totals_are k end.0 (rule_of k end.0 end.1.0) c.join_all.new.seat.id c.join_all.new.seat.me.0 end.1.1 c.args.writers.items c.args.readers.items vs.1 vs.0 (each_writer g p.Start) (each_reader g p.Start) f.0 (c.first_finished.result, f.1) (all_ended g p.Start c.first_finished.result f.0 f.1 f.2) in
     (all.0, counts_are me.shape.writers f.0.totals c.all_totals-totals.result all c.args.writers.items near counts)
+
+pub index-requires : goal.index-requires
+index-requires g c = grind (arith, elements)

@@ -1,4 +1,5 @@
-use Rattle.std.proofs.Common.{rules, vec_len, ◌≡◌, length, [], ◌∷◌, ◌++◌, ap, ◌∙◌}
+use Rattle.std.proofs.Common.{rules, vec_len, ◌≡◌, length, [], ◌∷◌, ◌++◌, ap, ◌∙◌, arith}
+use Rattle.std.proofs.lemmas.Grind.{common_steps}
 use Rattle.kmc_reads.specs.Standing.{kept}
 use Rattle.kmc_reads.proofs.Feeding.{closed_bytes, closed_length, closed_ends}
 use Rattle.kmc_reads.proofs.scan.Scan.close.Goals as goal
@@ -17,3 +18,9 @@ returns-clause-keeps c = λ rows spot line k none.
       many = k.many;
       first = k.first;
     }
+
+pub returns-in_err-push-clause-ends : goal.returns-in_err-push-clause-ends
+returns-in_err-push-clause-ends c = grind (arith, common_steps)
+
+pub returns-clause-ends : goal.returns-clause-ends
+returns-clause-ends c = grind (arith, common_steps)

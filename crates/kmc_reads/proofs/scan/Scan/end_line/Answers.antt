@@ -1,4 +1,5 @@
-use Rattle.std.proofs.Common.{◌≡◌, refl, sym, ap, subst, ◌∙◌, [], ◌∷◌, ◌++◌}
+use Rattle.std.proofs.Common.{◌≡◌, refl, sym, ap, subst, ◌∙◌, [], ◌∷◌, ◌++◌, arith}
+use Rattle.std.proofs.lemmas.Grind.{common_steps}
 use Rattle.std.specs.Io.BufRead.{strip_last}
 use Rattle.kmc_reads.specs.declared.stage.Stage.TheVariants.{Quality}
 use Rattle.kmc_reads.specs.Stages.{Spot, begun_by}
@@ -24,3 +25,9 @@ returns-clause-at c = λ rows spot front at.
           let other : spot.stage ≡ Quality → ⊥ = λ e. w.in_default.not-Quality (at.keeps.stage ∙ e) in
           not_given rows spot.number spot.read line next spot.stage other settled (c.next_line.ensures.at rows spot line (subst (λ s. Keeps rows spot line s) (sym w.self-is) at.keeps) (λ e. absurd (other e)) settled)
     ]
+
+pub returns-in_err-judge-clause-ends : goal.returns-in_err-judge-clause-ends
+returns-in_err-judge-clause-ends c = grind (arith, common_steps)
+
+pub returns-clause-ends : goal.returns-clause-ends
+returns-clause-ends c = grind (arith, common_steps)

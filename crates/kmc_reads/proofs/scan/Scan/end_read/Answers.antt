@@ -1,4 +1,5 @@
-use Rattle.std.proofs.Common.{◌≡◌, ℕ, List, [], ◌++◌, Ok, refl, sym, ap, subst, ◌∙◌, append-nil}
+use Rattle.std.proofs.Common.{◌≡◌, ℕ, List, [], ◌++◌, Ok, refl, sym, ap, subst, ◌∙◌, append-nil, arith}
+use Rattle.std.proofs.lemmas.Grind.{common_steps}
 use Rattle.kmc_reads.specs.declared.scan.Scan.{Scan}
 use Rattle.kmc_reads.specs.declared.stage.Stage.{Stage}
 use Rattle.kmc_reads.specs.declared.stage.Stage.TheVariants.{Header, FirstHeader}
@@ -21,3 +22,12 @@ returns-in-Header-clause-whole c = none_open Header (λ n read. refl) c.args.sel
 
 pub returns-in-FirstHeader-clause-whole : goal.returns-in-FirstHeader-clause-whole
 returns-in-FirstHeader-clause-whole c = none_open FirstHeader (λ n read. refl) c.args.self.now c.in-FirstHeader.is
+
+pub returns-in-Header-clause-ends : goal.returns-in-Header-clause-ends
+returns-in-Header-clause-ends c = grind (arith, common_steps)
+
+pub returns-in-FirstHeader-clause-ends : goal.returns-in-FirstHeader-clause-ends
+returns-in-FirstHeader-clause-ends c = grind (arith, common_steps)
+
+pub returns-in-Sequence-clause-ends : goal.returns-in-Sequence-clause-ends
+returns-in-Sequence-clause-ends c = grind (arith, common_steps)

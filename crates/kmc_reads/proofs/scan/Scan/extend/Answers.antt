@@ -1,5 +1,6 @@
 use Rattle.std.proofs.Common.{◌≡◌, ◌<◌, [], ◌∷◌, ◌++◌, length, refl, sym, subst, append-nil, arith}
 use Rattle.std.proofs.lemmas.Bool.Decides.{nat_tests}
+use Rattle.std.proofs.lemmas.Grind.{common_steps}
 use Rattle.kmc_reads.specs.declared.stage.Stage.TheVariants.{Name}
 use Rattle.kmc_reads.specs.Stages.{Spot}
 use Rattle.kmc_reads.specs.Standing.{At, Goes, Leads}
@@ -40,3 +41,18 @@ returns-clause-goes c = λ rows spot front at unbroken.
       leads = open_leads spot front piece unbroken;
       stands = subst (λ t. At t spot (front ++ piece) c.grow-2.new.self) (sym (append-nil rows)) (c.in_ok-grow-2.ensures.at rows spot front at some settled);
     }
+
+pub returns-then-piece-eq0-clause-bytes : goal.returns-then-piece-eq0-clause-bytes
+returns-then-piece-eq0-clause-bytes c = grind (arith, common_steps)
+
+pub returns-then-piece-eq0-clause-ends : goal.returns-then-piece-eq0-clause-ends
+returns-then-piece-eq0-clause-ends c = grind (arith, common_steps)
+
+pub returns-in_err-name-clause-bytes : goal.returns-in_err-name-clause-bytes
+returns-in_err-name-clause-bytes c = grind (arith, common_steps)
+
+pub returns-in_err-grow-2-clause-ends : goal.returns-in_err-grow-2-clause-ends
+returns-in_err-grow-2-clause-ends c = grind (arith, common_steps)
+
+pub returns-clause-ends : goal.returns-clause-ends
+returns-clause-ends c = grind (arith, common_steps)

@@ -1,4 +1,5 @@
 use Rattle.std.proofs.Common.{◌≡◌, ℕ, List, ◌++◌, [], ◌∷◌, take, length, refl, ap, subst, ◌∙◌, take_all, arith}
+use Rattle.std.proofs.lemmas.Grind.{common_steps}
 use Rattle.kmc_reads.specs.Standing.{Goes, HasFault}
 use Rattle.kmc_reads.proofs.PassedOn.{passed_on}
 use Rattle.kmc_reads.proofs.Walking.{here, then_goes, fed, feed_faults, then_faults, faults_on, over_split, take_front}
@@ -53,3 +54,27 @@ returns-clause-goes c = λ rows spot front at.
     let u = c.loop-line.invariant in let w = u.goes rows spot front at in let g = w.goes in
     let h = c.in_ok-extend-2.ensures.goes (rows ++ g.more) g.next g.left g.stands c.in_default.ensures in
     subst (λ t. Goes rows spot front t c.extend-2.new.self) w.whole (then_goes rows spot front w.over _ c.loop-line.self c.extend-2.new.self g h)
+
+pub returns-in_err-extend-clause-bytes : goal.returns-in_err-extend-clause-bytes
+returns-in_err-extend-clause-bytes c = grind (arith, common_steps)
+
+pub returns-in_err-extend-clause-ends : goal.returns-in_err-extend-clause-ends
+returns-in_err-extend-clause-ends c = grind (arith, common_steps)
+
+pub returns-in_err-end_line-clause-bytes : goal.returns-in_err-end_line-clause-bytes
+returns-in_err-end_line-clause-bytes c = grind (arith, common_steps)
+
+pub returns-in_err-end_line-clause-ends : goal.returns-in_err-end_line-clause-ends
+returns-in_err-end_line-clause-ends c = grind (arith, common_steps)
+
+pub returns-in_err-extend-2-clause-bytes : goal.returns-in_err-extend-2-clause-bytes
+returns-in_err-extend-2-clause-bytes c = grind (arith, common_steps)
+
+pub returns-in_err-extend-2-clause-ends : goal.returns-in_err-extend-2-clause-ends
+returns-in_err-extend-2-clause-ends c = grind (arith, common_steps)
+
+pub returns-clause-bytes : goal.returns-clause-bytes
+returns-clause-bytes c = grind (arith, common_steps)
+
+pub returns-clause-ends : goal.returns-clause-ends
+returns-clause-ends c = grind (arith, common_steps)

@@ -1,4 +1,5 @@
-use Rattle.std.proofs.Common.{◌≡◌, ◌++◌, sym, subst, ap, ◌∙◌}
+use Rattle.std.proofs.Common.{◌≡◌, ◌++◌, sym, subst, ap, ◌∙◌, arith}
+use Rattle.std.proofs.lemmas.Grind.{common_steps}
 use Rattle.std.specs.Io.BufRead.{strip_last}
 use Rattle.kmc_reads.specs.Standing.{Keeps}
 use Rattle.kmc_reads.proofs.Feeding.{strip_more, ends_more}
@@ -15,3 +16,9 @@ returns-clause-at c = λ rows spot front at some settled.
       held = c.cut_return-held.ensures.held ∙ sym (ends_more front c.args.piece.now some);
       settled = settled;
     }
+
+pub returns-in_err-add-clause-bytes : goal.returns-in_err-add-clause-bytes
+returns-in_err-add-clause-bytes c = grind (arith, common_steps)
+
+pub returns-clause-bytes : goal.returns-clause-bytes
+returns-clause-bytes c = grind (arith, common_steps)

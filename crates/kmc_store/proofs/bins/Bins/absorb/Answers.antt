@@ -1,5 +1,6 @@
 use Rattle.std.proofs.Common.{◌≡◌, ◌+◌, ◌++◌, List, ℕ, map, set, sym, ap, subst, ◌∙◌, arith}
 use Rattle.std.proofs.lemmas.List.{get_or_read}
+use Rattle.std.proofs.lemmas.Grind.{common_steps}
 use Rattle.std.specs.Prelude.{slice_index}
 use Rattle.kmc_record.specs.Parts.{capped}
 use Rattle.kmc_store.specs.Bins.{AreBins, Absorbed}
@@ -41,3 +42,6 @@ invariant_of-self-2 c = (taken_in (goal.at.invariant_of-self-2 c).After-saturati
 
 pub returns-clause-ok : goal.returns-clause-ok
 returns-clause-ok c = (taken_in (goal.at.returns-clause-ok c).After-saturating_add).1
+
+pub index_mut-body-requires : goal.index_mut-body-requires
+index_mut-body-requires c = grind (arith, common_steps)

@@ -1,5 +1,6 @@
 use Rattle.std.proofs.Common.{◌+◌, map, ap, sym, ◌∙◌, arith}
 use Rattle.std.proofs.lemmas.List.{length-map}
+use Rattle.std.proofs.lemmas.Grind.{common_steps}
 use Rattle.std.specs.Prelude.{slice_index}
 use Rattle.kmc_record.specs.Parts.{capped}
 use Rattle.kmc_store.specs.Bins.{BinList}
@@ -27,3 +28,9 @@ returns-clause-ok c =
     merged_is c.args.self.now c.args.other c.self.inside.shape c.other.inside.shape vs ws new c.self.inside.words.items c.other.inside.words.items c.add_words.new.own.items
     c.self.view_is c.other.view_is grown.0 c.add_words.ensures.wide grown.1
     (λ i l. c.add_words.ensures.each i l ∙ ap (λ us. capped (slice_index c.self.inside.words.items i + slice_index us i)) c.deref-2.ensures.value)
+
+pub make_room-requires : goal.make_room-requires
+make_room-requires c = grind (arith, common_steps)
+
+pub append_bodies-requires-clause-same : goal.append_bodies-requires-clause-same
+append_bodies-requires-clause-same c = grind (arith, common_steps)
