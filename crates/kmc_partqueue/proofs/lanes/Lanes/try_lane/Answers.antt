@@ -1,4 +1,5 @@
 use Rattle.std.proofs.Common.{rules, arith, refl, sym, ap, ◌∙◌, ◌≡◌, ℕ, suc, ◌+◌, ◌*◌, ◌/◌, ◌%◌, ◌<◌, ◌≤◌, ◌≢◌, ◌++◌, ◌∷◌, [], Some, subst, mod-lt, slice_get, length-set}
+use Rattle.std.proofs.lemmas.Grind.{elements}
 use mathlib.Core.Option.{none}
 use Rattle.atomic_table.specs.Table.{step}
 use Rattle.kmc_partqueue.specs.declared.views.Reading.{Reading}
@@ -203,3 +204,6 @@ pub returns-clause-got : goal.returns-clause-got
 returns-clause-got g c =
     let p = goal.at.returns-clause-got g c in
     ap (λ m. got_of m.0) ((at_end g p.After-load-end).1 c.if-end-head.false) ∙ had g p.After-load-head
+
+pub returns-then-end-head-clause-notes : goal.returns-then-end-head-clause-notes
+returns-then-end-head-clause-notes g c = grind (arith, elements)
