@@ -1,4 +1,4 @@
-use Rattle.std.proofs.Common.{refl, arith, below_more}
+use Rattle.std.proofs.Common.{refl, arith, below_more, rules}
 use Rattle.kmc_base.proofs.Stretching.{bases_more}
 use Rattle.kmc_base.proofs.stretch.leading_bases.Goals as goal
 
@@ -10,3 +10,6 @@ whole-preserved c = record {
 
 pub loop-i-preserved : goal.loop-i-preserved
 loop-i-preserved c = below_more _ _ c.loop-i.invariant (c.if-not-is_base.ensures.yes refl)
+
+pub returns-then-not-is_base-clause-end : goal.returns-then-not-is_base-clause-end
+returns-then-not-is_base-clause-end c = search rules

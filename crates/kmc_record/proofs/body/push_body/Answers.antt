@@ -1,4 +1,4 @@
-use Rattle.std.proofs.Common.{◌≡◌, ◌+◌, ◌-◌, ◌/◌, ◌++◌, [], ◌∷◌, length, map, take, drop, ap, ◌∙◌, arith, length-drop}
+use Rattle.std.proofs.Common.{◌≡◌, ◌+◌, ◌-◌, ◌/◌, ◌++◌, [], ◌∷◌, length, map, take, drop, ap, ◌∙◌, arith, length-drop, rules}
 use Rattle.std.proofs.lemmas.List.{take_rest}
 use Rattle.std.proofs.lemmas.Grind.{common_steps}
 use Rattle.kmc_base.specs.Packed.{pack}
@@ -51,3 +51,6 @@ overflow_add-size g c = grind (arith, common_steps)
 
 pub push_record-requires-clause-few : goal.push_record-requires-clause-few
 push_record-requires-clause-few g c = grind (arith, common_steps)
+
+pub returns-in-Err-clause-memory : goal.returns-in-Err-clause-memory
+returns-in-Err-clause-memory g c = search rules

@@ -1,4 +1,4 @@
-use Rattle.std.proofs.Common.{◌≡◌, ◌+◌, ◌*◌, ◌-◌, ◌/◌, ◌<◌, ◌≤◌, length, take, drop, get_or, ◌∙◌, arith, length-take}
+use Rattle.std.proofs.Common.{◌≡◌, ◌+◌, ◌*◌, ◌-◌, ◌/◌, ◌<◌, ◌≤◌, length, take, drop, get_or, ◌∙◌, arith, length-take, rules}
 use Rattle.kmc_record.proofs.Codes.{code_in_front}
 use Rattle.kmc_record.proofs.record.first_symbols.Goals as goal
 
@@ -13,3 +13,9 @@ returns-then-not-rest_is_zero-clause-fault c =
     let below : z.0 < 4 * size = omega (arith, z.2, most, same) in
     let is = code_in_front size (1 + size - 1) (drop 1 bs) z.0 same below in
     (omega (arith, c.if-bytes-size.false, n), (z.0, omega (arith, z.1, n), omega (arith, below, n), λ h. z.3 (is ∙ h)))
+
+pub rest_is_zero-requires-clause-within : goal.rest_is_zero-requires-clause-within
+rest_is_zero-requires-clause-within c = search rules
+
+pub returns-clause-rest : goal.returns-clause-rest
+returns-clause-rest c = search rules

@@ -1,4 +1,4 @@
-use Rattle.std.proofs.Common.{◌≡◌, ◌+◌, ◌/◌, length, arith}
+use Rattle.std.proofs.Common.{◌≡◌, ◌+◌, ◌/◌, length, arith, rules}
 use Rattle.kmc_record.proofs.Written.{pushed_more, pushed_all}
 use Rattle.kmc_record.proofs.spell.push_record_of.Goals as goal
 
@@ -20,3 +20,6 @@ returns-then-whole-codes-clause-ok c =
 pub returns-else-whole-codes-clause-ok : goal.returns-else-whole-codes-clause-ok
 returns-else-whole-codes-clause-ok c =
     pushed_all c.args.k (1 + c.loop-j.j) c.args.codes.now c.args.out.now.items c.loop-j.out.items (omega (arith, c.if-whole-codes.false)) c.loop-j.invariant.0
+
+pub loop-j-init : goal.loop-j-init
+loop-j-init c = search rules

@@ -1,4 +1,4 @@
-use Rattle.std.proofs.Common.{◌≡◌, ℕ, ◌+◌, ◌-◌, ◌%◌, ◌≤◌, List, length, take, drop, slice_index, ap, sym, ◌∙◌, arith, below_more}
+use Rattle.std.proofs.Common.{◌≡◌, ℕ, ◌+◌, ◌-◌, ◌%◌, ◌≤◌, List, length, take, drop, slice_index, ap, sym, ◌∙◌, arith, below_more, rules}
 use Rattle.std.proofs.lemmas.List.{length-take-le, length-drop}
 use Rattle.kmc_split.specs.Minima.{low}
 use Rattle.kmc_split.proofs.Lowest.{low_slice}
@@ -22,3 +22,6 @@ pub returns-then-lowest-n : goal.returns-then-lowest-n
 returns-then-lowest-n c =
     let here = least_here c.args.values.now c.loop-i.i c.args.width c.lowest.result c.requires.some (omega arith) c.lowest.ensures in
     ((λ h. absurd (cc)), (λ all. absurd (c.if-lowest-n.true (ap (λ (s : ℕ). s % c.args.n) here ∙ all c.loop-i.i (omega arith)))))
+
+pub loop-i-init : goal.loop-i-init
+loop-i-init c = search rules

@@ -1,4 +1,4 @@
-use Rattle.std.proofs.Common.{◌∙◌, arith}
+use Rattle.std.proofs.Common.{◌∙◌, arith, rules}
 use Rattle.std.proofs.lemmas.List.{length-set}
 use Rattle.kmc_store.proofs.Places.{left_more, appended_more}
 use Rattle.kmc_store.proofs.growth.append_bodies.Goals as goal
@@ -19,3 +19,6 @@ loop-i-preserved c =
       left = left_more own own₀ i c.append_body.new.own was.left;
       left_more = left_more more more₀ i c.append_body.new.more was.left_more;
     }
+
+pub loop-i-init : goal.loop-i-init
+loop-i-init c = search rules

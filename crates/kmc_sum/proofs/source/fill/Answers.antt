@@ -1,4 +1,4 @@
-use Rattle.std.proofs.Common.{length, ap, arith, ◌∙◌}
+use Rattle.std.proofs.Common.{length, ap, arith, ◌∙◌, rules}
 use Rattle.std.proofs.lemmas.Grind.{common_steps}
 use Rattle.kmc_device.proofs.Devices.{on_err}
 use Rattle.kmc_sum.proofs.Rooms.{goes_trans, goes_like, goes_to, goes_kept, shifted, read_on, rewritten_length}
@@ -64,3 +64,6 @@ loop-room-smaller g c = grind (arith, common_steps)
 
 pub returns-clause-ok : goal.returns-clause-ok
 returns-clause-ok g c = grind (arith, common_steps)
+
+pub returns-clause-enough : goal.returns-clause-enough
+returns-clause-enough g c = search rules

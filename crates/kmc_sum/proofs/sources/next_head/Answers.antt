@@ -1,4 +1,4 @@
-use Rattle.std.proofs.Common.{◌≡◌, ◌++◌, Err, refl, ap, subst, arith}
+use Rattle.std.proofs.Common.{◌≡◌, ◌++◌, Err, refl, ap, subst, arith, rules}
 use Rattle.std.proofs.lemmas.Grind.{common_steps}
 use Rattle.kmc_base.specs.Lemmas.Powers.{pow_some}
 use Rattle.kmc_sum.proofs.Gave.{source_ends, lost_front}
@@ -32,3 +32,6 @@ returns-in-Ok-None-clause-behind g c = (refl, omega arith, pow_some c.args.k)
 
 pub returns-in-Ok-Some-clause-ok : goal.returns-in-Ok-Some-clause-ok
 returns-in-Ok-Some-clause-ok g c = grind (arith, common_steps)
+
+pub returns-in-Err-Device-clause-read : goal.returns-in-Err-Device-clause-read
+returns-in-Err-Device-clause-read g c = search rules

@@ -1,4 +1,4 @@
-use Rattle.std.proofs.Common.{ℕ, ◌≤◌, map, ◌∙◌, arith}
+use Rattle.std.proofs.Common.{ℕ, ◌≤◌, map, ◌∙◌, arith, rules}
 use Rattle.std.specs.List.{flat_map}
 use Rattle.kmc_base.specs.Pieces.{pieces}
 use Rattle.kmc_record.specs.RecordWords.{record_keys}
@@ -31,3 +31,9 @@ returns-clause-dump g c =
           ∙ c.cut_reads_are_counted.ensures params.strands params.k input.reads input.cuts params.in_range.0.0.0 input.cut x)
           (spelled params.k (whole (lists_of c.in_ok-stage_two.field-0))) of_bins.dump;
     }
+
+pub returns-in_err-bins-clause-counts : goal.returns-in_err-bins-clause-counts
+returns-in_err-bins-clause-counts g c = search rules
+
+pub returns-in_err-bins-clause-cause : goal.returns-in_err-bins-clause-cause
+returns-in_err-bins-clause-cause g c = search rules

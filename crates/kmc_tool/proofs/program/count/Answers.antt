@@ -1,3 +1,4 @@
+use Rattle.std.proofs.Common.{rules}
 use Rattle.kmc_tool.proofs.program.count.Goals as goal
 
 pub returns-in-Err-clause-input : goal.returns-in-Err-clause-input
@@ -27,3 +28,9 @@ returns-in-Err-clause-write g c = λ is.
       record { asked = record { taken = asked.0; params = c.in_ok-params.params; given = asked.1 }; dump = told.5 },
       told.6,
     )
+
+pub returns-in-Err-clause-read : goal.returns-in-Err-clause-read
+returns-in-Err-clause-read g c = search rules
+
+pub returns-in-Err-clause-silent : goal.returns-in-Err-clause-silent
+returns-in-Err-clause-silent g c = search rules

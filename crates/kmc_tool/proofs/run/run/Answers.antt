@@ -1,4 +1,4 @@
-use Rattle.std.proofs.Common.{◌≢◌, length, refl, sym, ap, subst, ◌∙◌}
+use Rattle.std.proofs.Common.{◌≢◌, length, refl, sym, ap, subst, ◌∙◌, rules}
 use Rattle.std.specs.Prelude.{Err}
 use Rattle.std.proofs.lemmas.List.{length-map}
 use Rattle.kmc_reads.specs.declared.error.ReadsError.TheVariants as reads
@@ -68,3 +68,6 @@ returns-clause-write g c = λ e.
       is_dump_of input refl,
       c.in-Err-Write.ensures.front (ap Err c.in-Err-Write.field-0-is),
     )
+
+pub returns-in-Err-Memory-clause-long : goal.returns-in-Err-Memory-clause-long
+returns-in-Err-Memory-clause-long g c = search rules

@@ -1,4 +1,4 @@
-use Rattle.std.proofs.Common.{◌++◌, [], refl, sym, ap, subst, ◌∙◌, append-nil}
+use Rattle.std.proofs.Common.{◌++◌, [], refl, sym, ap, subst, ◌∙◌, append-nil, rules}
 use Rattle.kmc_reads.specs.Stages.{first_spot, fault_from}
 use Rattle.kmc_reads.specs.Pieces.{whole_from}
 use Rattle.kmc_reads.specs.Standing.{FeederState, At}
@@ -36,3 +36,12 @@ pub returns-then-ne-clause-cut_refused : goal.returns-then-ne-clause-cut_refused
 returns-then-ne-clause-cut_refused c = λ overlap format text taken s other.
     let at = subst (λ t. At s.rows s.spot s.front t) (sym (ap (λ v. v.scan) c.self.view_is)) s.stands in
     (cut_fault overlap format text taken c.args.self.now s c.args.piece.now c.in-Err.e (c.in-Err.ensures.fault s.rows s.spot s.front at other), refl)
+
+pub returns-then-ne-clause-again : goal.returns-then-ne-clause-again
+returns-then-ne-clause-again c = search rules
+
+pub returns-in-Ok-clause-again : goal.returns-in-Ok-clause-again
+returns-in-Ok-clause-again c = search rules
+
+pub returns-else-ne-clause-again : goal.returns-else-ne-clause-again
+returns-else-ne-clause-again c = search rules

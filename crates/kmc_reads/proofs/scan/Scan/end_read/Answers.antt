@@ -1,4 +1,4 @@
-use Rattle.std.proofs.Common.{◌≡◌, ℕ, List, [], ◌++◌, Ok, refl, sym, ap, subst, ◌∙◌, append-nil, arith}
+use Rattle.std.proofs.Common.{◌≡◌, ℕ, List, [], ◌++◌, Ok, refl, sym, ap, subst, ◌∙◌, append-nil, arith, rules}
 use Rattle.std.proofs.lemmas.Grind.{common_steps}
 use Rattle.kmc_reads.specs.declared.scan.Scan.{Scan}
 use Rattle.kmc_reads.specs.declared.stage.Stage.{Stage}
@@ -31,3 +31,6 @@ returns-in-FirstHeader-clause-ends c = grind (arith, common_steps)
 
 pub returns-in-Sequence-clause-ends : goal.returns-in-Sequence-clause-ends
 returns-in-Sequence-clause-ends c = grind (arith, common_steps)
+
+pub returns-in-Sequence-clause-refused : goal.returns-in-Sequence-clause-refused
+returns-in-Sequence-clause-refused c = search rules

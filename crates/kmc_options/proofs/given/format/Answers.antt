@@ -1,0 +1,11 @@
+use Rattle.std.proofs.Common.{rules}
+use Rattle.kmc_options.proofs.given.format.Goals as goal
+
+pub returns-in_default : goal.returns-in_default
+returns-in_default c = search rules
+
+pub returns-in_default-2 : goal.returns-in_default-2
+returns-in_default-2 c = search rules
+
+pub returns-in_default-3 : goal.returns-in_default-3
+returns-in_default-3 c = search rules
