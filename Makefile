@@ -43,8 +43,12 @@ count: $(KMC)
 	@rm -f examples/.counted
 	@echo "make: examples/reads.fastq has $$(wc -l < examples/reads.dump) k-mers, as examples/reads.dump lists them"
 
+# as many checks side by side as there are processors and 5 GB of memory, each by one process: several processes for one check take
+# more processor time in all. The allocator of a check keeps what is freed, in place of giving it back and asking for it again
+CHECKS = $(shell awk -v n=$$(nproc) '/^MemAvailable/ { m = int($$2 / 5000000); m = m < n ? m : n; print m < 1 ? 1 : m }' /proc/meminfo)
+
 check:
-	rt ci
+	RT_JOBS=$(CHECKS) MIMALLOC_PURGE_DELAY=-1 rt ci
 
 recipes: $(KMC) $(KMC_MERGE)
 	KMC="$(abspath $(KMC))" recipes/test.sh
