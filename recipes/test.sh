@@ -135,6 +135,34 @@ limits_of_a_recipe_are_not_taken() {
     ends 2 "$here/genomescope-histogram" -cx10 < "$reads"
 }
 
+the_program_has_its_defaults() {
+    local read=GATTACAGATTACAGATTACACCGGT
+    for _ in 1 2; do printf '@r\n%s\n+\n%s\n' $read $read; done > twice.fastq
+    "$KMC" < twice.fastq > given
+    printf '%s\t2\n' ACCGGTGTAATCTGTAATCTGTAAT CCGGTGTAATCTGTAATCTGTAATC | cmp - given
+    "$KMC" < "$reads" > given
+    cmp "$whole" given
+}
+
+# refuses STATUS WORDS COMMAND..: whether the command ends with this status, writes nothing and tells one line with these words
+refuses() {
+    local status=$1 words=$2
+    shift 2
+    ends "$status" "$@" 2> told
+    grep -q "$words" told
+    [ "$(wc -l < told)" -eq 1 ]
+}
+
+the_program_tells_what_it_refuses() {
+    printf '@r\nACGTACGT\n-\nIIIIIIII\n' > bad.fastq
+    refuses 1 'line 3' "$KMC" -k4 < bad.fastq
+    refuses 1 'line 1' "$KMC" -fa < bad.fastq
+    refuses 2 cs "$KMC" -k31 -cs0 < "$reads"
+    refuses 2 k "$KMC" -k65 < "$reads"
+    printf 'a.dump\nb.dump\n' > no.dump
+    refuses 1 'line 1' "$merger" no.dump
+}
+
 refused_reads_are_refused() {
     printf '@r\nACGT\n+\nII\n' > bad.fastq
     ends 1 "$here/histogram" -k3 < bad.fastq
@@ -477,6 +505,8 @@ try histogram_draws_a_picture gnuplot
 try histogram_draws_with_characters gnuplot
 try a_pipe_that_closes_early_is_passed_over
 try limits_of_a_recipe_are_not_taken
+try the_program_has_its_defaults
+try the_program_tells_what_it_refuses kmc_merge
 try refused_reads_are_refused
 try genome_size_is_near_the_genomes
 try genome_size_wants_a_peak

@@ -8,6 +8,8 @@ use Rattle.kmc_count.specs.declared.limits.Limits.{Limits}
 use Rattle.kmc_count.specs.Occurrences.{count_of}
 use Rattle.kmc_count.specs.Dump.{IsDump}
 use Rattle.kmc_device.specs.Line.{text_of}
+use Rattle.kmc_tool.specs.declared.error.RunError.{RunError}
+use Rattle.kmc_tool.specs.declared.error.RunError.TheVariants.{Memory, Read, Write, Input, TooLong}
 
 -- the pairs are the dump of the direct count of the reads of all that a reader gave
 pub record IsDumpOfInput (format : Format) (strands : Strands) (k : ℕ) (limits : Limits) (old new : Option (List ℕ)) (pairs : List (List ℕ × ℕ)) : Type 0 where
@@ -25,3 +27,11 @@ pub record IsDumpOf (format : Format) (bytes : List ℕ) (strands : Strands) (k 
   pub is_dump : IsDump (count_of strands k reads) limits pairs
   pub is_text : text ≡ text_of pairs
   pub is_count : lines ≡ length pairs
+
+-- what a refusal of the writing leaves behind, by its cause
+abbrev pub IsWriteError : Type 0 → Type 0 → Type 0 → RunError → Type 0
+IsWriteError untouched failed front Memory = untouched
+IsWriteError untouched failed front Read = ⊥
+IsWriteError untouched failed front Write = failed × front
+IsWriteError untouched failed front (Input e) = ⊥
+IsWriteError untouched failed front TooLong = ⊥

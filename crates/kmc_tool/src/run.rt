@@ -1,14 +1,18 @@
 //! A run: from the bytes of a reader to the dump on a writer.
 ghost use Rattle.std.specs.Prelude.{◌≡◌, ◌≢◌, ℕ, ◌+◌, ◌-◌, ◌^◌, ◌<◌, ◌≤◌, List, [], length, IfOk, IfErr, IsErrOf};
 ghost use Rattle.std.specs.Io.KnownBytes.{Appends, Consumes};
-ghost use Rattle.kmc_device.specs.Device.{GaveAll, AppendsFront};
+ghost use Rattle.kmc_device.specs.Device.{GaveAll, AppendsFront, RisesByOne};
+ghost use Rattle.kmc_device.specs.Line.{text_of};
+ghost use Rattle.kmc_dump.specs.Listed.{spelled};
+ghost use Rattle.kmc_dump.specs.Lists.{lists_of};
+ghost use Rattle.kmc_dump.specs.Ranges.{CanBeMerged, whole};
 ghost use Rattle.kmc_tool.specs.Rounds.{IsRefused};
-ghost use Rattle.kmc_tool.specs.Run.{IsDumpOf};
+ghost use Rattle.kmc_tool.specs.Run.{IsDumpOf, IsWriteError};
 
 use crate::count_input::count_input;
 use crate::error::RunError;
 use kmc_device::counted::Counted;
-use kmc_dump::lists::write_bins;
+use kmc_dump::lists::{BinLists, write_bins};
 use kmc_dump::write::DumpError;
 use kmc_partqueue::Gate;
 use kmc_reads::error::ReadsError;
@@ -21,6 +25,32 @@ use std::thread::Threads;
 
 /// So many reads of a reader may give bytes.
 const MOST_READS: u64 = 1 << 32;
+
+/// Writes the dump of lists that share no word, and nothing else. The answer is the number of lines.
+fn write_counts<T: Threads + Sync, W: Write>(
+    rt: &T,
+    alloc: Global,
+    writer: &mut Counted<W>,
+    lists: BinLists,
+    params: &Params,
+) -> Result<u64, RunError>
+    requires merge { CanBeMerged params.now.k (lists_of lists) }
+    requires failures { writer.old.failures < 2 ^ 64 - 1 }
+    ensures ok { IfOk result (λ lines. Appends (W.contents writer.old.inner) (W.contents writer.new.inner)
+        (text_of (spelled params.now.k (whole (lists_of lists))))
+        × (lines ≡ length (whole (lists_of lists)))
+        × (writer.new.failures ≡ writer.old.failures)) }
+    ensures refused { IfErr result (IsWriteError (writer.new ≡ writer.old)
+        (RisesByOne writer.old.failures writer.new.failures)
+        (AppendsFront (W.contents writer.old.inner) (W.contents writer.new.inner)
+        (text_of (spelled params.now.k (whole (lists_of lists)))))) }
+{
+    match write_bins(rt, alloc, writer, &lists, params.k, params.sr) {
+        Ok(lines) => Ok(lines),
+        Err(DumpError::Memory) => Err(RunError::Memory),
+        Err(DumpError::Write) => Err(RunError::Write),
+    }
+}
 
 /// Reads all that the reader gives, and writes the dump of its direct count and nothing else. Nothing is
 /// written before all was read and counted, so after every refusal but `Write` nothing was written; a faulty text is
@@ -68,9 +98,5 @@ pub fn run<T: Threads + Wait + Sync, R: Read, W: Write, G: Gate + Sync>(
 {
     memory_is_no_fault();
     let lists = count_input(rt, alloc, reader, params, gate, MOST_READS)?;
-    match write_bins(rt, alloc, writer, &lists, params.k, params.sr) {
-        Ok(lines) => Ok(lines),
-        Err(DumpError::Memory) => Err(RunError::Memory),
-        Err(DumpError::Write) => Err(RunError::Write),
-    }
+    write_counts(rt, alloc, writer, lists, params)
 }

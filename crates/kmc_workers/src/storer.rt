@@ -1,5 +1,6 @@
 //! What a storer does: it takes parts until the queue is finished, and absorbs them into bins.
-ghost use Rattle.std.specs.Prelude.{◌≡◌, IfOk, IfErr};
+ghost use Rattle.std.specs.Prelude.{◌≡◌, IfOk, IfErr, OnOk};
+ghost use Rattle.kmc_store.specs.Bins.{Absorbed};
 ghost use Rattle.kmc_workers.specs.Workers.{IsFreshReader};
 ghost use Rattle.kmc_workers.specs.Causes.{IsStorersCause};
 ghost use Rattle.kmc_workers.specs.Shards.{IsShard};
@@ -9,8 +10,24 @@ use crate::refusal::Refusal;
 use crate::shard::Shard;
 use crate::way::Way;
 use kmc_partqueue::{Gate, Point, TryTaken};
+use kmc_record::part::Part;
+use kmc_store::bins::Bins;
 use kmc_store::laws::{absorbed_part_is_added, no_parts_are_added};
 use std::sync::Wait;
+
+/// Absorbs a part that was taken. One of another shape, which no splitter sends, is refused.
+fn absorb(bins: &mut Bins, part: Part) -> Result<(), Refusal>
+    ensures ok { OnOk result (Absorbed bins.old part bins.new) }
+    ensures cause { IfErr result IsStorersCause }
+{
+    if part.shape() != bins.shape() {
+        return Err(Refusal::Stopped);
+    }
+    match bins.absorb(part) {
+        Ok(()) => Ok(()),
+        Err(_) => Err(Refusal::Memory),
+    }
+}
 
 /// Takes parts until the queue is finished, and absorbs them into its bins. The stop word is read before each try. A part of another
 /// shape, which no splitter sends, ends it.
@@ -28,7 +45,6 @@ pub(crate) fn store<R: Wait, G: Gate>(
     no_parts_are_added();
     absorbed_part_is_added();
     let Shard { mut seat, mut bins } = shard;
-    let shape = bins.shape();
     let mut pause = Pause::new();
     for _ in rt.forever() {
         if way.is_stopped() {
@@ -38,14 +54,7 @@ pub(crate) fn store<R: Wait, G: Gate>(
             TryTaken::Got(received) => {
                 pause = Pause::new();
                 gate.pass(Point::AfterTake(seat.number()));
-                let part = received.item;
-                if part.shape() != shape {
-                    return Err(Refusal::Stopped);
-                }
-                match bins.absorb(part) {
-                    Ok(()) => {}
-                    Err(_) => return Err(Refusal::Memory),
-                }
+                absorb(&mut bins, received.item)?;
             }
             TryTaken::NotNow => pause.wait(rt, way),
             TryTaken::Finished(_) => return Ok(Shard { seat, bins }),

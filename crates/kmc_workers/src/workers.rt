@@ -5,6 +5,7 @@ ghost use Rattle.kmc_partqueue.specs.Counts.{Each};
 ghost use Rattle.kmc_workers.specs.Workers.{IsDone, IsFreshWriter, IsFreshReader};
 ghost use Rattle.kmc_workers.specs.Causes.{IsCause, IsStorersCause};
 ghost use Rattle.kmc_workers.specs.Shards.{IsShard, IsFreshShard};
+ghost use Rattle.kmc_workers.specs.declared.refusal.Refusal.TheVariants.{Memory};
 
 use crate::plan::Plan;
 use crate::refusal::{Refusal, both};
@@ -18,7 +19,7 @@ use kmc_record::shape::Shape;
 use std::alloc::AllocError;
 use std::snapshot::Snapshot;
 use std::sync::Wait;
-use std::thread::{Promise, Scope, Threads};
+use std::thread::{Promise, PromisedHandle, Scope, Threads};
 
 /// A splitter puts the parts of its chunks and completes, or ends with a cause.
 #[derive(Drop)]
@@ -76,26 +77,23 @@ fn with_one<T: Drop>(list: Vec<T>, one: T) -> Result<Vec<T>, AllocError>
     Ok(list)
 }
 
-/// Starts one splitter, then the others, and joins it.
-fn split_all<'s, E, R: Threads + Wait + Sync, G: Gate + Sync>(
+/// Starts one splitter. Where no thread can be made, the others stop.
+fn start_splitter<'s, E, R: Threads + Wait + Sync, G: Gate + Sync>(
     rt: &'s R,
     scope: &Scope<'s, E>,
     way: &'s Way,
-    mut seats: Vec<WriterSeat<Part>>,
+    seat: WriterSeat<Part>,
     reads: &'s [&'s [u8]],
     plan: Plan,
     gate: &'s G,
-) -> Result<Vec<DoneSeat<Part>>, Refusal>
-    requires { Each (IsFreshWriter way.now.lanes.table.shared.table_id way.now.lanes.shape) seats.items }
-    ensures { MatchResult result
-        (λ v. AllZip
-        (IsDone plan.shape plan.batch
-        (map (λ v. v.now) reads.now) way.now.writers) seats.items v.items)
-        (IsCause plan.shape plan.batch (map (λ v. v.now) reads.now) way.now.writers) }
+) -> Result<PromisedHandle<Result<DoneSeat<Part>, Refusal>, Puts<'s>>, Refusal>
+    requires { IsFreshWriter way.now.lanes.table.shared.table_id way.now.lanes.shape seat }
+    ensures puts { IfOk result (λ h. (h.promise.seat.value ≡ seat) × (h.promise.shape ≡ plan.shape)
+        × (h.promise.batch ≡ plan.batch)
+        × (map (λ v. v.now) h.promise.reads.now ≡ map (λ v. v.now) reads.now)
+        × (h.promise.writers ≡ way.now.writers)) }
+    ensures cause { IfErr result (λ e. e ≡ Memory) }
 {
-    let Some(seat) = seats.pop() else {
-        return Ok(Vec::new(way.alloc));
-    };
     let shape = plan.shape;
     let batch = plan.batch;
     let writers = way.writers;
@@ -117,13 +115,36 @@ fn split_all<'s, E, R: Threads + Wait + Sync, G: Gate + Sync>(
                 (map (λ v. v.now) reads.entry.now) way.entry.now.writers) }
         { split_one(rt, way, seat, reads, plan, gate) },
     );
-    let child = match started {
-        Ok(child) => child,
+    match started {
+        Ok(child) => Ok(child),
         Err(_) => {
             way.stop();
-            return Err(Refusal::Memory);
+            Err(Refusal::Memory)
         }
+    }
+}
+
+/// Starts one splitter, then the others, and joins it.
+fn split_all<'s, E, R: Threads + Wait + Sync, G: Gate + Sync>(
+    rt: &'s R,
+    scope: &Scope<'s, E>,
+    way: &'s Way,
+    mut seats: Vec<WriterSeat<Part>>,
+    reads: &'s [&'s [u8]],
+    plan: Plan,
+    gate: &'s G,
+) -> Result<Vec<DoneSeat<Part>>, Refusal>
+    requires { Each (IsFreshWriter way.now.lanes.table.shared.table_id way.now.lanes.shape) seats.items }
+    ensures { MatchResult result
+        (λ v. AllZip
+        (IsDone plan.shape plan.batch
+        (map (λ v. v.now) reads.now) way.now.writers) seats.items v.items)
+        (IsCause plan.shape plan.batch (map (λ v. v.now) reads.now) way.now.writers) }
+{
+    let Some(seat) = seats.pop() else {
+        return Ok(Vec::new(way.alloc));
     };
+    let child = start_splitter(rt, scope, way, seat, reads, plan, gate)?;
     let rest = split_all(rt, scope, way, seats, reads, plan, gate);
     let (done, own) = both(rest, child.join(rt))?;
     Ok(with_one(done, own)?)
@@ -139,6 +160,37 @@ fn store_one<R: Wait, G: Gate>(rt: &R, way: &Way, shard: Shard, gate: &G) -> Res
         way.stop();
     }
     stored
+}
+
+/// Starts one storer. Where no thread can be made, the others stop.
+fn start_storer<'s, E, R: Threads + Wait + Sync, G: Gate + Sync>(
+    rt: &'s R,
+    scope: &Scope<'s, E>,
+    way: &'s Way,
+    shard: Shard,
+    gate: &'s G,
+) -> Result<PromisedHandle<Result<Shard, Refusal>, Takes>, Refusal>
+    requires { IsFreshReader way.now.lanes.table.shared.table_id way.now.lanes.shape shard.seat }
+    ensures takes { IfOk result (λ h. h.promise.shard.value ≡ shard) }
+    ensures cause { IfErr result (λ e. e ≡ Memory) }
+{
+    let promise = Takes {
+        shard: Snapshot::of(&shard),
+    };
+    let started = scope.spawn_with(
+        promise,
+        move || -> Result<Shard, Refusal>
+            requires { IsFreshReader way.now.lanes.table.shared.table_id way.now.lanes.shape shard.seat }
+            ensures { MatchResult result (λ h. IsShard shard h) IsStorersCause }
+        { store_one(rt, way, shard, gate) },
+    );
+    match started {
+        Ok(child) => Ok(child),
+        Err(_) => {
+            way.stop();
+            Err(Refusal::Memory)
+        }
+    }
 }
 
 /// The seats of a new queue, those of its readers with bins.
@@ -175,23 +227,7 @@ pub(crate) fn store_all<'s, E, R: Threads + Wait + Sync, G: Gate + Sync>(
         let done = split_all(rt, scope, way, writers, reads, plan, gate)?;
         return Ok((done, Vec::new(way.alloc)));
     };
-    let promise = Takes {
-        shard: Snapshot::of(&shard),
-    };
-    let started = scope.spawn_with(
-        promise,
-        move || -> Result<Shard, Refusal>
-            requires { IsFreshReader way.now.lanes.table.shared.table_id way.now.lanes.shape shard.seat }
-            ensures { MatchResult result (λ h. IsShard shard h) IsStorersCause }
-        { store_one(rt, way, shard, gate) },
-    );
-    let child = match started {
-        Ok(child) => child,
-        Err(_) => {
-            way.stop();
-            return Err(Refusal::Memory);
-        }
-    };
+    let child = start_storer(rt, scope, way, shard, gate)?;
     let seats = Seats { writers, shards };
     let rest = store_all(rt, scope, way, seats, reads, plan, gate);
     let (others, own) = both(rest, child.join(rt))?;

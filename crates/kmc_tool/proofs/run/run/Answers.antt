@@ -8,6 +8,7 @@ use Rattle.kmc_dump.specs.Listed.{spell, spelled}
 use Rattle.kmc_dump.specs.Lists.{lists_of}
 use Rattle.kmc_dump.specs.Ranges.{whole}
 use Rattle.kmc_tool.specs.Rounds.{IsInputError}
+use Rattle.kmc_tool.specs.Run.{IsWriteError}
 use Rattle.kmc_tool.specs.declared.error.RunError.{RunError}
 use Rattle.kmc_tool.specs.declared.error.RunError.TheVariants as run
 use Rattle.kmc_tool.proofs.Causes.{counted, kept_by, most_by, of_err, passed_on, told_of}
@@ -48,26 +49,17 @@ returns-in_err-lists-clause-reader_kept g c =
 pub returns-in_err-lists-clause-reads_most : goal.returns-in_err-lists-clause-reads_most
 returns-in_err-lists-clause-reads_most g c = most_by _ _ _ _ _ c.in_err-lists.field-0.0 c.in_err-lists.ensures.counts
 
-pub returns-in-Ok-clause-ok : goal.returns-in-Ok-clause-ok
-returns-in-Ok-clause-ok g c =
-    let k = c.args.params.now.k in
-    let words = whole (lists_of c.in_ok-lists.lists) in
-    let input = c.in_ok-lists.ensures.dump in
-    (input.bytes, text_of (spelled k words), input.given, is_dump_of input (c.in-Ok.ensures.lines ∙ sym (length-map words (spell k))), c.in-Ok.ensures.ok)
-
 pub returns-clause-write : goal.returns-clause-write
-returns-clause-write g c = λ e.
+returns-clause-write g c = λ is.
     let k = c.args.params.now.k in
     let pairs = spelled k (whole (lists_of c.in_ok-lists.lists)) in
-    let input = c.in_ok-lists.ensures.dump in (
-      (c.in-Err-Write.ensures.failed (ap Err c.in-Err-Write.field-0-is)).0 c.requires.writer,
+    let input = c.in_ok-lists.ensures.dump in
+    let left = of_err (IsWriteError _ _ _) c.write_counts.result run.Write is c.write_counts.ensures.refused in (
+      left.0.0 c.requires.writer,
       input.bytes,
       text_of pairs,
       length pairs,
       input.given,
       is_dump_of input refl,
-      c.in-Err-Write.ensures.front (ap Err c.in-Err-Write.field-0-is),
+      left.1,
     )
-
-pub returns-in-Err-Memory-clause-long : goal.returns-in-Err-Memory-clause-long
-returns-in-Err-Memory-clause-long g c = search rules

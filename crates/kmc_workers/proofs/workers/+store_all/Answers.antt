@@ -13,13 +13,12 @@ returns-clause-shards g t c =
     let P = IsShard in
     let gave = both_gave c.store_all-rest.result c.join.result both own c.in_ok-others.ensures in
     let rest = subst (λ r. IfOk r (λ q. AllZip P c.pop.new.self.items q.1.items)) gave.0 c.store_all-rest.ensures.shards in
-    let kept = subst (λ p. IsShard p.shard.value own) c.in-Ok.ensures.ok (of_ok _ _ c.join.result own gave.1 c.join.ensures) in
-    let told = subst (λ z. P z own) c.of.ensures kept in
+    let told = subst (λ z. P z own) c.in_ok-child.ensures.takes (of_ok _ _ c.join.result own gave.1 c.join.ensures) in
     subst (AllZip P a.seats.shards.items) (sym c.in_ok-with_one.ensures) (subst (λ z. AllZip P z (shards ++ own ∷ [])) (sym c.in-Some.ensures.items)
     (zip_more P c.pop.new.self.items shards c.in-Some.shard own rest told))
 
-pub spawn_with-started-requires-clause-runs : goal.spawn_with-started-requires-clause-runs
-spawn_with-started-requires-clause-runs g t c κs within = grind (arith, elements)
-
 pub store_all-rest-requires-clause-shards : goal.store_all-rest-requires-clause-shards
 store_all-rest-requires-clause-shards g t c κs within = grind (arith, common_steps)
+
+pub start_storer-requires : goal.start_storer-requires
+start_storer-requires g t c = grind (arith, elements)
