@@ -2,6 +2,7 @@
 mod bins;
 mod codes_and_words;
 mod given;
+mod keys;
 mod reads;
 mod records_and_parts;
 mod signatures_and_cuts;

@@ -1,4 +1,5 @@
 //! FASTQ and FASTA texts with their reads, or with the refusal of their first faulty line.
+use crate::tests::given::{assert_bytes, assert_number, assert_text};
 use kmc_reads::error::ReadsError;
 use kmc_reads::format::Format;
 use kmc_reads::read_all::read_all;
@@ -15,13 +16,18 @@ fn answer(alloc: Global, format: Format, text: &str) -> Result<Vec<Vec<u8>>, Rea
     }
 }
 
+/// Asserts that the reads are these.
+fn assert_reads(rt: &impl Abort, reads: &[Vec<u8>], want: &[&str]) {
+    assert_number(rt, reads.len(), want.len());
+    for (read, want) in reads.iter().zip(want) {
+        assert_bytes(rt, read, want.as_bytes());
+    }
+}
+
 /// Asserts that the text has just these reads.
 fn gives(rt: &impl Abort, alloc: Global, format: Format, text: &str, want: &[&str]) {
     let reads = answer(alloc, format, text).expect(rt, text);
-    assert_eq!(rt; reads.len(), want.len(), "{text:?}");
-    for (read, want) in reads.iter().zip(want) {
-        assert_eq!(rt; read.as_slice(), want.as_bytes(), "{text:?}");
-    }
+    assert_reads(rt, &reads, want);
 }
 
 /// Asserts that the text is refused so.
@@ -118,6 +124,18 @@ fn a_fasta_text_begins_with_a_header(rt: HostRuntime) {
     }
 }
 
+/// Asserts that a refusal is told so.
+fn assert_told(
+    rt: &impl Abort,
+    alloc: Global,
+    refusal: ReadsError,
+    message: &str,
+) -> Result<(), Fail> {
+    let told = format!(in alloc; "{refusal}")?;
+    assert_text(rt, told.as_str(), message);
+    Ok(())
+}
+
 #[test]
 fn a_refusal_is_told_with_its_line(rt: HostRuntime) -> Result<(), Fail> {
     for (refusal, message) in [
@@ -133,8 +151,7 @@ fn a_refusal_is_told_with_its_line(rt: HostRuntime) -> Result<(), Fail> {
             "line 18446744073709551615: record cut short",
         ),
     ] {
-        let told = format!(in rt.alloc(); "{refusal}")?;
-        assert_eq!(rt; told.as_str(), message);
+        assert_told(&rt, rt.alloc(), refusal, message)?;
     }
     Ok(())
 }

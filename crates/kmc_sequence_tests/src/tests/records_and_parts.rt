@@ -1,77 +1,81 @@
 //! Records and parts: worked values in both directions, refusals, and a table from an independent program.
+mod plain;
 mod rows;
 
 use crate::tests::given::{
-    chunk_of, long_read, mixed_reads, number, one_segment, push_bin, same_bytes, shape_of,
+    append_record, assert_bytes, assert_number, assert_text, chunk_of, field, mixed_reads, number,
+    push_bin, record_of, same_bytes, shape_of,
 };
-use kmc_base::strands::Strands;
-use kmc_record::body::push_body;
 use kmc_record::decode::decode;
-use kmc_record::fault::{BodyError, PartError, RecordError, RecordFault};
+use kmc_record::fault::{PartError, RecordError, RecordFault};
 use kmc_record::laws;
 use kmc_record::part::Part;
 use kmc_record::shape::Shape;
-use kmc_segments::keys::push_keys;
-use kmc_segments::stretch::segments;
-use kmc_split::signature::signature;
-use kmc_split::super_kmer::SuperKmer;
 use kmc_super_kmers::chunk::parts_of;
-use kmc_super_kmers::encode::encode;
-use kmc_super_kmers::super_kmer::super_kmers;
+use plain::plain_text;
 use rows::rows;
 use std::alloc::{AllocError, Global};
 use std::process::Abort;
 use std::test::Fail;
 
-/// The letters as one super-k-mer.
-fn super_kmer_of(
-    rt: &impl Abort,
-    alloc: Global,
-    letters: &[u8],
-    k: usize,
-) -> Result<SuperKmer, AllocError> {
-    let segment = one_segment(rt, alloc, letters)?;
-    Ok(SuperKmer::new(segment.codes, k).expect(rt, "a super-k-mer"))
-}
-
 #[test]
 fn writes_records_behind_what_is_there(rt: HostRuntime) -> Result<(), Fail> {
     let alloc = rt.alloc();
     let mut bytes = [7].to_vec(alloc)?;
-    for (letters, k) in [("ACGTAC", 5), ("AACCGTT", 7), ("ACCGTTAC", 7), ("ACGT", 4)] {
-        encode(
-            &super_kmer_of(&rt, alloc, letters.as_bytes(), k)?,
-            &mut bytes,
-        )?;
-    }
+    append_record(&rt, alloc, &mut bytes, b"ACGTAC", 5)?;
+    append_record(&rt, alloc, &mut bytes, b"AACCGTT", 7)?;
+    append_record(&rt, alloc, &mut bytes, b"ACCGTTAC", 7)?;
+    append_record(&rt, alloc, &mut bytes, b"ACGT", 4)?;
     let want = [
         7, 0x01, 0x1B, 0x10, 0x00, 0x05, 0xBC, 0x01, 0x16, 0xF1, 0x00, 0x1B,
     ];
-    assert_eq!(rt; bytes.as_slice(), want.as_slice());
+    assert_bytes(&rt, &bytes, &want);
+    Ok(())
+}
+
+/// A record with this first byte, so many bytes of codes, and the last of these.
+fn long_record(
+    alloc: Global,
+    first: u8,
+    byte: u8,
+    size: usize,
+    last: u8,
+) -> Result<Vec<u8>, AllocError> {
+    let mut record = [first].to_vec(alloc)?;
+    record.resize(size, byte)?;
+    record.push(last)?;
+    Ok(record)
+}
+
+/// Asserts that so many equal letters have the record that was worked out.
+fn assert_record_of_run(
+    rt: &impl Abort,
+    alloc: Global,
+    (letter, length): (u8, usize),
+    k: usize,
+    want: Vec<u8>,
+) -> Result<(), Fail> {
+    let letters = same_bytes(alloc, letter, length)?;
+    assert_bytes(rt, &record_of(rt, alloc, &letters, k)?, &want);
     Ok(())
 }
 
 #[test]
 fn writes_long_records(rt: HostRuntime) -> Result<(), Fail> {
     let alloc = rt.alloc();
-    for (letter, length, k, first, size, byte, last) in [
-        (b'A', 280, 25, 0xFF, 70, 0x00, 0x00),
-        (b'A', 44, 25, 0x13, 11, 0x00, 0x00),
-        (b'A', 319, 64, 0xFF, 80, 0x00, 0x00),
-        (b'T', 65, 64, 0x01, 17, 0xFF, 0xC0),
-    ] {
-        let letters = same_bytes(alloc, letter, length)?;
-        let mut record = Vec::new(alloc);
-        encode(&super_kmer_of(&rt, alloc, &letters, k)?, &mut record)?;
-        assert_eq!(rt; record.len(), 1 + size);
-        assert_eq!(rt; record[0], first);
-        assert_eq!(rt;
-            &record[1..size],
-            same_bytes(alloc, byte, size - 1)?.as_slice()
-        );
-        assert_eq!(rt; record[size], last);
-    }
-    Ok(())
+    let longest = long_record(alloc, 0xFF, 0x00, 70, 0x00)?;
+    assert_record_of_run(&rt, alloc, (b'A', 280), 25, longest)?;
+    let rest = long_record(alloc, 0x13, 0x00, 11, 0x00)?;
+    assert_record_of_run(&rt, alloc, (b'A', 44), 25, rest)
+}
+
+#[test]
+fn writes_long_records_of_the_longest_words(rt: HostRuntime) -> Result<(), Fail> {
+    let alloc = rt.alloc();
+    let longest = long_record(alloc, 0xFF, 0x00, 80, 0x00)?;
+    assert_record_of_run(&rt, alloc, (b'A', 319), 64, longest)?;
+    let two_words = long_record(alloc, 0x01, 0xFF, 17, 0xC0)?;
+    assert_record_of_run(&rt, alloc, (b'T', 65), 64, two_words)
 }
 
 #[test]
@@ -80,8 +84,8 @@ fn reads_one_record_and_leaves_the_rest(rt: HostRuntime) -> Result<(), Fail> {
     let (s, rest) = decode(alloc, &[0x01, 0x1B, 0x10, 0xFF], 5)
         .ok()
         .expect(&rt, "a record");
-    assert_eq!(rt; s.codes(), [0, 1, 2, 3, 0, 1].as_slice());
-    assert_eq!(rt; rest, [0xFF].as_slice());
+    assert_bytes(&rt, s.codes(), &[0, 1, 2, 3, 0, 1]);
+    assert_bytes(&rt, rest, &[0xFF]);
     Ok(())
 }
 
@@ -98,12 +102,24 @@ fn refuses_damaged_records(rt: HostRuntime) -> Result<(), Fail> {
     Ok(())
 }
 
+/// Asserts that the shape of k, p and n has this m.
+fn assert_shape(rt: &impl Abort, (k, p, n): (usize, usize, usize), m: usize) {
+    let shape = shape_of(rt, k, p, n);
+    assert!(rt;
+        (shape.k(), shape.m(), shape.n()) == (k, m, n),
+        "{k}, {p}, {n}"
+    );
+}
+
 #[test]
 fn m_is_the_lesser_of_p_and_k(rt: HostRuntime) {
-    for (k, p, n, m) in [(64, 11, 2000, 11), (4, 9, 7, 4), (25, 5, 1, 5)] {
-        let shape = shape_of(&rt, k, p, n);
-        assert_eq!(rt; (shape.k(), shape.m(), shape.n()), (k, m, n));
-    }
+    assert_shape(&rt, (64, 11, 2000), 11);
+    assert_shape(&rt, (4, 9, 7), 4);
+    assert_shape(&rt, (25, 5, 1), 5);
+}
+
+#[test]
+fn refuses_shapes_out_of_range(rt: HostRuntime) {
     for k in [0, 65] {
         assert!(rt; Shape::new(k, 9, 7).is_none(), "{k}");
     }
@@ -112,48 +128,45 @@ fn m_is_the_lesser_of_p_and_k(rt: HostRuntime) {
     }
 }
 
+/// Asserts that a part is of chunk 3 and has words of k symbols.
+fn assert_part(rt: &impl Abort, part: &Part, k: usize) {
+    assert!(rt; part.chunk() == 3);
+    assert_number(rt, part.shape().k(), k);
+}
+
 /// The parts of the reads.
 fn parts_text(rt: &impl Abort, alloc: Global, reads: &str, shape: Shape) -> Result<String, Fail> {
     let chunk = chunk_of(alloc, 3, reads)?;
     let mut text = String::new(alloc);
     for part in &parts_of(alloc, &chunk, shape)? {
-        assert_eq!(rt; part.chunk(), 3);
-        assert_eq!(rt; part.shape().k(), shape.k());
+        assert_part(rt, part, shape.k());
         push_bin(&mut text, alloc, part.bin(), part.words(), part.body())?;
     }
     Ok(text)
 }
 
-/// The same by a plain body: super-k-mer by super-k-mer, each by the signature of its first word.
-fn plain_text(rt: &impl Abort, alloc: Global, reads: &str, shape: Shape) -> Result<String, Fail> {
-    let (k, m, n) = (shape.k(), shape.m(), shape.n());
-    let mut bodies = Vec::new(alloc);
-    let mut counts = Vec::new(alloc);
-    for _ in 0..n {
-        bodies.push(Vec::new(alloc))?;
-        counts.push(0_u64)?;
-    }
-    for read in &chunk_of(alloc, 3, reads)?.reads {
-        for segment in &segments(alloc, read, k)? {
-            assert!(rt; segment.codes.len() >= k);
-            for piece in &super_kmers(alloc, segment, k, m)? {
-                let words = piece.words();
-                let first = piece.word_at(0);
-                assert!(rt; first.k() >= m);
-                let bin = signature(&first, m).bin(n);
-                assert!(rt; bin < bodies.len() && bin < counts.len());
-                encode(piece, &mut bodies[bin])?;
-                counts[bin] = counts[bin].saturating_add(words as u64);
-            }
-        }
-    }
-    let mut text = String::new(alloc);
-    for (bin, (body, count)) in bodies.iter().zip(counts.iter()).enumerate() {
-        if *count > 0 {
-            push_bin(&mut text, alloc, bin, *count, body)?;
-        }
-    }
-    Ok(text)
+/// Asserts that the reads have these parts.
+fn assert_parts(
+    rt: &impl Abort,
+    alloc: Global,
+    reads: &str,
+    shape: Shape,
+    want: &str,
+) -> Result<(), Fail> {
+    assert_text(rt, parts_text(rt, alloc, reads, shape)?.as_str(), want);
+    Ok(())
+}
+
+/// Asserts that the reads have these parts by the plain body.
+fn assert_plain_parts(
+    rt: &impl Abort,
+    alloc: Global,
+    reads: &str,
+    shape: Shape,
+    want: &str,
+) -> Result<(), Fail> {
+    assert_text(rt, plain_text(rt, alloc, reads, shape)?.as_str(), want);
+    Ok(())
 }
 
 #[test]
@@ -166,29 +179,28 @@ fn gives_each_bin_its_records(rt: HostRuntime) -> Result<(), Fail> {
         ("AACCGTTAC", seven, "1 1 0005bc;5 2 0116f1;"),
         ("NNNN,ACG", four, ""),
     ] {
-        let made = parts_text(&rt, alloc, reads, shape)?;
-        assert_eq!(rt; made.as_str(), want);
+        assert_parts(&rt, alloc, reads, shape, want)?;
     }
     Ok(())
 }
 
+/// The shape of a row.
+fn shape_of_row(rt: &impl Abort, row: &str) -> Result<Shape, Fail> {
+    let (k, p, n) = (number(row, 0)?, number(row, 1)?, number(row, 2)?);
+    Ok(shape_of(rt, k, p, n))
+}
+
 /// Asserts that the reads of a row have its parts, by both bodies.
 fn assert_row(rt: &impl Abort, alloc: Global, row: &str) -> Result<(), Fail> {
-    let mut fields = row.split('|');
-    let (k, p) = (number(fields.next())?, number(fields.next())?);
-    let shape = shape_of(rt, k, p, number(fields.next())?);
-    let reads = fields.next().ok_or("reads")?;
-    let want = fields.next().ok_or("parts")?;
-    let made = parts_text(rt, alloc, reads, shape)?;
-    assert_eq!(rt; made.as_str(), want, "{row}");
-    let plain = plain_text(rt, alloc, reads, shape)?;
-    assert_eq!(rt; plain.as_str(), want, "{row}");
-    Ok(())
+    let shape = shape_of_row(rt, row)?;
+    let (reads, want) = (field(row, 3)?, field(row, 4)?);
+    assert_parts(rt, alloc, reads, shape, want)?;
+    assert_plain_parts(rt, alloc, reads, shape, want)
 }
 
 #[test]
 fn agrees_with_the_model_and_with_the_plain_body(rt: HostRuntime) -> Result<(), Fail> {
-    assert_eq!(rt; rows().lines().count(), 31);
+    assert_number(&rt, rows().lines().count(), 31);
     for row in rows().lines() {
         assert_row(&rt, rt.alloc(), row)?;
     }
@@ -201,9 +213,8 @@ fn parts_of_mixed_reads_are_those_of_the_plain_body(rt: HostRuntime) -> Result<(
     let reads = mixed_reads(alloc)?;
     for k in [1, 2, 3, 4, 5, 8, 9, 25, 31, 32, 33, 63, 64] {
         let shape = shape_of(&rt, k, 5, 7);
-        let made = parts_text(&rt, alloc, reads.as_str(), shape)?;
         let plain = plain_text(&rt, alloc, reads.as_str(), shape)?;
-        assert_eq!(rt; made.as_str(), plain.as_str(), "{k}");
+        assert_parts(&rt, alloc, reads.as_str(), shape, plain.as_str())?;
     }
     Ok(())
 }
@@ -212,18 +223,15 @@ fn parts_of_mixed_reads_are_those_of_the_plain_body(rt: HostRuntime) -> Result<(
 fn words_of_body(
     rt: &impl Abort,
     alloc: Global,
-    sizes: (usize, usize, usize),
+    shape: Shape,
     bin: usize,
     bytes: &[u8],
 ) -> Result<Result<u64, PartError>, AllocError> {
-    let (k, p, n) = sizes;
-    let shape = shape_of(rt, k, p, n);
     assert!(rt; bin < shape.n());
-    let body = bytes.to_vec(alloc)?;
-    match Part::from_body(alloc, 0, bin, shape, body) {
+    match Part::from_body(alloc, 0, bin, shape, bytes.to_vec(alloc)?) {
         Ok(part) => Ok(Ok(part.words())),
         Err((e, back)) => {
-            assert_eq!(rt; back.as_slice(), bytes);
+            assert_bytes(rt, &back, bytes);
             Ok(Err(e))
         }
     }
@@ -239,108 +247,50 @@ fn of_another_bin(offset: usize) -> Result<u64, PartError> {
     Err(PartError::WrongBin(offset))
 }
 
-#[test]
-fn takes_bodies_of_whole_records_of_the_bin(rt: HostRuntime) -> Result<(), Fail> {
-    let alloc = rt.alloc();
-    let short = RecordFault::Short;
-    let padding = RecordFault::Padding;
-    for (sizes, bin, bytes, want) in [
-        ((4, 9, 7), 6, [0, 0x1B, 0, 0x1B].as_slice(), Ok(2)),
-        ((4, 9, 7), 6, [0, 0x1B, 0].as_slice(), damaged(short, 2)),
-        ((4, 9, 7), 6, [0].as_slice(), damaged(short, 0)),
-        ((4, 9, 7), 6, [].as_slice(), Ok(0)),
-        (
-            (4, 9, 7),
-            6,
-            [0, 0x1B, 0, 0x6C].as_slice(),
-            of_another_bin(2),
-        ),
-        ((4, 9, 7), 6, [0, 0x6C, 0].as_slice(), of_another_bin(0)),
-        ((4, 9, 7), 6, [1, 0x1B, 0].as_slice(), of_another_bin(0)),
-        ((4, 9, 7), 3, [1, 0x1B, 0].as_slice(), of_another_bin(0)),
-        ((4, 9, 1), 0, [1, 0x1B, 0].as_slice(), Ok(2)),
-        (
-            (5, 5, 1),
-            0,
-            [1, 0x1B, 0x11].as_slice(),
-            damaged(padding, 0),
-        ),
-        ((5, 5, 1), 0, [1, 0x1B, 0x10].as_slice(), Ok(2)),
-    ] {
-        assert!(rt;
-            words_of_body(&rt, alloc, sizes, bin, bytes)? == want,
-            "{bytes:?} in {bin}"
-        );
-    }
-    Ok(())
-}
-
-#[test]
-fn packs_the_words_of_a_body(rt: HostRuntime) -> Result<(), Fail> {
-    let alloc = rt.alloc();
-    let mut narrow: Vec<u64> = Vec::new(alloc);
-    push_body(
-        &mut narrow,
-        &[0x00, 0x1B, 0x01, 0x6C, 0x40],
-        4,
-        Strands::Apart,
-    )?;
-    assert_eq!(rt; narrow.as_slice(), [27, 108, 177].as_slice());
-    let mut wide: Vec<u128> = Vec::new(alloc);
-    push_body(&mut wide, &[0x01, 0xB1, 0xC0], 4, Strands::Joined)?;
-    assert_eq!(rt; wide.as_slice(), [177, 44].as_slice());
-    let damaged = push_body(&mut wide, &[0x00, 0x1B, 0x01, 0x6C], 4, Strands::Apart);
-    assert_eq!(rt; damaged, Err(BodyError::Damaged(RecordFault::Short, 2)));
-    Ok(())
-}
-
-/// Whether a record of these letters is unpacked, byte by byte, to the keys that a window rolled symbol by symbol gives.
-fn unpacks_as_rolled(
+/// Asserts that the part of these bytes has so many words, or that there is none for this reason.
+fn assert_words(
     rt: &impl Abort,
     alloc: Global,
-    letters: &[u8],
-    k: usize,
-    strands: Strands,
-) -> Result<bool, Fail> {
-    let s = super_kmer_of(rt, alloc, letters, k)?;
-    let mut record = Vec::new(alloc);
-    encode(&s, &mut record)?;
-    assert!(rt; 1 <= k && k <= 64);
-    let mut rolled: Vec<u128> = Vec::new(alloc);
-    push_keys(&mut rolled, s.codes(), k, strands)?;
-    let mut wide: Vec<u128> = Vec::new(alloc);
-    push_body(&mut wide, &record, k, strands)?;
-    if k > 32 {
-        return Ok(wide == rolled);
-    }
-    let mut narrow: Vec<u64> = Vec::new(alloc);
-    push_body(&mut narrow, &record, k, strands)?;
-    let same = narrow
-        .iter()
-        .zip(wide.iter())
-        .all(|(a, b)| u128::from(*a) == *b);
-    Ok(wide == rolled && narrow.len() == wide.len() && same)
+    shape: Shape,
+    bin: usize,
+    bytes: &[u8],
+    want: Result<u64, PartError>,
+) -> Result<(), Fail> {
+    let words = words_of_body(rt, alloc, shape, bin, bytes)?;
+    assert!(rt; words == want, "{bytes:?} in {bin}");
+    Ok(())
 }
 
 #[test]
-fn records_are_unpacked_by_bytes_as_by_symbols(rt: HostRuntime) -> Result<(), Fail> {
+fn takes_bodies_of_whole_records(rt: HostRuntime) -> Result<(), Fail> {
     let alloc = rt.alloc();
-    let read = long_read(alloc, 400)?;
-    for k in [1, 2, 3, 4, 5, 6, 7, 8, 9, 25, 31, 32, 33, 63, 64] {
-        for more in [0usize, 1, 2, 3, 4, 5, 6, 7, 8, 254, 255] {
-            for strands in [Strands::Joined, Strands::Apart] {
-                let start = more % 50;
-                let end = start.saturating_add(k).saturating_add(more);
-                assert!(rt; start <= end && end <= read.len());
-                let letters = &read.as_bytes()[start..end];
-                assert!(rt;
-                    unpacks_as_rolled(&rt, alloc, letters, k, strands)?,
-                    "{more} symbols more than {k}"
-                );
-            }
-        }
-    }
-    Ok(())
+    let shape = shape_of(&rt, 4, 9, 7);
+    let short = RecordFault::Short;
+    assert_words(&rt, alloc, shape, 6, &[0, 0x1B, 0, 0x1B], Ok(2))?;
+    assert_words(&rt, alloc, shape, 6, &[0, 0x1B, 0], damaged(short, 2))?;
+    assert_words(&rt, alloc, shape, 6, &[0], damaged(short, 0))?;
+    assert_words(&rt, alloc, shape, 6, &[], Ok(0))
+}
+
+#[test]
+fn takes_bodies_of_records_of_the_bin(rt: HostRuntime) -> Result<(), Fail> {
+    let alloc = rt.alloc();
+    let shape = shape_of(&rt, 4, 9, 7);
+    assert_words(&rt, alloc, shape, 6, &[0, 0x1B, 0, 0x6C], of_another_bin(2))?;
+    assert_words(&rt, alloc, shape, 6, &[0, 0x6C, 0], of_another_bin(0))?;
+    assert_words(&rt, alloc, shape, 6, &[1, 0x1B, 0], of_another_bin(0))?;
+    assert_words(&rt, alloc, shape, 3, &[1, 0x1B, 0], of_another_bin(0))
+}
+
+#[test]
+fn takes_bodies_of_records_of_two_words(rt: HostRuntime) -> Result<(), Fail> {
+    let alloc = rt.alloc();
+    let four = shape_of(&rt, 4, 9, 1);
+    assert_words(&rt, alloc, four, 0, &[1, 0x1B, 0], Ok(2))?;
+    let five = shape_of(&rt, 5, 5, 1);
+    let padding = damaged(RecordFault::Padding, 0);
+    assert_words(&rt, alloc, five, 0, &[1, 0x1B, 0x11], padding)?;
+    assert_words(&rt, alloc, five, 0, &[1, 0x1B, 0x10], Ok(2))
 }
 
 #[test]
