@@ -12,21 +12,42 @@ use kmc_record::shape::Shape;
 use std::alloc::Global;
 use std::io;
 
+/// The number before the first space, and what follows it.
+fn number_before(text: &str) -> Option<(usize, &str)> {
+    let (word, rest) = text.split_once(' ')?;
+    Some((word.parse().ok()?, rest))
+}
+
+/// The three sizes that a line begins with, and what follows them.
+fn sizes_of(line: &str) -> Option<(usize, usize, usize, &str)> {
+    let (k, rest) = number_before(line)?;
+    let (p, rest) = number_before(rest)?;
+    let (n, rest) = number_before(rest)?;
+    Some((k, p, n, rest))
+}
+
 /// The shape, the bin and the body of a line; none where the line has none, or the shape has no such bin.
 fn row_of(alloc: Global, line: &str) -> Option<(Shape, usize, Vec<u8>)>
     ensures { IfSome result (λ row. row.1 < row.0.n) }
 {
-    let mut words = line.split(' ');
-    let k = words.next()?.parse().ok()?;
-    let p = words.next()?.parse().ok()?;
-    let n = words.next()?.parse().ok()?;
-    let bin = words.next()?.parse().ok()?;
-    let body = hex::decode(alloc, words.next()?).ok()?;
+    let (k, p, n, rest) = sizes_of(line)?;
     let shape = Shape::new(k, p, n)?;
-    if bin < shape.n() {
-        Some((shape, bin, body))
-    } else {
-        None
+    let (bin, rest) = number_before(rest)?;
+    if bin >= shape.n() {
+        return None;
+    }
+    let body = hex::decode(alloc, rest.split(' ').next()?).ok()?;
+    Some((shape, bin, body))
+}
+
+/// Tells what is found of the body of a line.
+fn tell_line(rt: &impl Print, alloc: Global, line: &str) -> io::Result<()> {
+    match row_of(alloc, line) {
+        Some((shape, bin, body)) => {
+            tell_count(rt, alloc, shape, &body)?;
+            tell_part(rt, alloc, shape, bin, body)
+        }
+        None => rt.println("no body"),
     }
 }
 
@@ -34,13 +55,7 @@ fn main(rt: HostRuntime) -> io::Result<()> {
     let alloc = rt.alloc();
     let text = io::read_to_string(alloc, rt.stdin())?;
     for line in text.lines() {
-        match row_of(alloc, line) {
-            Some((shape, bin, body)) => {
-                tell_count(&rt, alloc, shape, &body)?;
-                tell_part(&rt, alloc, shape, bin, body)?;
-            }
-            None => rt.println("no body")?,
-        }
+        tell_line(&rt, alloc, line)?;
     }
     Ok(())
 }

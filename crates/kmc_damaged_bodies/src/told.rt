@@ -1,6 +1,7 @@
 //! What is told of a body.
 ghost use Rattle.std.specs.Prelude.{◌<◌};
 
+use kmc_base::kmer::Kmer;
 use kmc_base::strands::Strands;
 use kmc_count::bin::CountError;
 use kmc_count::limits::Limits;
@@ -22,24 +23,43 @@ fn name_of(fault: RecordFault) -> &'static str {
     }
 }
 
+/// Tells how many k-mers were counted, and the dump of them.
+fn tell_pairs(rt: &impl Print, pairs: &[(Kmer, u64)]) -> io::Result<()> {
+    println!(rt; "count: {}", pairs.len())?;
+    let mut writer = Counted::new(io::writer(rt));
+    match write_dump(&mut writer, pairs) {
+        Ok(_) => Ok(()),
+        Err(_) => Err(io::Error::from(ErrorKind::Other)),
+    }
+}
+
+/// Tells why the count was given up.
+fn tell_no_count(rt: &impl Print, error: CountError) -> io::Result<()> {
+    match error {
+        CountError::Damaged(fault, offset) => {
+            println!(rt; "count: {} at {offset}", name_of(fault))
+        }
+        CountError::Memory => rt.println("count: out of memory"),
+    }
+}
+
 /// Tells the count of the body: how many k-mers, and the dump of them; or why it was given up.
 pub fn tell_count(rt: &impl Print, alloc: Global, shape: Shape, body: &[u8]) -> io::Result<()> {
     let Some(limits) = Limits::new(1, 1 << 63, 1 << 63) else {
         return Err(io::Error::from(ErrorKind::Other));
     };
     match count_bin(alloc, body, shape.k(), Strands::Joined, &limits) {
-        Ok(pairs) => {
-            println!(rt; "count: {}", pairs.len())?;
-            let mut writer = Counted::new(io::writer(rt));
-            match write_dump(&mut writer, &pairs) {
-                Ok(_) => Ok(()),
-                Err(_) => Err(io::Error::from(ErrorKind::Other)),
-            }
-        }
-        Err(CountError::Damaged(fault, offset)) => {
-            println!(rt; "count: {} at {offset}", name_of(fault))
-        }
-        Err(CountError::Memory) => rt.println("count: out of memory"),
+        Ok(pairs) => tell_pairs(rt, &pairs),
+        Err(error) => tell_no_count(rt, error),
+    }
+}
+
+/// Tells why a body is no part.
+fn tell_no_part(rt: &impl Print, error: PartError) -> io::Result<()> {
+    match error {
+        PartError::Damaged(fault, offset) => println!(rt; "part: {} at {offset}", name_of(fault)),
+        PartError::WrongBin(offset) => println!(rt; "part: wrong bin at {offset}"),
+        PartError::Memory => rt.println("part: out of memory"),
     }
 }
 
@@ -55,10 +75,6 @@ pub fn tell_part(
 {
     match Part::from_body(alloc, 0, bin, shape, body) {
         Ok(part) => println!(rt; "part: {}", part.words()),
-        Err((PartError::Damaged(fault, offset), _)) => {
-            println!(rt; "part: {} at {offset}", name_of(fault))
-        }
-        Err((PartError::WrongBin(offset), _)) => println!(rt; "part: wrong bin at {offset}"),
-        Err((PartError::Memory, _)) => rt.println("part: out of memory"),
+        Err((error, _)) => tell_no_part(rt, error),
     }
 }

@@ -1,6 +1,8 @@
 //! The tests, by what they call.
 mod bodies;
+mod compared;
 mod failing;
+mod letters;
 mod listed;
 mod prefixes;
 mod rows;

@@ -14,6 +14,15 @@ use std::io;
 
 const READERS: usize = 8;
 
+/// Tells whether each part came once.
+fn tell(rt: &impl Print, seen: &Seen) -> io::Result<()> {
+    if seen.each_once() {
+        rt.println("1600 parts came once each")
+    } else {
+        rt.println("a part was lost, came twice or came late")
+    }
+}
+
 fn main(rt: HostRuntime) -> io::Result<()> {
     let shape = QueueShape {
         writers: WRITERS,
@@ -26,9 +35,5 @@ fn main(rt: HostRuntime) -> io::Result<()> {
         Some(totals) => seen.ended(&totals),
         None => seen.note_strange(),
     }
-    if seen.each_once() {
-        rt.println("1600 parts came once each")
-    } else {
-        rt.println("a part was lost, came twice or came late")
-    }
+    tell(&rt, &seen)
 }

@@ -41,6 +41,33 @@ impl Seen {
         self.strange.store(true, Ordering::SeqCst);
     }
 
+    /// Of a writer a reader got the part of this number, and none from `least[writer]` on before.
+    fn note_order(&self, least: &mut [u64], writer: usize, number: u64)
+        requires { number < 100 }
+    {
+        match least.get_mut(writer) {
+            Some(from) => {
+                if number < *from {
+                    self.note_strange();
+                }
+                *from = number + 1;
+            }
+            None => self.note_strange(),
+        }
+    }
+
+    /// The part came once more.
+    fn count_part(&self, writer: usize, number: u64)
+        requires { (writer < 16) × (number < 100) }
+    {
+        match self.times.get(writer * 100 + number as usize) {
+            Some(count) => {
+                count.fetch_add(1, Ordering::SeqCst);
+            }
+            None => self.note_strange(),
+        }
+    }
+
     /// A reader got the part. Of each writer it has got no part from `least[writer]` on.
     pub fn came(&self, least: &mut [u64], part: Received<u64>) {
         let Received {
@@ -55,21 +82,8 @@ impl Seen {
         if item != item_of(writer, number) {
             self.note_strange();
         }
-        match least.get_mut(writer) {
-            Some(from) => {
-                if number < *from {
-                    self.note_strange();
-                }
-                *from = number + 1;
-            }
-            None => self.note_strange(),
-        }
-        match self.times.get(writer * 100 + number as usize) {
-            Some(count) => {
-                count.fetch_add(1, Ordering::SeqCst);
-            }
-            None => self.note_strange(),
-        }
+        self.note_order(least, writer, number);
+        self.count_part(writer, number);
     }
 
     /// A reader was told that the queue is finished.

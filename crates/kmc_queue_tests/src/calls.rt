@@ -53,14 +53,20 @@ fn register_text(alloc: Global, reply: Result<(), RegisterError>) -> Result<Stri
     }
 }
 
+fn put_letter(error: PutError) -> &'static str {
+    match error {
+        PutError::NoSuchWriter => "n",
+        PutError::NotRegistered => "u",
+        PutError::Completed => "c",
+        PutError::NumbersSpent => "s",
+        PutError::Full => "f",
+    }
+}
+
 fn put_text(alloc: Global, reply: Result<u64, (PutError, u32)>) -> Result<String, AllocError> {
     match reply {
         Ok(number) => format!(in alloc; "+{number}"),
-        Err((PutError::NoSuchWriter, item)) => format!(in alloc; "n{item}"),
-        Err((PutError::NotRegistered, item)) => format!(in alloc; "u{item}"),
-        Err((PutError::Completed, item)) => format!(in alloc; "c{item}"),
-        Err((PutError::NumbersSpent, item)) => format!(in alloc; "s{item}"),
-        Err((PutError::Full, item)) => format!(in alloc; "f{item}"),
+        Err((error, item)) => format!(in alloc; "{}{item}", put_letter(error)),
     }
 }
 
@@ -140,16 +146,28 @@ fn events_of(alloc: Global, calls: &str) -> Result<Vec<Event<u32>>, AllocError> 
     Ok(events)
 }
 
-/// How many calls of the list are answered as it says, one by one, up to the first that is not.
-fn answered_one_by_one(alloc: Global, text: &str) -> Result<usize, AllocError> {
-    let Some((shape, calls)) = list_of(text) else {
-        return Ok(0);
-    };
-    let mut answered = 0usize;
+/// The replies of the queue's own methods to the calls, one by one.
+fn replies_of(
+    alloc: Global,
+    shape: QueueShape,
+    events: Vec<Event<u32>>,
+) -> Result<Vec<Reply<u32>>, AllocError> {
     let mut core = PartCore::new(alloc, shape)?;
-    let events = events_of(alloc, calls)?;
-    for (word, event) in calls.split_ascii_whitespace().zip(events) {
-        let reply = call(&mut core, event);
+    let mut replies = Vec::new(alloc);
+    for event in events {
+        replies.push(call(&mut core, event))?;
+    }
+    Ok(replies)
+}
+
+/// How many calls get the reply that their text says, up to the first that does not.
+fn count_answered(
+    alloc: Global,
+    calls: &str,
+    replies: Vec<Reply<u32>>,
+) -> Result<usize, AllocError> {
+    let mut answered = 0usize;
+    for (word, reply) in calls.split_ascii_whitespace().zip(replies) {
         if !is_answered(alloc, word, reply)? {
             return Ok(answered);
         }
@@ -158,21 +176,22 @@ fn answered_one_by_one(alloc: Global, text: &str) -> Result<usize, AllocError> {
     Ok(answered)
 }
 
+/// How many calls of the list are answered as it says, one by one, up to the first that is not.
+fn answered_one_by_one(alloc: Global, text: &str) -> Result<usize, AllocError> {
+    let Some((shape, calls)) = list_of(text) else {
+        return Ok(0);
+    };
+    let replies = replies_of(alloc, shape, events_of(alloc, calls)?)?;
+    count_answered(alloc, calls, replies)
+}
+
 /// The same where `run` makes the calls.
 fn answered_by_run(alloc: Global, text: &str) -> Result<usize, AllocError> {
-    let mut answered = 0usize;
     let Some((shape, calls)) = list_of(text) else {
-        return Ok(answered);
+        return Ok(0);
     };
-    let events = events_of(alloc, calls)?;
-    let replies = run(alloc, shape, events)?;
-    for (word, reply) in calls.split_ascii_whitespace().zip(replies) {
-        if !is_answered(alloc, word, reply)? {
-            return Ok(answered);
-        }
-        answered = answered.saturating_add(1);
-    }
-    Ok(answered)
+    let replies = run(alloc, shape, events_of(alloc, calls)?)?;
+    count_answered(alloc, calls, replies)
 }
 
 fn length_of(text: &str) -> usize {
@@ -212,7 +231,11 @@ fn a_writer_must_register_first(rt: HostRuntime) -> Result<(), Fail> {
 
 #[test]
 fn no_calls_get_no_answers(rt: HostRuntime) -> Result<(), Fail> {
-    assert_agrees(&rt, "121:")?;
+    assert_agrees(&rt, "121:")
+}
+
+#[test]
+fn no_events_have_no_replies(rt: HostRuntime) -> Result<(), Fail> {
     let shape = QueueShape::new(1, 2, 1).expect(&rt, "a shape");
     let none: Vec<Event<u32>> = Vec::new(rt.alloc());
     assert!(rt; run(rt.alloc(), shape, none)?.is_empty());
@@ -254,24 +277,38 @@ fn totals_answer_for_the_writers_of_the_queue(rt: HostRuntime) -> Result<(), Fai
     Ok(())
 }
 
-#[test]
-fn answers_compare_and_print(rt: HostRuntime) -> Result<(), Fail> {
-    let part = Received {
+fn part() -> Received<u8> {
+    Received {
         writer: 1,
         number: 2,
-        item: 7u8,
-    };
-    let got = Taken::Got(part.clone()?);
+        item: 7,
+    }
+}
+
+#[test]
+fn answers_compare(rt: HostRuntime) -> Result<(), Fail> {
+    let got = Taken::Got(part());
     let totals = Taken::Finished(Totals::new(&[2]));
     assert!(rt;
         got == got.clone()? && got != totals && totals == Taken::Finished(Totals::new(&[2]))
     );
     assert!(rt; totals != Taken::Finished(Totals::new(&[2, 0])) && got != Taken::Empty);
-    assert!(rt; TryTaken::Got(part) != TryTaken::NotNow);
+    Ok(())
+}
+
+#[test]
+fn tries_and_shapes_compare(rt: HostRuntime) -> Result<(), Fail> {
+    assert!(rt; TryTaken::Got(part()) != TryTaken::NotNow);
     assert!(rt;
         QueueShape::new(1, 2, 1) == QueueShape::new(1, 2, 1)
             && QueueShape::new(1, 2, 1) != QueueShape::new(1, 2, 2)
     );
+    Ok(())
+}
+
+#[test]
+fn answers_print(rt: HostRuntime) -> Result<(), Fail> {
+    let got = Taken::Got(part().clone()?);
     let text = format!(in rt.alloc(); "{got:?}")?;
     assert!(rt; text.as_str() == "Got(Received { writer: 1, number: 2, item: 7 })");
     Ok(())

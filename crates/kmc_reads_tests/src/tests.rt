@@ -1,4 +1,5 @@
 //! The tests, by what they call.
+mod answers;
 mod calls;
 mod open_reads;
 mod plain;

@@ -13,6 +13,7 @@ use crate::bins::{absorb_parts, merge_bins};
 use crate::records::{judge_bodies, spell_super_kmers};
 use crate::texts::read_in_pieces;
 use crate::words::{push_pairs, write_words};
+use std::alloc::{AllocError, Global};
 use std::io;
 
 /// Tells that a call met the refusal.
@@ -31,8 +32,20 @@ macro_rules! make_rows {
     };
 }
 
+/// The rows of texts and records.
+fn make_records(rt: &(impl Print + Eprint), alloc: Global) -> Result<(), AllocError> {
+    make_rows!(rt, alloc; read_in_pieces, spell_super_kmers, judge_bodies);
+    Ok(())
+}
+
+/// The rows of bins and words.
+fn make_bins(rt: &(impl Print + Eprint), alloc: Global) -> Result<(), AllocError> {
+    make_rows!(rt, alloc; absorb_parts, merge_bins, write_words, push_pairs);
+    Ok(())
+}
+
 fn main(rt: HostRuntime) -> io::Result<()> {
-    make_rows!(&rt, rt.alloc(); read_in_pieces, spell_super_kmers, judge_bodies);
-    make_rows!(&rt, rt.alloc(); absorb_parts, merge_bins, write_words, push_pairs);
+    make_records(&rt, rt.alloc())?;
+    make_bins(&rt, rt.alloc())?;
     Ok(())
 }

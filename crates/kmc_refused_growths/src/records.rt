@@ -31,15 +31,26 @@ fn super_kmer(
     SuperKmer::new(codes, k).ok_or(AllocError)
 }
 
+/// Spells a super-k-mer of so many symbols behind the others.
+fn spell(
+    rt: &impl Eprint,
+    alloc: Global,
+    symbols: usize,
+    out: &mut Vec<u8>,
+) -> Result<(), AllocError> {
+    let run = super_kmer(alloc, symbols, symbols, 4)?;
+    if encode(&run, out).is_err() {
+        tell(rt, "encode");
+        encode(&run, out)?;
+    }
+    Ok(())
+}
+
 /// Spells super-k-mers one behind the other.
 pub fn spell_super_kmers(rt: &(impl Print + Eprint), alloc: Global) -> Result<(), AllocError> {
     let mut out = Vec::new(alloc);
     for symbols in [4, 5, 9, 30, 64] {
-        let run = super_kmer(alloc, symbols, symbols, 4)?;
-        if encode(&run, &mut out).is_err() {
-            tell(rt, "encode");
-            encode(&run, &mut out)?;
-        }
+        spell(rt, alloc, symbols, &mut out)?;
     }
     let _ = rt.print("spelled: ");
     print_bytes(rt, &out);

@@ -22,6 +22,14 @@ fn feed(rt: &impl Eprint, feeder: &mut Feeder, piece: &[u8]) -> Result<(), Alloc
     Ok(())
 }
 
+/// Feeds a text in pieces.
+fn feed_all(rt: &impl Eprint, feeder: &mut Feeder, text: &[u8]) -> Result<(), AllocError> {
+    for piece in text.chunks(PIECE) {
+        feed(rt, feeder, piece)?;
+    }
+    Ok(())
+}
+
 /// The reads that have ended.
 fn take(rt: &impl Eprint, alloc: Global, feeder: &mut Feeder) -> Result<Reads, AllocError> {
     match feeder.take(alloc) {
@@ -60,13 +68,9 @@ fn print_reads(rt: &impl Print, name: &str, reads: &Reads) {
 pub fn read_in_pieces(rt: &(impl Print + Eprint), alloc: Global) -> Result<(), AllocError> {
     let (first, second) = TEXT.split_at(TEXT.len() / 2);
     let mut feeder = Feeder::new(alloc, Format::Fastq);
-    for piece in first.chunks(PIECE) {
-        feed(rt, &mut feeder, piece)?;
-    }
+    feed_all(rt, &mut feeder, first)?;
     let taken = take(rt, alloc, &mut feeder)?;
-    for piece in second.chunks(PIECE) {
-        feed(rt, &mut feeder, piece)?;
-    }
+    feed_all(rt, &mut feeder, second)?;
     let left = finish(rt, feeder)?;
     print_reads(rt, "taken", &taken);
     print_reads(rt, "left", &left);

@@ -5,5 +5,7 @@ mod options;
 mod params;
 mod passes;
 mod runs;
+mod settings;
 mod stages;
+mod texts;
 mod workers;

@@ -1,4 +1,7 @@
 //! Packed lists of random bodies against the plain counts of the same bodies.
+ghost use Rattle.std.specs.Prelude.{◌≤◌};
+
+use crate::tests::listed::limits_up_to;
 use kmc_base::kmer::Kmer;
 use kmc_base::strands::Strands;
 use kmc_base::word::Word;
@@ -9,7 +12,20 @@ use kmc_dump::shown::Shown;
 use kmc_plain_count::bin::count_bin;
 use kmc_testing::dice::Dice;
 use std::alloc::{AllocError, Global};
+use std::process::Abort;
 use std::test::Fail;
+use std::thread::Threads;
+
+/// A byte of four symbols, of which only the first so many are no zeros.
+fn thrown_byte(dice: &mut Dice, left: usize) -> u8 {
+    let mut byte = 0u8;
+    for place in 0..4 {
+        // two letters alone, so that words come again
+        let code = if place < left { dice.roll(2) } else { 0 };
+        byte = byte << 2 | code as u8;
+    }
+    byte
+}
 
 /// Appends a record of k or up to 15 symbols more, with zeros behind the last.
 fn push_record(body: &mut Vec<u8>, dice: &mut Dice, k: usize) -> Result<(), AllocError> {
@@ -17,13 +33,7 @@ fn push_record(body: &mut Vec<u8>, dice: &mut Dice, k: usize) -> Result<(), Allo
     body.push(above)?;
     let mut left = k.saturating_add(usize::from(above));
     for _ in 0..left.div_ceil(4) {
-        let mut byte = 0u8;
-        for place in 0..4 {
-            // two letters alone, so that words come again
-            let code = if place < left { dice.roll(2) } else { 0 };
-            byte = byte << 2 | code as u8;
-        }
-        body.push(byte)?;
+        body.push(thrown_byte(dice, left))?;
         left = left.saturating_sub(4);
     }
     Ok(())
@@ -51,6 +61,23 @@ fn packed(word: &Kmer) -> u128 {
     number
 }
 
+/// Whether the pairs of a list are these.
+fn has_pairs<W: Word + Drop, C: Shown + Drop>(list: &Counts<W, C>, pairs: &[(Kmer, u64)]) -> bool {
+    if list.len() != pairs.len() {
+        return false;
+    }
+    for (i, (word, count)) in pairs.iter().enumerate() {
+        if i >= list.len() {
+            return false;
+        }
+        let pair = list.get(i);
+        if pair.0.widen() != packed(word) || pair.1.widen() != *count {
+            return false;
+        }
+    }
+    true
+}
+
 /// Whether the lists are these, pair by pair.
 fn are_same<W: Word + Drop, C: Shown + Drop>(
     lists: &[Counts<W, C>],
@@ -60,17 +87,8 @@ fn are_same<W: Word + Drop, C: Shown + Drop>(
         return false;
     }
     for (list, pairs) in lists.iter().zip(plain) {
-        if list.len() != pairs.len() {
+        if !has_pairs(list, pairs) {
             return false;
-        }
-        for (i, (word, count)) in pairs.iter().enumerate() {
-            if i >= list.len() {
-                return false;
-            }
-            let pair = list.get(i);
-            if pair.0.widen() != packed(word) || pair.1.widen() != *count {
-                return false;
-            }
         }
     }
     true
@@ -88,28 +106,76 @@ fn are_plain(lists: &BinLists, plain: &[Vec<(Kmer, u64)>]) -> bool {
     }
 }
 
+/// The plain counts of the bodies.
+fn plain_lists(
+    alloc: Global,
+    bodies: &[Vec<u8>],
+    k: usize,
+    limits: &Limits,
+) -> Result<Vec<Vec<(Kmer, u64)>>, Fail>
+    requires { (1 ≤ k) × (k ≤ 64) }
+{
+    let mut plain = Vec::new(alloc);
+    for body in bodies {
+        let pairs = count_bin(alloc, body, k, Strands::Joined, limits);
+        plain.push(pairs.ok().ok_or("records")?)?;
+    }
+    Ok(plain)
+}
+
+/// The packed lists of the bodies.
+fn packed_lists<R: Threads + Sync>(
+    rt: &R,
+    alloc: Global,
+    bodies: Vec<Vec<u8>>,
+    k: usize,
+    limits: &Limits,
+    threads: usize,
+) -> Result<BinLists, Fail>
+    requires { (1 ≤ k) × (k ≤ 64) × (1 ≤ threads) }
+{
+    let lists = list_bins(rt, alloc, bodies, k, Strands::Joined, limits, threads);
+    Ok(lists.ok().ok_or("records")?)
+}
+
+/// Asserts that the packed lists of random bodies are their plain counts.
+fn assert_lists<R: Abort + Threads + Sync>(
+    rt: &R,
+    alloc: Global,
+    k: usize,
+    limits: &Limits,
+    threads: usize,
+) -> Result<(), Fail> {
+    assert!(rt; 1 <= k && k <= 64 && 1 <= threads);
+    let bodies = thrown_bodies(alloc, &mut Dice { state: 1234567 }, k)?;
+    let plain = plain_lists(alloc, &bodies, k, limits)?;
+    let lists = packed_lists(rt, alloc, bodies, k, limits, threads)?;
+    assert!(rt;
+        are_plain(&lists, &plain),
+        "k {k}, {limits:?}, {threads} threads"
+    );
+    Ok(())
+}
+
+/// Asserts that packed lists are the plain counts with each number of threads.
+fn assert_all_lists<R: Abort + Threads + Sync>(
+    rt: &R,
+    alloc: Global,
+    k: usize,
+    cs: u64,
+) -> Result<(), Fail> {
+    let limits = limits_up_to(cs)?;
+    for threads in [1, 2, 3, 16] {
+        assert_lists(rt, alloc, k, &limits, threads)?;
+    }
+    Ok(())
+}
+
 #[test]
 fn lists_are_the_plain_counts_of_their_bodies(rt: HostRuntime) -> Result<(), Fail> {
-    let alloc = rt.alloc();
-    for k in [1usize, 3, 8, 31, 32, 33, 64] {
-        for cs in [1u64, 2, 255, 256, 1 << 32, 1 << 63] {
-            let limits = Limits::new(1, 1 << 63, cs).ok_or("limits in range")?;
-            for threads in [1usize, 2, 3, 16] {
-                assert!(rt; 1 <= k && k <= 64 && 1 <= threads);
-                let mut dice = Dice { state: 1234567 };
-                let bodies = thrown_bodies(alloc, &mut dice, k)?;
-                let mut plain = Vec::new(alloc);
-                for body in &bodies {
-                    let pairs = count_bin(alloc, body, k, Strands::Joined, &limits);
-                    plain.push(pairs.ok().ok_or("records")?)?;
-                }
-                let lists = list_bins(&rt, alloc, bodies, k, Strands::Joined, &limits, threads);
-                let lists = lists.ok().ok_or("records")?;
-                assert!(rt;
-                    are_plain(&lists, &plain),
-                    "k {k}, cs {cs}, {threads} threads"
-                );
-            }
+    for k in [1, 3, 8, 31, 32, 33, 64] {
+        for cs in [1, 2, 255, 256, 1 << 32, 1 << 63] {
+            assert_all_lists(&rt, rt.alloc(), k, cs)?;
         }
     }
     Ok(())

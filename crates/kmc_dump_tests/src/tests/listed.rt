@@ -21,13 +21,19 @@ use std::sync::Wait;
 use std::test::Fail;
 use std::thread::Threads;
 
-/// A read of so many symbols.
-pub fn thrown(alloc: Global, dice: &mut Dice, len: usize) -> Result<Vec<u8>, AllocError> {
+/// Appends so many random symbols.
+pub fn push_thrown(read: &mut Vec<u8>, dice: &mut Dice, count: usize) -> Result<(), AllocError> {
     let letters = b"ACGT";
-    let mut read = Vec::with_capacity(alloc, len)?;
-    for _ in 0..len {
+    for _ in 0..count {
         read.push(letters[dice.roll(4)])?;
     }
+    Ok(())
+}
+
+/// A read of so many symbols.
+pub fn thrown(alloc: Global, dice: &mut Dice, len: usize) -> Result<Vec<u8>, AllocError> {
+    let mut read = Vec::with_capacity(alloc, len)?;
+    push_thrown(&mut read, dice, len)?;
     Ok(read)
 }
 
@@ -38,9 +44,23 @@ pub fn alone(alloc: Global, read: Vec<u8>) -> Result<Vec<Vec<u8>>, AllocError> {
     Ok(reads)
 }
 
+/// One read of so many symbols.
+pub fn thrown_alone(
+    alloc: Global,
+    dice: &mut Dice,
+    len: usize,
+) -> Result<Vec<Vec<u8>>, AllocError> {
+    alone(alloc, thrown(alloc, dice, len)?)
+}
+
+/// Limits that list each count, and show it up to cs.
+pub fn limits_up_to(cs: u64) -> Result<Limits, Fail> {
+    Ok(Limits::new(1, 1 << 63, cs).ok_or("limits in range")?)
+}
+
 /// Settings for words of k symbols whose counts are listed from one on and shown up to cs, with so many threads.
 pub fn settings(k: usize, cs: u64, threads: usize) -> Result<Params, Fail> {
-    let limits = Limits::new(1, 1 << 63, cs).ok_or("limits in range")?;
+    let limits = limits_up_to(cs)?;
     Ok(Params::new(Format::Fastq, k, 9, 50, 1, threads, limits).ok_or("settings in range")?)
 }
 

@@ -1,4 +1,5 @@
 //! Worked rows of a feeder.
+use crate::tests::answers::{assert_end_refused, assert_fed};
 use crate::tests::calls::{feed, finish, take};
 use kmc_reads::error::ReadsError;
 use kmc_reads::feeder::Feeder;
@@ -6,30 +7,55 @@ use kmc_reads::format::Format;
 use kmc_reads::reads::Reads;
 use std::alloc::Global;
 use std::process::Abort;
-use std::test::Fail;
+
+/// Asserts that the read of this number, where there is one, is this.
+fn is_read(rt: &impl Abort, reads: &Reads, i: usize, want: &str, told: &str) {
+    if i < reads.len() {
+        assert_eq!(rt; reads.get(i), want.as_bytes(), "{told:?}");
+    }
+}
 
 /// Asserts that these are the reads.
 fn are(rt: &impl Abort, reads: &Reads, want: &[&str], told: &str) {
-    assert_eq!(rt; reads.len(), want.len(), "{told:?}");
-    assert_eq!(rt; reads.is_empty(), want.is_empty(), "{told:?}");
+    assert_eq!(rt;
+        (reads.len(), reads.is_empty()),
+        (want.len(), want.is_empty()),
+        "{told:?}"
+    );
     for (i, want) in want.iter().enumerate() {
-        if i < reads.len() {
-            assert_eq!(rt; reads.get(i), want.as_bytes(), "{told:?}");
-        }
+        is_read(rt, reads, i, want, told);
     }
+}
+
+/// The symbols of these reads.
+fn symbols_of(reads: &[&str]) -> usize {
+    let mut symbols = 0usize;
+    for read in reads {
+        symbols = symbols.saturating_add(read.len());
+    }
+    symbols
+}
+
+/// Asserts that so many reads with so many symbols wait.
+fn wait(rt: &impl Abort, feeder: &Feeder, reads: usize, symbols: usize, told: &str) {
+    assert_eq!(rt;
+        (feeder.waiting(), feeder.waiting_symbols()),
+        (reads, symbols),
+        "{told:?}"
+    );
+}
+
+/// Asserts that these reads are taken.
+fn are_taken(rt: &impl Abort, alloc: Global, feeder: &mut Feeder, want: &[&str], told: &str) {
+    let reads = take(alloc, feeder).expect(rt, told);
+    are(rt, &reads, want, told);
 }
 
 /// Asserts that this piece ends just these reads.
 fn gives(rt: &impl Abort, alloc: Global, feeder: &mut Feeder, piece: &str, want: &[&str]) {
     feed(feeder, piece.as_bytes()).expect(rt, piece);
-    assert_eq!(rt; feeder.waiting(), want.len(), "{piece:?}");
-    let mut symbols = 0usize;
-    for read in want {
-        symbols = symbols.saturating_add(read.len());
-    }
-    assert_eq!(rt; feeder.waiting_symbols(), symbols, "{piece:?}");
-    let reads = take(alloc, feeder).expect(rt, piece);
-    are(rt, &reads, want, piece);
+    wait(rt, feeder, want.len(), symbols_of(want), piece);
+    are_taken(rt, alloc, feeder, want, piece);
 }
 
 /// Asserts that none of these pieces ends a read.
@@ -41,29 +67,13 @@ fn give_none(rt: &impl Abort, alloc: Global, feeder: &mut Feeder, pieces: &[&str
 
 /// Asserts that this piece is refused so.
 fn refuses(rt: &impl Abort, feeder: &mut Feeder, piece: &str, want: ReadsError) {
-    assert_eq!(rt; feed(feeder, piece.as_bytes()), Err(want), "{piece:?}");
+    assert_fed(rt, feeder, piece.as_bytes(), Err(want));
 }
 
 /// Asserts that the end of the text leaves just these reads.
 fn ends(rt: &impl Abort, feeder: Feeder, want: &[&str]) {
-    match finish(feeder) {
-        Ok(reads) => are(rt, &reads, want, "the end"),
-        Err((e, _)) => assert_eq!(rt; Some(e), None),
-    }
-}
-
-/// Asserts that the end of the text is refused so, and hands the feeder back.
-fn end_refused(rt: &impl Abort, feeder: Feeder, want: ReadsError) -> Option<Feeder> {
-    match finish(feeder) {
-        Ok(reads) => {
-            assert_eq!(rt; Some(reads.len()), None);
-            None
-        }
-        Err((e, same)) => {
-            assert_eq!(rt; e, want);
-            Some(same)
-        }
-    }
+    let left = finish(feeder).ok().expect(rt, "the end");
+    are(rt, &left, want, "the end");
 }
 
 #[test]
@@ -119,31 +129,43 @@ fn a_line_is_judged_once_its_line_feed_has_come(rt: HostRuntime) {
     gives(&rt, alloc, &mut feeder, "@r\nACGT\nx", &[]);
     refuses(&rt, &mut feeder, "\n", ReadsError::BadPlus(3));
     refuses(&rt, &mut feeder, "y", ReadsError::BadPlus(3));
-    let ended = take(alloc, &mut feeder).expect(&rt, "memory");
-    are(&rt, &ended, &[], "after a refusal");
+    are_taken(&rt, alloc, &mut feeder, &[], "after a refusal");
     refuses(&rt, &mut feeder, "", ReadsError::BadPlus(3));
-    end_refused(&rt, feeder, ReadsError::BadPlus(3));
+    assert_end_refused(&rt, feeder, ReadsError::BadPlus(3));
+}
+
+/// Asserts that the end of this text, which ends no read, is refused so, and hands the feeder back.
+fn end_of_text_refused(
+    rt: &impl Abort,
+    alloc: Global,
+    format: Format,
+    text: &str,
+    want: ReadsError,
+) -> Option<Feeder> {
+    let mut feeder = Feeder::new(alloc, format);
+    gives(rt, alloc, &mut feeder, text, &[]);
+    assert_end_refused(rt, feeder, want)
 }
 
 #[test]
-fn the_end_judges_the_last_line(rt: HostRuntime) -> Result<(), Fail> {
-    let alloc = rt.alloc();
-    let mut feeder = Feeder::new(alloc, Format::Fastq);
-    gives(&rt, alloc, &mut feeder, "@r\nACGT\nx", &[]);
-    end_refused(&rt, feeder, ReadsError::BadPlus(3));
-    let mut feeder = Feeder::new(alloc, Format::Fastq);
-    gives(&rt, alloc, &mut feeder, "@r\nACGT\n+\nIII", &[]);
-    let refused = end_refused(&rt, feeder, ReadsError::QualityLength(4));
+fn the_end_judges_the_last_line(rt: HostRuntime) {
+    for (format, text, want) in [
+        (Format::Fastq, "@r\nACGT\nx", ReadsError::BadPlus(3)),
+        (Format::Fastq, "@r\nACGT\n", ReadsError::Truncated(3)),
+        (Format::Fasta, "@r", ReadsError::BadHeader(1)),
+    ] {
+        end_of_text_refused(&rt, rt.alloc(), format, text, want);
+    }
+}
+
+#[test]
+fn an_end_that_was_refused_is_refused_again(rt: HostRuntime) {
+    let want = ReadsError::QualityLength(4);
+    let text = "@r\nACGT\n+\nIII";
+    let refused = end_of_text_refused(&rt, rt.alloc(), Format::Fastq, text, want);
     let mut feeder = refused.expect(&rt, "the feeder");
-    refuses(&rt, &mut feeder, "I\n", ReadsError::QualityLength(4));
-    end_refused(&rt, feeder, ReadsError::QualityLength(4));
-    let mut feeder = Feeder::new(alloc, Format::Fastq);
-    gives(&rt, alloc, &mut feeder, "@r\nACGT\n", &[]);
-    end_refused(&rt, feeder, ReadsError::Truncated(3));
-    let mut feeder = Feeder::new(alloc, Format::Fasta);
-    gives(&rt, alloc, &mut feeder, "@r", &[]);
-    end_refused(&rt, feeder, ReadsError::BadHeader(1));
-    Ok(())
+    refuses(&rt, &mut feeder, "I\n", want);
+    assert_end_refused(&rt, feeder, want);
 }
 
 #[test]

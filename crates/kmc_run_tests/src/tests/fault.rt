@@ -5,29 +5,28 @@ use kmc_tool::error::RunError;
 use kmc_tool::fault::Fault;
 use std::alloc::Global;
 use std::process::Abort;
-use std::test::Fail;
 
-fn shows(
-    rt: &(impl Abort + Alloc<A = Global>),
-    fault: Fault,
-    line: &str,
-    status: u8,
-) -> Result<(), Fail> {
-    let shown = fault.to_string(rt.alloc())?;
-    assert_eq!(rt; shown.as_str(), line);
-    assert_eq!(rt; fault.status(), status);
-    Ok(())
+fn shows(rt: &(impl Abort + Alloc<A = Global>), fault: Fault, line: &str, status: u8) {
+    let shown = fault.to_string(rt.alloc()).expect(rt, "memory");
+    assert_eq!(rt; (shown.as_str(), fault.status()), (line, status));
+}
+
+/// Asserts that a value out of range is told by the name of its option.
+fn shows_option(rt: &(impl Abort + Alloc<A = Global>), name: &str, setting: Setting) {
+    let line = format!(in rt.alloc(); "kmc: value of -{name} is out of range").expect(rt, "memory");
+    let fault = Fault::Options(ParamsError::OutOfRange(setting));
+    shows(rt, fault, line.as_str(), 2);
 }
 
 #[test]
-fn wrong_usage_shows_the_usage_and_ends_with_2(rt: HostRuntime) -> Result<(), Fail> {
+fn wrong_usage_shows_the_usage_and_ends_with_2(rt: HostRuntime) {
     let line =
         "usage: kmc [-fa|-fq|-fm] [-k<len>] [-p<len>] [-ci<n>] [-cx<n>] [-cs<n>] [-n<bins>] [-sp<n>] [-sr<n>] [-b]";
-    shows(&rt, Fault::Options(ParamsError::Usage), line, 2)
+    shows(&rt, Fault::Options(ParamsError::Usage), line, 2);
 }
 
 #[test]
-fn a_value_out_of_range_is_told_by_its_option_and_ends_with_2(rt: HostRuntime) -> Result<(), Fail> {
+fn a_value_out_of_range_is_told_by_its_option_and_ends_with_2(rt: HostRuntime) {
     for (name, setting) in [
         ("k", Setting::K),
         ("p", Setting::P),
@@ -38,25 +37,22 @@ fn a_value_out_of_range_is_told_by_its_option_and_ends_with_2(rt: HostRuntime) -
         ("sp", Setting::Sp),
         ("sr", Setting::Sr),
     ] {
-        let line = format!(in rt.alloc(); "kmc: value of -{name} is out of range")?;
-        let fault = Fault::Options(ParamsError::OutOfRange(setting));
-        shows(&rt, fault, line.as_str(), 2)?;
+        shows_option(&rt, name, setting);
     }
-    Ok(())
 }
 
 #[test]
-fn want_of_memory_ends_with_1(rt: HostRuntime) -> Result<(), Fail> {
+fn want_of_memory_ends_with_1(rt: HostRuntime) {
     shows(
         &rt,
         Fault::Options(ParamsError::Memory),
         "kmc: out of memory",
         1,
-    )
+    );
 }
 
 #[test]
-fn a_run_that_gives_up_shows_its_cause_and_ends_with_1(rt: HostRuntime) -> Result<(), Fail> {
+fn a_run_that_gives_up_shows_its_cause_and_ends_with_1(rt: HostRuntime) {
     let told = [
         (RunError::Memory, "kmc: out of memory"),
         (RunError::Read, "kmc: read failed"),
@@ -80,7 +76,6 @@ fn a_run_that_gives_up_shows_its_cause_and_ends_with_1(rt: HostRuntime) -> Resul
         ),
     ];
     for (error, line) in told {
-        shows(&rt, Fault::Run(error), line, 1)?;
+        shows(&rt, Fault::Run(error), line, 1);
     }
-    Ok(())
 }

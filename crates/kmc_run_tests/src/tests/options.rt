@@ -1,3 +1,4 @@
+use crate::tests::texts::words_of;
 use kmc_base::strands::Strands;
 use kmc_options::command_line::{params, words};
 use kmc_options::error::ParamsError;
@@ -6,31 +7,27 @@ use kmc_settings::params::Params;
 use kmc_settings::setting::Setting;
 use std::alloc::{AllocError, Global};
 use std::process::Abort;
-use std::test::Fail;
-
-fn argv(alloc: Global, line: &str) -> Result<Vec<String>, AllocError> {
-    let mut argv = Vec::new(alloc);
-    for word in line.split_whitespace() {
-        argv.push(String::from_str(alloc, word)?)?;
-    }
-    Ok(argv)
-}
 
 fn settings(alloc: Global, line: &str) -> Result<Params, ParamsError> {
-    params(alloc, words(alloc, argv(alloc, line)?)?)
+    params(alloc, words(alloc, words_of(alloc, line)?)?)
 }
 
-fn becomes(
-    rt: &(impl Abort + Alloc<A = Global>),
-    given: &str,
-    long: &str,
-) -> Result<(), AllocError> {
-    let mut argv = Vec::new(rt.alloc());
-    argv.push(String::from_str(rt.alloc(), given)?)?;
-    let words = words(rt.alloc(), argv)?;
-    assert_eq!(rt; words.len(), 1);
-    assert_eq!(rt; words[0].as_str(), long);
-    Ok(())
+/// The settings that the line gives.
+fn given(rt: &(impl Abort + Alloc<A = Global>), line: &str) -> Params {
+    settings(rt.alloc(), line).expect(rt, line)
+}
+
+/// This word alone.
+fn one_word(alloc: Global, word: &str) -> Result<Vec<String>, AllocError> {
+    let mut words = Vec::new(alloc);
+    words.push(String::from_str(alloc, word)?)?;
+    Ok(words)
+}
+
+fn becomes(rt: &(impl Abort + Alloc<A = Global>), given: &str, long: &str) {
+    let given = one_word(rt.alloc(), given).expect(rt, "memory");
+    let words = words(rt.alloc(), given).expect(rt, "memory");
+    assert_eq!(rt; words, one_word(rt.alloc(), long).expect(rt, "memory"));
 }
 
 fn refuses(rt: &(impl Abort + Alloc<A = Global>), line: &str, error: ParamsError) {
@@ -52,12 +49,13 @@ fn are_out_of_range(rt: &(impl Abort + Alloc<A = Global>), words: &str, setting:
     }
 }
 
-fn is_taken(rt: &(impl Abort + Alloc<A = Global>), line: &str) {
-    assert_eq!(rt; settings(rt.alloc(), line).err(), None, "{line}");
+/// Asserts that the line asks for the format.
+fn has_format(rt: &(impl Abort + Alloc<A = Global>), line: &str, format: Format) {
+    assert_eq!(rt; given(rt, line).format, format);
 }
 
 #[test]
-fn glued_words_become_long_forms(rt: HostRuntime) -> Result<(), Fail> {
+fn glued_words_become_long_forms(rt: HostRuntime) {
     let table = [
         ("-ci3", "--ci=3"),
         ("-k31", "--k=31"),
@@ -76,36 +74,33 @@ fn glued_words_become_long_forms(rt: HostRuntime) -> Result<(), Fail> {
         ("-kß", "--k=ß"),
     ];
     for (given, long) in table {
-        becomes(&rt, given, long)?;
+        becomes(&rt, given, long);
     }
-    Ok(())
 }
 
 #[test]
-fn other_words_stay(rt: HostRuntime) -> Result<(), Fail> {
+fn other_words_stay(rt: HostRuntime) {
     let table = [
         "-k", "-ci", "-sp", "-fast", "--k", "--k=31", "-bx", "-c3", "-s3", "-", "--", "", "k31",
         "reads.fq", "-ßk3",
     ];
     for word in table {
-        becomes(&rt, word, word)?;
+        becomes(&rt, word, word);
     }
-    Ok(())
 }
 
 #[test]
-fn the_order_of_words_stays(rt: HostRuntime) -> Result<(), Fail> {
-    let words = words(rt.alloc(), argv(rt.alloc(), "-b x -k3 -k")?)?;
-    assert_eq!(rt; words.len(), 4);
-    assert_eq!(rt; words[0].as_str(), "--b");
-    assert_eq!(rt; words[1].as_str(), "x");
-    assert_eq!(rt; words[2].as_str(), "--k=3");
-    assert_eq!(rt; words[3].as_str(), "-k");
-    Ok(())
+fn the_order_of_words_stays(rt: HostRuntime) {
+    let words = words(
+        rt.alloc(),
+        words_of(rt.alloc(), "-b x -k3 -k").expect(&rt, "memory"),
+    );
+    let long = words_of(rt.alloc(), "--b x --k=3 -k").expect(&rt, "memory");
+    assert!(rt; words.expect(&rt, "memory") == long);
 }
 
-/// The numbers of k, p, n, ci, cx, cs, sp and sr.
-fn numbers_of(given: &Params) -> [u64; 8] {
+/// The numbers of k, p, n, ci, cx, cs, sp and sr, and those of readers, of parts a writer and of reads a chunk.
+fn numbers_of(given: &Params) -> [u64; 11] {
     [
         given.k as u64,
         given.p as u64,
@@ -115,55 +110,55 @@ fn numbers_of(given: &Params) -> [u64; 8] {
         given.limits.cs,
         given.sp as u64,
         given.sr as u64,
+        given.readers as u64,
+        given.per_writer as u64,
+        given.batch as u64,
     ]
 }
 
 #[test]
-fn no_option_means_the_defaults(rt: HostRuntime) -> Result<(), Fail> {
-    let given = settings(rt.alloc(), "")?;
+fn no_option_means_the_defaults(rt: HostRuntime) {
+    let given = given(&rt, "");
     assert_eq!(rt;
         (given.format, given.strands),
         (Format::Fastq, Strands::Joined)
     );
     assert_eq!(rt;
         numbers_of(&given),
-        [25, 9, 512, 2, 1_000_000_000, 255, 2, 2]
+        [25, 9, 512, 2, 1_000_000_000, 255, 2, 2, 1, 8, 1024]
     );
-    assert_eq!(rt;
-        (given.readers, given.per_writer, given.batch),
-        (1, 8, 1024)
-    );
-    Ok(())
 }
 
 #[test]
-fn each_option_gives_its_own_setting(rt: HostRuntime) -> Result<(), Fail> {
+fn each_option_gives_its_own_setting(rt: HostRuntime) {
     let line = "-fa -k31 -p7 -n64 -ci3 -cx90 -cs80 -sp4 -sr5 -b";
-    let given = settings(rt.alloc(), line)?;
+    let given = given(&rt, line);
     assert_eq!(rt;
         (given.format, given.strands),
         (Format::Fasta, Strands::Apart)
     );
-    assert_eq!(rt; numbers_of(&given), [31, 7, 64, 3, 90, 80, 4, 5]);
-    Ok(())
+    assert_eq!(rt;
+        numbers_of(&given),
+        [31, 7, 64, 3, 90, 80, 4, 5, 1, 8, 1024]
+    );
 }
 
 #[test]
-fn one_format_may_be_asked_for(rt: HostRuntime) -> Result<(), Fail> {
-    let fasta = settings(rt.alloc(), "-fa")?;
-    assert_eq!(rt; fasta.format, Format::Fasta);
-    let multiline = settings(rt.alloc(), "-fm")?;
-    assert_eq!(rt; multiline.format, Format::Fasta);
-    let fastq = settings(rt.alloc(), "-fq")?;
-    assert_eq!(rt; fastq.format, Format::Fastq);
+fn one_format_may_be_asked_for(rt: HostRuntime) {
+    has_format(&rt, "-fa", Format::Fasta);
+    has_format(&rt, "-fm", Format::Fasta);
+    has_format(&rt, "-fq", Format::Fastq);
+}
+
+#[test]
+fn two_formats_are_wrong_usage(rt: HostRuntime) {
     for line in ["-fa -fq", "-fa -fm", "-fq -fm", "-fa -fq -fm", "-fa -fa"] {
         is_usage(&rt, line);
     }
-    Ok(())
 }
 
 #[test]
-fn long_forms_and_leading_zeros_are_read(rt: HostRuntime) -> Result<(), Fail> {
+fn long_forms_and_leading_zeros_are_read(rt: HostRuntime) {
     for line in [
         "-k31",
         "-k031",
@@ -171,10 +166,8 @@ fn long_forms_and_leading_zeros_are_read(rt: HostRuntime) -> Result<(), Fail> {
         "--k=31",
         "-k00000000000000000000000000000031",
     ] {
-        let given = settings(rt.alloc(), line)?;
-        assert_eq!(rt; given.k, 31);
+        assert_eq!(rt; given(&rt, line).k, 31);
     }
-    Ok(())
 }
 
 #[test]
@@ -183,7 +176,7 @@ fn each_limit_is_taken_at_both_edges(rt: HostRuntime) {
         "-k1 -k64 -p5 -p11 -n1 -n2000 -ci0 -ci9223372036854775808 -cx0 -cx9223372036854775808 \
          -cs1 -cs9223372036854775808 -sp1 -sp16 -sr1 -sr16";
     for word in words.split_whitespace() {
-        is_taken(&rt, word);
+        given(&rt, word);
     }
 }
 
@@ -247,22 +240,21 @@ fn an_option_stands_once_and_with_its_value(rt: HostRuntime) {
 }
 
 #[test]
-fn other_words_are_wrong_usage(rt: HostRuntime) -> Result<(), Fail> {
+fn other_words_are_wrong_usage(rt: HostRuntime) {
     let lines = "reads.fq|-h|--help|-V|--version|-fast|-bx|-m12|-sm|-t4|-sf1|-r|-v|-zz|--kk=5|-|\
                  -- reads.fq|help";
     for line in lines.split('|') {
         is_usage(&rt, line);
     }
-    let mut empty = Vec::new(rt.alloc());
-    empty.push(String::new(rt.alloc()))?;
-    let answer = params(rt.alloc(), empty);
-    assert_eq!(rt; answer.err(), Some(ParamsError::Usage));
-    Ok(())
 }
 
 #[test]
-fn two_hyphens_alone_say_nothing(rt: HostRuntime) -> Result<(), Fail> {
-    let given = settings(rt.alloc(), "--")?;
-    assert_eq!(rt; given.k, 25);
-    Ok(())
+fn an_empty_word_is_wrong_usage(rt: HostRuntime) {
+    let empty = one_word(rt.alloc(), "").expect(&rt, "memory");
+    assert_eq!(rt; params(rt.alloc(), empty).err(), Some(ParamsError::Usage));
+}
+
+#[test]
+fn two_hyphens_alone_say_nothing(rt: HostRuntime) {
+    assert_eq!(rt; given(&rt, "--").k, 25);
 }

@@ -24,17 +24,20 @@ impl Passes {
         }
     }
 
+    /// How often the points were passed, in the order of a part's way.
+    fn counts(&self) -> [u64; 5] {
+        [
+            self.before_put.load(Ordering::SeqCst),
+            self.after_put.load(Ordering::SeqCst),
+            self.slot_held.load(Ordering::SeqCst),
+            self.part_claimed.load(Ordering::SeqCst),
+            self.after_take.load(Ordering::SeqCst),
+        ]
+    }
+
     /// Asserts that each kind of point was passed so often.
     pub fn assert_each(&self, rt: &impl Abort, times: u64) {
-        for count in [
-            &self.before_put,
-            &self.after_put,
-            &self.slot_held,
-            &self.part_claimed,
-            &self.after_take,
-        ] {
-            assert_eq!(rt; count.load(Ordering::SeqCst), times);
-        }
+        assert_eq!(rt; self.counts(), [times; 5]);
     }
 }
 

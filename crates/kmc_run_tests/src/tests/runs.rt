@@ -5,21 +5,18 @@ mod random_rows;
 mod random_texts;
 mod rows;
 
-use kmc_base::strands::Strands;
-use kmc_count::limits::Limits;
+use super::settings::{BILLION, settings};
+use super::texts::assert_bytes;
 use kmc_device::counted::Counted;
 use kmc_partqueue::NoGate;
-use kmc_reads::format::Format;
 use kmc_settings::params::Params;
 use kmc_testing::devices::{Full, NarrowWriter, PieceReader};
 use kmc_tool::error::RunError;
 use kmc_tool::run::run;
 use std::alloc::{AllocError, Global};
+use std::process::Abort;
 use std::sync::Wait;
-use std::test::Fail;
 use std::thread::Threads;
-
-const BILLION: u64 = 1_000_000_000;
 
 /// What a run answered, what it wrote, and how many calls of its devices failed.
 #[derive(Drop)]
@@ -30,26 +27,22 @@ struct Outcome {
     write_failures: u64,
 }
 
-/// The settings of a run over FASTQ.
-fn settings(k: usize, ci: u64, cx: u64, cs: u64) -> Result<Params, Fail> {
-    let limits = Limits::new(ci, cx, cs).ok_or("limits out of range")?;
-    let params = Params::new(Format::Fastq, k, 9, 512, 2, 2, limits);
-    Ok(params.ok_or("settings out of range")?)
+/// Appends a FASTQ record of this sequence.
+fn push_record(text: &mut Vec<u8>, sequence: &[u8]) -> Result<(), AllocError> {
+    text.extend_from_slice(b"@r\n")?;
+    text.extend_from_slice(sequence)?;
+    text.extend_from_slice(b"\n+\n")?;
+    text.resize(text.len().saturating_add(sequence.len()), b'I')?;
+    text.extend_from_slice(b"\n")
 }
 
 /// A FASTQ text of these sequences.
-fn fastq(alloc: Global, sequences: &[&[u8]]) -> Result<Vec<u8>, AllocError> {
+fn fastq(rt: &impl Abort, alloc: Global, sequences: &[&[u8]]) -> Vec<u8> {
     let mut text = Vec::new(alloc);
-    for s in sequences {
-        text.extend_from_slice(b"@r\n")?;
-        text.extend_from_slice(s)?;
-        text.extend_from_slice(b"\n+\n")?;
-        for _ in 0..s.len() {
-            text.push(b'I')?;
-        }
-        text.push(b'\n')?;
+    for sequence in sequences {
+        push_record(&mut text, sequence).expect(rt, "memory");
     }
-    Ok(text)
+    text
 }
 
 fn run_between<R: Threads + Wait + Sync>(
@@ -82,4 +75,27 @@ fn dump_of<R: Threads + Wait + Sync>(
     let reader = PieceReader::new(text, 1000, 0);
     let writer = NarrowWriter::new(Vec::new(alloc), 100_000, 100_000, Full::Fails, true);
     run_between(rt, alloc, reader, writer, params)
+}
+
+/// Asserts what a run answered and wrote, and how many calls of its reader and of its writer failed.
+fn assert_outcome(
+    rt: &impl Abort,
+    made: &Outcome,
+    answer: Result<u64, RunError>,
+    written: &[u8],
+    failures: (u64, u64),
+) {
+    assert_eq!(rt; made.answer, answer);
+    assert_bytes(rt, &made.written, written);
+    assert_eq!(rt; (made.read_failures, made.write_failures), failures);
+}
+
+/// How many lines the dump has.
+fn lines_of(dump: &[u8]) -> u64 {
+    dump.iter().filter(|byte| **byte == b'\n').count() as u64
+}
+
+/// Asserts that a run wrote this dump, that it answered its number of lines, and that no call of its devices failed.
+fn assert_whole(rt: &impl Abort, made: &Outcome, dump: &[u8]) {
+    assert_outcome(rt, made, Ok(lines_of(dump)), dump, (0, 0));
 }

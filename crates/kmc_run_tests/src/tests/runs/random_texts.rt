@@ -1,30 +1,33 @@
 //! Runs over random texts of both formats, by options and queues of many sizes, against the plain count of another program.
 use super::random_rows::{COUNT, ROWS};
 use super::*;
-use kmc_options::command_line::settings;
-use std::process::Abort;
+use crate::tests::texts::words_of;
+use kmc_options::command_line;
+use std::str::Lines;
+
+/// The byte that a byte of a row stands for.
+fn meant(byte: u8) -> u8 {
+    match byte {
+        b'/' => b'\n',
+        b'^' => b'\r',
+        b':' => b'\t',
+        other => other,
+    }
+}
 
 /// The text of a row, with its ends of lines.
 fn spelled_out(alloc: Global, row: &str) -> Result<Vec<u8>, AllocError> {
     let mut text = Vec::new(alloc);
     for byte in row.bytes() {
-        text.push(match byte {
-            b'/' => b'\n',
-            b'^' => b'\r',
-            b':' => b'\t',
-            other => other,
-        })?;
+        text.push(meant(byte))?;
     }
     Ok(text)
 }
 
 /// The settings that a row's options give.
-fn given(alloc: Global, options: &str) -> Result<Params, Fail> {
-    let mut words = Vec::new(alloc);
-    for word in options.split_whitespace() {
-        words.push(String::from_str(alloc, word)?)?;
-    }
-    Ok(settings(alloc, words)?)
+fn given(rt: &impl Abort, alloc: Global, options: &str) -> Params {
+    let words = words_of(alloc, options).expect(rt, "memory");
+    command_line::settings(alloc, words).expect(rt, "settings")
 }
 
 /// Asserts that a run over the text, so many bytes a read, writes the dump.
@@ -40,31 +43,46 @@ fn assert_run<R: Abort + Threads + Wait + Sync>(
     let reader = PieceReader::new(text, piece, 0);
     let writer = NarrowWriter::new(Vec::new(alloc), 77, 100_000, Full::Fails, true);
     let made = run_between(rt, alloc, reader, writer, params);
-    let lines = dump.iter().filter(|byte| **byte == b'\n').count();
-    assert_eq!(rt; made.answer.ok(), Some(lines as u64));
-    assert_eq!(rt; made.written.as_slice(), dump);
+    assert_whole(rt, &made, dump);
+}
+
+/// Asserts that runs over a row's text, by queues of several sizes, write its dump. The answer is the dump's length.
+fn length_of_row<R: Abort + Threads + Wait + Sync>(
+    rt: &R,
+    alloc: Global,
+    options: &str,
+    text: &str,
+    dump: &str,
+) -> usize {
+    let text = spelled_out(alloc, text).expect(rt, "memory");
+    let dump = spelled_out(alloc, dump).expect(rt, "memory");
+    let params = given(rt, alloc, options);
+    assert_run(rt, alloc, &text, &dump, 1000, &params);
+    let least = params.with_queue(1, 1, 1).expect(rt, "a queue in range");
+    assert_run(rt, alloc, &text, &dump, 3, &least);
+    let wide = params.with_queue(8, 2, 2).expect(rt, "a queue in range");
+    assert_run(rt, alloc, &text, &dump, 64, &wide);
+    dump.len()
+}
+
+/// The length of the next row's dump, which runs over its text must write.
+fn length_of_next<R: Abort + Threads + Wait + Sync + Alloc<A = Global>>(
+    rt: &R,
+    rows: &mut Lines,
+) -> usize {
+    let options = rows.next().expect(rt, "a row's options");
+    let text = rows.next().expect(rt, "a row's text");
+    let dump = rows.next().expect(rt, "a row's dump");
+    length_of_row(rt, rt.alloc(), options, text, dump)
 }
 
 #[test]
-fn random_texts_give_the_dumps_of_the_plain_count(rt: HostRuntime) -> Result<(), Fail> {
-    let alloc = rt.alloc();
+fn random_texts_give_the_dumps_of_the_plain_count(rt: HostRuntime) {
     let mut rows = ROWS.lines();
     let mut listed: usize = 0;
     for _ in 0..COUNT {
-        let options = rows.next().ok_or("a row's options")?;
-        let text = spelled_out(alloc, rows.next().ok_or("a row's text")?)?;
-        let dump = spelled_out(alloc, rows.next().ok_or("a row's dump")?)?;
-        let params = given(alloc, options)?;
-        assert_run(&rt, alloc, &text, &dump, 1000, &params);
-        for (readers, per_writer, batch, piece) in [(1, 1, 1, 3), (8, 2, 2, 64)] {
-            let params = params
-                .with_queue(readers, per_writer, batch)
-                .ok_or("a queue in range")?;
-            assert_run(&rt, alloc, &text, &dump, piece, &params);
-        }
-        listed = listed.saturating_add(dump.len());
+        listed = listed.saturating_add(length_of_next(&rt, &mut rows));
     }
     // all rows were read, and they list words
     assert!(rt; rows.next().is_none() && listed > 3000);
-    Ok(())
 }

@@ -1,12 +1,10 @@
 //! A splitter comes to a lane that is full: the storer holds the first part in its slot until the splitter stands before
 //! its second part, and for some turns more.
 use super::meeting::{Meeting, PATIENT};
-use super::outcome::passed;
+use super::outcome::passed_twice;
 use super::records::assert_twice_in;
-use super::{TWICE, one_read_a_chunk, reads_of};
 use kmc_partcore::QueueShape;
 use kmc_partqueue::{Gate, Point};
-use std::test::Fail;
 use std::thread;
 
 /// The storer and the splitter meet while the only slot is taken.
@@ -31,17 +29,13 @@ impl Gate for HeldSlot {
 }
 
 #[test]
-fn a_full_lane_is_tried_again(rt: HostRuntime) -> Result<(), Fail> {
-    let alloc = rt.alloc();
-    let plan = one_read_a_chunk().expect(&rt, "a plan");
+fn a_full_lane_is_tried_again(rt: HostRuntime) {
     let queue = QueueShape::new(1, 1, 1).expect(&rt, "a queue");
-    let reads = reads_of(alloc, TWICE)?;
     let gate = HeldSlot {
         meeting: Meeting::new(PATIENT),
     };
-    let made = passed(&rt, alloc, &reads, plan, queue, &gate)?;
+    let made = passed_twice(&rt, rt.alloc(), queue, &gate);
     assert!(rt; gate.meeting.is_held());
     assert_eq!(rt; made.totals.of(0), Some(6));
-    assert_twice_in(&rt, alloc, &made.bins)?;
-    Ok(())
+    assert_twice_in(&rt, rt.alloc(), &made.bins).expect(&rt, "memory");
 }

@@ -9,7 +9,7 @@ use kmc_reads::reads::slices_of;
 use kmc_record::part::Part;
 use kmc_record::parts::parts_of_reads;
 use kmc_record::shape::Shape;
-use std::alloc::{AllocError, Global};
+use std::alloc::Global;
 use std::process::Abort;
 
 /// The parts of a read, put by one splitter, which then completes.
@@ -21,16 +21,16 @@ fn put_parts<G: Gate>(
     read: &[Vec<u8>],
     shape: Shape,
     gate: &G,
-) -> Result<(), AllocError>
+)
     requires { IsWriterOf lanes.now.table.shared.table_id lanes.now.shape seat }
 {
-    let slices = slices_of(alloc, read)?;
-    for part in parts_of_reads(alloc, 0, &slices, shape)? {
+    let slices = slices_of(alloc, read).expect(rt, "memory");
+    let parts = parts_of_reads(alloc, 0, &slices, shape).expect(rt, "memory");
+    for part in parts {
         gate.pass(Point::BeforePut(seat.number(), seat.next_number()));
         assert!(rt; lanes.try_put(&mut seat, part, gate).is_ok());
     }
     lanes.complete(seat);
-    Ok(())
 }
 
 /// Tries until nothing is left to take.
@@ -54,7 +54,7 @@ fn split_in_turn<G: Gate>(
     reads: &[Vec<u8>],
     shape: Shape,
     gate: &G,
-) -> Result<(), AllocError>
+)
     requires queue { lanes.now.shape.writers ≡ 2 }
     requires seats { seats.items ≡ row_from
         (new_writer lanes.now.table.shared.table_id lanes.now.shape) 0 2 }
@@ -62,8 +62,8 @@ fn split_in_turn<G: Gate>(
     assert!(rt; reads.len() == 2);
     let second = seats.pop().expect(rt, "a writer");
     let first = seats.pop().expect(rt, "a writer");
-    put_parts(rt, alloc, lanes, first, &reads[..1], shape, gate)?;
-    put_parts(rt, alloc, lanes, second, &reads[1..], shape, gate)
+    put_parts(rt, alloc, lanes, first, &reads[..1], shape, gate);
+    put_parts(rt, alloc, lanes, second, &reads[1..], shape, gate);
 }
 
 /// The storers of two readers.
@@ -89,14 +89,13 @@ pub(super) fn pass_in_turn<G: Gate>(
     reads: &[Vec<u8>],
     shape: Shape,
     gate: &G,
-) -> Result<(), AllocError> {
+) {
     let queue = QueueShape {
         writers: 2,
         per_writer: 8,
         readers: 2,
     };
-    let (lanes, writers, readers) = Lanes::<Part>::new(alloc, queue)?;
-    split_in_turn(rt, alloc, &lanes, writers, reads, shape, gate)?;
+    let (lanes, writers, readers) = Lanes::<Part>::new(alloc, queue).expect(rt, "memory");
+    split_in_turn(rt, alloc, &lanes, writers, reads, shape, gate);
     store_in_turn(rt, &lanes, readers, gate);
-    Ok(())
 }

@@ -7,9 +7,8 @@ use kmc_record::part::Part;
 use kmc_record::parts::parts_of_reads;
 use kmc_store::bins::Bins;
 use kmc_workers::plan::Plan;
-use std::alloc::{AllocError, Global};
+use std::alloc::Global;
 use std::process::Abort;
-use std::test::Fail;
 
 /// What one thread makes: how many parts are dealt to each writer, and the bins.
 #[derive(Drop)]
@@ -19,12 +18,26 @@ pub(super) struct Plain {
 }
 
 /// Absorbs the part.
-fn absorb(rt: &impl Abort, bins: &mut Bins, part: Part) -> Result<(), Fail> {
+fn absorb(rt: &impl Abort, bins: &mut Bins, part: Part) {
     assert!(rt; part.shape() == bins.shape());
-    match bins.absorb(part) {
-        Ok(()) => Ok(()),
-        Err(_) => Err(Fail::from("out of memory")),
+    assert!(rt; bins.absorb(part).is_ok());
+}
+
+/// Absorbs the parts of a chunk. The answer is their number.
+fn absorb_chunk(
+    rt: &impl Abort,
+    alloc: Global,
+    bins: &mut Bins,
+    chunk: &[Vec<u8>],
+    number: u64,
+) -> u64 {
+    let slices = slices_of(alloc, chunk).expect(rt, "memory");
+    let parts = parts_of_reads(alloc, number, &slices, bins.shape()).expect(rt, "memory");
+    let count = parts.len();
+    for part in parts {
+        absorb(rt, bins, part);
     }
+    count as u64
 }
 
 /// Absorbs the parts of each chunk in turn.
@@ -34,19 +47,15 @@ pub(super) fn by_one_thread(
     reads: &[Vec<u8>],
     plan: Plan,
     queue: QueueShape,
-) -> Result<Plain, Fail> {
+) -> Plain {
     let mut dealt = [0u64; MAX_WRITERS];
-    let mut bins = Bins::new(alloc, plan.shape)?;
+    let mut bins = Bins::new(alloc, plan.shape).expect(rt, "memory");
     for (number, chunk) in reads.chunks(plan.batch).enumerate() {
-        let slices = slices_of(alloc, chunk)?;
-        let parts = parts_of_reads(alloc, number as u64, &slices, plan.shape)?;
+        let count = absorb_chunk(rt, alloc, &mut bins, chunk, number as u64);
         let writer = number % queue.writers;
-        dealt[writer] = dealt[writer].saturating_add(parts.len() as u64);
-        for part in parts {
-            absorb(rt, &mut bins, part)?;
-        }
+        dealt[writer] = dealt[writer].saturating_add(count);
     }
-    Ok(Plain { dealt, bins })
+    Plain { dealt, bins }
 }
 
 /// Asserts that each writer put the parts that are dealt to it.
@@ -60,26 +69,34 @@ pub(super) fn assert_totals(rt: &impl Abort, made: &Outcome, plain: &Plain, queu
     }
 }
 
+/// Asserts that a bin has the same words in both, and bodies of the same length.
+fn assert_size(rt: &impl Abort, a: &Bins, b: &Bins, bin: usize) {
+    assert!(rt; bin < a.shape().n() && bin < b.shape().n());
+    let own = (a.words(bin), a.bin(bin).len());
+    let other = (b.words(bin), b.bin(bin).len());
+    assert_eq!(rt; own, other, "words and length of bin {bin}");
+}
+
 /// Asserts that the bins have the same words, and bodies of the same lengths.
 pub(super) fn assert_sizes(rt: &impl Abort, a: &Bins, b: &Bins) {
     assert!(rt; a.shape() == b.shape());
     for bin in 0..a.shape().n() {
-        assert_eq!(rt; a.words(bin), b.words(bin), "words of bin {bin}");
-        assert_eq!(rt; a.bin(bin).len(), b.bin(bin).len(), "length of bin {bin}");
+        assert_size(rt, a, b, bin);
     }
 }
 
+/// Asserts that the bodies have the same records, each of two bytes, in any order.
+fn assert_same_records(rt: &impl Abort, alloc: Global, a: &[u8], b: &[u8]) {
+    let own = records_of(rt, alloc, a).expect(rt, "memory");
+    let other = records_of(rt, alloc, b).expect(rt, "memory");
+    assert_eq!(rt; own.as_slice(), other.as_slice());
+}
+
 /// Asserts that the bins have the same records, each of two bytes, in any order.
-pub(super) fn assert_records(
-    rt: &impl Abort,
-    alloc: Global,
-    a: &Bins,
-    b: &Bins,
-) -> Result<(), AllocError> {
-    for (own, other) in a.bodies().iter().zip(b.bodies().iter()) {
-        let own = records_of(rt, alloc, own)?;
-        let other = records_of(rt, alloc, other)?;
-        assert_eq!(rt; own.as_slice(), other.as_slice());
+pub(super) fn assert_records(rt: &impl Abort, alloc: Global, a: &Bins, b: &Bins) {
+    let (own, other) = (a.bodies(), b.bodies());
+    assert!(rt; own.len() == other.len());
+    for bin in 0..own.len() {
+        assert_same_records(rt, alloc, &own[bin], &other[bin]);
     }
-    Ok(())
 }

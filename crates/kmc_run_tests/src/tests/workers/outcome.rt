@@ -1,6 +1,7 @@
 //! What comes of a run: how many parts each writer put, and the bins of all readers together.
 ghost use Rattle.std.specs.Prelude.{◌<◌};
 
+use super::{TWICE, one_read_a_chunk, reads_of};
 use kmc_partcore::{QueueShape, Totals};
 use kmc_partqueue::Gate;
 use kmc_reads::reads::slices_of;
@@ -10,7 +11,6 @@ use kmc_workers::plan::Plan;
 use std::alloc::Global;
 use std::process::Abort;
 use std::sync::Wait;
-use std::test::Fail;
 use std::thread::Threads;
 
 /// How many parts each writer put, and the bins of all readers, merged.
@@ -28,11 +28,24 @@ pub(super) fn passed<R: Abort + Threads + Wait + Sync, G: Gate + Sync>(
     plan: Plan,
     queue: QueueShape,
     gate: &G,
-) -> Result<Outcome, Fail> {
-    let slices = slices_of(alloc, reads)?;
-    let bins = Bins::new(alloc, plan.shape)?;
-    match fill_bins(rt, alloc, bins, &slices, plan, queue, gate) {
-        Ok((bins, totals)) => Ok(Outcome { totals, bins }),
-        Err(_) => Err(Fail::from("a worker was refused")),
-    }
+) -> Outcome {
+    let slices = slices_of(alloc, reads).expect(rt, "memory");
+    let bins = Bins::new(alloc, plan.shape).expect(rt, "memory");
+    let (bins, totals) = fill_bins(rt, alloc, bins, &slices, plan, queue, gate).expect(
+        rt,
+        "no worker refused",
+    );
+    Outcome { totals, bins }
+}
+
+/// Passes the parts of `TWICE`, each read a chunk.
+pub(super) fn passed_twice<R: Abort + Threads + Wait + Sync, G: Gate + Sync>(
+    rt: &R,
+    alloc: Global,
+    queue: QueueShape,
+    gate: &G,
+) -> Outcome {
+    let plan = one_read_a_chunk().expect(rt, "a plan");
+    let reads = reads_of(alloc, TWICE).expect(rt, "memory");
+    passed(rt, alloc, &reads, plan, queue, gate)
 }

@@ -30,8 +30,7 @@ pub(super) fn assert_bin(
 ) -> Result<(), AllocError> {
     assert!(rt; bin < bins.shape().n());
     let found = records_of(rt, alloc, bins.bin(bin))?;
-    assert_eq!(rt; found.as_slice(), records);
-    assert_eq!(rt; bins.words(bin), words);
+    assert_eq!(rt; (found.as_slice(), bins.words(bin)), (records, words));
     Ok(())
 }
 
@@ -41,9 +40,11 @@ pub(super) fn assert_twice(
     alloc: Global,
     outcome: &Outcome,
 ) -> Result<(), AllocError> {
-    assert_eq!(rt; outcome.totals.of(0), Some(3));
-    assert_eq!(rt; outcome.totals.of(1), Some(3));
-    assert_eq!(rt; outcome.totals.of(2), None);
+    let totals = &outcome.totals;
+    assert_eq!(rt;
+        [totals.of(0), totals.of(1), totals.of(2)],
+        [Some(3), Some(3), None]
+    );
     assert_twice_in(rt, alloc, &outcome.bins)
 }
 

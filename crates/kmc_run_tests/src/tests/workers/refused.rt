@@ -11,24 +11,37 @@ use kmc_workers::refusal::Refusal;
 use std::alloc::Global;
 use std::process::Abort;
 use std::sync::Wait;
-use std::test::Fail;
 use std::thread::Threads;
+
+/// The bins that two splitters and two storers fill with the reads through lanes of so many slots.
+fn filled<R: Abort + Threads + Wait + Sync>(
+    rt: &R,
+    alloc: Global,
+    reads: &[&[u8]],
+    per_writer: usize,
+) -> Result<Bins, Refusal> {
+    let plan = one_read_a_chunk().expect(rt, "a plan");
+    let queue = QueueShape::new(2, per_writer, 2).expect(rt, "a queue");
+    let bins = Bins::new(alloc, plan.shape)?;
+    let (bins, _) = fill_bins(rt, alloc, bins, reads, plan, queue, &NoGate)?;
+    Ok(bins)
+}
+
+/// The bins of `TWICE`, filled so.
+fn filled_twice<R: Abort + Threads + Wait + Sync>(
+    rt: &R,
+    alloc: Global,
+    per_writer: usize,
+) -> Result<Bins, Refusal> {
+    let reads = reads_of(alloc, TWICE)?;
+    let slices = slices_of(alloc, &reads)?;
+    filled(rt, alloc, &slices, per_writer)
+}
 
 /// Bins filled through lanes of so many slots, or want of memory.
 fn fill_or_refuse<R: Abort + Threads + Wait + Sync>(rt: &R, alloc: Global, per_writer: usize) {
-    let Ok(reads) = reads_of(alloc, TWICE) else {
-        return;
-    };
-    let Ok(slices) = slices_of(alloc, &reads) else {
-        return;
-    };
-    let plan = one_read_a_chunk().expect(rt, "a plan");
-    let queue = QueueShape::new(2, per_writer, 2).expect(rt, "a queue");
-    let Ok(bins) = Bins::new(alloc, plan.shape) else {
-        return;
-    };
-    match fill_bins(rt, alloc, bins, &slices, plan, queue, &NoGate) {
-        Ok((bins, _)) => {
+    match filled_twice(rt, alloc, per_writer) {
+        Ok(bins) => {
             // where the one refusal comes here, nothing is looked at
             let _looked = assert_twice_in(rt, alloc, &bins);
         }
@@ -48,22 +61,26 @@ fn a_refused_storer_stops_a_splitter_at_a_full_lane(rt: HostRuntime) {
     fill_or_refuse(&rt, rt.alloc(), 1);
 }
 
+/// How many seats of two splitters and of so many storers come back.
+fn seats_back<R: Abort + Threads + Wait + Sync>(
+    rt: &R,
+    alloc: Global,
+    readers: usize,
+) -> (usize, usize) {
+    let reads = reads_of(alloc, TWICE).expect(rt, "memory");
+    let slices = slices_of(alloc, &reads).expect(rt, "memory");
+    let plan = one_read_a_chunk().expect(rt, "a plan");
+    let queue = two_writers(readers).expect(rt, "a queue");
+    let bins = Bins::new(alloc, plan.shape).expect(rt, "memory");
+    let (_, done, shards) = pass_parts(rt, alloc, bins, &slices, plan, queue, &NoGate).expect(
+        rt,
+        "no worker refused",
+    );
+    (done.len(), shards.len())
+}
+
 #[test]
-fn all_seats_come_back(rt: HostRuntime) -> Result<(), Fail> {
-    let alloc = rt.alloc();
-    let reads = reads_of(alloc, TWICE)?;
-    let slices = slices_of(alloc, &reads)?;
-    for readers in [1, 8] {
-        let plan = one_read_a_chunk().expect(&rt, "a plan");
-        let queue = two_writers(readers).expect(&rt, "a queue");
-        let bins = Bins::new(alloc, plan.shape)?;
-        match pass_parts(&rt, alloc, bins, &slices, plan, queue, &NoGate) {
-            Ok((_, done, shards)) => {
-                assert_eq!(rt; done.len(), 2);
-                assert_eq!(rt; shards.len(), readers);
-            }
-            Err(_) => return Err(Fail::from("a worker was refused")),
-        }
-    }
-    Ok(())
+fn all_seats_come_back(rt: HostRuntime) {
+    assert_eq!(rt; seats_back(&rt, rt.alloc(), 1), (2, 1));
+    assert_eq!(rt; seats_back(&rt, rt.alloc(), 8), (2, 8));
 }

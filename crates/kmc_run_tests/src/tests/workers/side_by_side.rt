@@ -2,14 +2,13 @@
 //! part that it claims, until the other has come as far.
 use super::in_turn::pass_in_turn;
 use super::meeting::{HASTY, Meeting, PATIENT};
-use super::outcome::passed;
+use super::outcome::passed_twice;
 use super::records::assert_twice;
 use super::{TWICE, one_read_a_chunk, reads_of, two_writers};
 use kmc_partqueue::{Gate, Point};
 use std::alloc::Global;
 use std::process::Abort;
 use std::sync::Wait;
-use std::test::Fail;
 use std::thread::Threads;
 
 /// Which workers meet.
@@ -43,51 +42,46 @@ fn they_meet<R: Abort + Threads + Wait + Sync + Alloc<A = Global>>(
     rt: &R,
     pair: Pair,
     storers: usize,
-) -> Result<(), Fail> {
-    let alloc = rt.alloc();
-    let plan = one_read_a_chunk().expect(rt, "a plan");
+) {
     let queue = two_writers(storers).expect(rt, "a queue");
-    let reads = reads_of(alloc, TWICE)?;
     let gate = Meets {
         pair,
         meeting: Meeting::new(PATIENT),
     };
-    let made = passed(rt, alloc, &reads, plan, queue, &gate)?;
+    let made = passed_twice(rt, rt.alloc(), queue, &gate);
     assert!(rt; gate.meeting.is_held());
-    assert_twice(rt, alloc, &made)?;
-    Ok(())
+    assert_twice(rt, rt.alloc(), &made).expect(rt, "memory");
 }
 
 /// They do not where one worker runs after the other.
-fn they_miss_in_turn<R: Abort + Alloc<A = Global>>(rt: &R, pair: Pair) -> Result<(), Fail> {
+fn they_miss_in_turn<R: Abort + Alloc<A = Global>>(rt: &R, pair: Pair) {
     let alloc = rt.alloc();
     let plan = one_read_a_chunk().expect(rt, "a plan");
-    let reads = reads_of(alloc, TWICE)?;
+    let reads = reads_of(alloc, TWICE).expect(rt, "memory");
     let gate = Meets {
         pair,
         meeting: Meeting::new(HASTY),
     };
-    pass_in_turn(rt, alloc, &reads, plan.shape, &gate)?;
+    pass_in_turn(rt, alloc, &reads, plan.shape, &gate);
     assert!(rt; gate.meeting.is_missed());
-    Ok(())
 }
 
 #[test]
-fn two_splitters_meet(rt: HostRuntime) -> Result<(), Fail> {
-    they_meet(&rt, Pair::Splitters, 1)
+fn two_splitters_meet(rt: HostRuntime) {
+    they_meet(&rt, Pair::Splitters, 1);
 }
 
 #[test]
-fn two_storers_meet(rt: HostRuntime) -> Result<(), Fail> {
-    they_meet(&rt, Pair::Storers, 2)
+fn two_storers_meet(rt: HostRuntime) {
+    they_meet(&rt, Pair::Storers, 2);
 }
 
 #[test]
-fn splitters_in_turn_do_not_meet(rt: HostRuntime) -> Result<(), Fail> {
-    they_miss_in_turn(&rt, Pair::Splitters)
+fn splitters_in_turn_do_not_meet(rt: HostRuntime) {
+    they_miss_in_turn(&rt, Pair::Splitters);
 }
 
 #[test]
-fn storers_in_turn_do_not_meet(rt: HostRuntime) -> Result<(), Fail> {
-    they_miss_in_turn(&rt, Pair::Storers)
+fn storers_in_turn_do_not_meet(rt: HostRuntime) {
+    they_miss_in_turn(&rt, Pair::Storers);
 }
