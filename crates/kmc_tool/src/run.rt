@@ -26,7 +26,8 @@ use std::thread::Threads;
 /// So many reads of a reader may give bytes.
 const MOST_READS: u64 = 1 << 32;
 
-/// Writes the dump of lists that share no word, and nothing else. The answer is the number of lines.
+/// Writes the dump of lists that share no word, and nothing else. The answer is the number of lines. After `Memory` the writer
+/// is as it was; after `Write` a front of the text is out, and the writer has counted one more failure.
 fn write_counts<T: Threads + Sync, W: Write>(
     rt: &T,
     alloc: Global,
