@@ -2,9 +2,9 @@
 KMC := ./kmc
 KMC_MERGE := ./kmc_merge
 # programs that the scripts in bench/ try
-REFUSED := ./kmc_refused_growths
-BODIES := ./kmc_damaged_bodies
-MANY := ./kmc_many_threads
+REFUSED := ./try_refused_growths
+BODIES := ./try_damaged_bodies
+MANY := ./try_many_threads
 
 # where `make install` puts the program and its page, and under which name: Debian's `kmc` is KMC 3
 PREFIX := /usr/local
@@ -83,8 +83,8 @@ limits: $(KMC)
 	KMC="$(abspath $(KMC))" bench/system_limits.sh
 
 threads: $(KMC) $(MANY)
-	@cd crates/kmc_queue_tests && rt test > out.log 2>&1 || { cat out.log; rm -f out.log; exit 1; }
-	@rm -f crates/kmc_queue_tests/out.log
+	@cd crates/test_queue && rt test > out.log 2>&1 || { cat out.log; rm -f out.log; exit 1; }
+	@rm -f crates/test_queue/out.log
 	KMC="$(abspath $(KMC))" MANY="$(abspath $(MANY))" bench/hostile_threads.sh
 
 bench: $(KMC)

@@ -1,5 +1,5 @@
 #!/usr/bin/env python3
-"""Damaged bodies of records: each verdict of the program kmc_damaged_bodies against a decoder of its own.
+"""Damaged bodies of records: each verdict of the program try_damaged_bodies against a decoder of its own.
 
 usage: damaged.py [--seed N] [--tries N] [--answers]
 
@@ -15,7 +15,7 @@ import random
 import subprocess
 import sys
 
-BODIES = os.environ.get("BODIES", os.path.join(os.path.dirname(os.path.abspath(__file__)), "..", "kmc_damaged_bodies"))
+BODIES = os.environ.get("BODIES", os.path.join(os.path.dirname(os.path.abspath(__file__)), "..", "try_damaged_bodies"))
 LETTERS = "ACGT"
 
 # ---- the decoder

@@ -13,8 +13,8 @@ with four threads, the call number 1, 2, 3 .. of a run is refused, until ten run
 
 The whole answer is that of the model in fuzz.py. The variable KMC names another program.
 
-Then the same calls of the program kmc_refused_growths are refused one by one. It makes the call that met the refusal once more, with
-what came back, and has to print what crates/kmc_refused_growths/stdout holds and to end with status 0. The variable REFUSED names
+Then the same calls of the program try_refused_growths are refused one by one. It makes the call that met the refusal once more, with
+what came back, and has to print what crates/try_refused_growths/stdout holds and to end with status 0. The variable REFUSED names
 another program.
 """
 import argparse
@@ -32,7 +32,7 @@ import fuzz
 IN_A_ROW = 10  # runs without a refusal that end a row
 BATCH = 20  # numbers that a worker is given at a time
 TOP = os.path.join(os.path.dirname(os.path.abspath(__file__)), "..")
-REFUSED = os.environ.get("REFUSED", os.path.join(TOP, "kmc_refused_growths"))
+REFUSED = os.environ.get("REFUSED", os.path.join(TOP, "try_refused_growths"))
 OUT_OF_MEMORY = (1, b"", b"kmc: out of memory\n")
 USAGE = (fuzz.USAGE[1], b"", fuzz.USAGE[0] + b"\n")
 
@@ -131,8 +131,8 @@ def row(pool, asked, library, name, words, text, step, everything):
 
 
 def again(library):
-    """Refuses each call of kmc_refused_growths. The number of tries, and of wrong answers."""
-    with open(os.path.join(TOP, "crates", "kmc_refused_growths", "stdout"), "rb") as file:
+    """Refuses each call of try_refused_growths. The number of tries, and of wrong answers."""
+    with open(os.path.join(TOP, "crates", "try_refused_growths", "stdout"), "rb") as file:
         whole = file.read()
     kinds = collections.Counter()
     unmet = number = 0
@@ -146,7 +146,7 @@ def again(library):
         unmet = 0 if met else unmet + 1
         if status != 0 or output != whole or error.count(b"\n") > met:
             kinds["wrong"] += 1
-            print("hostile: kmc_refused_growths: call %d refused: status %d, output %s, error %s" % (
+            print("hostile: try_refused_growths: call %d refused: status %d, output %s, error %s" % (
                 number, status, fuzz.shortened(output), fuzz.shortened(error)))
         elif not met:
             kinds["without a refusal"] += 1

@@ -2,8 +2,8 @@
 //! writes one line to standard error and ends with the fault's status. All of it is `kmc_tool`'s.
 #![tactic(auto)]
 
-use kmc_device::counted::Counted;
-use kmc_tool::program::program;
+use kmc_device::Counted;
+use kmc_tool::program;
 use std::io;
 use std::process::ExitCode;
 

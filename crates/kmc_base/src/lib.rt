@@ -3,15 +3,24 @@
 //! above see a k-mer as the list of its codes, and cite the definitions of `specs/` for everything else.
 #![tactic(auto)]
 
-pub mod base;
-pub mod key_rule;
-pub mod keys;
-pub mod kmer;
+mod base;
+mod key_rule;
+mod keys;
+mod kmer;
 pub mod laws;
 mod letters;
-pub mod pieces;
-pub mod segment;
-pub mod strands;
-pub mod stretch;
-pub mod turned;
-pub mod word;
+mod pieces;
+mod segment;
+mod strands;
+mod stretch;
+mod turned;
+mod word;
+
+pub use key_rule::KeyRule;
+pub use keys::packed_key;
+pub use kmer::{Kmer, MAX_K, letter_of};
+pub use pieces::{piece, piece_count, push_pieces};
+pub use segment::Segment;
+pub use strands::Strands;
+pub use stretch::leading_codes;
+pub use word::Word;

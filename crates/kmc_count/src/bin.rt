@@ -8,11 +8,9 @@ ghost use Rattle.kmc_count.specs.declared.bin.CountError.TheVariants.{Memory};
 
 use crate::limits::Limits;
 use crate::pair_list::PairList;
-use crate::tally::tally;
-use kmc_base::key_rule::KeyRule;
-use kmc_base::word::Word;
-use kmc_record::body::push_body;
-use kmc_record::fault::{BodyError, RecordFault};
+use crate::tallying::tally;
+use kmc_base::{KeyRule, Word};
+use kmc_record::{BodyError, RecordFault, push_body};
 use std::alloc::AllocError;
 
 /// Why a count of bodies was given up.

@@ -2,9 +2,7 @@
 ghost use Rattle.std.specs.Prelude.{◌≡◌, ℕ, ◌-◌, ◌^◌, ◌<◌, ◌≤◌, ◌++◌, ◌∷◌, [], List, OnOk};
 ghost use Rattle.kmc_base.specs.Packed.{unpack};
 
-use kmc_base::key_rule::KeyRule;
-use kmc_base::kmer::Kmer;
-use kmc_base::word::Word;
+use kmc_base::{KeyRule, Kmer, Word};
 use std::alloc::AllocError;
 
 /// A list of words and what is shown of their counts, which a count appends to.

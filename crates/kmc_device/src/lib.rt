@@ -3,6 +3,10 @@
 //! whole or the device failed, and that then a front of it went out.
 #![tactic(auto)]
 
-pub mod counted;
-pub mod line;
-pub mod text;
+mod counted;
+mod line;
+mod text;
+
+pub use counted::Counted;
+pub use line::{DIGITS, LINE, ROOM, line_room, make_room, put_line};
+pub use text::{WriteFault, write_text};

@@ -6,7 +6,7 @@ ghost use Rattle.kmc_device.specs.Line.{line_bytes, line_of, line_room};
 use crate::counted::Counted;
 use crate::text::{WriteFault, write_text};
 use itoa::Buffer;
-use kmc_base::kmer::{Kmer, MAX_K};
+use kmc_base::{Kmer, MAX_K};
 use std::io::Write;
 
 /// The most digits of a count.

@@ -7,10 +7,8 @@ ghost use Rattle.kmc_dump.specs.Listed.{IsListOf, pairs_of};
 
 use crate::counts::Counts;
 use crate::shown::Shown;
-use kmc_base::key_rule::KeyRule;
-use kmc_base::word::Word;
-use kmc_count::bin::{CountError, count_into};
-use kmc_count::limits::Limits;
+use kmc_base::{KeyRule, Word};
+use kmc_count::{CountError, Limits, count_into};
 use std::alloc::Global;
 
 /// The dump of a body in packed form. The vector for its packed words may be used again for the next body. The list keeps no

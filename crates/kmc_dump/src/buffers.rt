@@ -4,8 +4,8 @@ ghost use Rattle.kmc_device.specs.Line.{line_room};
 
 use crate::shown::Shown;
 use crate::word_size::WordSize;
-use kmc_base::word::Word;
-use kmc_device::line::line_room;
+use kmc_base::Word;
+use kmc_device::line_room;
 use std::alloc::{AllocError, Global};
 
 /// Room for the pairs of one range, and for its text, of which the first `filled` bytes are written.

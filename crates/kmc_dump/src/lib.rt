@@ -5,17 +5,29 @@
 #![tactic(auto)]
 
 mod bin;
-pub mod bins;
-pub mod buffers;
-pub mod counts;
+mod bins;
+mod buffers;
+mod counts;
 pub mod laws;
-pub mod lists;
+mod lists;
 mod parting;
-pub mod range;
-pub mod ranges;
-pub mod shown;
+mod range;
+mod ranges;
+mod shown;
 mod slots;
-pub mod wave;
-pub mod waves;
-pub mod word_size;
-pub mod write;
+mod wave;
+mod waves;
+mod word_size;
+mod write;
+
+pub use bins::list_bodies;
+pub use buffers::{Buffer, make_buffers};
+pub use counts::Counts;
+pub use lists::{BinLists, SizedLists, list_bins, write_bins};
+pub use range::put_range;
+pub use ranges::Ranges;
+pub use shown::Shown;
+pub use wave::fill_wave;
+pub use waves::write_ranges;
+pub use word_size::WordSize;
+pub use write::{DumpError, write_lists};

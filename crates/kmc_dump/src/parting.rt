@@ -7,7 +7,7 @@ use crate::ranges::Ranges;
 use crate::shown::Shown;
 use crate::slots::slot_sizes;
 use crate::word_size::WordSize;
-use kmc_base::word::Word;
+use kmc_base::Word;
 use std::alloc::{AllocError, Global};
 
 /// Slots that follow one another are one range while they have no more pairs than this.

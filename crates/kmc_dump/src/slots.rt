@@ -4,7 +4,7 @@ ghost use Rattle.kmc_dump.specs.Ranges.{within, joined, packs, AreSizes};
 
 use crate::counts::Counts;
 use crate::shown::Shown;
-use kmc_base::word::Word;
+use kmc_base::Word;
 use std::alloc::{AllocError, Global};
 
 /// Adds the pairs of a list to the numbers of pairs of their slots. It fails where a number is too large, for which no

@@ -9,7 +9,7 @@ use crate::range::put_range;
 use crate::ranges::Ranges;
 use crate::shown::Shown;
 use crate::word_size::WordSize;
-use kmc_base::word::Word;
+use kmc_base::Word;
 use std::thread;
 use std::thread::Threads;
 

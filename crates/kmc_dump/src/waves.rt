@@ -12,9 +12,8 @@ use crate::counts::Counts;
 use crate::ranges::Ranges;
 use crate::shown::Shown;
 use crate::wave::fill_wave;
-use kmc_base::word::Word;
-use kmc_device::counted::Counted;
-use kmc_device::text::{WriteFault, write_text};
+use kmc_base::Word;
+use kmc_device::{Counted, WriteFault, write_text};
 use std::io::Write;
 use std::thread::Threads;
 

@@ -2,8 +2,8 @@
 //! error and ends with the fault's status. All of it is `kmc_sum`'s.
 #![tactic(auto)]
 
-use kmc_device::counted::Counted;
-use kmc_sum::program::program;
+use kmc_device::Counted;
+use kmc_sum::program;
 use std::io;
 use std::process::ExitCode;
 

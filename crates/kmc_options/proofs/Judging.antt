@@ -8,7 +8,7 @@ use Rattle.clap.specs.Simple.{App, is_simple, matches_of}
 use Rattle.clap.specs.Walk.{Row}
 use Rattle.clap.specs.declared.error.kind.ErrorKind.{ErrorKind}
 use Rattle.kmc_options.specs.CommandLine.{command, found, is_accepted}
-use Rattle.kmc_argument.specs.Words.{Word}
+use Rattle.kmc_settings.specs.Words.{Word}
 
 is_plain : is_simple command ≡ true
 unfolding clap_on_literals

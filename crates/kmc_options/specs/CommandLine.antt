@@ -13,7 +13,7 @@ use Rattle.kmc_base.specs.declared.strands.Strands.{Strands}
 use Rattle.kmc_base.specs.declared.strands.Strands.TheVariants.{Apart, Joined}
 use Rattle.kmc_reads.specs.declared.format.Format.{Format}
 use Rattle.kmc_reads.specs.declared.format.Format.TheVariants.{Fasta, Fastq}
-use Rattle.kmc_argument.specs.Words.{Word, number_of}
+use Rattle.kmc_settings.specs.Words.{Word, number_of}
 use Rattle.kmc_options.specs.Names.{flag_name, flags, name_of, settings}
 use Rattle.kmc_settings.specs.Settings.{bounds_of}
 use Rattle.kmc_settings.specs.declared.setting.Bounds.{Bounds}

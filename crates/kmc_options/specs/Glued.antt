@@ -4,7 +4,7 @@ use Rattle.std.specs.Prelude.{if◌then◌else◌, is_some, option_and_then, cod
 use Rattle.std.specs.Option.{option_map_or}
 use Rattle.std.specs.List.{list_any}
 use Rattle.std.specs.Str.{bytes_eq}
-use Rattle.kmc_argument.specs.Words.{Word, rest_after}
+use Rattle.kmc_settings.specs.Words.{Word, rest_after}
 use Rattle.kmc_options.specs.Names.{flag_name, flags, name_of, settings}
 use Rattle.kmc_settings.specs.declared.setting.Setting.{Setting}
 

@@ -2,7 +2,7 @@
 use Rattle.std.specs.Prelude.{◌≡◌, ◌&&◌, Bool, true, false, not, List, Option, Some, None, find, is_some}
 use Rattle.clap.specs.Walk.{Row}
 use Rattle.kmc_options.specs.CommandLine.{format_of, found, is_accepted, strands_of, value_of}
-use Rattle.kmc_argument.specs.Words.{Word}
+use Rattle.kmc_settings.specs.Words.{Word}
 use Rattle.kmc_options.specs.Names.{settings}
 use Rattle.kmc_options.specs.declared.error.ParamsError.{ParamsError}
 use Rattle.kmc_options.specs.declared.error.ParamsError.TheVariants.{Memory, OutOfRange, Usage}

@@ -1,7 +1,7 @@
 -- What a fault of the parse means.
 use Rattle.std.specs.Prelude.{◌≡◌, false, List}
 use Rattle.kmc_options.specs.CommandLine.{is_accepted}
-use Rattle.kmc_argument.specs.Words.{Word}
+use Rattle.kmc_settings.specs.Words.{Word}
 use Rattle.kmc_options.specs.declared.error.ParamsError.{ParamsError}
 use Rattle.kmc_options.specs.declared.error.ParamsError.TheVariants.{Memory, OutOfRange, Usage}
 

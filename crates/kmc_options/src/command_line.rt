@@ -10,7 +10,7 @@ use crate::command::parse;
 use crate::error::ParamsError;
 use crate::given::given;
 use crate::glued::long_form;
-use kmc_settings::params::Params;
+use kmc_settings::Params;
 use std::alloc::{AllocError, Global};
 
 /// The command line in long form, word by word: KMC's `-k31` becomes `--k=31`, its `-fa` becomes

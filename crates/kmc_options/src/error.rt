@@ -3,7 +3,7 @@ ghost use Rattle.std.specs.Prelude.{◌≡◌};
 ghost use Rattle.kmc_options.specs.declared.error.ParamsError.TheVariants.{Memory};
 
 use crate::named::Named;
-use kmc_settings::setting::Setting;
+use kmc_settings::Setting;
 use std::alloc::AllocError;
 use thiserror::Error;
 

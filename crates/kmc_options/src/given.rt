@@ -10,12 +10,10 @@ ghost use Rattle.kmc_options.specs.declared.error.ParamsError.TheVariants.{OutOf
 use crate::error::ParamsError;
 use crate::named::{Flag, Named};
 use clap::ArgMatches;
-use kmc_argument::number::number;
-use kmc_base::strands::Strands;
-use kmc_count::limits::Limits;
-use kmc_reads::format::Format;
-use kmc_settings::params::Params;
-use kmc_settings::setting::Setting;
+use kmc_base::Strands;
+use kmc_count::Limits;
+use kmc_reads::Format;
+use kmc_settings::{Params, Setting, number};
 
 /// The settings, or the first fault in the order of [`OPTIONS`](crate::named::OPTIONS) after the format's.
 pub fn given(matches: &ArgMatches<'_>) -> Result<Params, ParamsError>

@@ -3,8 +3,7 @@ ghost use Rattle.std.specs.Prelude.{◌≡◌, IfOk, option_map, string_bytes};
 ghost use Rattle.kmc_options.specs.Glued.{is_flag, long_form, option_in, value_in, with_value};
 
 use crate::named::{FLAGS, Named, OPTIONS};
-use kmc_argument::prefix::rest_after;
-use kmc_settings::setting::Setting;
+use kmc_settings::{Setting, rest_after};
 use std::alloc::{AllocError, Global};
 
 /// The word with its option or flag in long form, as `--k=31` for `-k31` and `--fa` for `-fa`;

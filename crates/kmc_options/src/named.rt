@@ -5,7 +5,7 @@ ghost use Rattle.clap.specs.declared.builder.action.ArgAction.TheVariants.{Set, 
 ghost use Rattle.kmc_options.specs.Names.{flag_name, name_of};
 
 use clap::ArgAction;
-use kmc_settings::setting::Setting;
+use kmc_settings::Setting;
 
 /// What stands behind two hyphens.
 pub trait Named: Copy {

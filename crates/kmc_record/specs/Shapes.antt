@@ -1,7 +1,7 @@
 -- How reads are cut into parts.
 use Rattle.std.specs.Prelude.{ℕ, ◌≤◌}
 use Rattle.kmc_base.specs.declared.kmer.TheConstants.{MAX_K}
-use Rattle.kmc_split.specs.declared.signature.TheConstants.{MAX_M}
+use Rattle.kmc_split.specs.declared.signatures.TheConstants.{MAX_M}
 use Rattle.kmc_record.specs.declared.shape.TheConstants.{LEAST_P, MOST_BINS}
 
 -- the symbols of a word, those of an m-mer that signatures are made of, and the number of bins

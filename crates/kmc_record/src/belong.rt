@@ -3,7 +3,7 @@ ghost use Rattle.std.specs.Prelude.{◌<◌, IfOk, IfErr};
 ghost use Rattle.kmc_record.specs.Parts.{IsPart};
 ghost use Rattle.kmc_record.specs.Bodies.{IsFirstError};
 
-use crate::decode::decode;
+use crate::decoding::decode;
 use crate::fault::PartError;
 use crate::shape::Shape;
 use std::alloc::Global;

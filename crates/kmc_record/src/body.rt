@@ -9,10 +9,7 @@ ghost use Rattle.kmc_record.specs.declared.fault.RecordFault.{RecordFault};
 
 use crate::fault::BodyError;
 use crate::record::{first_symbols, push_record};
-use kmc_base::key_rule::KeyRule;
-use kmc_base::kmer::MAX_K;
-use kmc_base::strands::Strands;
-use kmc_base::word::Word;
+use kmc_base::{KeyRule, MAX_K, Strands, Word};
 
 /// Appends the packed keys of all words of a body, record by record, in the order of their places. The walk
 /// makes no super-k-mer: it rolls a window along the symbols where they lie.

@@ -1,17 +1,25 @@
 //! Records of super-k-mers, and the parts that a chunk of reads is cut into: for each bin the records of the chunk's
 //! runs of that bin. It stands on kmc_base for words and segments and on kmc_split for signatures and the cut. The
-//! layer above takes the parts of a chunk from [`parts::parts_of_reads`], or makes one of a body from outside with
-//! `Part::from_body`; it reads single records with [`decode::decode`] and the packed words of a whole body with
-//! [`body::push_body`]; and it learns from `laws` that no spelling begins another.
+//! layer above takes the parts of a chunk from [`parts_of_reads`], or makes one of a body from outside with
+//! `Part::from_body`; it reads single records with [`decode`] and the packed words of a whole body with
+//! [`push_body`]; and it learns from `laws` that no spelling begins another.
 #![tactic(auto)]
 
 mod belong;
-pub mod body;
-pub mod decode;
-pub mod fault;
+mod body;
+mod decoding;
+mod fault;
 pub mod laws;
-pub mod part;
-pub mod parts;
+mod part;
+mod parts;
 mod record;
-pub mod shape;
-pub mod spell;
+mod shape;
+mod spell;
+
+pub use body::push_body;
+pub use decoding::decode;
+pub use fault::{BodyError, PartError, RecordError, RecordFault};
+pub use part::Part;
+pub use parts::parts_of_reads;
+pub use shape::{LEAST_P, MOST_BINS, Shape};
+pub use spell::push_record_of;

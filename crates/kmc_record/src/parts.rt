@@ -8,9 +8,8 @@ ghost use Rattle.kmc_record.specs.Growing.{AreForBins, HaveGrown, HaveTaken};
 
 use crate::part::Part;
 use crate::shape::Shape;
-use kmc_base::stretch::leading_codes;
-use kmc_split::cut::{Scratch, cut};
-use kmc_split::runs::Run;
+use kmc_base::leading_codes;
+use kmc_split::{Run, Scratch, cut};
 use std::alloc::{AllocError, Global};
 
 /// The empty part of each bin.

@@ -7,11 +7,7 @@ ghost use Rattle.kmc_base.specs.Lemmas.Rolling.{ahead, ahead_quarters, behind, b
 ghost use Rattle.kmc_record.specs.Faults.{HasFault};
 
 use crate::fault::RecordFault;
-use kmc_base::key_rule::KeyRule;
-use kmc_base::keys::packed_key;
-use kmc_base::kmer::MAX_K;
-use kmc_base::strands::Strands;
-use kmc_base::word::Word;
+use kmc_base::{KeyRule, MAX_K, Strands, Word, packed_key};
 use std::alloc::AllocError;
 
 /// The code at a place of the bytes.

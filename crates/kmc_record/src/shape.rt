@@ -2,8 +2,8 @@
 ghost use Rattle.std.specs.Prelude.{◌≡◌, min, MatchOption};
 ghost use Rattle.kmc_record.specs.Shapes.{Sizes, AreWithinLimits, IsShape};
 
-use kmc_base::kmer::MAX_K;
-use kmc_split::signature::MAX_M;
+use kmc_base::MAX_K;
+use kmc_split::MAX_M;
 use std::marker::Model;
 
 /// The fewest symbols that may be asked for as those of a signature; the most are [`MAX_M`].

@@ -3,7 +3,7 @@ ghost use Rattle.std.specs.Prelude.{◌≡◌, ◌+◌, ◌-◌, ◌*◌, ◌/�
 ghost use Rattle.std.specs.List.{AllByRecursion};
 ghost use Rattle.kmc_record.specs.Record.{packed_codes, spelling, IsSpelled, size_of};
 
-use kmc_base::kmer::MAX_K;
+use kmc_base::MAX_K;
 use std::alloc::AllocError;
 
 /// The code at a place, and 0 behind the last.

@@ -2,3 +2,4 @@ pub mod Settings
 pub mod Ranges
 pub mod Kept
 pub mod Shape
+pub mod Words

@@ -4,11 +4,11 @@ ghost use Rattle.kmc_base.specs.declared.strands.Strands.TheVariants.{Joined};
 ghost use Rattle.kmc_settings.specs.Ranges.{AreQueueSettings, AreSettings};
 
 use crate::setting::Setting;
-use kmc_base::strands::Strands;
-use kmc_count::limits::Limits;
+use kmc_base::Strands;
+use kmc_count::Limits;
 use kmc_partcore::{MAX_PER_WRITER, MAX_READERS, QueueShape};
-use kmc_reads::format::Format;
-use kmc_record::shape::Shape;
+use kmc_reads::Format;
+use kmc_record::Shape;
 
 /// Most reads in a chunk.
 pub const MAX_BATCH: usize = 65536;

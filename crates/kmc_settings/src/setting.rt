@@ -1,11 +1,11 @@
 //! The numbers that a run is told, and their ranges.
 ghost use Rattle.std.specs.Prelude.{◌≡◌, ◌↔◌, IsTrue};
 
-use kmc_base::kmer::MAX_K;
-use kmc_count::limits::GREATEST_COUNT;
+use kmc_base::MAX_K;
+use kmc_count::GREATEST_COUNT;
 use kmc_partcore::MAX_WRITERS;
-use kmc_record::shape::{LEAST_P, MOST_BINS};
-use kmc_split::signature::MAX_M;
+use kmc_record::{LEAST_P, MOST_BINS};
+use kmc_split::MAX_M;
 
 /// A range of numbers, both ends included, with the number that stands where none is given.
 #[derive(Clone, Copy, Debug, PartialEq, Eq)]

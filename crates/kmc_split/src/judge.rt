@@ -7,7 +7,7 @@ ghost use Rattle.kmc_split.specs.Signature.{is_allowed};
 ghost use Rattle.kmc_split.specs.Offers.{pair_marks, offer, packed_offer};
 
 use crate::rolling::canonical_values;
-use crate::signature::MAX_M;
+use crate::signatures::MAX_M;
 
 /// 1 in each of n pairs of bits.
 pub(crate) fn marks_for(n: usize) -> u32

@@ -4,7 +4,7 @@ ghost use Rattle.std.specs.List.{All};
 ghost use Rattle.kmc_base.specs.Words.{canonical, window};
 ghost use Rattle.kmc_base.specs.Packed.{unpack};
 
-use crate::signature::MAX_M;
+use crate::signatures::MAX_M;
 
 /// The canonical form, packed, of the m codes at each place: the word and its reverse complement roll along.
 pub(crate) fn canonical_values(codes: &[u8], m: usize, out: &mut [u32])

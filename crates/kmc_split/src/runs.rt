@@ -3,7 +3,7 @@ ghost use Rattle.std.specs.Prelude.{◌≡◌, ℕ, ◌^◌, ◌<◌, ◌≤◌,
 ghost use Rattle.kmc_split.specs.Cut.{AreRuns};
 ghost use Rattle.kmc_split.specs.Rows.{IsRow, AreRowEnds, Last, MayFollow};
 
-use crate::signature::{MAX_M, Sig};
+use crate::signatures::{MAX_M, Sig};
 use std::alloc::AllocError;
 
 /// Words that stand at neighbouring places of a segment and have one signature.

@@ -6,7 +6,7 @@ use Rattle.std.specs.List.{list_all, filter}
 use Rattle.std.proofs.lemmas.List.{take_more, take-append-drop, map-append, get_or-map, length-map}
 use Rattle.std.proofs.lemmas.List.Elements.{filter_map-append, filter_from_retain}
 use Rattle.std.proofs.lemmas.List.Folds.{list_all_at}
-use Rattle.kmc_argument.specs.Words.{Word, rest_after}
+use Rattle.kmc_settings.specs.Words.{Word, rest_after}
 use Rattle.kmc_sum.specs.Request.{given, texts_of}
 
 one : (name word : Word) (r : Option Word) → rest_after name word ≡ r → given name (word ∷ []) ≡ texts_of r

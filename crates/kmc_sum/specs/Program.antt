@@ -1,10 +1,10 @@
 -- What the words of a command line ask for, and what was written.
 use Rattle.std.specs.Prelude.{◌≡◌, ℕ, List, length, Option}
-use Rattle.kmc_argument.specs.Words.{Word}
+use Rattle.kmc_settings.specs.Words.{Word}
 use Rattle.kmc_count.specs.declared.limits.Limits.{Limits}
 use Rattle.kmc_sum.specs.Request.{IsRequest}
 use Rattle.kmc_sum.specs.State.{IsBegun, IsSumWritten}
-use Rattle.kmc_sum.specs.declared.merge.TheConstants.{MOST_SOURCES}
+use Rattle.kmc_sum.specs.declared.merging.TheConstants.{MOST_SOURCES}
 use Rattle.kmc_sum.specs.declared.request.RequestError.{RequestError}
 use Rattle.kmc_sum.specs.declared.request.RequestError.TheVariants.{Usage, OutOfRange, Memory}
 

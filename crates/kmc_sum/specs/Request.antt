@@ -2,7 +2,7 @@
 use Rattle.std.specs.Prelude.{◌≡◌, ◌≤◌, ◌||◌, ℕ, Bool, true, false, not, List, [], ◌∷◌, Option, Some, None, is_some, length, codes}
 use Rattle.std.specs.Option.{option_map_or}
 use Rattle.std.specs.List.{list_all, filter, filter_map}
-use Rattle.kmc_argument.specs.Words.{Word, rest_after, number_of}
+use Rattle.kmc_settings.specs.Words.{Word, rest_after, number_of}
 use Rattle.kmc_count.specs.declared.limits.Limits.{Limits}
 
 -- a word that begins with a hyphen is no name of a file

@@ -3,14 +3,19 @@
 //! the sum, within limits, of what the texts list, or that a named file is at fault, or a device failed.
 #![tactic(auto)]
 
-pub mod error;
+mod arguments;
+mod error;
 mod heads;
 pub mod laws;
 mod line;
-pub mod merge;
+mod merging;
 mod opening;
-pub mod program;
-pub mod request;
+mod request;
 mod source;
 mod sources;
 mod writing;
+
+pub use arguments::{program, sum_files};
+pub use error::{LineFault, SumError};
+pub use merging::{MOST_SOURCES, merge};
+pub use request::{Request, RequestError, asked_for};

@@ -7,7 +7,7 @@ ghost use Rattle.kmc_base.specs.Packed.{unpack};
 ghost use Rattle.kmc_sum.specs.Line.{IsLetter, IsLineOf};
 ghost use Rattle.kmc_sum.specs.Faults.{BeginsNoLine};
 
-use kmc_base::kmer::{MAX_K, letter_of};
+use kmc_base::{MAX_K, letter_of};
 
 /// What a line says: a packed word of `k` codes and its count. The line takes the first `end` bytes.
 #[derive(Clone, Copy)]

@@ -12,8 +12,8 @@ ghost use Rattle.kmc_sum.specs.declared.error.LineFault.{LineFault};
 use crate::error::{LineFault, SumError};
 use crate::heads::Head;
 use crate::source::{NextFault, Room, next_line};
-use kmc_base::kmer::MAX_K;
-use kmc_device::counted::Counted;
+use kmc_base::MAX_K;
+use kmc_device::Counted;
 use std::alloc::{AllocError, Global};
 use std::io::Read;
 

@@ -1,13 +1,12 @@
 //! What the words of a command line ask for: limits and the names of files.
 ghost use Rattle.std.specs.Prelude.{◌≡◌, ◌≢◌, ◌≤◌, ◌<◌, ◌^◌, ◌||◌, ℕ, [], ◌∷◌, Some, None, option_map, MatchResult, IfOk, IfErr, IsErrOf, length, map, not, is_some, string_bytes, codes};
 ghost use Rattle.std.specs.List.{list_all};
-ghost use Rattle.kmc_argument.specs.Words.{number_of};
+ghost use Rattle.kmc_settings.specs.Words.{number_of};
 ghost use Rattle.kmc_sum.specs.declared.request.RequestError.TheVariants.{Memory};
 ghost use Rattle.kmc_sum.specs.Request.{is_file, is_option, given, texts_of, IsLimit, IsRequest, IsTaken, GivesNoLimits, AsksForNothing};
 
-use kmc_argument::number::number;
-use kmc_argument::prefix::rest_after;
-use kmc_count::limits::Limits;
+use kmc_count::Limits;
+use kmc_settings::{number, rest_after};
 use std::alloc::AllocError;
 
 /// The limits where the options leave them out, as `kmc` has them.

@@ -9,8 +9,8 @@ ghost use Rattle.kmc_sum.specs.Source.{unread, IsRoom, IsEnough, GoesOn};
 
 use crate::error::LineFault;
 use crate::line::{Line, line_at};
-use kmc_base::kmer::MAX_K;
-use kmc_device::counted::Counted;
+use kmc_base::MAX_K;
+use kmc_device::Counted;
 use std::alloc::{AllocError, Global};
 use std::io::Read;
 

@@ -11,7 +11,7 @@ ghost use Rattle.kmc_sum.specs.declared.error.LineFault.{LineFault};
 use crate::error::SumError;
 use crate::heads::{Head, mend};
 use crate::source::{PairFault, Room, next_pair};
-use kmc_device::counted::Counted;
+use kmc_device::Counted;
 use std::io::Read;
 
 /// The head of a source behind one with the word `packed` of `k` codes.

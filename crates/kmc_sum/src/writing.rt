@@ -6,11 +6,9 @@ ghost use Rattle.kmc_device.specs.Device.{AppendsFront, RisesByOne, WritesOut};
 ghost use Rattle.kmc_device.specs.Line.{text_of};
 ghost use Rattle.kmc_sum.specs.Tally.{kept_pair};
 
-use kmc_base::kmer::{Kmer, MAX_K};
-use kmc_count::limits::Limits;
-use kmc_device::counted::Counted;
-use kmc_device::line::{DIGITS, LINE, line_room, make_room, put_line};
-use kmc_device::text::{WriteFault, write_text};
+use kmc_base::{Kmer, MAX_K};
+use kmc_count::Limits;
+use kmc_device::{Counted, DIGITS, LINE, WriteFault, line_room, make_room, put_line, write_text};
 use std::io::Write;
 
 /// Puts the line of a word behind the first `filled` bytes of the room, where its count is not 0 and is listed. Says

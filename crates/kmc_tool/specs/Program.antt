@@ -2,7 +2,7 @@
 use Rattle.std.specs.Prelude.{◌≡◌, ℕ, true, List}
 use Rattle.kmc_tool.specs.Run.{IsDumpOf}
 use Rattle.kmc_settings.specs.declared.params.Params.{Params}
-use Rattle.kmc_argument.specs.Words.{Word}
+use Rattle.kmc_settings.specs.Words.{Word}
 use Rattle.kmc_options.specs.CommandLine.{found}
 use Rattle.kmc_options.specs.Options.{AreGiven, is_taken}
 

@@ -5,12 +5,12 @@ ghost use Rattle.kmc_base.specs.Pieces.{pieces};
 ghost use Rattle.kmc_tool.specs.Rounds.{HoldsPieces};
 ghost use Rattle.kmc_settings.specs.Shape.{shape_of};
 
-use crate::stage_one::store_reads;
-use kmc_base::pieces::push_pieces;
+use crate::storing::store_reads;
+use kmc_base::push_pieces;
 use kmc_partqueue::Gate;
-use kmc_reads::reads::Reads;
-use kmc_settings::params::Params;
-use kmc_store::bins::Bins;
+use kmc_reads::Reads;
+use kmc_settings::Params;
+use kmc_store::Bins;
 use std::alloc::{AllocError, Global};
 use std::mem::replace;
 use std::sync::Wait;

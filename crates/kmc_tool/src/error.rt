@@ -2,7 +2,7 @@
 ghost use Rattle.std.specs.Prelude.{◌≡◌};
 ghost use Rattle.kmc_tool.specs.declared.error.RunError.TheVariants.{Memory};
 
-use kmc_reads::error::ReadsError;
+use kmc_reads::ReadsError;
 use std::alloc::AllocError;
 use thiserror::Error;
 

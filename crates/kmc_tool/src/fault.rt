@@ -3,7 +3,7 @@ ghost use Rattle.std.specs.Prelude.{◌≡◌, ◌≢◌, not, true};
 ghost use Rattle.kmc_tool.specs.declared.fault.Fault.TheVariants.{Options, Run};
 
 use crate::error::RunError;
-use kmc_options::error::ParamsError;
+use kmc_options::ParamsError;
 use std::fmt;
 
 /// Why the program ends without its dump. Its text is the line for the user.

@@ -1,17 +1,26 @@
 //! A run: the way from the bytes of a reader to the dump on a writer, and the program: from its arguments to the exit status,
 //! with the faults that a user is shown. It stands on `kmc_options` for the settings that the arguments give, on `kmc_reads`
 //! for the reads of a text, on `kmc_workers` for their parts in bins, and on `kmc_dump` for their lists and the dump. The layer
-//! above calls [`program::program`] with the process's reader and writer, or [`run::run`] with settings of its own.
+//! above calls [`program`] with the process's reader and writer, or [`run`] with settings of its own.
 #![tactic(auto)]
 
-pub mod count_input;
+mod arguments;
 mod dealing;
-pub mod error;
-pub mod fault;
+mod error;
+mod fault;
+mod input;
 pub mod laws;
-pub mod program;
+mod listing;
 mod round;
-pub mod rounds;
-pub mod run;
-pub mod stage_one;
-pub mod stage_two;
+mod rounds;
+mod running;
+mod storing;
+
+pub use arguments::{count, program};
+pub use error::RunError;
+pub use fault::Fault;
+pub use input::{PIECE_SYMBOLS, count_input};
+pub use listing::stage_two;
+pub use rounds::bins_of_input;
+pub use running::run;
+pub use storing::{stage_one, store_reads};

@@ -6,10 +6,9 @@ ghost use Rattle.kmc_reads.specs.Standing.{StandsCut};
 ghost use Rattle.kmc_tool.specs.Rounds.{IsFedBy, AreCounts};
 
 use crate::error::RunError;
-use kmc_device::counted::Counted;
-use kmc_reads::error::ReadsError;
-use kmc_reads::feeder::Feeder;
+use kmc_device::Counted;
 use kmc_reads::laws::fault_stays;
+use kmc_reads::{Feeder, ReadsError};
 use std::io::Read;
 
 /// A read asks for at most so many bytes.

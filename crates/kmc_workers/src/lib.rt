@@ -1,17 +1,23 @@
 //! The workers of stage one: splitters cut chunks of reads and put their parts into a queue, storers take parts and
 //! absorb them into bins, each worker in a thread of its own. It stands on kmc_record for the parts of reads, on
-//! kmc_partqueue for the queue and on kmc_store for bins. The layer above calls [`pass_parts::pass_parts`] with reads
+//! kmc_partqueue for the queue and on kmc_store for bins. The layer above calls [`pass_parts`] with reads
 //! and the shapes of bins and queue, gathers the seats that come back, and merges the bins of the shards.
 #![tactic(auto)]
 
-pub mod fill_bins;
+mod filling;
 pub mod laws;
-pub mod pass_parts;
+mod passing;
 mod pause;
-pub mod plan;
-pub mod refusal;
-pub mod shard;
+mod plan;
+mod refusal;
+mod shard;
 mod splitter;
 mod storer;
 mod way;
 mod workers;
+
+pub use filling::fill_bins;
+pub use passing::pass_parts;
+pub use plan::Plan;
+pub use refusal::Refusal;
+pub use shard::Shard;

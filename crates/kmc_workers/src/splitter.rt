@@ -11,8 +11,7 @@ use crate::plan::Plan;
 use crate::refusal::Refusal;
 use crate::way::Way;
 use kmc_partqueue::{DoneSeat, Gate, Point, TryPutError, WriterSeat};
-use kmc_record::part::Part;
-use kmc_record::parts::parts_of_reads;
+use kmc_record::{Part, parts_of_reads};
 use std::sync::Wait;
 
 /// Puts a part, and waits while the lane is full. Spent numbers come before all else; the stop word is read where the lane

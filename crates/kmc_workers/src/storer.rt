@@ -10,8 +10,8 @@ use crate::refusal::Refusal;
 use crate::shard::Shard;
 use crate::way::Way;
 use kmc_partqueue::{Gate, Point, TryTaken};
-use kmc_record::part::Part;
-use kmc_store::bins::Bins;
+use kmc_record::Part;
+use kmc_store::Bins;
 use kmc_store::laws::{absorbed_part_is_added, no_parts_are_added};
 use std::sync::Wait;
 

@@ -1,0 +1,4 @@
+pub mod DumpText
+pub mod GatheredKeys
+pub mod Merging
+mod Table

@@ -1,3 +1,0 @@
-pub mod DumpText
-pub mod GatheredKeys
-pub mod Merging

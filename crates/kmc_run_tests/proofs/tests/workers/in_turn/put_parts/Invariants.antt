@@ -1,5 +1,0 @@
-use Rattle.kmc_workers.specs.Workers.{IsSameWriter}
-use Rattle.kmc_run_tests.proofs.tests.workers.in_turn.put_parts.Given as goal
-
-abbrev pub invariant-loop-part : goal.invariant-loop-part
-invariant-loop-part g l = IsSameWriter l.initial.seat l.seat

@@ -1,5 +1,0 @@
-use Rattle.std.proofs.Common.{rules}
-use Rattle.kmc_split.proofs.super_kmer.SuperKmer.new.Goals as goal
-
-pub returns-else-fits : goal.returns-else-fits
-returns-else-fits c = search rules

@@ -1,6 +1,0 @@
-use Rattle.std.proofs.Common.{◌≡◌, ℕ, ◌<◌, ◌%◌, slice_index}
-use Rattle.kmc_split.specs.Minima.{low}
-use Rattle.kmc_split.proofs.super_kmer.lows_in_bin.Given as goal
-
-abbrev pub invariant-loop-i : goal.invariant-loop-i
-invariant-loop-i l = (j : ℕ) → j < l.i → low (slice_index l.values) l.width j % l.n ≡ l.bin

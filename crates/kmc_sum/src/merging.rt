@@ -1,0 +1,198 @@
+//! The dump of the sum of dumps.
+ghost use Rattle.std.specs.Prelude.{◌≡◌, ℕ, ◌+◌, ◌*◌, ◌-◌, ◌^◌, ◌<◌, ◌≤◌, List, length, map, IfOk, OnErr, IfErr, IsErrOf, Option, slice_index_or};
+ghost use Rattle.kmc_device.specs.Device.{RisesByOne};
+ghost use Rattle.kmc_sum.specs.Sum.{sum_of};
+ghost use Rattle.kmc_sum.specs.Listed.{IsLength};
+ghost use Rattle.kmc_sum.specs.Heads.{IsTree};
+ghost use Rattle.kmc_sum.specs.Sources.{IsFresh, AreReady, AreSources};
+ghost use Rattle.kmc_sum.specs.State.{IsWritten, IsBegun, IsSumWritten};
+ghost use Rattle.kmc_sum.specs.Refusals.{IsFirstFault, HasFailed, HaveTooMany};
+ghost use Rattle.kmc_sum.specs.declared.error.LineFault.{LineFault};
+
+use crate::error::SumError;
+use crate::heads::{Head, build};
+use crate::opening::{heads_for, open, rooms_for};
+use crate::source::Room;
+use crate::sources::advance;
+use crate::writing::{close, put_pair};
+use kmc_count::Limits;
+use kmc_device::{Counted, ROOM};
+use std::alloc::Global;
+use std::io::{Read, Write};
+
+/// Takes all lines of the sources, least word first, and writes the dump of their sum.
+fn drain<R: Read, W: Write>(
+    readers: &mut [Counted<R>],
+    rooms: &mut [Room],
+    heads: &mut [Head],
+    k: usize,
+    limits: &Limits,
+    writer: &mut Counted<W>,
+) -> Result<u64, SumError>
+    requires ready { AreReady k (length readers.old) rooms.old heads.old }
+    requires some { 1 ≤ length readers.old }
+    requires tree { IsTree heads.old }
+    requires long { IsLength k }
+    requires writer { writer.old.failures < 2 ^ 64 - 1 }
+    ensures written { IfOk result (λ lines. (starts : List (Option (List ℕ)))
+        (lists : List (List (List ℕ × ℕ)))
+        → AreSources k starts
+        (map (λ r. R.remaining r.inner) readers.old) rooms.old heads.old lists
+        → ((x : List ℕ) → sum_of lists x ≡ 0)
+        → IsWritten k limits.now starts (map (λ r. R.remaining r.inner) readers.new) lines
+        (W.contents writer.old.inner) (W.contents writer.new.inner)) }
+    ensures fault { (source line : ℕ) (fault : LineFault)
+        → IsErrOf result (SumError.Line source line fault)
+        → (starts : List (Option (List ℕ))) (lists : List (List (List ℕ × ℕ)))
+        → AreSources k starts
+        (map (λ r. R.remaining r.inner) readers.old) rooms.old heads.old lists
+        → ((x : List ℕ) → sum_of lists x ≡ 0)
+        → IsFirstFault k starts (map (λ r. R.remaining r.inner) readers.new) source line fault }
+    ensures read { (source : ℕ) → IsErrOf result (SumError.Read source)
+        → HasFailed source (map (λ r. r.failures) readers.old) (map (λ r. r.failures) readers.new) }
+    ensures write { IsErrOf result SumError.Write
+        → RisesByOne writer.old.failures writer.new.failures }
+    ensures long { IsErrOf result SumError.TooLong
+        → (starts : List (Option (List ℕ))) (lists : List (List (List ℕ × ℕ)))
+        → AreSources k starts (map (λ r. R.remaining r.inner) readers.old) rooms.old heads.old lists
+        → HaveTooMany k starts (map (λ r. R.remaining r.inner) readers.new) }
+    ensures begun { OnErr result
+        ((starts : List (Option (List ℕ))) (lists : List (List (List ℕ × ℕ)))
+        → AreSources k starts
+        (map (λ r. R.remaining r.inner) readers.old) rooms.old heads.old lists
+        → ((x : List ℕ) → sum_of lists x ≡ 0)
+        → IsBegun k limits.now starts (map (λ r. R.remaining r.inner) readers.new)
+        (W.contents writer.old.inner) (W.contents writer.new.inner)) }
+{
+    let mut room = [0; ROOM];
+    let mut filled = 0;
+    let mut lines: u64 = 0;
+    let mut packed: u128 = 0;
+    let mut count: u64 = 0;
+    for _step in 0..u64::MAX - 1 {
+        if !heads[1].live {
+            break;
+        }
+        let next = heads[1].packed;
+        let more = heads[1].count;
+        if next == packed {
+            count = count.saturating_add(more);
+        } else {
+            match put_pair(writer, &mut room, filled, limits, k, packed, count) {
+                Ok((end, put)) => {
+                    filled = end;
+                    lines += put;
+                }
+                Err(_) => return Err(SumError::Write),
+            }
+            packed = next;
+            count = more;
+        }
+        advance(readers, rooms, heads, k)?;
+    }
+    if heads[1].live {
+        return Err(SumError::TooLong);
+    }
+    match put_pair(writer, &mut room, filled, limits, k, packed, count) {
+        Ok((end, put)) => match close(writer, &room, end) {
+            Ok(()) => Ok(lines + put),
+            Err(_) => Err(SumError::Write),
+        },
+        Err(_) => Err(SumError::Write),
+    }
+}
+
+/// Opens the sources and writes the dump of their sum, with rooms and heads that are there.
+fn merge_in<R: Read, W: Write>(
+    readers: &mut [Counted<R>],
+    rooms: &mut [Room],
+    heads: &mut [Head],
+    limits: &Limits,
+    writer: &mut Counted<W>,
+) -> Result<u64, SumError>
+    requires some { 1 ≤ length readers.old }
+    requires rooms { (length rooms.old ≡ length readers.old)
+        × ((i : ℕ) (room : _) → i < length readers.old
+        → IsFresh (slice_index_or rooms.old i room)) }
+    requires heads { length heads.old ≡ 2 * length readers.old }
+    requires writer { writer.old.failures < 2 ^ 64 - 1 }
+    ensures ok { IfOk result (λ lines. IsSumWritten limits.now
+        (map (λ r. R.remaining r.inner) readers.old)
+        (map (λ r. R.remaining r.inner) readers.new) lines
+        (W.contents writer.old.inner) (W.contents writer.new.inner)) }
+    ensures fault { (source line : ℕ) (fault : LineFault)
+        → IsErrOf result (SumError.Line source line fault)
+        → (k : ℕ) × IsLength k
+        × IsFirstFault k (map (λ r. R.remaining r.inner) readers.old)
+        (map (λ r. R.remaining r.inner) readers.new) source line fault }
+    ensures read { (source : ℕ) → IsErrOf result (SumError.Read source)
+        → HasFailed source (map (λ r. r.failures) readers.old) (map (λ r. r.failures) readers.new) }
+    ensures write { IsErrOf result SumError.Write
+        → RisesByOne writer.old.failures writer.new.failures }
+    ensures long { IsErrOf result SumError.TooLong → (k : ℕ) × IsLength k
+        × HaveTooMany k (map (λ r. R.remaining r.inner) readers.old)
+        (map (λ r. R.remaining r.inner) readers.new) }
+    ensures begun { OnErr result
+        ((k : ℕ) × IsBegun k limits.now (map (λ r. R.remaining r.inner) readers.old)
+        (map (λ r. R.remaining r.inner) readers.new)
+        (W.contents writer.old.inner) (W.contents writer.new.inner)) }
+{
+    let k = open(readers, rooms, heads)?;
+    build(heads);
+    drain(readers, rooms, heads, k, limits, writer)
+}
+
+/// The most sources of a merge.
+pub const MOST_SOURCES: usize = 1000;
+
+/// Reads the dumps of all sources side by side, a piece of each at a time, and writes the dump of the sum of the counts
+/// that they list, within the limits; says how many lines it has. A sum above 2^64 - 1 stays there, where no limit lists
+/// it. It takes 64 KiB a source and about log2 n comparisons a line of n sources. After a refusal what went out is a front
+/// of the dump of what the sources gave before it.
+pub fn merge<R: Read, W: Write>(
+    alloc: Global,
+    readers: &mut [Counted<R>],
+    limits: &Limits,
+    writer: &mut Counted<W>,
+) -> Result<u64, SumError>
+    requires some { 1 ≤ length readers.old }
+    requires most { length readers.old ≤ MOST_SOURCES }
+    requires writer { writer.old.failures < 2 ^ 64 - 1 }
+    ensures ok { IfOk result (λ lines. IsSumWritten limits.now
+        (map (λ r. R.remaining r.inner) readers.old)
+        (map (λ r. R.remaining r.inner) readers.new) lines
+        (W.contents writer.old.inner) (W.contents writer.new.inner)) }
+    ensures fault { (source line : ℕ) (fault : LineFault)
+        → IsErrOf result (SumError.Line source line fault)
+        → (k : ℕ) × IsLength k
+        × IsFirstFault k (map (λ r. R.remaining r.inner) readers.old)
+        (map (λ r. R.remaining r.inner) readers.new) source line fault }
+    ensures read { (source : ℕ) → IsErrOf result (SumError.Read source)
+        → HasFailed source (map (λ r. r.failures) readers.old) (map (λ r. r.failures) readers.new) }
+    ensures write { IsErrOf result SumError.Write
+        → RisesByOne writer.old.failures writer.new.failures }
+    ensures long { IsErrOf result SumError.TooLong → (k : ℕ) × IsLength k
+        × HaveTooMany k (map (λ r. R.remaining r.inner) readers.old)
+        (map (λ r. R.remaining r.inner) readers.new) }
+    ensures begun { OnErr result
+        ((k : ℕ) × IsBegun k limits.now (map (λ r. R.remaining r.inner) readers.old)
+        (map (λ r. R.remaining r.inner) readers.new)
+        (W.contents writer.old.inner) (W.contents writer.new.inner)) }
+{
+    let count = readers.len();
+    let mut rooms = match rooms_for(alloc, count) {
+        Ok(rooms) => rooms,
+        Err(_) => return Err(SumError::Memory),
+    };
+    let mut heads = match heads_for(alloc, 2 * count) {
+        Ok(heads) => heads,
+        Err(_) => return Err(SumError::Memory),
+    };
+    merge_in(
+        readers,
+        rooms.as_mut_slice(),
+        heads.as_mut_slice(),
+        limits,
+        writer,
+    )
+}

@@ -1,0 +1,133 @@
+//! The program: from its arguments to the dump and the exit status.
+ghost use Rattle.std.specs.Prelude.{◌≡◌, ◌≢◌, ℕ, ◌+◌, ◌-◌, ◌^◌, ◌<◌, ◌≤◌, ◌⊎◌, List, [], IfOk, IfErr, IsErrOf, length, map, string_bytes};
+ghost use Rattle.std.specs.Io.KnownBytes.{Appends, Consumes};
+ghost use Rattle.std.specs.Process.{exit_status};
+ghost use Rattle.kmc_device.specs.Device.{AppendsFront, GaveAll};
+ghost use Rattle.kmc_tool.specs.Rounds.{IsRefused};
+ghost use Rattle.kmc_settings.specs.Words.{Word};
+ghost use Rattle.kmc_options.specs.Glued.{long_forms};
+ghost use Rattle.kmc_options.specs.Options.{Explains};
+ghost use Rattle.kmc_tool.specs.Program.{IsAnswered, IsAsked};
+ghost use Rattle.kmc_tool.specs.Status.{status_of_answer};
+
+use crate::error::RunError;
+use crate::fault::Fault;
+use crate::running::run;
+use kmc_device::Counted;
+use kmc_options::{ParamsError, settings};
+use kmc_partqueue::NoGate;
+use kmc_reads::ReadsError;
+use std::alloc::Global;
+use std::env;
+use std::io::{Read, Write};
+use std::process::ExitCode;
+use std::rt::Env;
+use std::sync::Wait;
+use std::thread::Threads;
+
+/// Counts the reads of the reader by the settings that the arguments give, and writes their dump. The answer is its
+/// number of lines. Where the arguments give no settings nothing is read; after every fault but a failed write nothing
+/// was written.
+pub fn count<T: Threads + Wait + Sync, R: Read, W: Write>(
+    rt: &T,
+    alloc: Global,
+    argv: Vec<String>,
+    reader: &mut Counted<R>,
+    writer: &mut Counted<W>,
+) -> Result<u64, Fault>
+    requires reader { reader.old.failures < 2 ^ 64 - 1 }
+    requires writer { writer.old.failures < 2 ^ 64 - 1 }
+    requires reads { reader.old.reads + 2 ^ 32 < 2 ^ 64 }
+    ensures ok { IfOk result (λ lines. (bytes text : List ℕ)
+        × GaveAll (R.remaining reader.old.inner) (R.remaining reader.new.inner) bytes
+        × IsAnswered (long_forms (map string_bytes argv.items)) bytes text lines
+        × Appends (W.contents writer.old.inner) (W.contents writer.new.inner) text) }
+    ensures sound { IfOk result (λ lines. (reader.new.failures ≡ reader.old.failures)
+        × (writer.new.failures ≡ writer.old.failures)) }
+    ensures options { (e : ParamsError) → IsErrOf result (Fault.Options e)
+        → Explains (long_forms (map string_bytes argv.items)) e × (reader.new ≡ reader.old) }
+    ensures run { (e : RunError) → IsErrOf result (Fault.Run e)
+        → IsAsked (long_forms (map string_bytes argv.items)) }
+    ensures input { (e : ReadsError) → IsErrOf result (Fault.Run (RunError.Input e))
+        → (asked : IsAsked (long_forms (map string_bytes argv.items)))
+        × IsRefused asked.params.format (R.remaining reader.old.inner)
+        (R.remaining reader.new.inner) [] e }
+    ensures read { IsErrOf result (Fault.Run RunError.Read)
+        → reader.new.failures ≡ reader.old.failures + 1 }
+    ensures write { IsErrOf result (Fault.Run RunError.Write)
+        → (writer.new.failures ≡ writer.old.failures + 1)
+        × (bytes text : List ℕ) × (lines : ℕ)
+        × GaveAll (R.remaining reader.old.inner) (R.remaining reader.new.inner) bytes
+        × IsAnswered (long_forms (map string_bytes argv.items)) bytes text lines
+        × AppendsFront (W.contents writer.old.inner) (W.contents writer.new.inner) text }
+    ensures long { IsErrOf result (Fault.Run RunError.TooLong)
+        → (reader.new.reads ≡ reader.old.reads + 2 ^ 32)
+        × (bytes : List ℕ)
+        × Consumes (R.remaining reader.old.inner) (R.remaining reader.new.inner) bytes
+        × (2 ^ 32 ≤ length bytes) }
+    ensures silent { IfErr result (λ e. e ≢ Fault.Run RunError.Write → writer.new ≡ writer.old) }
+    ensures kept { IfErr result
+        (λ e. e ≢ Fault.Run RunError.Read → reader.new.failures ≡ reader.old.failures) }
+{
+    let params = settings(alloc, argv)?;
+    match run(rt, alloc, reader, writer, &params, &NoGate) {
+        Ok(lines) => Ok(lines),
+        Err(error) => Err(Fault::Run(error)),
+    }
+}
+
+/// Shows a fault, unless it is a write to a closed pipe, and gives the exit status: 0 where there is no fault. A line that
+/// cannot be written changes nothing of the status.
+fn ended(rt: &impl Eprint, answer: Result<u64, Fault>, pipe_closed: bool) -> ExitCode
+    ensures { exit_status result ≡ status_of_answer answer }
+{
+    match answer {
+        Ok(_) => ExitCode::from(0),
+        Err(fault) => {
+            if fault.is_told(pipe_closed) {
+                let _ = rt.eprintln(fault);
+            }
+            ExitCode::from(fault.status())
+        }
+    }
+}
+
+/// The process's arguments behind the program's name. Arguments that cannot be read are no usage.
+fn arguments<T: Env + Alloc<A = Global>>(rt: &T) -> Result<Vec<String>, ParamsError> {
+    let Ok(mut arguments) = env::args(rt) else {
+        return Err(ParamsError::Usage);
+    };
+    let _program = arguments.next();
+    Ok(arguments.collect(rt.alloc())?)
+}
+
+/// The whole program: counts the reads of the reader by the settings that the process's arguments give, and writes
+/// their dump; a fault is shown in one line on standard error, but for a write to a pipe whose other end is closed, of which
+/// the status alone tells. The exit status is 0 where the dump was written, 2 where the command line is at fault, and else 1;
+/// then nothing was written, or a write failed.
+pub fn program<T: Threads + Wait + Sync + Env + Eprint + Alloc<A = Global>, R: Read, W: Write>(
+    rt: &T,
+    reader: &mut Counted<R>,
+    writer: &mut Counted<W>,
+) -> ExitCode
+    requires reader { reader.old.failures < 2 ^ 64 - 1 }
+    requires writer { writer.old.failures < 2 ^ 64 - 1 }
+    requires reads { reader.old.reads + 2 ^ 32 < 2 ^ 64 }
+    ensures done { exit_status result ≡ 0 → (words : List Word) × (bytes text : List ℕ)
+        × (lines : ℕ)
+        × GaveAll (R.remaining reader.old.inner) (R.remaining reader.new.inner) bytes
+        × IsAnswered words bytes text lines
+        × Appends (W.contents writer.old.inner) (W.contents writer.new.inner) text }
+    ensures failed { exit_status result ≡ 1 → (writer.new ≡ writer.old)
+        ⊎ (writer.new.failures ≡ writer.old.failures + 1) }
+    ensures misused { exit_status result ≡ 2 → (reader.new ≡ reader.old)
+        × (writer.new ≡ writer.old) }
+    ensures statuses { exit_status result ≤ 2 }
+{
+    let argv = match arguments(rt) {
+        Ok(argv) => argv,
+        Err(error) => return ended(rt, Err(Fault::from(error)), false),
+    };
+    let answer = count(rt, rt.alloc(), argv, reader, writer);
+    ended(rt, answer, writer.is_pipe_closed())
+}

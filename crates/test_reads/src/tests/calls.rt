@@ -1,0 +1,35 @@
+//! Calls of a feeder, each made once more where memory was refused.
+use kmc_reads::{Feeder, Reads, ReadsError};
+use std::alloc::{AllocError, Global};
+
+pub(crate) fn feed(feeder: &mut Feeder, piece: &[u8]) -> Result<(), ReadsError> {
+    match feeder.feed(piece) {
+        Err(ReadsError::Memory) => feeder.feed(piece),
+        answer => answer,
+    }
+}
+
+pub(crate) fn take(alloc: Global, feeder: &mut Feeder) -> Result<Reads, AllocError> {
+    match feeder.take(alloc) {
+        Err(_) => feeder.take(alloc),
+        answer => answer,
+    }
+}
+
+pub(crate) fn finish(feeder: Feeder) -> Result<Reads, (ReadsError, Feeder)> {
+    match feeder.finish() {
+        Err((ReadsError::Memory, feeder)) => feeder.finish(),
+        answer => answer,
+    }
+}
+
+pub(crate) fn take_open(
+    alloc: Global,
+    feeder: &mut Feeder,
+    overlap: usize,
+) -> Result<Reads, AllocError> {
+    match feeder.take_open(alloc, overlap) {
+        Err(_) => feeder.take_open(alloc, overlap),
+        answer => answer,
+    }
+}

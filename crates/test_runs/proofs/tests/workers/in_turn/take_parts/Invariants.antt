@@ -1,0 +1,5 @@
+use Rattle.kmc_workers.specs.Workers.{IsSameReader}
+use Rattle.test_runs.proofs.tests.workers.in_turn.take_parts.Given as goal
+
+abbrev pub invariant-tries : goal.invariant-tries
+invariant-tries g l = IsSameReader l.initial.seat l.seat

@@ -1,0 +1,90 @@
+use kmc_base::Strands;
+use kmc_count::Limits;
+use kmc_reads::Format;
+use kmc_settings::Params;
+
+fn sized(k: usize, p: usize, n: usize, sp: usize, sr: usize) -> Option<Params> {
+    let limits = Limits::new(1, 2, 3)?;
+    Params::new(Format::Fasta, k, p, n, sp, sr, limits)
+}
+
+/// The numbers of k, p, n, sp and sr.
+fn sizes_of(params: &Params) -> [usize; 5] {
+    [params.k, params.p, params.n, params.sp, params.sr]
+}
+
+/// The numbers of readers, of parts a writer and of reads a chunk.
+fn queue_of(params: &Params) -> [usize; 3] {
+    [params.readers, params.per_writer, params.batch]
+}
+
+#[test]
+fn settings_in_range_are_kept(rt: HostRuntime) {
+    let made = sized(64, 11, 2000, 16, 15).expect(&rt, "in range");
+    assert_eq!(rt;
+        (made.format, made.strands),
+        (Format::Fasta, Strands::Joined)
+    );
+    assert_eq!(rt; sizes_of(&made), [64, 11, 2000, 16, 15]);
+    let limits = [made.limits.ci, made.limits.cx, made.limits.cs];
+    assert_eq!(rt; (limits, queue_of(&made)), ([1, 2, 3], [1, 8, 1024]));
+}
+
+#[test]
+fn settings_out_of_range_are_refused(rt: HostRuntime) {
+    assert!(rt; sized(1, 5, 1, 1, 1).is_some());
+    let wrong = [
+        [0, 5, 1, 1, 1],
+        [65, 5, 1, 1, 1],
+        [1, 4, 1, 1, 1],
+        [1, 12, 1, 1, 1],
+        [1, 5, 0, 1, 1],
+        [1, 5, 2001, 1, 1],
+        [1, 5, 1, 0, 1],
+        [1, 5, 1, 17, 1],
+        [1, 5, 1, 1, 0],
+        [1, 5, 1, 1, 17],
+    ];
+    for [k, p, n, sp, sr] in wrong {
+        assert!(rt; sized(k, p, n, sp, sr).is_none());
+    }
+}
+
+/// The sizes and the queue of the usual settings with a queue of this size.
+fn queued(readers: usize, per_writer: usize, batch: usize) -> Option<([usize; 5], [usize; 3])> {
+    let params = Params::default().with_queue(readers, per_writer, batch)?;
+    Some((sizes_of(&params), queue_of(&params)))
+}
+
+#[test]
+fn a_queue_in_its_ranges_is_kept(rt: HostRuntime) {
+    let usual = [25, 9, 512, 2, 2];
+    assert_eq!(rt; queued(1, 1, 1), Some((usual, [1, 1, 1])));
+    assert_eq!(rt; queued(8, 64, 65536), Some((usual, [8, 64, 65536])));
+}
+
+#[test]
+fn a_queue_out_of_its_ranges_is_refused(rt: HostRuntime) {
+    for [readers, per_writer, batch] in [
+        [0, 1, 1],
+        [9, 1, 1],
+        [1, 0, 1],
+        [1, 65, 1],
+        [1, 1, 0],
+        [1, 1, 65537],
+    ] {
+        assert!(rt; queued(readers, per_writer, batch).is_none());
+    }
+}
+
+#[test]
+fn strands_alone_are_changed(rt: HostRuntime) {
+    let apart = sized(31, 7, 64, 3, 4)
+        .expect(&rt, "in range")
+        .with_strands(Strands::Apart);
+    assert_eq!(rt;
+        (apart.format, apart.strands),
+        (Format::Fasta, Strands::Apart)
+    );
+    assert_eq!(rt; sizes_of(&apart), [31, 7, 64, 3, 4]);
+}

@@ -1,0 +1,150 @@
+//! The threads: each puts or takes by the calls that wait.
+ghost use Rattle.std.specs.Prelude.{◌≡◌, ◌<◌, ℕ, IfOk};
+ghost use Rattle.kmc_partqueue.specs.Counts.{Each, total_of, same};
+ghost use Rattle.kmc_partqueue.specs.Dealing.{row_from};
+ghost use Rattle.kmc_partqueue.specs.Seats.{IsWriterOf, IsReaderOf, new_writer, new_reader};
+
+use crate::seen::{EACH, Seen, WRITERS, item_of};
+use kmc_partcore::{Taken, Totals};
+use kmc_partqueue::{DoneSeat, Lanes, NoGate, ReaderSeat, WriterSeat};
+use std::alloc::AllocError;
+use std::sync::Wait;
+use std::thread;
+use std::thread::Threads;
+use test_support::gathered;
+
+/// Puts all parts of a writer, and completes.
+fn put_all<R: Wait>(
+    rt: &R,
+    lanes: &Lanes<u64>,
+    mut seat: WriterSeat<u64>,
+    seen: &Seen,
+) -> DoneSeat<u64>
+    requires { IsWriterOf lanes.now.table.shared.table_id lanes.now.shape seat }
+    ensures { IsWriterOf lanes.now.table.shared.table_id lanes.now.shape result
+        × (result.number ≡ seat.number) }
+{
+    for number in 0..EACH {
+        let item = item_of(seat.number(), number);
+        if lanes.put(rt, &mut seat, item, &NoGate).ok() != Some(number) {
+            seen.note_strange();
+        }
+    }
+    lanes.complete(seat)
+}
+
+/// Takes until it is told that the queue is finished, at most once more than there are parts.
+fn take_all<R: Wait>(
+    rt: &R,
+    lanes: &Lanes<u64>,
+    mut seat: ReaderSeat<u64>,
+    seen: &Seen,
+) -> ReaderSeat<u64>
+    requires { IsReaderOf lanes.now.table.shared.table_id lanes.now.shape seat }
+    ensures { IsReaderOf lanes.now.table.shared.table_id lanes.now.shape result
+        × (result.number ≡ seat.number) }
+{
+    let mut least = [0u64; WRITERS];
+    for _ in 0..WRITERS as u64 * EACH + 1 {
+        match lanes.take(rt, &mut seat, &NoGate) {
+            Taken::Got(part) => seen.came(least.as_mut_slice(), part),
+            Taken::Empty => unreachable!(),
+            Taken::Finished(totals) => {
+                seen.ended(&totals);
+                return seat;
+            }
+        }
+    }
+    seen.note_strange();
+    seat
+}
+
+/// A thread for each writer.
+fn write<R: Threads + Wait + Sync>(
+    rt: &R,
+    lanes: &Lanes<u64>,
+    seats: Vec<WriterSeat<u64>>,
+    seen: &Seen,
+) -> Result<Vec<DoneSeat<u64>>, AllocError>
+    requires { seats.items ≡ row_from
+        (new_writer lanes.now.table.shared.table_id lanes.now.shape) 0 lanes.now.shape.writers }
+    ensures queue { IfOk result (λ v. Each
+        (IsWriterOf lanes.now.table.shared.table_id lanes.now.shape) v.items) }
+    ensures numbers { IfOk result (λ v. (w : ℕ) → w < lanes.now.shape.writers
+        → total_of (λ s. same s.number w) v.items ≡ 1) }
+{
+    thread::map_vec(
+        rt,
+        seats,
+        &|seat| -> DoneSeat<u64>
+            requires { IsWriterOf lanes.now.table.shared.table_id lanes.now.shape seat }
+            ensures { IsWriterOf lanes.entry.now.table.shared.table_id lanes.entry.now.shape result
+                × (result.number ≡ seat.number) }
+        { put_all(rt, lanes, seat, seen) },
+    )
+}
+
+/// A thread for each reader.
+fn read<R: Threads + Wait + Sync>(
+    rt: &R,
+    lanes: &Lanes<u64>,
+    seats: Vec<ReaderSeat<u64>>,
+    seen: &Seen,
+) -> Result<Vec<ReaderSeat<u64>>, AllocError>
+    requires { seats.items ≡ row_from
+        (new_reader lanes.now.table.shared.table_id lanes.now.shape) 0 lanes.now.shape.readers }
+    ensures queue { IfOk result (λ v. Each
+        (IsReaderOf lanes.now.table.shared.table_id lanes.now.shape) v.items) }
+    ensures numbers { IfOk result (λ v. (q : ℕ) → q < lanes.now.shape.readers
+        → total_of (λ s. same s.number q) v.items ≡ 1) }
+{
+    thread::map_vec(
+        rt,
+        seats,
+        &|seat| -> ReaderSeat<u64>
+            requires { IsReaderOf lanes.now.table.shared.table_id lanes.now.shape seat }
+            ensures { IsReaderOf lanes.entry.now.table.shared.table_id lanes.entry.now.shape result
+                × (result.number ≡ seat.number) }
+        { take_all(rt, lanes, seat, seen) },
+    )
+}
+
+/// All threads run. The totals are those that `gather` answers, where all seats came back and the first reader has seen each
+/// lane at its end.
+pub fn pass_all<R: Threads + Wait + Sync>(
+    rt: &R,
+    lanes: Lanes<u64>,
+    writers: Vec<WriterSeat<u64>>,
+    readers: Vec<ReaderSeat<u64>>,
+    seen: &Seen,
+) -> Option<Totals>
+    requires writers { writers.items
+        ≡ row_from (new_writer lanes.table.shared.table_id lanes.shape) 0 lanes.shape.writers }
+    requires readers { readers.items
+        ≡ row_from (new_reader lanes.table.shared.table_id lanes.shape) 0 lanes.shape.readers }
+{
+    let queue = &lanes;
+    let (written, read) = thread::join(
+        rt,
+        move || -> Result<Vec<DoneSeat<u64>>, AllocError>
+            requires { writers.items
+                ≡ row_from (new_writer queue.now.table.shared.table_id queue.now.shape) 0 queue.now.shape.writers }
+            ensures queue { IfOk result (λ v. Each
+                (IsWriterOf queue.entry.now.table.shared.table_id queue.entry.now.shape) v.items) }
+            ensures numbers { IfOk result (λ v. (w : ℕ) → w < queue.entry.now.shape.writers
+                → total_of (λ s. same s.number w) v.items ≡ 1) }
+        { write(rt, queue, writers, seen) },
+        move || -> Result<Vec<ReaderSeat<u64>>, AllocError>
+            requires { readers.items
+                ≡ row_from (new_reader queue.now.table.shared.table_id queue.now.shape) 0 queue.now.shape.readers }
+            ensures queue { IfOk result (λ v. Each
+                (IsReaderOf queue.entry.now.table.shared.table_id queue.entry.now.shape) v.items) }
+            ensures numbers { IfOk result (λ v. (q : ℕ) → q < queue.entry.now.shape.readers
+                → total_of (λ s. same s.number q) v.items ≡ 1) }
+        { read(rt, queue, readers, seen) },
+    );
+    match (written, read) {
+        (Ok(done), Ok(back)) => gathered(lanes, done, back),
+        _ => None,
+    }
+}
