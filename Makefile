@@ -15,7 +15,7 @@ MAN = $(DESTDIR)$(PREFIX)/share/man/man1
 
 .PHONY: all count check recipes install uninstall fuzz hostile damaged devices limits threads bench merges clean
 
-all: count $(KMC_MERGE)
+all: count
 
 # call built,CRATE: what the program stands on is proved, several libraries at a time, then the program itself, and it is built
 define built
@@ -37,7 +37,7 @@ $(REFUSED) $(BODIES) $(MANY): ./%: $(SOURCES)
 	@echo "make: proving and building $* (some minutes the first time)"
 	$(call built,$*)
 
-count: $(KMC)
+count: $(KMC) $(KMC_MERGE)
 	@$(KMC) < examples/reads.fastq > examples/.counted
 	@cmp examples/.counted examples/reads.dump
 	@rm -f examples/.counted

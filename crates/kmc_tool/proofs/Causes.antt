@@ -1,6 +1,6 @@
 -- What holds of a refusal, at the cause that it has.
 use Rattle.std.proofs.Common.{◌≡◌, ◌≢◌, ℕ, ◌≤◌, List, ap, refl, sym, subst, arith}
-use Rattle.std.specs.Prelude.{Option, Result, Ok, Err, IfErr, IsErrAnd}
+use Rattle.std.specs.Prelude.{Option, Result, Ok, Err, IfErr, IfOk, OnOk, IsErrAnd}
 use Rattle.kmc_reads.specs.declared.format.Format.{Format}
 use Rattle.kmc_tool.specs.Rounds.{AreCountsOf, IsInputError}
 use Rattle.kmc_tool.specs.declared.error.RunError.{RunError}
@@ -24,6 +24,15 @@ most_by most before after failed fails run.Read h = omega (arith, h.2)
 most_by most before after failed fails run.Write h = absurd h
 most_by most before after failed fails (run.Input e) h = h.2
 most_by most before after failed fails run.TooLong h = omega (arith, h.2)
+
+-- where a refusal is passed on there is no answer
+pub no_answer : {A E : Type 0} {Q : E → Type 0} (P : A → Type 0) (r : Result A E) → IsErrAnd r Q → IfOk r P
+no_answer P (Ok x) is = absurd is
+no_answer P (Err x) is = tt
+
+pub not_ok : {A E : Type 0} {Q : E → Type 0} (P : Type 0) (r : Result A E) → IsErrAnd r Q → OnOk r P
+not_ok P (Ok x) is = absurd is
+not_ok P (Err x) is = tt
 
 pub same_err : {A E : Type 0} (r : Result A E) (e : E) → IsErrAnd r (λ x. x ≡ e) → r ≡ Err e
 same_err (Ok x) e is = absurd is

@@ -15,7 +15,6 @@ use crate::fault::Fault;
 use crate::running::run;
 use kmc_device::Counted;
 use kmc_options::{ParamsError, settings};
-use kmc_partqueue::NoGate;
 use kmc_reads::ReadsError;
 use std::alloc::Global;
 use std::env;
@@ -70,7 +69,7 @@ pub fn count<T: Threads + Wait + Sync, R: Read, W: Write>(
         (λ e. e ≢ Fault.Run RunError.Read → reader.new.failures ≡ reader.old.failures) }
 {
     let params = settings(alloc, argv)?;
-    match run(rt, alloc, reader, writer, &params, &NoGate) {
+    match run(rt, alloc, reader, writer, &params) {
         Ok(lines) => Ok(lines),
         Err(error) => Err(Fault::Run(error)),
     }

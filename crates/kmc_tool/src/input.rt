@@ -1,10 +1,6 @@
 //! From the bytes of a reader to the lists of their dump.
-ghost use Rattle.std.specs.Prelude.{◌≡◌, ◌+◌, ◌-◌, ◌^◌, ◌<◌, ◌≤◌, IfOk, IfErr, OnOk};
-ghost use Rattle.kmc_dump.specs.Listed.{spelled};
-ghost use Rattle.kmc_dump.specs.Lists.{lists_of};
-ghost use Rattle.kmc_dump.specs.Ranges.{CanBeMerged, whole};
-ghost use Rattle.kmc_tool.specs.Rounds.{AreCountsOf, IsInputError};
-ghost use Rattle.kmc_tool.specs.Run.{IsDumpOfInput};
+ghost use Rattle.std.specs.Prelude.{◌+◌, ◌-◌, ◌^◌, ◌<◌, ◌≤◌};
+ghost use Rattle.kmc_tool.specs.Run.{IsCountedInput};
 
 use crate::error::RunError;
 use crate::laws::{cut_reads_are_counted, held_reads_are_counted};
@@ -13,7 +9,7 @@ use crate::rounds::bins_of_input;
 use kmc_count::laws::pieces_are_counted_as_reads;
 use kmc_device::Counted;
 use kmc_dump::BinLists;
-use kmc_partqueue::Gate;
+use kmc_partqueue::{Gate, NoGate};
 use kmc_settings::Params;
 use std::alloc::Global;
 use std::io::Read;
@@ -23,10 +19,27 @@ use std::thread::Threads;
 /// A splitter cuts no more symbols at once: a longer read is dealt as pieces.
 pub const PIECE_SYMBOLS: usize = 1 << 16;
 
-/// Reads all that the reader gives, of which at most `max_reads` reads may give bytes, and counts its reads: lists of bins
-/// whose pairs, in the order of the words, are the dump of the direct count. A faulty text is refused once its first
-/// faulty line was read.
-pub fn count_input<T: Threads + Wait + Sync, R: Read, G: Gate + Sync>(
+/// So many reads of a reader may give bytes.
+pub(crate) const MOST_READS: u64 = 1 << 32;
+
+/// Reads all that the reader gives and counts its reads: lists of bins whose pairs, in the order of the words, are the dump
+/// of the direct count. A faulty text is refused once its first faulty line was read.
+pub fn count_input<T: Threads + Wait + Sync, R: Read>(
+    rt: &T,
+    alloc: Global,
+    reader: &mut Counted<R>,
+    params: &Params,
+) -> Result<BinLists, RunError>
+    requires failures { reader.old.failures < 2 ^ 64 - 1 }
+    requires reads { reader.old.reads + 2 ^ 32 < 2 ^ 64 }
+    ensures { IsCountedInput R.remaining params.now (2 ^ 32) reader.old reader.new result }
+{
+    count_input_with(rt, alloc, reader, params, &NoGate, MOST_READS)
+}
+
+/// [`count_input`] of a reader of which at most `max_reads` reads may give bytes. The gate is told of the points that the
+/// parts pass. Tests give a gate and a small number.
+pub fn count_input_with<T: Threads + Wait + Sync, R: Read, G: Gate + Sync>(
     rt: &T,
     alloc: Global,
     reader: &mut Counted<R>,
@@ -37,20 +50,7 @@ pub fn count_input<T: Threads + Wait + Sync, R: Read, G: Gate + Sync>(
     requires failures { reader.old.failures < 2 ^ 64 - 1 }
     requires reads { reader.old.reads + max_reads < 2 ^ 64 }
     requires most { max_reads ≤ 2 ^ 32 }
-    ensures merge { IfOk result (λ lists. CanBeMerged params.now.k (lists_of lists)) }
-    ensures dump { IfOk result (λ lists. IsDumpOfInput params.now.format params.now.strands params.now.k params.now.limits
-        (R.remaining reader.old.inner) (R.remaining reader.new.inner)
-        (spelled params.now.k (whole (lists_of lists)))) }
-    ensures sound { OnOk result ((reader.new.failures ≡ reader.old.failures)
-        × (reader.old.reads ≤ reader.new.reads)
-        × (reader.new.reads < reader.old.reads + max_reads)) }
-    ensures counts { IfErr result
-        (AreCountsOf
-        (reader.old.reads
-        + max_reads) reader.old.reads reader.new.reads reader.old.failures reader.new.failures) }
-    ensures cause { IfErr result
-        (IsInputError params.now.format max_reads (R.remaining reader.old.inner)
-        (R.remaining reader.new.inner)) }
+    ensures { IsCountedInput R.remaining params.now max_reads reader.old reader.new result }
 {
     held_reads_are_counted();
     cut_reads_are_counted();

@@ -1,7 +1,8 @@
 //! A run: the way from the bytes of a reader to the dump on a writer, and the program: from its arguments to the exit status,
 //! with the faults that a user is shown. It stands on `kmc_options` for the settings that the arguments give, on `kmc_reads`
 //! for the reads of a text, on `kmc_workers` for their parts in bins, and on `kmc_dump` for their lists and the dump. The layer
-//! above calls [`program`] with the process's reader and writer, or [`run`] with settings of its own.
+//! above calls [`program`] with the process's reader and writer, or [`run`] with settings of its own. Tests call
+//! [`run_with_gate`] and [`count_input_with`].
 #![tactic(auto)]
 
 mod arguments;
@@ -19,8 +20,8 @@ mod storing;
 pub use arguments::{count, program};
 pub use error::RunError;
 pub use fault::Fault;
-pub use input::{PIECE_SYMBOLS, count_input};
+pub use input::{PIECE_SYMBOLS, count_input, count_input_with};
 pub use listing::stage_two;
 pub use rounds::bins_of_input;
-pub use running::run;
+pub use running::{run, run_with_gate};
 pub use storing::{stage_one, store_reads};

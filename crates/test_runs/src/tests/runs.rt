@@ -8,7 +8,6 @@ mod rows;
 use super::settings::{BILLION, settings};
 use super::texts::assert_bytes;
 use kmc_device::Counted;
-use kmc_partqueue::NoGate;
 use kmc_settings::Params;
 use kmc_tool::{RunError, run};
 use std::alloc::{AllocError, Global};
@@ -53,7 +52,7 @@ fn run_between<R: Threads + Wait + Sync>(
 ) -> Outcome {
     let mut reader = Counted::new(reader);
     let mut writer = Counted::new(writer);
-    let answer = run(rt, alloc, &mut reader, &mut writer, params, &NoGate);
+    let answer = run(rt, alloc, &mut reader, &mut writer, params);
     let read_failures = reader.failures();
     let write_failures = writer.failures();
     Outcome {

@@ -126,7 +126,7 @@ fn run_flushing<R: Abort + Threads + Wait + Sync + Alloc<A = Global>>(
     assert!(rt; 1 <= piece);
     let mut reader = Counted::new(PieceReader::new(text, piece, 0));
     let mut writer = Counted::new(FlushCounter::new(Vec::new(rt.alloc()), failing));
-    let answer = run(rt, rt.alloc(), &mut reader, &mut writer, params, &NoGate);
+    let answer = run(rt, rt.alloc(), &mut reader, &mut writer, params);
     Flushed {
         answer,
         reads: reader.reads(),

@@ -4,6 +4,7 @@ use crate::tests::passes::Passes;
 use crate::tests::settings::sized;
 use crate::tests::texts::{direct_dump, vectors_of};
 use kmc_count::Limits;
+use kmc_tool::run_with_gate;
 
 /// How many splitters and storers there are, how many parts one splitter may have in the queue, and how many reads a chunk has.
 #[derive(Clone, Copy)]
@@ -108,7 +109,7 @@ fn run_through<R: Threads + Wait + Sync>(
     let mut reader = Counted::new(PieceReader::new(text, 1000, 0));
     let device = NarrowWriter::new(Vec::new(alloc), 1000, 1000, Full::Fails, true);
     let mut writer = Counted::new(device);
-    run(rt, alloc, &mut reader, &mut writer, params, passes)
+    run_with_gate(rt, alloc, &mut reader, &mut writer, params, passes)
 }
 
 /// Two reads, each a chunk of its own, give three parts each.

@@ -10,7 +10,7 @@ use Rattle.kmc_dump.specs.Ranges.{whole}
 use Rattle.kmc_settings.specs.Shape.{shape_of}
 use Rattle.kmc_tool.specs.declared.input.TheConstants.{PIECE_SYMBOLS}
 use Rattle.kmc_tool.proofs.SameCounts.{same_dump}
-use Rattle.kmc_tool.proofs.input.count_input.Goals as goal
+use Rattle.kmc_tool.proofs.input.count_input_with.Goals as goal
 
 within : {k : ℕ} → k ≤ 64 → k ≤ PIECE_SYMBOLS
 within le = omega (arith, le)
