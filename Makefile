@@ -13,7 +13,7 @@ MERGE_NAME := futoncrane-kmc-merge
 BIN = $(DESTDIR)$(PREFIX)/bin
 MAN = $(DESTDIR)$(PREFIX)/share/man/man1
 
-.PHONY: all count check recipes install uninstall fuzz hostile damaged devices limits threads bench merges clean
+.PHONY: all count check recipes install uninstall fuzz hostile damaged devices limits threads bench results merges clean
 
 all: count
 
@@ -89,6 +89,13 @@ threads: $(KMC) $(MANY)
 
 bench: $(KMC)
 	bench/compare.sh
+
+# measures all that documents tell, and writes it into bench/RESULTS.md, README.md and docs/DESIGN.md; `make results ONLY="kmc3 memory"`
+# measures these sections alone
+ONLY :=
+
+results: $(KMC) $(KMC_MERGE) $(REFUSED) $(BODIES) $(MANY)
+	bench/results.py $(ONLY)
 
 # random splits of random reads, against a plain count of all reads; and the time of a merge beside that of sort -m
 merges: $(KMC_MERGE)

@@ -1,21 +1,24 @@
 #!/bin/sh
-# Compares ./kmc with KMC 3 on simulated texts: the dumps byte for byte, wall and processor seconds, peak memory.
+# Compares ./kmc with KMC 3 on simulated texts: the dumps byte for byte, wall and processor seconds, peak memory. Prints a Markdown table.
 #
-# usage: bench/compare.sh [-k "25 31 55"] [-t "1 2 4"] [-r ROUNDS] [WORKLOAD ..]
+# usage: bench/compare.sh [-k "25 31 55"] [-t "1 4"] [-r ROUNDS] [WORKLOAD ..]
 #
-# Wants `kmc` and `kmc_tools` (Debian's package kmc) and GNU time. The workloads, all of them where none is named:
+# Wants `kmc` and `kmc_tools` (Debian's package kmc) and GNU time. The workloads, the first five where none is named:
 #
-#   short   1.5 million reads of 100 symbols from a genome of 5 million, FASTQ, 320 MB, words that occur twice or more
-#   long    10,000 reads of 5,000 to 25,000 symbols with errors in 5 of 100, FASTQ, 300 MB, words that occur twice or more
+#   short   1.5 million reads of 100 symbols from a genome of 5 million (30-fold), FASTQ, 325 MB, words that occur twice or more
+#   deep    the same from a genome of 1.7 million (88-fold)
+#   hifi    10,000 reads of 15,000 symbols from a genome of 5 million (30-fold) with errors in 2 of 1000
+#   long    10,000 reads of 5,000 to 25,000 symbols with errors in 5 of 100
 #   genome  five sequences of 20 million symbols, half of each twice, FASTA, 102 MB, all words
+#   alla    100 MB of the letter A in reads of 100, all words
 #
-# For each k and each number of threads (-spN -srN against -tN) the two programs run in turn, ROUNDS (3) times each, and
-# the best of each is printed with ours as a part of theirs. KMC's time is that of `kmc -r` and the sorted dump together,
-# its memory the greater of the two. The texts are made once, in $TMPDIR or /tmp.
+# For each k and each number of threads (-spN -srN against -tN) ours and both modes of KMC run in turn, ROUNDS (3) times each. KMC's modes are
+# `kmc -r`, in memory, and `kmc`, with files. The sorted dump is part of its time, and its memory is the greater of the two programs'.
+# The row has the best of ours and the better mode of theirs. The texts are made once, in $TMPDIR or /tmp.
 set -eu
 top=$(cd "$(dirname "$0")/.." && pwd)
-ks="25 31 55"
-counts="1 2 4"
+ks="25"
+counts="1 4"
 rounds=3
 while getopts k:t:r: option; do
     case $option in
@@ -35,8 +38,11 @@ text_of() {
     if [ ! -f "$name" ]; then
         case $1 in
             short) python3 "$top/bench/simulate_reads.py" 1500000 100 5000000 1 > "$name.part" ;;
+            deep) python3 "$top/bench/simulate_reads.py" 1500000 100 1700000 5 > "$name.part" ;;
+            hifi) python3 "$top/bench/simulate_reads.py" 10000 15000 5000000 4 0.002 > "$name.part" ;;
             long) python3 "$top/bench/simulate_reads.py" 10000 5000-25000 5000000 2 0.05 > "$name.part" ;;
             genome) python3 "$top/bench/simulate_genome.py" 5 20000000 3 > "$name.part" ;;
+            alla) python3 -c 'a = "A" * 100; [print("@r\n%s\n+\n%s" % (a, a)) for _ in range(500000)]' > "$name.part" ;;
             *) echo "compare.sh: no workload $1" >&2; return 2 ;;
         esac
         mv "$name.part" "$name"
@@ -48,6 +54,7 @@ text_of() {
 options_of() {
     case $1 in
         genome) echo "-fm -ci1" ;;
+        alla) echo "-fq -ci1" ;;
         *) echo "-fq -ci2" ;;
     esac
 }
@@ -59,13 +66,25 @@ timed() {
     /usr/bin/time -a -o "$work/$name.times" -f '%e %U %M' sh -c "$*"
 }
 
+# theirs MODE OPTIONS THREADS TEXT: KMC 3 and its sorted dump
+theirs() {
+    mkdir -p "$work/files"
+    timed "$1_$3" "kmc $2 -t$3 $4 $work/base $work/files > $work/log 2>&1 && kmc_tools -t$3 transform $work/base dump -s $work/theirs.dump > $work/log 2>&1"
+}
+
 # best NAME: the line of the least wall time, memory in MB
 best() {
     sort -n "$work/$1.times" | head -1 | awk '{ printf "%.2f %.2f %.0f", $1, $2, $3 / 1024 }'
 }
 
-echo "workload  k  threads  ours: wall s, user s, MB     KMC 3: wall s, user s, MB     ours / KMC 3: wall, memory"
-[ $# -gt 0 ] || set -- short long genome
+# better THREADS: the mode of KMC that took less, with its figures
+better() {
+    { echo "$(best "memory_$1") memory"; echo "$(best "files_$1") files"; } | sort -n | head -1
+}
+
+echo "| text | k | threads | ours: wall s | user s | MB | KMC 3: wall s | user s | MB | its mode | wall, ours / KMC 3 | memory |"
+echo "|---|---|---|---|---|---|---|---|---|---|---|---|"
+[ $# -gt 0 ] || set -- short deep hifi long genome
 for workload in "$@"; do
     text=$(text_of "$workload")
     options=$(options_of "$workload")
@@ -75,15 +94,16 @@ for workload in "$@"; do
         while [ "$round" -lt "$rounds" ]; do
             for threads in $counts; do
                 timed "ours_$threads" "$top/kmc -k$k $options -sp$threads -sr$threads < $text > $work/ours.dump"
-                timed "kmc3_$threads" "kmc -k$k $options -r -t$threads $text $work/base $work > /dev/null 2>&1 && kmc_tools -t$threads transform $work/base dump -s $work/theirs.dump > /dev/null 2>&1"
+                theirs memory "-k$k $options -r" "$threads" "$text"
+                cmp "$work/ours.dump" "$work/theirs.dump"
+                theirs files "-k$k $options" "$threads" "$text"
                 cmp "$work/ours.dump" "$work/theirs.dump"
             done
             round=$((round + 1))
         done
         for threads in $counts; do
-            echo "$workload $k $threads $(best "ours_$threads") $(best "kmc3_$threads")" |
-                awk '{ printf "%-8s %2d %8d  %10s %7s %6s  %16s %8s %6s  %17.2f %10.2f\n", $1, $2, $3, $4, $5, $6, $7, $8, $9, $4 / $7, $6 / $9 }'
+            echo "$workload $k $threads $(best "ours_$threads") $(better "$threads")" |
+                awk '{ printf "| %s | %s | %s | %s | %s | %s | %s | %s | %s | %s | %.2f | %.2f |\n", $1, $2, $3, $4, $5, $6, $7, $8, $9, $10, $4 / $7, $6 / $9 }'
         done
     done
 done
-echo "all dumps are equal, byte for byte"

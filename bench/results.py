@@ -1,0 +1,130 @@
+#!/usr/bin/env python3
+"""Runs the scripts that measure, and writes what they print: bench/RESULTS.md, and the tables of figures in README.md and docs/DESIGN.md.
+
+usage: make results    (or bench/results.py [SECTION ..], to measure some sections and keep the others)
+
+The sections are those of the list below, in order. Programs run in turn, but nothing else should run beside them: the machine's load at the
+beginning and at the end of each section is written down. All of it takes some forty minutes. Wants what the scripts want.
+"""
+import os
+import re
+import subprocess
+import sys
+import time
+
+TOP = os.path.dirname(os.path.dirname(os.path.abspath(__file__)))
+RESULTS = os.path.join(TOP, "bench", "RESULTS.md")
+
+# name, heading, command, whether the last line alone is kept
+SECTIONS = [
+    ("kmc3", "Time and memory beside KMC 3, k 25", ["bench/compare.sh"], False),
+    ("k", "Other lengths of words, short reads", ["bench/compare.sh", "-k", "9 31 55", "-t", "4", "short"], False),
+    ("skew", "One letter throughout", ["bench/compare.sh", "-t", "4", "-r", "2", "alla"], False),
+    ("memory", "Memory", ["bench/memory.sh"], False),
+    ("merge", "Merging two dumps of 5.6 million lines", ["bench/merge_time.sh"], True),
+    ("fuzz", "Hostile texts and options (make fuzz)", ["bench/fuzz.py", "--seed", "7"], True),
+    ("hostile", "Refused memory (make hostile)", ["bench/hostile.py"], True),
+    ("damaged", "Damaged bodies (make damaged)", ["bench/damaged.py", "--seed", "5"], True),
+    ("devices", "Devices (make devices)", ["bench/devices.py"], True),
+    ("limits", "Limits of the system (make limits)", ["bench/system_limits.sh"], True),
+    ("threads", "Load (make threads)", ["bench/hostile_threads.sh"], True),
+    ("merges", "Merges of random parts (make merges)", ["bench/merge.py", "--seed", "3"], True),
+]
+
+
+def run(words):
+    """What a command prints, with its last line where it fails."""
+    done = subprocess.run(words, cwd=TOP, stdout=subprocess.PIPE, stderr=subprocess.STDOUT, text=True, stdin=subprocess.DEVNULL, check=False)
+    lines = done.stdout.rstrip().splitlines() or [""]
+    if done.returncode:
+        lines.append("(%s ended with status %d)" % (words[0], done.returncode))
+    return lines
+
+
+def load():
+    with open("/proc/loadavg") as file:
+        return file.read().split()[0]
+
+
+def machine():
+    """The processor, how many, and how much memory."""
+    with open("/proc/cpuinfo") as file:
+        model = re.search(r"model name\s*: (.*)", file.read())
+    with open("/proc/meminfo") as file:
+        memory = int(re.search(r"MemTotal:\s*(\d+)", file.read()).group(1)) / 2**20
+    return "%s, %d processors, %.0f GiB" % (model.group(1) if model else "processor unknown", os.cpu_count(), memory)
+
+
+def version():
+    with open(os.path.join(TOP, "CHANGELOG.md")) as file:
+        return file.readline().strip("# \n").split()[0]
+
+
+def section(name, heading, words, last):
+    """The text of one section."""
+    before, start = load(), time.time()
+    lines = run(words)
+    body = lines[-1:] if last else lines
+    told = "%s, version %s, %s; load %s before and %s after; %d s" % (
+        time.strftime("%Y-%m-%d"), version(), "`%s`" % " ".join(words), before, load(), time.time() - start)
+    return "<!-- %s: begin -->\n## %s\n\n%s\n\n%s\n<!-- %s: end -->\n" % (name, heading, told, "\n".join(body), name)
+
+
+def kept():
+    """The sections that stand in the file, by name."""
+    if not os.path.exists(RESULTS):
+        return {}
+    with open(RESULTS) as file:
+        text = file.read()
+    return {found.group(1): found.group(0) for found in re.finditer(r"<!-- (\w+): begin -->\n.*?<!-- \1: end -->\n", text, re.S)}
+
+
+def put(path, name, lines):
+    """Puts lines between the marks of this name."""
+    with open(path) as file:
+        text = file.read()
+    new = re.sub(r"(<!-- %s: begin -->\n).*?(<!-- %s: end -->)" % (name, name), lambda found: found.group(1) + "\n".join(lines) + "\n" + found.group(2), text, flags=re.S)
+    with open(path, "w") as file:
+        file.write(new)
+
+
+def rows_of(sections, name):
+    return [line for line in sections.get(name, "").splitlines() if line.startswith("|")]
+
+
+def told_of(sections, name):
+    """When and with which version a section was measured."""
+    found = re.search(r"^(\d{4}-\d\d-\d\d, version [\d.]+)", sections.get(name, ""), re.M)
+    return found.group(1) if found else "not measured"
+
+
+def headline(sections):
+    """README's table: short, deep, hifi, long reads and the genome with four threads."""
+    lines = ["| four threads, k 25 | ours: wall s | user s | MB | KMC 3: wall s | user s | MB | wall, ours / KMC 3 | memory |", "|---|---|---|---|---|---|---|---|---|"]
+    for row in rows_of(sections, "kmc3")[2:]:
+        cells = [cell.strip() for cell in row.strip("|").split("|")]
+        if cells[2] == "4":
+            lines.append("| " + " | ".join([cells[0]] + cells[3:9] + cells[10:]) + " |")
+    lines.append("")
+    lines.append("KMC 3.2.1 in the faster of its two modes (in memory, with files), its sorted dump included; dumps equal byte for byte. Short reads: 1.5 million")
+    lines.append("of 100, 30-fold; deep: 88-fold; hifi: 10,000 of 15,000, 2 errors in 1000; long: 5 in 100; genome: 100 million symbols, `-ci1`. Measured")
+    lines.append("%s (`make results`), on %s;" % (told_of(sections, "kmc3"), machine()))
+    lines.append("[bench/RESULTS.md](bench/RESULTS.md) has more.")
+    return lines
+
+
+def main():
+    wanted = sys.argv[1:] or [name for name, _, _, _ in SECTIONS]
+    sections = kept()
+    for name, heading, words, last in SECTIONS:
+        if name in wanted:
+            print("results: %s" % heading, flush=True)
+            sections[name] = section(name, heading, words, last)
+            head = "# Results\n\nWritten by `make results` (bench/results.py). %s. MB are 2^20 bytes where KMC 3 stands beside, else a million.\n\n" % machine()
+            with open(RESULTS, "w") as file:
+                file.write(head + "\n".join(sections[each] for each, _, _, _ in SECTIONS if each in sections))
+    put(os.path.join(TOP, "README.md"), "headline", headline(sections))
+    put(os.path.join(TOP, "docs", "DESIGN.md"), "figures", ["%s, on %s." % (told_of(sections, "kmc3"), machine()), ""] + rows_of(sections, "kmc3"))
+
+
+main()
