@@ -1,6 +1,6 @@
 -- What an exit status says of an answer.
 use Rattle.std.proofs.Common.{◌≡◌, ◌≢◌, ◌≤◌, ◌⊎◌, ℕ, inl, inr, refl, subst, arith}
-use Rattle.std.specs.Prelude.{Result, Ok, Err, IfErr, IsErrOf}
+use Rattle.std.specs.Prelude.{Result, Ok, Err, IfErr, IfOk, IsErrOf}
 use Rattle.kmc_tool.specs.Status.{status_of_answer}
 use Rattle.kmc_tool.specs.declared.fault.Fault.{Fault}
 use Rattle.kmc_tool.specs.declared.fault.Fault.TheVariants.{Options, Run}
@@ -36,3 +36,15 @@ one_or_other (Err (Run run.Read)) h p q = inl (p (λ is. absurd (cc)))
 one_or_other (Err (Run run.Write)) h p q = inr (q refl)
 one_or_other (Err (Run (run.Input e))) h p q = inl (p (λ is. absurd (cc)))
 one_or_other (Err (Run run.TooLong)) h p q = inl (p (λ is. absurd (cc)))
+
+-- status 0 comes of an answer alone
+pub record IsAnswer (r : Result ℕ Fault) : Type 1 where
+  pub lines : ℕ
+  pub of_ok : (P : ℕ → Type 0) → IfOk r P → P lines
+
+pub done_only : (r : Result ℕ Fault) → status_of_answer r ≡ 0 → IsAnswer r
+done_only (Ok lines) h = record { lines = lines; of_ok = λ P p. p }
+done_only (Err (Options Usage)) h = absurd (omega arith)
+done_only (Err (Options (OutOfRange s))) h = absurd (omega arith)
+done_only (Err (Options Memory)) h = absurd (omega arith)
+done_only (Err (Run e)) h = absurd (omega arith)

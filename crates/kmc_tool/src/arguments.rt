@@ -7,7 +7,7 @@ ghost use Rattle.kmc_tool.specs.Rounds.{IsRefused};
 ghost use Rattle.kmc_settings.specs.Words.{Word};
 ghost use Rattle.kmc_options.specs.Glued.{long_forms};
 ghost use Rattle.kmc_options.specs.Options.{Explains};
-ghost use Rattle.kmc_tool.specs.Program.{IsAnswered, IsAsked};
+ghost use Rattle.kmc_tool.specs.Program.{IsAnswered, IsAsked, IsDone, LeavesFront};
 ghost use Rattle.kmc_tool.specs.Status.{status_of_answer};
 
 use crate::error::RunError;
@@ -100,10 +100,32 @@ fn arguments<T: Env + Alloc<A = Global>>(rt: &T) -> Result<Vec<String>, ParamsEr
     Ok(arguments.collect(rt.alloc())?)
 }
 
-/// The whole program: counts the reads of the reader by the settings that the process's arguments give, and writes
+/// The program over the words behind its name: counts the reads of the reader by the settings that they give, and writes
 /// their dump; a fault is shown in one line on standard error, but for a write to a pipe whose other end is closed, of which
-/// the status alone tells. The exit status is 0 where the dump was written, 2 where the command line is at fault, and else 1;
-/// then nothing was written, or a write failed.
+/// the status alone tells. The exit status is 0 where the dump was written and no device failed, 2 where the words are at
+/// fault, and else 1; then nothing was written, or a write failed and a front of the dump is out.
+pub fn program_of<T: Threads + Wait + Sync + Eprint + Alloc<A = Global>, R: Read, W: Write>(
+    rt: &T,
+    argv: Vec<String>,
+    reader: &mut Counted<R>,
+    writer: &mut Counted<W>,
+) -> ExitCode
+    requires reader { reader.old.failures < 2 ^ 64 - 1 }
+    requires writer { writer.old.failures < 2 ^ 64 - 1 }
+    requires reads { reader.old.reads + 2 ^ 32 < 2 ^ 64 }
+    ensures done { exit_status result ≡ 0
+        → IsDone (long_forms (map string_bytes argv.items)) R.remaining W.contents reader.old reader.new writer.old writer.new }
+    ensures failed { exit_status result ≡ 1 → (writer.new ≡ writer.old)
+        ⊎ LeavesFront (long_forms (map string_bytes argv.items)) R.remaining W.contents reader.old reader.new writer.old writer.new }
+    ensures misused { exit_status result ≡ 2 → ((e : ParamsError) × Explains (long_forms (map string_bytes argv.items)) e)
+        × (reader.new ≡ reader.old) × (writer.new ≡ writer.old) }
+    ensures statuses { exit_status result ≤ 2 }
+{
+    let answer = count(rt, rt.alloc(), argv, reader, writer);
+    ended(rt, answer, writer.is_pipe_closed())
+}
+
+/// The whole program: [`program_of`] over the process's arguments. No contract says which words the process was given.
 pub fn program<T: Threads + Wait + Sync + Env + Eprint + Alloc<A = Global>, R: Read, W: Write>(
     rt: &T,
     reader: &mut Counted<R>,
@@ -112,21 +134,16 @@ pub fn program<T: Threads + Wait + Sync + Env + Eprint + Alloc<A = Global>, R: R
     requires reader { reader.old.failures < 2 ^ 64 - 1 }
     requires writer { writer.old.failures < 2 ^ 64 - 1 }
     requires reads { reader.old.reads + 2 ^ 32 < 2 ^ 64 }
-    ensures done { exit_status result ≡ 0 → (words : List Word) × (bytes text : List ℕ)
-        × (lines : ℕ)
-        × GaveAll (R.remaining reader.old.inner) (R.remaining reader.new.inner) bytes
-        × IsAnswered words bytes text lines
-        × Appends (W.contents writer.old.inner) (W.contents writer.new.inner) text }
+    ensures done { exit_status result ≡ 0 → (words : List Word)
+        × IsDone words R.remaining W.contents reader.old reader.new writer.old writer.new }
     ensures failed { exit_status result ≡ 1 → (writer.new ≡ writer.old)
-        ⊎ (writer.new.failures ≡ writer.old.failures + 1) }
+        ⊎ ((words : List Word) × LeavesFront words R.remaining W.contents reader.old reader.new writer.old writer.new) }
     ensures misused { exit_status result ≡ 2 → (reader.new ≡ reader.old)
         × (writer.new ≡ writer.old) }
     ensures statuses { exit_status result ≤ 2 }
 {
-    let argv = match arguments(rt) {
-        Ok(argv) => argv,
-        Err(error) => return ended(rt, Err(Fault::from(error)), false),
-    };
-    let answer = count(rt, rt.alloc(), argv, reader, writer);
-    ended(rt, answer, writer.is_pipe_closed())
+    match arguments(rt) {
+        Ok(argv) => program_of(rt, argv, reader, writer),
+        Err(error) => ended(rt, Err(Fault::from(error)), false),
+    }
 }

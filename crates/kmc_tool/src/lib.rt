@@ -17,7 +17,7 @@ mod rounds;
 mod running;
 mod storing;
 
-pub use arguments::{count, program};
+pub use arguments::{count, program, program_of};
 pub use error::RunError;
 pub use fault::Fault;
 pub use input::{PIECE_SYMBOLS, count_input, count_input_with};
