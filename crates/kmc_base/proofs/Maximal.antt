@@ -7,8 +7,8 @@ use Rattle.std.specs.List.{filter, AllByRecursion}
 use Rattle.kmc_base.specs.Words.{code_of, codes_of, window}
 use Rattle.kmc_base.specs.Stretches.{Stretch, with_place, stretches_from, segments_of, led_by, leading}
 use Rattle.kmc_base.specs.Places.{IsSegment}
-use Rattle.kmc_base.proofs.Stretching.{Apart}
-use Rattle.kmc_base.proofs.Counted.{IsLed, led}
+use Rattle.kmc_base.specs.Lemmas.Stretching.{Apart}
+use Rattle.kmc_base.specs.Lemmas.Counted.{IsLed, led}
 
 -- ---- stretches rise
 
@@ -95,7 +95,8 @@ alone a b c bs is none = record {
         pick (Some x) r e = absurd (omega (arith, ap length e))
 
 -- one base more in front of a stretch
-joined : (a b c : ℕ) (bs : List ℕ) (s : Stretch) → code_of b ≡ Some c → s.start ≡ a + 1 → Within (a + 1) bs s → Within a (b ∷ bs) (record { start = a; codes = c ∷ s.codes })
+joined : (a b c : ℕ) (bs : List ℕ) (s : Stretch) → code_of b ≡ Some c → s.start ≡ a + 1 → Within (a + 1) bs s → Within a (b ∷ bs)
+    (record { start = a; codes = c ∷ s.codes })
 joined a b c bs s is at h = go h.place (omega (arith, h.start, at)) h.inside h.bases h.behind
   where
     go : (p : ℕ) → p ≡ 0 → p + length s.codes ≤ length bs → codes_of (window (length s.codes) bs p) ≡ Some s.codes
@@ -116,19 +117,22 @@ all_within : (a : ℕ) (bs : List ℕ) → AllWithin a bs (stretches_from a bs)
 all_within a [] = tt
 all_within a (b ∷ bs) = go (code_of b) refl (stretches_from (a + 1) bs) (led (a + 1) bs) (rise_from (a + 1) bs) (all_within (a + 1) bs)
   where
-    beside : (c : ℕ) → code_of b ≡ Some c → (ss : List Stretch) → leading bs ≡ [] → Apart (a + 1) ss → AllFrom (a + 1) ss → Rise ss → AllWithin (a + 1) bs ss → AllWithin a (b ∷ bs) (with_place a (Some c) ss)
+    beside : (c : ℕ) → code_of b ≡ Some c → (ss : List Stretch) → leading bs ≡ [] → Apart (a + 1) ss → AllFrom (a + 1) ss → Rise ss → AllWithin
+        (a + 1) bs ss → AllWithin a (b ∷ bs) (with_place a (Some c) ss)
     beside c is [] none apart from rise h = (alone a b c bs is none, tt)
     beside c is (s ∷ ss) none apart from rise h =
         let other : (s.start == a + 1) ≡ false = ne_eqb s.start (a + 1) (λ e. omega arith) in
         let later : AllFrom (a + 2) (s ∷ ss) = (omega (arith, apart), from_less (s.start + 1) (a + 2) ss (omega (arith, apart)) rise.0) in
         rw other (alone a b c bs is none, later_moved a b bs (s ∷ ss) later h)
 
-    behind_it : (c : ℕ) → code_of b ≡ Some c → (s : Stretch) (ss : List Stretch) → s.start ≡ a + 1 → Rise (s ∷ ss) → AllWithin (a + 1) bs (s ∷ ss) → AllWithin a (b ∷ bs) (with_place a (Some c) (s ∷ ss))
+    behind_it : (c : ℕ) → code_of b ≡ Some c → (s : Stretch) (ss : List Stretch) → s.start ≡ a + 1 → Rise (s ∷ ss) → AllWithin (a + 1) bs (s ∷ ss)
+        → AllWithin a (b ∷ bs) (with_place a (Some c) (s ∷ ss))
     behind_it c is s ss at rise h =
         let same : (s.start == a + 1) ≡ true = eq-eqb s.start (a + 1) at in
         rw same (joined a b c bs s is at h.0, later_moved a b bs ss (from_less (s.start + 1) (a + 2) ss (omega (arith, at)) rise.0) h.1)
 
-    go : (o : Option ℕ) → code_of b ≡ o → (ss : List Stretch) → IsLed (a + 1) (leading bs) ss → AllFrom (a + 1) ss × Rise ss → AllWithin (a + 1) bs ss → AllWithin a (b ∷ bs) (with_place a o ss)
+    go : (o : Option ℕ) → code_of b ≡ o → (ss : List Stretch) → IsLed (a + 1) (leading bs) ss → AllFrom (a + 1) ss × Rise ss → AllWithin
+        (a + 1) bs ss → AllWithin a (b ∷ bs) (with_place a o ss)
     go None e ss l r h = all_moved a b bs ss e h
     go (Some c) e ss (inl l) r h = beside c e ss l.0 l.1 r.0 r.1 h
     go (Some c) e ss (inr l) r h =
@@ -149,7 +153,8 @@ is_segment k read s long h =
       behind = λ less. ap (λ p. code_of (get_or read (p + length s.codes) 0)) (sym at) ∙ h.behind (omega (arith, at, less));
     }
 
-long_are_segments : (k : ℕ) (read : List ℕ) (ss : List Stretch) → AllWithin 0 read ss → AllByRecursion (IsSegment k read) (filter (λ s. nat_le k (length s.codes)) ss)
+long_are_segments : (k : ℕ) (read : List ℕ) (ss : List Stretch) → AllWithin 0 read ss → AllByRecursion (IsSegment k read)
+    (filter (λ s. nat_le k (length s.codes)) ss)
 long_are_segments k read [] h = tt
 long_are_segments k read (s ∷ ss) h = go (nat_le k (length s.codes)) refl (long_are_segments k read ss h.1)
   where

@@ -34,7 +34,8 @@ OneCanonicalForm = (w : List ℕ) → All (λ c. c < 4) w → canonical (rev_com
 -- the counted places of a read's pieces, each moved on by where its piece begins, are those of the read, in order
 abbrev pub PiecesAreCounted : Type 0
 PiecesAreCounted = (k l : ℕ) (read : List ℕ) → 1 ≤ k → k ≤ l
-    → flat_map (λ c. map (moved_on (c * step_of k l)) (counted_words k (piece k l read c))) (range_with_len 0 (piece_count k l (length read))) ≡ counted_words k read
+    → flat_map (λ c. map (moved_on (c * step_of k l)) (counted_words k (piece k l read c))) (range_with_len 0 (piece_count k l (length read)))
+        ≡ counted_words k read
 
 -- the keys of the words at the counted places of the pieces, one after another, are those of the read
 abbrev pub KeysOfPieces : Type 0

@@ -5,3 +5,8 @@ pub mod Packs
 pub mod Powers
 pub mod Rolling
 pub mod Keys
+pub mod Stretching
+pub mod Counted
+pub mod Ranges
+pub mod Orders
+pub mod Windows

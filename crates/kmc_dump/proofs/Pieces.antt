@@ -6,7 +6,7 @@ use Rattle.std.proofs.lemmas.List.{take-append-drop, take_more}
 use Rattle.std.proofs.lemmas.Grind.{flat_map-append}
 use Rattle.std.proofs.KnownBytes.{Appends-trans, Appends-kept}
 use Rattle.kmc_device.specs.Device.{AppendsFront}
-use Rattle.kmc_device.proofs.Devices.{front_after, front_of}
+use Rattle.kmc_device.specs.Lemmas.Devices.{front_after, front_of}
 use Rattle.kmc_dump.specs.Listed.{Listed}
 use Rattle.kmc_dump.specs.Ranges.{range_text}
 use Rattle.kmc_dump.proofs.Texts.{texts_join, wave_text, climb}

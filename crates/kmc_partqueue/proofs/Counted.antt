@@ -4,12 +4,8 @@ use mathlib.Core.Logic.{dite}
 use native.Mathlib.Decide.{ℕ_discrete}
 use Rattle.std.specs.Prelude.{Option, Some, None, slice_get}
 use Rattle.kmc_partqueue.specs.Seats.{AreKeptTotals}
+use Rattle.kmc_partqueue.specs.Lemmas.Sums.{get_at}
 use Rattle.kmc_partqueue.proofs.ReaderCalls.{set_same, set_rest}
-
-pub get_at : {A : Type 0} (l : List A) (i : ℕ) (d : A) → i < length l → slice_get l i ≡ Some (get_or l i d)
-get_at [] i d lt = absurd (omega arith)
-get_at (x ∷ l) zero d lt = refl
-get_at (x ∷ l) (suc i) d lt = get_at l i d (omega arith)
 
 take_at : {A : Type 0} (n : ℕ) (l : List A) (i : ℕ) → i < n → slice_get (take n l) i ≡ slice_get l i
 take_at zero l i lt = absurd (omega arith)

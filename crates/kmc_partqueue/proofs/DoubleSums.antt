@@ -4,7 +4,7 @@ use Rattle.std.proofs.Math.Nat.{add-mul}
 use Rattle.std.specs.List.{sum_by}
 use Rattle.std.proofs.lemmas.List.Sums.{sum_by-cons}
 use Rattle.kmc_partqueue.specs.Counts.{Each, total_of}
-use Rattle.kmc_partqueue.proofs.Sums.{each_map}
+use Rattle.kmc_partqueue.specs.Lemmas.Sums.{each_map}
 
 module _ {A : Type 0} where
   -- the terms of the members are equal
@@ -35,7 +35,9 @@ module _ {A B : Type 0} (list : A → List B) (l : List A) where
 
   pub over_same : (f g : B → ℕ) → Each (λ (x : A). Each (λ (y : B). f y ≡ g y) (list x)) l → over f ≡ over g
   over_same f g e =
-      same_terms (λ (x : A). total_of f (list x)) (λ (x : A). total_of g (list x)) l (each_map (λ (x : A). Each (λ (y : B). f y ≡ g y) (list x)) (λ (x : A). total_of f (list x) ≡ total_of g (list x)) (λ x p. same_terms f g (list x) p) l e)
+      same_terms (λ (x : A). total_of f (list x)) (λ (x : A). total_of g (list x)) l
+          (each_map (λ (x : A). Each (λ (y : B). f y ≡ g y) (list x)) (λ (x : A). total_of f (list x) ≡ total_of g (list x))
+          (λ x p. same_terms f g (list x) p) l e)
 
   pub over_zero : over (λ (y : B). 0) ≡ 0
   over_zero = (λ j. total_of (λ (x : A). zero_terms (list x) j) l) ∙ zero_terms l

@@ -1,7 +1,7 @@
 -- Seats that were popped from a list, one after the other, and joined to one seat.
 use Rattle.std.proofs.Common.{◌≡◌, List, [], ◌∷◌, ◌++◌, refl, sym, ap, ◌∙◌, subst, append_assoc}
 use Rattle.kmc_partqueue.specs.Counts.{Each}
-use Rattle.kmc_partqueue.proofs.Sums.{each_split, append_none}
+use Rattle.kmc_partqueue.specs.Lemmas.Sums.{each_split, append_none}
 
 -- of the seats `given` those in `left` are left. The joined seat had the views `old`, and has `now`
 pub record Joined {S V : Type 0} (Is : S → Type 0) (Tell : List V → List S → Type 0) (old now : List V) (given left : List S) : Type 0 where
@@ -27,7 +27,3 @@ module _ {S V : Type 0} (Is : S → Type 0) (Tell : List V → List S → Type 0
     grown = grows ∙ ap (λ z. v ∷ z) j.grown;
     told = tells j.views j.popped j.told;
   }
-
-  pub joins_all : (now : List V) (left : List S) → Joined Is Tell old now given left → left ≡ []
-      → (vs : List V) × (now ≡ vs ++ old) × Tell vs given
-  joins_all now left j none = (j.views, j.grown, subst (Tell j.views) (sym (j.split ∙ ap (λ z. z ++ j.popped) none)) j.told)

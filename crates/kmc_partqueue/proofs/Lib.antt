@@ -1,6 +1,4 @@
-pub mod Sums
 pub mod Members
-pub mod Numbered
 pub mod Turns
 pub mod OneLane
 pub mod Frame

@@ -10,7 +10,7 @@ use Rattle.kmc_partqueue.specs.Rule.{is_entry, Rises}
 use Rattle.kmc_partqueue.specs.Seats.{WriterState, ReaderState}
 use Rattle.kmc_partqueue.specs.Gathered.{in_list, IsGathered}
 use Rattle.kmc_partqueue.specs.Laws.{GatheredLaw}
-use Rattle.kmc_partqueue.proofs.Sums.{same_refl, same_ne, total_two, each_map}
+use Rattle.kmc_partqueue.specs.Lemmas.Sums.{same_refl, same_ne, total_two, each_map}
 use Rattle.kmc_partqueue.proofs.Final.{each_at, total_only}
 use Rattle.kmc_partqueue.proofs.DoubleSums.{same_terms, over, over_same, over_zero, over_added, over_scaled, over_exchanged, over_is_sum}
 
@@ -86,7 +86,8 @@ module _ {T : Type 0} (F : T → ℕ) where
     -- what was got falls to its writer, and to no other
     shared_out : Each Apart writers → (e : Received T) → Stands e → total_of (share_of e) writers ≡ F e.item
     shared_out apart e (s, (i, among), writer, item) =
-        total_only (share_of e) writers i s at (λ j t other there. no_share e t.number 0 t.sent (λ n le. of_other_writer e t.number n (λ is. other_number i j s t (each_at Apart writers apart i s among) other at there (writer ∙ is))))
+        total_only (share_of e) writers i s at (λ j t other there. no_share e t.number 0 t.sent
+            (λ n le. of_other_writer e t.number n (λ is. other_number i j s t (each_at Apart writers apart i s among) other at there (writer ∙ is))))
         ∙ whole_share e s.number 0 e.number s.sent (sym writer) (omega arith) item
       where
         at : get_elem? writers i ≡ some s
@@ -98,7 +99,8 @@ module _ {T : Type 0} (F : T → ℕ) where
     falls_to w i [] once = over_zero (λ (r : ReaderState T). r.got) readers
     falls_to w i (x ∷ l) once =
         over_added (λ (r : ReaderState T). r.got) readers (λ (e : Received T). is_entry w i e * F x) (λ (e : Received T). share e w (suc i) l)
-        ∙ ap₂ (λ (m n : ℕ). m + n) (over_scaled (λ (r : ReaderState T). r.got) readers (is_entry w i) (F x) ∙ ap (λ (n : ℕ). n * F x) (once i (omega arith) (omega arith)) ∙ single)
+        ∙ ap₂ (λ (m n : ℕ). m + n) (over_scaled (λ (r : ReaderState T). r.got) readers (is_entry w i) (F x) ∙ ap (λ (n : ℕ). n * F x)
+            (once i (omega arith) (omega arith)) ∙ single)
         (falls_to w (suc i) l (λ n le lt. once n (omega arith) (omega arith)))
       where
         single : 1 * F x ≡ F x
@@ -113,12 +115,16 @@ module _ {T : Type 0} (F : T → ℕ) where
       where
         each_got : Each (λ (r : ReaderState T). Each (λ (e : Received T). total_of (share_of e) writers ≡ F e.item) r.got) readers
         each_got =
-            each_map (λ (r : ReaderState T). Each Stands r.got × Rises r.got) (λ (r : ReaderState T). Each (λ (e : Received T). total_of (share_of e) writers ≡ F e.item) r.got) (λ r p. each_map Stands (λ (e : Received T). total_of (share_of e) writers ≡ F e.item) (shared_out apart) r.got p.0) readers all.others
+            each_map (λ (r : ReaderState T). Each Stands r.got × Rises r.got)
+                (λ (r : ReaderState T). Each (λ (e : Received T). total_of (share_of e) writers ≡ F e.item) r.got)
+                (λ r p. each_map Stands (λ (e : Received T). total_of (share_of e) writers ≡ F e.item) (shared_out apart) r.got p.0) readers all.others
 
         each_sent : Each (λ (s : WriterState T). over_got (λ (e : Received T). share_of e s) ≡ total_of F s.sent) writers
         each_sent =
-            each_map GotOnce (λ (s : WriterState T). over_got (λ (e : Received T). share_of e s) ≡ total_of F s.sent) (λ s once. falls_to s.number 0 s.sent (λ n le lt. once n (omega arith))) writers all.once
+            each_map GotOnce (λ (s : WriterState T). over_got (λ (e : Received T). share_of e s) ≡ total_of F s.sent)
+                (λ s once. falls_to s.number 0 s.sent (λ n le lt. once n (omega arith))) writers all.once
 
 pub gathered_law : (T : Type 0) → GatheredLaw T
 gathered_law T F writers readers all apart =
-    sym (over_is_sum (λ (r : ReaderState T). r.got) readers (λ (e : Received T). F e.item)) ∙ same_total F writers readers all apart ∙ over_is_sum (λ (s : WriterState T). s.sent) writers F
+    sym (over_is_sum (λ (r : ReaderState T). r.got) readers (λ (e : Received T). F e.item)) ∙ same_total F writers readers all apart ∙ over_is_sum
+        (λ (s : WriterState T). s.sent) writers F

@@ -39,4 +39,5 @@ module _ {T : Type 0} where
   -- Each part that was put stands once in the lists of all readers, and nothing else does. In each list the numbers of one writer rise
   pub record IsGathered (writers : List (WriterState T)) (readers : List (ReaderState T)) : Type 0 where
     pub once : Each (λ (s : WriterState T). (n : ℕ) → n < length s.sent → total_of (in_list s.number n) readers ≡ 1) writers
-    pub others : Each (λ (r : ReaderState T). Each (λ (e : Received T). (s : WriterState T) × Among s writers × (s.number ≡ e.writer) × (get_elem? s.sent e.number ≡ some e.item)) r.got × Rises r.got) readers
+    pub others : Each (λ (r : ReaderState T). Each (λ (e : Received T). (s : WriterState T) × Among s writers × (s.number ≡ e.writer)
+        × (get_elem? s.sent e.number ≡ some e.item)) r.got × Rises r.got) readers

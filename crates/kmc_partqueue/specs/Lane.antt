@@ -1,5 +1,6 @@
 -- One lane: what its words and slots show.
--- The part n of a writer lies in the slot n % c, for the use n / c. The mark of a slot is 2 j while it is free for the use j, and 2 j + 1 from the store that puts that part until the store that frees the slot for the next use.
+-- The part n of a writer lies in the slot n % c, for the use n / c. The mark of a slot is 2 j while it is free for the use j, and 2 j + 1 from the
+-- store that puts that part until the store that frees the slot for the next use.
 use Rattle.std.specs.Prelude.{◌≡◌, ℕ, suc, ◌+◌, ◌*◌, ◌/◌, ◌%◌, ◌<◌, ◌≤◌, Bool, true, false, List, length, Option, Some, None}
 use mathlib.Core.Option.{none, some}
 use mathlib.Core.Option as maybe

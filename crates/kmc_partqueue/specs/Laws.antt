@@ -31,7 +31,8 @@ abbrev pub registrations : {T : Type 0} → ℕ → History T
 registrations zero = []
 registrations (suc n) = was_registered n ∷ registrations n
 
--- the registrations of all writers, and then the entries of any list of steps of any seats from the opening state, are a legal history, and the lanes show its state
+-- the registrations of all writers, and then the entries of any list of steps of any seats from the opening state, are a legal history, and the lanes
+-- show its state
 abbrev pub StepsLaw : Type 0 → Type 0
 StepsLaw T = (k : QueueShape) (s : State (Option T) (View T)) (e : History T) → AreSteps k (opened k) s e
     → LanesRule k s × IsLegal k (e ++ registrations k.writers) × IsShown k s (state_of (e ++ registrations k.writers))
@@ -39,7 +40,8 @@ StepsLaw T = (k : QueueShape) (s : State (Option T) (View T)) (e : History T) �
 -- where the seats are gathered and each writer has a number of its own, any sum over what was got is that over what was sent
 abbrev pub GatheredLaw : Type 0 → Type 0
 GatheredLaw T =
-    (F : T → ℕ) (writers : List (WriterState T)) (readers : List (ReaderState T)) → IsGathered writers readers → Each (λ (s : WriterState T). total_of (λ (t : WriterState T). same t.number s.number) writers ≡ 1) writers
+    (F : T → ℕ) (writers : List (WriterState T)) (readers : List (ReaderState T)) → IsGathered writers readers → Each
+        (λ (s : WriterState T). total_of (λ (t : WriterState T). same t.number s.number) writers ≡ 1) writers
     → sum_by (λ (r : ReaderState T). sum_by (λ (e : Received T). F e.item) r.got) readers ≡ sum_by (λ (s : WriterState T). sum_by F s.sent) writers
 
 -- wherever steps lead, a part that a writer has put is in one place: in its slot, in one reader's hand, or in one reader's list with its slot given back

@@ -14,3 +14,4 @@ pub mod Reached
 pub mod PartPlaces
 pub mod Told
 pub mod Laws
+pub mod Lemmas

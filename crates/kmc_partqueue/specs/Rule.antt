@@ -1,5 +1,6 @@
 -- The rule of the lanes: what is true of all words, slots and views between any two atomic steps, wherever the steps lead.
--- With W writers and c slots a lane, word w is the end of lane w, word W + w its head, and word 2 W + (w c + i) the mark of its slot i, which is slot w c + i of the table.
+-- With W writers and c slots a lane, word w is the end of lane w, word W + w its head, and word 2 W + (w c + i) the mark of its slot i, which is slot
+-- w c + i of the table.
 use Rattle.std.specs.Prelude.{◌≡◌, ℕ, ◌+◌, ◌*◌, ◌%◌, ◌<◌, ◌≤◌, true, List, [], ◌∷◌, ◌++◌, length, slice_index, Option}
 use mathlib.Core.Option.{some}
 use lib.ListN.{get_elem?}
@@ -78,7 +79,8 @@ module _ {T : Type 0} where
       pub rises : Rises b.got
       pub ends : Each EndOk b.ends
       pub held : b.held ≡ true
-          → ((lanes b.lane).cells (b.head % k.per_writer) ≡ (b.head, reading b.number)) × ((before : List (Received T)) × (x : T) × (b.got ≡ before ++ record { writer = b.lane; number = b.head; item = x } ∷ []))
+          → ((lanes b.lane).cells (b.head % k.per_writer) ≡ (b.head, reading b.number))
+              × ((before : List (Received T)) × (x : T) × (b.got ≡ before ++ record { writer = b.lane; number = b.head; item = x } ∷ []))
 
     abbrev pub ViewOk : View T → Type 0
     ViewOk v = Each WriterOk v.writers × Each ReaderOk v.readers
@@ -90,7 +92,8 @@ module _ {T : Type 0} where
     pub wide : length s.words ≡ 2 * k.writers + k.writers * k.per_writer
     pub slots : length s.homes ≡ k.writers * k.per_writer
     pub each_lane : (w : ℕ) → w < k.writers
-        → LaneOk k.per_writer (lanes w) (slice_index s.words (head_at k w)) (slice_index s.words (end_at k w)) (λ i. slice_index s.words (mark_at k w i)) (λ i. get_elem? s.homes (slot_at k w i))
+        → LaneOk k.per_writer (lanes w) (slice_index s.words (head_at k w)) (slice_index s.words (end_at k w))
+            (λ i. slice_index s.words (mark_at k w i)) (λ i. get_elem? s.homes (slot_at k w i))
     pub each_seat : (j : ℕ) (v : View T) → get_elem? s.views j ≡ some v → ViewOk k lanes (λ w. slice_index s.words (head_at k w)) v
     pub one_writer : (w : ℕ) → w < k.writers → total_of (writers_of w) s.views ≡ 1
     pub one_reader : (r : ℕ) → r < k.readers → total_of (readers_of r) s.views ≡ 1

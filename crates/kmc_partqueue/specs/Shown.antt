@@ -21,7 +21,8 @@ module _ {T : Type 0} where
   abbrev pub ReaderShows : QueueState T → Reading T → Type 0
   ReaderShows q b = Each (λ (e : Received T). get_elem? (q e.writer).left_items e.number ≡ some (b.number, e.number, e.item)) b.got
 
-  -- all writers are registered; of each as many items have left as its head says; what the views of writers have is what was accepted, and what those of readers have is what has left
+  -- all writers are registered; of each as many items have left as its head says; what the views of writers have is what was accepted, and what those
+  -- of readers have is what has left
   pub record IsShown (k : QueueShape) (s : State (Option T) (View T)) (q : QueueState T) : Type 0 where
     pub registered : (w : ℕ) → w < k.writers → (q w).registered ≡ true
     pub heads : (w : ℕ) → w < k.writers → length (q w).left_items ≡ slice_index s.words (head_at k w)

@@ -29,7 +29,8 @@ module _ {T : Type 0} where
     pub completed : has_completed s.number h ≡ true
     pub all_left : length (left s.number h) ≡ length s.sent
 
-  -- each part that the reader got has left to this reader, at its number. A reader that has the total of each lane was told once that the queue is finished, with these totals; any other was never told it
+  -- each part that the reader got has left to this reader, at its number. A reader that has the total of each lane was told once that the queue is
+  -- finished, with these totals; any other was never told it
   pub record HistoryOfReader (q : QueueShape) (h : History T) (r : ReaderState T) : Type 0 where
     pub got : Each (λ (e : Received T). get_elem? (left e.writer h) e.number ≡ some (r.number, e.number, e.item)) r.got
     pub told : AllEnded q.writers r.totals

@@ -13,10 +13,12 @@ use Rattle.kmc_count.proofs.KeysOfReads.{keys_of_reads}
 pub keys_of_reads_are_words : (strands : Strands) (k : ℕ) (reads : List (List ℕ)) → AreWords k (keys_of_reads strands k reads)
 keys_of_reads_are_words strands k [] = tt
 keys_of_reads_are_words strands k (read ∷ reads) =
-    words_append k (map (placed_key strands) (counted_words k read)) (keys_of_reads strands k reads) (counted_keys_are_words strands k read) (keys_of_reads_are_words strands k reads)
+    words_append k (map (placed_key strands) (counted_words k read)) (keys_of_reads strands k reads) (counted_keys_are_words strands k read)
+        (keys_of_reads_are_words strands k reads)
 
 -- the packed keys of one read more
-pub read_added : (strands : Strands) (k : ℕ) (read : List ℕ) (old reads : List (List ℕ)) (before after : List ℕ) → before ≡ map pack (keys_of_reads strands k old) → reads ≡ old ++ read ∷ []
+pub read_added : (strands : Strands) (k : ℕ) (read : List ℕ) (old reads : List (List ℕ)) (before after : List ℕ) → before ≡ map pack
+    (keys_of_reads strands k old) → reads ≡ old ++ read ∷ []
     → after ≡ before ++ map pack (map (placed_key strands) (counted_words k read)) → after ≡ map pack (keys_of_reads strands k reads)
 read_added strands k read old reads before after was more is =
     let here = map (placed_key strands) (counted_words k read) in

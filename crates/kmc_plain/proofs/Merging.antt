@@ -26,8 +26,10 @@ rising_once x [] h = omega arith
 rising_once x (w ∷ ws) h = go (same_word w x) refl (occurrences ws x) refl (rising_once x ws h.1)
   where
     go : (b : Bool) → same_word w x ≡ b → (n : ℕ) → occurrences ws x ≡ n → occurrences ws x ≤ 1 → occurrences (w ∷ ws) x ≤ 1
-    go false e n f few = let none : occurrences (w ∷ ws) x ≡ 0 + occurrences ws x = occurrences_more x w ws ∙ ap (λ b. cond b 1 0 + occurrences ws x) e in omega (arith, none, few)
-    go true e zero f few = let one : occurrences (w ∷ ws) x ≡ 1 + occurrences ws x = occurrences_more x w ws ∙ ap (λ b. cond b 1 0 + occurrences ws x) e in omega (arith, one, f)
+    go false e n f few = let none : occurrences (w ∷ ws) x ≡ 0 + occurrences ws x = occurrences_more x w ws ∙ ap
+        (λ b. cond b 1 0 + occurrences ws x) e in omega (arith, none, few)
+    go true e zero f few = let one : occurrences (w ∷ ws) x ≡ 1 + occurrences ws x = occurrences_more x w ws ∙ ap
+        (λ b. cond b 1 0 + occurrences ws x) e in omega (arith, one, f)
     go true e (suc n) f few =
         let less = below_has Below w x ws h.0 (occurs_has x ws (omega (arith, f))) in
         absurd (not_below_itself x (subst (λ v. kmer_cmp v x ≡ Less) (same_is w x e) less))
@@ -41,9 +43,11 @@ once x [] rise apart = omega arith
 once x (ps ∷ lists) rise apart =
     let P : List (List ℕ × ℕ) → Type 0 = λ qs. IsStrictlySortedBy kmer_cmp (words_of qs) in
     let wss = map words_of lists in
-    go (occurrences (words_of ps) x) refl (rising_once x (words_of ps) (All-head P ps lists rise)) (once x lists (All-tail P ps lists rise) (tail_apart (words_of ps) wss apart))
+    go (occurrences (words_of ps) x) refl (rising_once x (words_of ps) (All-head P ps lists rise))
+        (once x lists (All-tail P ps lists rise) (tail_apart (words_of ps) wss apart))
   where
-    go : (n : ℕ) → occurrences (words_of ps) x ≡ n → occurrences (words_of ps) x ≤ 1 → occurrences (joined (map words_of lists)) x ≤ 1 → occurrences (joined (map words_of (ps ∷ lists))) x ≤ 1
+    go : (n : ℕ) → occurrences (words_of ps) x ≡ n → occurrences (words_of ps) x ≤ 1 → occurrences (joined (map words_of lists)) x ≤ 1 → occurrences
+        (joined (map words_of (ps ∷ lists))) x ≤ 1
     go zero e one more = omega (arith, occurrences_both x (words_of ps) (joined (map words_of lists)), e, more)
     go (suc n) e one more =
         let none = none_behind x (words_of ps) (map words_of lists) apart (omega (arith, e)) in
@@ -57,7 +61,8 @@ apart_next w v ws few = go (same_word v w) refl
     go : (b : Bool) → same_word v w ≡ b → b ≡ false
     go false e = refl
     go true e =
-        let first : occurrences (w ∷ v ∷ ws) w ≡ 1 + occurrences (v ∷ ws) w = occurrences_more w w (v ∷ ws) ∙ ap (λ b. cond b 1 0 + occurrences (v ∷ ws) w) (same_itself w) in
+        let first : occurrences (w ∷ v ∷ ws) w ≡ 1 + occurrences (v ∷ ws) w = occurrences_more w w (v ∷ ws) ∙ ap
+            (λ b. cond b 1 0 + occurrences (v ∷ ws) w) (same_itself w) in
         let second : occurrences (v ∷ ws) w ≡ 1 + occurrences ws w = occurrences_more w v ws ∙ ap (λ b. cond b 1 0 + occurrences ws w) e in
         absurd (omega (arith, few, first, second))
 
@@ -85,12 +90,14 @@ words_sorted ps sorted = λ i d low high.
     let b : get_or (words_of ps) i d ≡ (get_or ps i (d, 0)).0 = get_or-map word ps i (d, 0) d (omega (arith, inside)) in
     (λ j. is_lt (kmer_cmp (a j) (b j))) ∙ sorted i (d, 0) low inside
 
-pub merged : (lists : List (List (List ℕ × ℕ))) (pairs : List (List ℕ × ℕ)) → EachRises lists → AreApart (map words_of lists) → IsPermutation (joined lists) pairs
+pub merged : (lists : List (List (List ℕ × ℕ))) (pairs : List (List ℕ × ℕ)) → EachRises lists → AreApart (map words_of lists) → IsPermutation
+    (joined lists) pairs
     → IsSortedBy (λ p q. is_lt (kmer_cmp p.0 q.0)) pairs → IsMerged lists pairs
 merged lists pairs rise apart moves sorted = record {
   all = moves;
   rising = strictly (words_of pairs) (words_sorted pairs sorted) (λ x.
-      let moved = sum_by-IsPermutation (λ (w : List ℕ). cond (same_word w x) 1 0) (words_of (joined lists)) (words_of pairs) (IsPermutation-map (λ (p : List ℕ × ℕ). p.0) (joined lists) pairs moves) in
+      let moved = sum_by-IsPermutation (λ (w : List ℕ). cond (same_word w x) 1 0) (words_of (joined lists)) (words_of pairs)
+          (IsPermutation-map (λ (p : List ℕ × ℕ). p.0) (joined lists) pairs moves) in
       let same = ap (λ (t : List (List ℕ)). occurrences t x) (words_joined lists) in
       omega (arith, once x lists rise apart, moved, same));
 }

@@ -24,7 +24,8 @@ module _ {T : Type 0} where
   -- what an entry lets leave: nothing, or the next item of its writer, and then it adds none
   data Effect (live : LiveQueue T) (w : ℕ) (added : List T) (leaving : List (Leaving T)) : Type 0 where
     stays : leaving ≡ [] → Effect live w added leaving
-    leaves : (x : Leaving T) → leaving ≡ x ∷ [] → added ≡ [] → x.1 ≡ (live w).left_count → slice_get (live w).outstanding_items 0 ≡ Some x.2 → Effect live w added leaving
+    leaves : (x : Leaving T) → leaving ≡ x ∷ [] → added ≡ [] → x.1 ≡ (live w).left_count → slice_get (live w).outstanding_items 0 ≡ Some x.2
+        → Effect live w added leaving
 
   effect : (q : QueueShape) (live : LiveQueue T) (e : Entry T) (w : ℕ) → Fits q live e → Effect live w (item_accepted w e) (item_left w e)
   effect q live (event.Take r, reply.Take (Ok (Got g))) w fits = ⊎_elim
@@ -43,10 +44,12 @@ module _ {T : Type 0} where
   take_next zero [] x is = cc
   take_next (suc n) [] x is = cc
   take_next zero (y ∷ a) x is = let e : y ≡ x = cc in (ap (λ z. z ∷ []) e, omega arith)
-  take_next (suc n) (y ∷ a) x is = let t = take_next n a x is in (subst (λ k. take k (y ∷ a) ≡ y ∷ (take n a ++ x ∷ [])) (let e : suc (n + 1) ≡ suc n + 1 = omega arith in e) (ap (λ z. y ∷ z) t.0), (let lt = t.1 in omega arith))
+  take_next (suc n) (y ∷ a) x is = let t = take_next n a x is in (subst (λ k. take k (y ∷ a) ≡ y ∷ (take n a ++ x ∷ []))
+      (let e : suc (n + 1) ≡ suc n + 1 = omega arith in e) (ap (λ z. y ∷ z) t.0), (let lt = t.1 in omega arith))
 
   grows : (l : List (Leaving T)) (a added : List T) → Begins l a → Begins l (a ++ added)
-  grows l a added b = record { items = b.items ∙ sym (take-append-le (length l) a added b.within); within = (let e = length-append a added in let w = b.within in omega arith); numbers = b.numbers }
+  grows l a added b = record { items = b.items ∙ sym (take-append-le (length l) a added b.within);
+      within = (let e = length-append a added in let w = b.within in omega arith); numbers = b.numbers }
 
   next : (l : List (Leaving T)) (a : List T) (x : Leaving T) → Begins l a → x.1 ≡ length l → slice_get (drop (length l) a) 0 ≡ Some x.2 → Begins (l ++ x ∷ []) a
   next l a x b number is = let t = take_next (length l) a x.2 is in let e = length-append l (x ∷ []) in record {
@@ -55,13 +58,18 @@ module _ {T : Type 0} where
     numbers = numbered_push 0 l x b.numbers (omega arith);
   }
 
-  after : (live : LiveQueue T) (w : ℕ) (l : List (Leaving T)) (a added : List T) (leaving : List (Leaving T)) → Begins l a → (live w).left_count ≡ length l → (live w).outstanding_items ≡ drop (length l) a → Effect live w added leaving → Begins (l ++ leaving) (a ++ added)
-  after live w l a added leaving b count items (stays none) = subst (λ z. Begins z (a ++ added)) (sym (append-nil l) ∙ ap (λ z. l ++ z) (sym none)) (grows l a added b)
-  after live w l a added leaving b count items (leaves x one none number is) = subst (λ z. Begins (l ++ z) (a ++ added)) (sym one) (subst (λ z. Begins (l ++ x ∷ []) z) (sym (append-nil a) ∙ ap (λ z. a ++ z) (sym none)) (next l a x b (number ∙ count) (ap (λ z. slice_get z 0) (sym items) ∙ is)))
+  after : (live : LiveQueue T) (w : ℕ) (l : List (Leaving T)) (a added : List T) (leaving : List (Leaving T)) → Begins l a → (live w).left_count
+      ≡ length l → (live w).outstanding_items ≡ drop (length l) a → Effect live w added leaving → Begins (l ++ leaving) (a ++ added)
+  after live w l a added leaving b count items (stays none) = subst (λ z. Begins z (a ++ added)) (sym (append-nil l) ∙ ap (λ z. l ++ z) (sym none))
+      (grows l a added b)
+  after live w l a added leaving b count items (leaves x one none number is) = subst (λ z. Begins (l ++ z) (a ++ added)) (sym one)
+      (subst (λ z. Begins (l ++ x ∷ []) z) (sym (append-nil a) ∙ ap (λ z. a ++ z) (sym none))
+      (next l a x b (number ∙ count) (ap (λ z. slice_get z 0) (sym items) ∙ is)))
 
   pub begins : (q : QueueShape) (h : History T) → IsLegal q h → (w : ℕ) → Begins (left w h) (accepted w h)
   begins q [] legal w = record { items = refl; within = omega arith; numbers = tt }
-  begins q (e ∷ h) legal w = after (live_of (state_of h)) w (left w h) (accepted w h) (item_accepted w e) (item_left w e) (begins q h legal.1 w) refl refl (effect q (live_of (state_of h)) e w legal.0)
+  begins q (e ∷ h) legal w = after (live_of (state_of h)) w (left w h) (accepted w h) (item_accepted w e) (item_left w e)
+      (begins q h legal.1 w) refl refl (effect q (live_of (state_of h)) e w legal.0)
 
 pub left_begins : (T : Type 0) → LeftBeginsAccepted T
 left_begins T q h legal w = let b = begins q h legal w in (b.items, b.numbers)

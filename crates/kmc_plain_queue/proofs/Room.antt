@@ -27,7 +27,8 @@ module _ {T : Type 0} where
 
   below_room : (c n : ℕ) (xs : List (Queued T)) → ((w : ℕ) → w < n → length (items_of w xs) ≤ c) → below n xs ≤ n * c
   below_room c zero xs room = let h = below_none xs in omega arith
-  below_room c (suc n) xs room = let h = below_more n xs in let r = room n (omega arith) in let before = below_room c n xs (λ w lt. room w (omega arith)) in omega arith
+  below_room c (suc n) xs room = let h = below_more n xs in let r = room n (omega arith) in let before = below_room c n xs
+      (λ w lt. room w (omega arith)) in omega arith
 
   pub length_room : (c n : ℕ) (xs : List (Queued T)) → AllKnown n xs → ((w : ℕ) → w < n → length (items_of w xs) ≤ c) → length xs ≤ n * c
   length_room c n xs all room = let h = below_all n xs all in let g = below_room c n xs room in omega arith
@@ -37,8 +38,11 @@ module _ {T : Type 0} where
   known_push n (y ∷ xs) x all lt = (all.0, known_push n xs x all.1 lt)
 
   pub items_push : (w : ℕ) (xs : List (Queued T)) (x : Queued T) → items_of w (xs ++ x ∷ []) ≡ items_of w xs ++ cond (eqb x.writer w) (x.item ∷ []) []
-  items_push w [] x = ⊎_elim (λ (t : (eqb x.writer w ≡ true) × (x.writer ≡ w)). cc) (λ (f : (eqb x.writer w ≡ false) × (x.writer ≡ w → ⊥)). cc) (eqb_tells x.writer w)
+  items_push w [] x = ⊎_elim (λ (t : (eqb x.writer w ≡ true) × (x.writer ≡ w)). cc) (λ (f : (eqb x.writer w ≡ false) × (x.writer ≡ w → ⊥)). cc)
+      (eqb_tells x.writer w)
   items_push w (y ∷ xs) x = let h = items_push w xs x in ⊎_elim
-      (λ (t : (eqb y.writer w ≡ true) × (y.writer ≡ w)). ap (λ b. cond b (y.item ∷ items_of w (xs ++ x ∷ [])) (items_of w (xs ++ x ∷ []))) t.0 ∙ ap (λ z. y.item ∷ z) h ∙ ap (λ b. cond b (y.item ∷ items_of w xs) (items_of w xs) ++ cond (eqb x.writer w) (x.item ∷ []) []) (sym t.0))
-      (λ (f : (eqb y.writer w ≡ false) × (y.writer ≡ w → ⊥)). ap (λ b. cond b (y.item ∷ items_of w (xs ++ x ∷ [])) (items_of w (xs ++ x ∷ []))) f.0 ∙ h ∙ ap (λ b. cond b (y.item ∷ items_of w xs) (items_of w xs) ++ cond (eqb x.writer w) (x.item ∷ []) []) (sym f.0))
+      (λ (t : (eqb y.writer w ≡ true) × (y.writer ≡ w)). ap (λ b. cond b (y.item ∷ items_of w (xs ++ x ∷ [])) (items_of w (xs ++ x ∷ []))) t.0 ∙ ap
+          (λ z. y.item ∷ z) h ∙ ap (λ b. cond b (y.item ∷ items_of w xs) (items_of w xs) ++ cond (eqb x.writer w) (x.item ∷ []) []) (sym t.0))
+      (λ (f : (eqb y.writer w ≡ false) × (y.writer ≡ w → ⊥)). ap (λ b. cond b (y.item ∷ items_of w (xs ++ x ∷ [])) (items_of w (xs ++ x ∷ []))) f.0
+          ∙ h ∙ ap (λ b. cond b (y.item ∷ items_of w xs) (items_of w xs) ++ cond (eqb x.writer w) (x.item ∷ []) []) (sym f.0))
       (eqb_tells y.writer w)

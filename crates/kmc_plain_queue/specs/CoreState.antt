@@ -31,7 +31,8 @@ module _ {T : Type 0} where
   items_of w (x ∷ xs) = cond (eqb x.writer w) (x.item ∷ items_of w xs) (items_of w xs)
 
   abbrev pub live_writer : Counters → List T → LiveWriter T
-  live_writer c items = record { registered = c.registered; completed = c.completed; accepted_count = c.accepted_count; left_count = c.left_count; outstanding_items = items }
+  live_writer c items = record { registered = c.registered; completed = c.completed; accepted_count = c.accepted_count; left_count = c.left_count;
+      outstanding_items = items }
 
   -- the live part that the object holds
   abbrev pub live_in : CoreState T → LiveQueue T
@@ -58,10 +59,14 @@ module _ {T : Type 0} where
 
   -- what an answered call makes of the queue: a refusal, and a take that gives no item, leave it as it was
   abbrev pub Becomes : CoreState T → Entry T → CoreState T → Type 0
-  Becomes s (event.Register w, reply.Register (Ok u)) s' = s' ≡ record s { writers = slice_set s.writers w (record (counters_of s.writers w) { registered = true }) }
-  Becomes s (event.Put w x, reply.Put (Ok n)) s' = s' ≡ record s { writers = slice_set s.writers w (record (counters_of s.writers w) { accepted_count = n + 1 }); queue = s.queue ++ queued w x ∷ [] }
-  Becomes s (event.Take r, reply.Take (Ok (Got g))) s' = (rest : List (Queued T)) × (s.queue ≡ queued g.writer g.item ∷ rest) × (s' ≡ record s { writers = slice_set s.writers g.writer (record (counters_of s.writers g.writer) { left_count = g.number + 1 }); queue = rest })
-  Becomes s (event.Complete w, reply.Complete (Ok u)) s' = s' ≡ record s { writers = slice_set s.writers w (record (counters_of s.writers w) { completed = true }) }
+  Becomes s (event.Register w, reply.Register (Ok u)) s' = s' ≡ record s
+      { writers = slice_set s.writers w (record (counters_of s.writers w) { registered = true }) }
+  Becomes s (event.Put w x, reply.Put (Ok n)) s' = s' ≡ record s { writers = slice_set s.writers w
+      (record (counters_of s.writers w) { accepted_count = n + 1 }); queue = s.queue ++ queued w x ∷ [] }
+  Becomes s (event.Take r, reply.Take (Ok (Got g))) s' = (rest : List (Queued T)) × (s.queue ≡ queued g.writer g.item ∷ rest)
+      × (s' ≡ record s { writers = slice_set s.writers g.writer (record (counters_of s.writers g.writer) { left_count = g.number + 1 }); queue = rest })
+  Becomes s (event.Complete w, reply.Complete (Ok u)) s' = s' ≡ record s
+      { writers = slice_set s.writers w (record (counters_of s.writers w) { completed = true }) }
   Becomes s _ s' = s' ≡ s
 
   -- the object holds the live part of what the history shows

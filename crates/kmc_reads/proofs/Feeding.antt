@@ -96,28 +96,6 @@ header_stripped (x ∷ []) = go (x == 13) refl
         let e : x ≡ 13 = eqb-true x 13 is in
         ap (λ n. n == 62) (sym e)
 
--- an open line has ended no read, and no more does
-pub settled_none : (stage : Stage) (read : List ℕ) → begun_by stage read [] ≡ []
-settled_none Header read = refl
-settled_none Sequence read = refl
-settled_none Plus read = refl
-settled_none Quality read = refl
-settled_none FirstHeader read = refl
-settled_none Body read = refl
-settled_none Name read = refl
-settled_none Rest read = refl
-
-pub settled_more : (stage : Stage) (read front piece : List ℕ) → begun_by stage read front ≡ [] → (stage ≡ Body → front ≡ [] → is_header piece ≡ false) → begun_by stage read (front ++ piece) ≡ []
-settled_more Header read front piece h none = refl
-settled_more Sequence read front piece h none = refl
-settled_more Plus read front piece h none = refl
-settled_more Quality read front piece h none = refl
-settled_more FirstHeader read front piece h none = refl
-settled_more Name read front piece h none = refl
-settled_more Rest read front piece h none = refl
-settled_more Body read (x ∷ front) piece h none = h
-settled_more Body read [] piece h none = ap (λ t. cond t (read ∷ []) []) (none refl refl)
-
 pub settled_stripped : (stage : Stage) (read front : List ℕ) → begun_by stage read front ≡ [] → begun_by stage read (strip_last 13 front) ≡ []
 settled_stripped Header read front h = refl
 settled_stripped Sequence read front h = refl
@@ -153,33 +131,9 @@ module _ (rows : List (List ℕ)) (n : ℕ) (read line : List ℕ) (w : Scan) wh
   pub not_given : (st : Stage) → (st ≡ Quality → ⊥) → begun_by st read line ≡ [] → At rows (past (record { number = n; stage = st; read = read }) line) [] w → At (rows ++ given_by st read line) (past (record { number = n; stage = st; read = read }) line) [] w
   not_given st other none h = subst (λ t. At t (past (record { number = n; stage = st; read = read }) line) [] w) (sym (append-nil rows) ∙ ap (λ (t : List (List ℕ)). rows ++ t) (sym (none_given st read line other none))) h
 
--- the same buffers and place stand at the same spot
-pub at_again : (rows : List (List ℕ)) (spot : Spot) (front : List ℕ) (old new : Scan) → At rows spot front old → IsAgain old new → At rows spot front new
-at_again rows spot front old new at same = let k = at.keeps in record {
-  keeps = record {
-    stage = ap (λ p. p.stage) same.place ∙ k.stage;
-    number = ap (λ p. p.number) same.place ∙ k.number;
-    bytes = same.bytes ∙ k.bytes;
-    ends = same.ends ∙ k.ends;
-    start = ap (λ p. p.start) same.place ∙ k.start;
-    many = ap (λ p. p.length) same.place ∙ k.many;
-    first = λ h. ap (λ p. p.first) same.place ∙ k.first h;
-  };
-  held = ap (λ p. p.held) same.place ∙ at.held;
-  settled = at.settled;
 }
-
--- no line is open
-pub empty_front : (front : List ℕ) → ends_with_byte 13 front ≡ false → u64_saturate (length (strip_last 13 front)) ≡ 0 → front ≡ []
-empty_front front held many =
-    let none : length (strip_last 13 front) ≡ 0 = omega arith in
-    sym (no_return front held) ∙ no_items (strip_last 13 front) none
 
 -- a line is open
 pub last_is_line : (front : List ℕ) → (front ≡ [] → ⊥) → last_line front ≡ strip_last 13 front ∷ []
 last_is_line [] some = absurd (some refl)
 last_is_line (b ∷ bs) some = refl
-
-pub some_front : (front : List ℕ) (held : Bool) (n : ℕ) → held ≡ ends_with_byte 13 front → n ≡ u64_saturate (length (strip_last 13 front)) → (held ≡ false → 0 < n) → front ≡ [] → ⊥
-some_front [] held n h m some e = let p : 0 < n = some h in omega arith
-some_front (b ∷ bs) held n h m some e = cc

@@ -63,11 +63,6 @@ module _ (overlap : ℕ) where
 
 -- ---- a feeder
 
--- what was cut nowhere
-pub stands_uncut : (overlap : ℕ) (format : Format) (text : List ℕ) (taken : List (List ℕ)) (v : FeederState) → StandsAt format text taken v → StandsCut overlap format text taken v
-stands_uncut overlap format text taken v s =
-    record { rows = s.rows; spot = s.spot; front = s.front; leads = as_cut overlap (first_spot format) s.spot [] s.front text (taken ++ s.rows) s.leads; stands = s.stands; sound = s.sound }
-
 module _ (overlap : ℕ) (format : Format) (text : List ℕ) (taken : List (List ℕ)) (v : FeederState) (s : StandsCut overlap format text taken v) where
   -- it went over a piece
   pub cut_on : (piece : List ℕ) (w : FeederState) → Goes s.rows s.spot s.front piece w.scan → w.refusal ≡ None → StandsCut overlap format (text ++ piece) taken w
@@ -99,10 +94,6 @@ module _ (overlap : ℕ) (format : Format) (text : List ℕ) (taken : List (List
         stands = h.stands;
         sound = sound;
       }
-
-  -- nothing changed
-  pub cut_again : (w : FeederState) → IsAgain v.scan w.scan → w.refusal ≡ None → StandsCut overlap format text taken w
-  cut_again w same sound = record { rows = s.rows; spot = s.spot; front = s.front; leads = s.leads; stands = at_again s.rows s.spot s.front v.scan w.scan s.stands same; sound = sound }
 
   -- the answer at the end of the text
   pub cut_answer_is : (answer : Answer) → with_reads (taken ++ s.rows) (reads_from s.spot (last_line s.front)) ≡ answer → IsCutAnswer overlap (reads_of format text) answer

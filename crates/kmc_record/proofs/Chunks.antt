@@ -11,7 +11,7 @@ use Rattle.kmc_record.specs.Shapes.{Sizes}
 use Rattle.kmc_record.specs.Parts.{Parcel, grown, empty_part, bin_runs, bin_super_kmers, all_segments}
 use Rattle.kmc_record.specs.Growing.{AreForBins, HaveGrown, HaveTaken}
 use Rattle.kmc_record.proofs.Whole.{flat_push}
-use Rattle.kmc_base.proofs.Stretching.{long_enough, first_apart}
+use Rattle.kmc_base.specs.Lemmas.Stretching.{long_enough, first_apart}
 use Rattle.kmc_record.proofs.Parcels.{grown_as, grown_more, cuts_append, super_kmers_append}
 
 taken_append : (shape : Sizes) (ss ts : List Stretch) (a b c : List Parcel) → HaveTaken shape ss a b → HaveTaken shape ts b c → HaveTaken shape (ss ++ ts) a c

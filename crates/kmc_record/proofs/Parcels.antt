@@ -10,8 +10,7 @@ use Rattle.kmc_base.specs.Stretches.{Stretch}
 use Rattle.kmc_split.specs.declared.runs.Run.{Run}
 use Rattle.kmc_split.specs.Cut.{IsRunOf, run_codes}
 use Rattle.kmc_split.specs.Signature.{signature_of}
-use Rattle.kmc_split.proofs.Bins.{length_windows}
-use Rattle.kmc_split.proofs.Least.{length_window}
+use Rattle.kmc_base.specs.Lemmas.Windows.{length_windows, length_window}
 use Rattle.kmc_record.specs.Record.{spelling, IsSpelled, IsBodyOf}
 use Rattle.kmc_record.specs.Shapes.{Sizes}
 use Rattle.kmc_record.specs.Parts.{Parcel, IsPart, all_windows, capped, grown, bin_runs, AreCuts, bin_super_kmers}

@@ -9,7 +9,8 @@ use Rattle.kmc_base.specs.Lemmas.Rolling.{codes_part}
 use Rattle.kmc_split.specs.Signature.{is_allowed, signature_of}
 use Rattle.kmc_split.specs.Offers.{offer}
 use Rattle.kmc_split.proofs.Lowest.{low_back}
-use Rattle.kmc_split.proofs.Least.{length_window, signature_is}
+use Rattle.kmc_base.specs.Lemmas.Windows.{length_window}
+use Rattle.kmc_split.proofs.Least.{signature_is}
 
 -- the code at a place of the reverse complement
 code_back : (w : List ℕ) (i : ℕ) (d : ℕ) → i < length w → get_or (rev_comp w) i d ≡ complement (get_or w (length w - 1 - i) 0)
@@ -49,7 +50,8 @@ strands_share m w within h =
     let bt : ℕ → ℕ = λ j. min (4 ^ m) (offer m (window m (rev_comp w) j)) in
     sym (signature_is m n (rev_comp w) bt (omega (arith, length_rev_comp w)) (λ j less. refl))
     ∙ low_back at bt n
-    (λ j less. ap (λ v. min (4 ^ m) (offer m v)) (window_back m j w (omega arith)) ∙ ap (min (4 ^ m)) (offer_same m (window m w (n - j)) (codes_part m (n - j) w h)))
+    (λ j less. ap (λ v. min (4 ^ m) (offer m v)) (window_back m j w (omega arith)) ∙ ap (min (4 ^ m))
+        (offer_same m (window m w (n - j)) (codes_part m (n - j) w h)))
     ∙ signature_is m n w at (omega arith) (λ j less. refl)
 
 canonical_shares : (m : ℕ) (w : List ℕ) → m ≤ length w → AreCodes w → signature_of m (canonical w) ≡ signature_of m w

@@ -43,7 +43,8 @@ module _ (at : ℕ → ℕ) where
           let e : j ≡ i = omega arith in ap at e ∙ sym signature
 
   -- a run is open at its first place
-  pub begin : (p i : ℕ) (rs : List Run) (r n : Run) → AreRuns at p i (rs ++ r ∷ []) → n.start ≡ i → n.words ≡ 1 → n.signature ≡ at i → (r.signature ≡ n.signature → r.words ≡ 256)
+  pub begin : (p i : ℕ) (rs : List Run) (r n : Run) → AreRuns at p i (rs ++ r ∷ []) → n.start ≡ i → n.words ≡ 1 → n.signature ≡ at i
+      → (r.signature ≡ n.signature → r.words ≡ 256)
       → AreRuns at p (i + 1) ((rs ++ r ∷ []) ++ n ∷ [])
   begin p i [] r n h start words signature apart =
       (h.0, h.1, apart, (omega arith, single n i start words signature, tt, omega arith))

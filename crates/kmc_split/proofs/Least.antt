@@ -10,6 +10,7 @@ use Rattle.kmc_split.specs.Cut.{AreRuns, IsCut}
 use Rattle.kmc_split.specs.Signature.{is_allowed, least, signature_of}
 use Rattle.kmc_split.specs.Offers.{offer, packed_offer}
 use Rattle.kmc_split.specs.Minima.{low}
+use Rattle.kmc_base.specs.Lemmas.Windows.{length_window}
 use Rattle.kmc_split.proofs.Lowest.{low_shift}
 
 least_le : (most : ℕ) (xs : List ℕ) → least most xs ≤ most
@@ -27,7 +28,8 @@ least_one : (most : ℕ) (v : List ℕ) (vs : List (List ℕ))
     → least most (map pack (filter is_allowed (v ∷ vs))) ≡ min (min most (worth most v)) (least most (map pack (filter is_allowed vs)))
 least_one most v vs = go (is_allowed v)
   where
-    go : (b : Bool) → least most (map pack (cond b (v ∷ filter is_allowed vs) (filter is_allowed vs))) ≡ min (min most (cond b (pack v) most)) (least most (map pack (filter is_allowed vs)))
+    go : (b : Bool) → least most (map pack (cond b (v ∷ filter is_allowed vs) (filter is_allowed vs))) ≡ min (min most (cond b (pack v) most))
+        (least most (map pack (filter is_allowed vs)))
     go true = omega (arith, least_le most (map pack (filter is_allowed vs)))
     go false = omega (arith, least_le most (map pack (filter is_allowed vs)))
 
@@ -36,12 +38,15 @@ module _ (most : ℕ) (f : ℕ → List ℕ) (at : ℕ → ℕ) where
   least_is : (n a i : ℕ) → ((j : ℕ) → j ≤ n → at (i + j) ≡ min most (worth most (canonical (f (a + j)))))
       → least most (map pack (filter is_allowed (map canonical (map f (range_with_len a (suc n)))))) ≡ low at (suc n) i
   least_is zero a i each =
-      let here : at i ≡ min most (worth most (canonical (f a))) = ap at (sym (add-zero i)) ∙ each 0 (omega arith) ∙ ap (λ (j : ℕ). min most (worth most (canonical (f j)))) (add-zero a) in
+      let here : at i ≡ min most (worth most (canonical (f a))) = ap at (sym (add-zero i)) ∙ each 0 (omega arith) ∙ ap
+          (λ (j : ℕ). min most (worth most (canonical (f j)))) (add-zero a) in
       least_one most (canonical (f a)) [] ∙ omega (arith, here)
   least_is (suc n) a i each =
-      let here : at i ≡ min most (worth most (canonical (f a))) = ap at (sym (add-zero i)) ∙ each 0 (omega arith) ∙ ap (λ (j : ℕ). min most (worth most (canonical (f j)))) (add-zero a) in
+      let here : at i ≡ min most (worth most (canonical (f a))) = ap at (sym (add-zero i)) ∙ each 0 (omega arith) ∙ ap
+          (λ (j : ℕ). min most (worth most (canonical (f j)))) (add-zero a) in
       let rest = least_is n (a + 1) (i + 1)
-      (λ j h. let e : i + 1 + j ≡ i + (j + 1) = omega arith in let d : a + (j + 1) ≡ a + 1 + j = omega arith in ap at e ∙ each (j + 1) (omega arith) ∙ ap (λ (x : ℕ). min most (worth most (canonical (f x)))) d) in
+      (λ j h. let e : i + 1 + j ≡ i + (j + 1) = omega arith in let d : a + (j + 1) ≡ a + 1 + j = omega arith in ap at e ∙ each (j + 1) (omega arith)
+          ∙ ap (λ (x : ℕ). min most (worth most (canonical (f x)))) d) in
       least_one most (canonical (f a)) (map canonical (map f (range_with_len (a + 1) (suc n))))
       ∙ (λ t. min (sym here t) (rest t))
 
@@ -62,13 +67,6 @@ window_take m (suc k) (suc j) (x ∷ xs) h = window_take m k j xs (omega arith)
 pub window_window : (m k i j : ℕ) (xs : List ℕ) → j + m ≤ k → window m (window k xs i) j ≡ window m xs (i + j)
 window_window m k i j xs h = window_take m k j (drop i xs) h ∙ ap (take m) (drop-drop j i xs)
 
-pub length_window : (k i : ℕ) (xs : List ℕ) → i + k ≤ length xs → length (window k xs i) ≡ k
-length_window zero i xs h = refl
-length_window (suc k) zero [] h = absurd (omega arith)
-length_window (suc k) zero (x ∷ xs) h = let r = length_window k zero xs (omega arith) in omega arith
-length_window (suc k) (suc i) [] h = absurd (omega arith)
-length_window (suc k) (suc i) (x ∷ xs) h = length_window (suc k) i xs (omega arith)
-
 -- ---- the signature of a word
 
 -- a packed canonical form offers what the word does
@@ -76,13 +74,6 @@ pub packed_offer_is : (m x : ℕ) (v : List ℕ) → x < 4 ^ m → unpack m x �
 packed_offer_is m x v fits is =
     let number : x ≡ pack (canonical v) = sym (pack_of_unpack m x fits) ∙ ap pack is in
     (λ i. cond (is_allowed (is i)) (number i) (4 ^ m))
-
-pub packed_offer_le : (m x : ℕ) → x < 4 ^ m → packed_offer m x ≤ 4 ^ m
-packed_offer_le m x fits = go (is_allowed (unpack m x))
-  where
-    go : (b : Bool) → cond b x (4 ^ m) ≤ 4 ^ m
-    go true = omega arith
-    go false = le_refl _
 
 -- of a whole word, whose m-mers offer what stands at their places, capped
 pub signature_is : (m n : ℕ) (w : List ℕ) (at : ℕ → ℕ) → length w ≡ m + n

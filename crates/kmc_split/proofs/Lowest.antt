@@ -19,7 +19,8 @@ module _ (at : ℕ → ℕ) where
   low_le (suc (suc w)) i j from to =
       elim (first_or_later i j from) [
         | inl e ↦ let f : at j ≡ at i = ap at e in omega (arith, min_cases (at i) (low at (suc w) (i + 1)))
-        | inr h ↦ let rest : low at (suc w) (i + 1) ≤ at j = low_le (suc w) (i + 1) j h (omega arith) in omega (arith, min_cases (at i) (low at (suc w) (i + 1)))
+        | inr h ↦ let rest : low at (suc w) (i + 1) ≤ at j = low_le (suc w) (i + 1) j h (omega arith) in omega
+            (arith, min_cases (at i) (low at (suc w) (i + 1)))
       ]
 
   pub low_is : (w i : ℕ) → 1 ≤ w → (j : ℕ) × (i ≤ j) × (j < i + w) × (low at w i ≡ at j)

@@ -11,9 +11,6 @@ module _ (at : ℕ → ℕ) where
   row_of_one : (p : ℕ) → IsRow at p (p + 1)
   row_of_one p i from to = let e : i ≡ p = omega arith in ap at e
 
-  pub first_row : AreRowEnds at 0 1 []
-  first_row = (omega arith, row_of_one 0)
-
   -- the last value of a row
   row_end : (p q : ℕ) → p < q → IsRow at p q → at (q - 1) ≡ at p
   row_end p q some row = row (q - 1) (omega arith) (omega arith)
@@ -43,7 +40,8 @@ module _ (at : ℕ → ℕ) where
   run_of_row p q n row from to some most is =
       record { some = some; most = most; one = λ i low high. row i (omega arith) (omega arith) ∙ sym is }
 
-  pub add_run : (p i : ℕ) (rs : List Run) (n : Run) → AreRuns at p i rs → MayFollow n.signature rs → IsRun at n → n.start ≡ i → AreRuns at p (i + n.words) (rs ++ n ∷ [])
+  pub add_run : (p i : ℕ) (rs : List Run) (n : Run) → AreRuns at p i rs → MayFollow n.signature rs → IsRun at n → n.start ≡ i → AreRuns at p
+      (i + n.words) (rs ++ n ∷ [])
   add_run p i [] n h apart run start = (start ∙ sym h, run, tt, omega arith)
   add_run p i (r ∷ []) n h apart run start = (h.0, h.1, apart, (start ∙ sym h.3, run, tt, omega arith))
   add_run p i (r ∷ s ∷ rs) n h apart run start = (h.0, h.1, h.2, add_run (p + r.words) i (s ∷ rs) n h.3 apart run start)
@@ -79,12 +77,9 @@ module _ (at : ℕ → ℕ) where
 
   -- the next row of those that are left, and the rows behind it
   pub next_row : (p end n : ℕ) (ends : List ℕ) → n < length ends → AreRowEnds at p end (drop n ends)
-      → (p < get_or ends n 0) × (get_or ends n 0 ≤ end) × IsRow at p (get_or ends n 0) × (at p ≢ at (get_or ends n 0)) × AreRowEnds at (get_or ends n 0) end (drop (n + 1) ends)
+      → (p < get_or ends n 0) × (get_or ends n 0 ≤ end) × IsRow at p (get_or ends n 0) × (at p ≢ at (get_or ends n 0)) × AreRowEnds at
+          (get_or ends n 0) end (drop (n + 1) ends)
   next_row p end n ends inside h =
       let split : drop n ends ≡ get_or ends n 0 ∷ drop (n + 1) ends = rw add-one (drop-cons ends n 0 inside) in
       let rows : AreRowEnds at p end (get_or ends n 0 ∷ drop (n + 1) ends) = subst (AreRowEnds at p end) split h in
       (rows.0, omega (arith, before_end (get_or ends n 0) end (drop (n + 1) ends) rows.3), rows.1, rows.2, rows.3)
-
-  -- the last row
-  pub last_row : (p end n : ℕ) (ends : List ℕ) → length ends ≤ n → AreRowEnds at p end (drop n ends) → (p < end) × IsRow at p end
-  last_row p end n ends all h = subst (AreRowEnds at p end) (drop_of_length-le ends all) h

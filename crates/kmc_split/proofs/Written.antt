@@ -2,7 +2,8 @@
 use Rattle.std.proofs.Common.{ℕ, zero, suc, ◌+◌, ◌<◌, List, [], ◌∷◌, length, get_or, set, arith}
 
 -- what holds of each value before place j, and of the value that is put there
-pub set_more : (P : ℕ → ℕ → Type 0) (out : List ℕ) (j v : ℕ) → j < length out → P j v → ((i : ℕ) → i < j → P i (get_or out i 0)) → (i : ℕ) → i < j + 1 → P i (get_or (set out j v) i 0)
+pub set_more : (P : ℕ → ℕ → Type 0) (out : List ℕ) (j v : ℕ) → j < length out → P j v → ((i : ℕ) → i < j → P i (get_or out i 0)) → (i : ℕ)
+    → i < j + 1 → P i (get_or (set out j v) i 0)
 set_more P [] j v inside here before i h = absurd (omega arith)
 set_more P (x ∷ out) zero v inside here before zero h = here
 set_more P (x ∷ out) zero v inside here before (suc i) h = absurd (omega arith)

@@ -5,7 +5,7 @@ use Rattle.kmc_base.specs.Stretches.{Stretch, segments_of}
 use Rattle.kmc_split.specs.declared.runs.Run.{Run}
 use Rattle.kmc_split.specs.Laws.{CutExists, CutIsUnique}
 use Rattle.kmc_record.specs.Parts.{bin_runs, AreCuts, bin_super_kmers, all_segments}
-use Rattle.kmc_store.proofs.Sums.{sum_flat_map}
+use Rattle.kmc_store.specs.Lemmas.Sums.{sum_flat_map}
 
 pub one_cuts : CutIsUnique → (k m : ℕ) (ss : List Stretch) (cs ds : List (List Run)) → AreCuts k m ss cs → AreCuts k m ss ds → cs ≡ ds
 one_cuts unique k m [] [] [] h g = refl
@@ -37,9 +37,11 @@ module _ (exists : CutExists) (k m n : ℕ) where
   segment_records i [] = refl
   segment_records i (s ∷ ss) = ap (λ t. runs_of i s ++ t) (segment_records i ss)
 
-  pub read_records_are : CutIsUnique → (i : ℕ) (reads : List (List ℕ)) (cuts : List (List Run)) → AreCuts k m (all_segments k reads) cuts → bin_super_kmers k n i (all_segments k reads) cuts ≡ read_records i reads
+  pub read_records_are : CutIsUnique → (i : ℕ) (reads : List (List ℕ)) (cuts : List (List Run)) → AreCuts k m (all_segments k reads) cuts
+      → bin_super_kmers k n i (all_segments k reads) cuts ≡ read_records i reads
   read_records_are unique i reads cuts h =
-      ap (bin_super_kmers k n i (all_segments k reads)) (one_cuts unique k m (all_segments k reads) cuts (map cut_of (all_segments k reads)) h (are_cuts (all_segments k reads))) ∙ segment_records i (all_segments k reads)
+      ap (bin_super_kmers k n i (all_segments k reads)) (one_cuts unique k m (all_segments k reads) cuts (map cut_of (all_segments k reads)) h
+          (are_cuts (all_segments k reads))) ∙ segment_records i (all_segments k reads)
 
   -- a sum over the super-k-mers of reads, read by read
   abbrev pub read_sum : (List ℕ → ℕ) → ℕ → List ℕ → ℕ

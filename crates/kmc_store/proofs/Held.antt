@@ -12,7 +12,7 @@ use Rattle.kmc_record.specs.Parts.{AreCuts, bin_super_kmers, all_segments}
 use Rattle.kmc_record.specs.Laws.{BodyHasOneList}
 use Rattle.kmc_store.specs.Bins.{BinList, body_at, empty_bins, Merged}
 use Rattle.kmc_store.specs.Holds.{HoldsReads}
-use Rattle.kmc_store.proofs.Sums.{sum_map}
+use Rattle.kmc_store.specs.Lemmas.Sums.{sum_map}
 use Rattle.kmc_store.proofs.Filling.{body_joined}
 use Rattle.kmc_store.proofs.Cuts.{one_cuts, cut_of, are_cuts, read_records_are, read_sum, reads_sum}
 
@@ -29,7 +29,8 @@ module _ (exists : CutExists) (unique : CutIsUnique) (shape : Sizes) where
     wide = h.wide;
     records = h.records;
     each = h.each;
-    same = λ i G l. h.same i l G ∙ ap (sum_by G) (read_records_are exists shape.k shape.m shape.n unique i reads h.cuts h.cut) ∙ reads_sum exists shape.k shape.m shape.n G i reads;
+    same = λ i G l. h.same i l G ∙ ap (sum_by G) (read_records_are exists shape.k shape.m shape.n unique i reads h.cuts h.cut)
+        ∙ reads_sum exists shape.k shape.m shape.n G i reads;
   }
 
   pub held_by_sums : (reads bodies : List (List ℕ)) → HoldsSums reads bodies → HoldsReads shape reads bodies
@@ -42,10 +43,12 @@ module _ (exists : CutExists) (unique : CutIsUnique) (shape : Sizes) where
         cut = cut;
         records = h.records;
         each = h.each;
-        same = λ i l G. h.same i G l ∙ sym (ap (sum_by G) (read_records_are exists shape.k shape.m shape.n unique i reads cuts cut) ∙ reads_sum exists shape.k shape.m shape.n G i reads);
+        same = λ i l G. h.same i G l ∙ sym (ap (sum_by G) (read_records_are exists shape.k shape.m shape.n unique i reads cuts cut)
+            ∙ reads_sum exists shape.k shape.m shape.n G i reads);
       }
 
-  pub both_held : (reads more : List (List ℕ)) (old other new : BinList) → HoldsReads shape reads old.bodies → HoldsReads shape more other.bodies → Merged old other new → HoldsReads shape (reads ++ more) new.bodies
+  pub both_held : (reads more : List (List ℕ)) (old other new : BinList) → HoldsReads shape reads old.bodies → HoldsReads shape more other.bodies
+      → Merged old other new → HoldsReads shape (reads ++ more) new.bodies
   both_held reads more old other new h g m =
       let a = sums_held reads old.bodies h in
       let b = sums_held more other.bodies g in

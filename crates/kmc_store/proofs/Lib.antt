@@ -1,6 +1,5 @@
 pub mod Places
 pub mod Filling
-pub mod Sums
 pub mod Ranges
 pub mod Cuts
 pub mod Spelled

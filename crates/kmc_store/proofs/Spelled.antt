@@ -17,7 +17,8 @@ use Rattle.kmc_store.proofs.Cuts.{runs_of, read_records}
 
 -- ---- each member of lists that are made of others
 
-pub all_flat : {A B : Type 0} (P : B → Type 0) (f : A → List B) (xs : List A) → AllByRecursion (λ (x : A). AllByRecursion P (f x)) xs → AllByRecursion P (flat_map f xs)
+pub all_flat : {A B : Type 0} (P : B → Type 0) (f : A → List B) (xs : List A) → AllByRecursion (λ (x : A). AllByRecursion P (f x)) xs
+    → AllByRecursion P (flat_map f xs)
 all_flat P f [] h = tt
 all_flat P f (x ∷ xs) h = all_joined P (f x) (flat_map f xs) h.0 (all_flat P f xs h.1)
 
@@ -48,12 +49,14 @@ code_small b c = one_of ((b == 65) || (b == 97)) 0 _ c (omega arith)
     (one_of ((b == 71) || (b == 103)) 2 _ c (omega arith)
     (one_of ((b == 84) || (b == 116)) 3 None c (omega arith) (λ h. absurd cc))))
 
-place_small : (i : ℕ) (o : Option ℕ) (ss : List Stretch) → ((c : ℕ) → o ≡ Some c → c < 4) → AllByRecursion (λ s. AreSmall s.codes) ss → AllByRecursion (λ s. AreSmall s.codes) (with_place i o ss)
+place_small : (i : ℕ) (o : Option ℕ) (ss : List Stretch) → ((c : ℕ) → o ≡ Some c → c < 4) → AllByRecursion (λ s. AreSmall s.codes) ss
+    → AllByRecursion (λ s. AreSmall s.codes) (with_place i o ss)
 place_small i None ss small h = h
 place_small i (Some c) [] small h = ((small c refl, tt), tt)
 place_small i (Some c) (s ∷ ss) small h = go (s.start == i + 1)
   where
-    go : (t : Bool) → AllByRecursion (λ (s : Stretch). AreSmall s.codes) (if t then record { start = i; codes = c ∷ s.codes } ∷ ss else record { start = i; codes = c ∷ [] } ∷ s ∷ ss)
+    go : (t : Bool) → AllByRecursion (λ (s : Stretch). AreSmall s.codes)
+        (if t then record { start = i; codes = c ∷ s.codes } ∷ ss else record { start = i; codes = c ∷ [] } ∷ s ∷ ss)
     go true = ((small c refl, h.0), h.1)
     go false = ((small c refl, tt), (h.0, h.1))
 
@@ -74,7 +77,8 @@ long_ones k (s ∷ ss) h = go (long_ones k ss h.1) (nat_le k (length s.codes)) r
     go rest false e = rest
 
 segments_have_words : (k : ℕ) (reads : List (List ℕ)) → AllByRecursion (HasWords k) (all_segments k reads)
-segments_have_words k reads = all_flat (HasWords k) (segments_of k) reads (all_each (λ (r : List ℕ). AllByRecursion (HasWords k) (segments_of k r)) reads (λ r. long_ones k (stretches_from 0 r) (stretches_small 0 r)))
+segments_have_words k reads = all_flat (HasWords k) (segments_of k) reads
+    (all_each (λ (r : List ℕ). AllByRecursion (HasWords k) (segments_of k r)) reads (λ r. long_ones k (stretches_from 0 r) (stretches_small 0 r)))
 
 -- ---- and their runs can be spelled
 
@@ -89,12 +93,14 @@ run_spelled k m codes r some h small =
       codes = recursion_from_All P (run_codes k codes r) (All-take P count (drop r.start codes) (All-drop P r.start codes (All-from_recursion P codes small)));
     }
 
-runs_spelled : (k m n i : ℕ) (codes : List ℕ) (runs : List Run) → 1 ≤ k → AreSmall codes → AllByRecursion (IsRunOf k m codes) runs → AllByRecursion (IsSpelled k) (bin_runs k n i codes runs)
+runs_spelled : (k m n i : ℕ) (codes : List ℕ) (runs : List Run) → 1 ≤ k → AreSmall codes → AllByRecursion (IsRunOf k m codes) runs → AllByRecursion
+    (IsSpelled k) (bin_runs k n i codes runs)
 runs_spelled k m n i codes [] some small h = tt
 runs_spelled k m n i codes (r ∷ rs) some small h = go (runs_spelled k m n i codes rs some small h.1) (nat_eq (r.signature % n) i)
   where
     go : AllByRecursion (IsSpelled k) (bin_runs k n i codes rs) → (t : Bool)
-        → AllByRecursion (IsSpelled k) (map (run_codes k codes) (cond t (r ∷ filter (λ r. nat_eq (r.signature % n) i) rs) (filter (λ r. nat_eq (r.signature % n) i) rs)))
+        → AllByRecursion (IsSpelled k) (map (run_codes k codes) (cond t (r ∷ filter (λ r. nat_eq (r.signature % n) i) rs)
+            (filter (λ r. nat_eq (r.signature % n) i) rs)))
     go rest true = (run_spelled k m codes r some h.0 small, rest)
     go rest false = rest
 
@@ -104,7 +110,8 @@ module _ (exists : CutExists) (has_runs : CutHasRuns) (k m n : ℕ) (some : 1 �
   segments_spelled i (s ∷ ss) h =
       let cut = exists k m s.codes in
       let runs = recursion_from_All (IsRunOf k m s.codes) cut.0 (has_runs k m s.codes cut.0 some h.0.0 cut.1) in
-      all_joined (IsSpelled k) (runs_of exists k m n i s) (flat_map (runs_of exists k m n i) ss) (runs_spelled k m n i s.codes cut.0 some h.0.1 runs) (segments_spelled i ss h.1)
+      all_joined (IsSpelled k) (runs_of exists k m n i s) (flat_map (runs_of exists k m n i) ss) (runs_spelled k m n i s.codes cut.0 some h.0.1 runs)
+          (segments_spelled i ss h.1)
 
   pub records_spelled : (i : ℕ) (reads : List (List ℕ)) → AllByRecursion (IsSpelled k) (read_records exists k m n i reads)
   records_spelled i reads = segments_spelled i (all_segments k reads) (segments_have_words k reads)

@@ -22,7 +22,8 @@ EmptyBinsHoldNoReads = (shape : Sizes) → HoldsReads shape [] (empty_bins shape
 -- each writer has sent the parts of its chunks, and the chunks are all reads: bins that held other reads, with the bodies
 -- of what was got added, hold these too
 abbrev pub GatheredPartsHoldReads : Type 0
-GatheredPartsHoldReads = (shape : Sizes) (batch : ℕ) (held reads : List (List ℕ)) (sp chunks : ℕ) (sent : ℕ → List Parcel) (got : List Parcel) (before bodies : List (List ℕ))
+GatheredPartsHoldReads = (shape : Sizes) (batch : ℕ) (held reads : List (List ℕ)) (sp chunks : ℕ) (sent : ℕ → List Parcel) (got : List Parcel)
+    (before bodies : List (List ℕ))
     → 1 ≤ shape.k → 0 < sp → length reads ≤ chunks * batch → ((w : ℕ) → w < sp → AreDealt shape batch reads sp w chunks (sent w))
     → AreGathered sp sent got → HoldsReads shape held before → AreAdded shape before bodies got → HoldsReads shape (held ++ reads) bodies
 

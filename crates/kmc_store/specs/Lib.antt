@@ -4,3 +4,4 @@ pub mod Holds
 pub mod Deals
 pub mod Growing
 pub mod Laws
+pub mod Lemmas

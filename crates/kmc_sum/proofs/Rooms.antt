@@ -6,7 +6,7 @@ use Rattle.std.specs.Vec.{with_items}
 use Rattle.std.specs.Global.{Global}
 use Rattle.std.specs.Io.KnownBytes.{Consumes, Keeps}
 use borrow.Rule.Slice.PartMut.{put_mid}
-use Rattle.kmc_device.proofs.Lines.{put_then_take}
+use Rattle.kmc_device.specs.Lemmas.Lines.{put_then_take}
 use Rattle.kmc_sum.specs.Source.{GoesOn}
 
 pub goes_nowhere : (a : Option (List ℕ)) (xs ys : List ℕ) → ys ≡ xs → GoesOn a a xs ys

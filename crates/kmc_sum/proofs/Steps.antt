@@ -13,7 +13,7 @@ use Rattle.kmc_count.specs.Occurrences.{same_word}
 use Rattle.kmc_device.specs.Device.{AppendsFront, WritesOut}
 use Rattle.kmc_count.specs.Dump.{IsDump}
 use Rattle.kmc_device.specs.Line.{line_of, text_of}
-use Rattle.kmc_device.proofs.Devices.{front_of}
+use Rattle.kmc_device.specs.Lemmas.Devices.{front_of}
 use Rattle.kmc_sum.specs.Sum.{listed_count, sum_of}
 use Rattle.kmc_sum.specs.Tally.{kept_pair, Tallied}
 use Rattle.kmc_sum.specs.Faults.{GaveFront}

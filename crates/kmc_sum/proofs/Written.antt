@@ -9,7 +9,7 @@ use Rattle.kmc_count.specs.Dump.{kept}
 use Rattle.kmc_device.specs.Line.{line_of, text_of}
 use Rattle.kmc_sum.specs.Tally.{kept_pair}
 use Rattle.kmc_device.specs.Device.{AppendsFront, WritesOut}
-use Rattle.kmc_device.proofs.Devices.{front_after, front_all, gathered_out}
+use Rattle.kmc_device.specs.Lemmas.Devices.{front_after, front_all, gathered_out}
 
 -- nothing is put
 pub out_same : (a b : Option (List ℕ)) (text left : List ℕ) → WritesOut a b text left → WritesOut a b (text ++ []) left

@@ -25,7 +25,8 @@ use Rattle.kmc_tool.proofs.Counting.{keys_windows}
 words_of_records : (k : ℕ) (ss : List (List ℕ)) → AllByRecursion (IsSpelled k) ss → All (IsWord k) (all_windows k ss)
 words_of_records k [] h = λ i d lt. absurd (let no : ⊥ = omega arith in no)
 words_of_records k (s ∷ ss) h =
-    All-append (IsWord k) (windows k s) (all_windows k ss) (All-from_recursion (IsWord k) (windows k s) (keys_are_words Apart k s h.0.codes)) (words_of_records k ss h.1)
+    All-append (IsWord k) (windows k s) (all_windows k ss) (All-from_recursion (IsWord k) (windows k s) (keys_are_words Apart k s h.0.codes))
+        (words_of_records k ss h.1)
 
 keys_of_words : (strands : Strands) (k : ℕ) (ss : List (List ℕ)) → record_keys strands k ss ≡ map (key strands) (all_windows k ss)
 keys_of_words strands k [] = refl
@@ -41,7 +42,8 @@ record IsKeyIn (strands : Strands) (shape : Sizes) (bin : ℕ) (x : List ℕ) : 
   belongs : signature_of shape.m word % shape.n ≡ bin
 
 key_in : (strands : Strands) (shape : Sizes) (bin : ℕ) (ss : List (List ℕ)) → AllByRecursion (IsSpelled shape.k) ss
-    → All (λ w. signature_of shape.m w % shape.n ≡ bin) (all_windows shape.k ss) → (x : List ℕ) → Contains (record_keys strands shape.k ss) x → IsKeyIn strands shape bin x
+    → All (λ w. signature_of shape.m w % shape.n ≡ bin) (all_windows shape.k ss) → (x : List ℕ) → Contains (record_keys strands shape.k ss) x
+        → IsKeyIn strands shape bin x
 key_in strands shape bin ss spelled belong x at = record {
   word = get_or (all_windows shape.k ss) q [];
   is = sym (get_or-map (key strands) (all_windows shape.k ss) q [] x inside) ∙ found.2;
@@ -59,15 +61,18 @@ key_in strands shape bin ss spelled belong x at = record {
     inside = subst (λ (n : ℕ). q < n) (length-map (all_windows shape.k ss) (key strands)) found.1
 
 -- words with one key have one signature
-one_signature : CanonicalFixesSignature → (strands : Strands) (m k : ℕ) (v w : List ℕ) → 1 ≤ m → m ≤ k → IsWord k v → IsWord k w → key strands v ≡ key strands w → signature_of m v ≡ signature_of m w
+one_signature : CanonicalFixesSignature → (strands : Strands) (m k : ℕ) (v w : List ℕ) → 1 ≤ m → m ≤ k → IsWord k v → IsWord k w → key strands v
+    ≡ key strands w → signature_of m v ≡ signature_of m w
 one_signature fixes Joined m k v w some within hv hw same =
     fixes m v w some (omega (arith, hw.0)) (All-from_recursion (λ (c : ℕ). c < 4) v hv.1) (All-from_recursion (λ (c : ℕ). c < 4) w hw.1) same
 one_signature fixes Apart m k v w some within hv hw same = ap (signature_of m) same
 
-pub keys_apart : BodyHasOneList → CanonicalFixesSignature → (strands : Strands) (shape : Sizes) (bodies : List (List ℕ)) (words : List ℕ) (sss : List (List (List ℕ)))
+pub keys_apart : BodyHasOneList → CanonicalFixesSignature → (strands : Strands) (shape : Sizes) (bodies : List (List ℕ)) (words : List ℕ)
+    (sss : List (List (List ℕ)))
     → 1 ≤ shape.m → shape.m ≤ shape.k → AreBins shape bodies words → AllZip (IsBodyOf shape.k) sss bodies
     → AreApart (map (record_keys strands shape.k) sss)
-keys_apart one fixes strands shape bodies words sss some within are zip i j d less lt x here there = clash (in_bin i inside_i x (moved i inside_i here)) (in_bin j inside_j x (moved j inside_j there))
+keys_apart one fixes strands shape bodies words sss some within are zip i j d less lt x here there = clash
+    (in_bin i inside_i x (moved i inside_i here)) (in_bin j inside_j x (moved j inside_j there))
   where
     f : List (List ℕ) → List (List ℕ)
     f = record_keys strands shape.k
@@ -89,7 +94,8 @@ keys_apart one fixes strands shape bodies words sss some within are zip i j d le
         let part = are.each b (omega (arith, inside, wide)) in
         let body = zip_at (IsBodyOf shape.k) sss bodies b [] [] zip inside in
         let same : part.super_kmers ≡ get_or sss b [] = one shape.k part.super_kmers (get_or sss b []) (body_at bodies b) part.records body in
-        key_in strands shape b (get_or sss b []) body.each (subst (λ (ss : List (List ℕ)). All (λ w. signature_of shape.m w % shape.n ≡ b) (all_windows shape.k ss)) same part.belong) x at
+        key_in strands shape b (get_or sss b []) body.each (subst (λ (ss : List (List ℕ)). All (λ w. signature_of shape.m w % shape.n ≡ b)
+            (all_windows shape.k ss)) same part.belong) x at
 
     clash : IsKeyIn strands shape i x → IsKeyIn strands shape j x → ⊥
     clash a b =

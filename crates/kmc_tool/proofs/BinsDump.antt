@@ -22,7 +22,8 @@ use Rattle.kmc_tool.specs.Laws.{BinsShareNoKey}
 use Rattle.kmc_tool.specs.Stages.{IsDumpOfBins}
 
 -- the super-k-mers of bodies that have dumps
-pub whole_lists : (strands : Strands) (k : ℕ) (l : Limits) (bodies : List (List ℕ)) (lists : List (List (List ℕ × ℕ))) → AreDumpsOfBodies strands k l bodies lists
+pub whole_lists : (strands : Strands) (k : ℕ) (l : Limits) (bodies : List (List ℕ)) (lists : List (List (List ℕ × ℕ)))
+    → AreDumpsOfBodies strands k l bodies lists
     → (sss : List (List (List ℕ))) × AllZip (IsBodyOf k) sss bodies
 whole_lists strands k l [] [] h = ([], tt)
 whole_lists strands k l [] (p ∷ ps) h = absurd h
@@ -34,7 +35,8 @@ whole_lists strands k l (b ∷ bs) (p ∷ ps) h =
 -- no bin is damaged
 pub no_damage : WholeBodyHasNoFault → (shape : Sizes) (k : ℕ) (given bodies : List (List ℕ)) (words : List ℕ) (fault : RecordFault) (offset : ℕ)
     → shape.k ≡ k → AreBins shape bodies words → given ≡ bodies → IsFirstDamaged k fault offset given → ⊥
-no_damage whole shape k given bodies words fault offset one are same found = whole k part.super_kmers (body_at bodies damaged.number) fault offset (subst (λ (n : ℕ). IsBodyOf n part.super_kmers (body_at bodies damaged.number)) one part.records) damaged.first
+no_damage whole shape k given bodies words fault offset one are same found = whole k part.super_kmers (body_at bodies damaged.number) fault offset
+    (subst (λ (n : ℕ). IsBodyOf n part.super_kmers (body_at bodies damaged.number)) one part.records) damaged.first
   where
     damaged : IsFirstDamaged k fault offset bodies
     damaged = subst (IsFirstDamaged k fault offset) same found
@@ -55,8 +57,10 @@ some_least p k hp hk = omega arith
 least_within : (p k : ℕ) → min p k ≤ k
 least_within p k = omega arith
 
-pub counted : BinsShareNoKey → DumpsOfBodiesAreOfKeys → (strands : Strands) (k p n : ℕ) (l : Limits) (shape : Sizes) (given bodies : List (List ℕ)) (words : List ℕ) (lists : List (List (List ℕ × ℕ)))
-    → 1 ≤ k → 5 ≤ p → shape ≡ record { k = k; m = min p k; n = n } → AreBins shape bodies words → given ≡ bodies → AreDumpsOfBodies strands k l given lists → AreCounted strands k l bodies lists
+pub counted : BinsShareNoKey → DumpsOfBodiesAreOfKeys → (strands : Strands) (k p n : ℕ) (l : Limits) (shape : Sizes) (given bodies : List (List ℕ))
+    (words : List ℕ) (lists : List (List (List ℕ × ℕ)))
+    → 1 ≤ k → 5 ≤ p → shape ≡ record { k = k; m = min p k; n = n } → AreBins shape bodies words → given ≡ bodies
+        → AreDumpsOfBodies strands k l given lists → AreCounted strands k l bodies lists
 counted share keyed strands k p n l shape given bodies words lists some_k some_p shaped are same dumped =
     let dumps = subst (λ (b : List (List ℕ)). AreDumpsOfBodies strands k l b lists) same dumped in
     let own = subst (λ (s : Sizes). AreBins s bodies words) shaped are in
@@ -69,7 +73,8 @@ counted share keyed strands k p n l shape given bodies words lists some_k some_p
     }
 
 -- the lists of bins can be merged, and their whole is the dump of all bins
-pub listed : BinsShareNoKey → DumpsOfBodiesAreOfKeys → PackedDumpsAreOne → (strands : Strands) (k p n : ℕ) (l : Limits) (shape : Sizes) (given bodies : List (List ℕ)) (words : List ℕ) (lists : List Listed)
+pub listed : BinsShareNoKey → DumpsOfBodiesAreOfKeys → PackedDumpsAreOne → (strands : Strands) (k p n : ℕ) (l : Limits) (shape : Sizes)
+    (given bodies : List (List ℕ)) (words : List ℕ) (lists : List Listed)
     → 1 ≤ k → 5 ≤ p → shape ≡ record { k = k; m = min p k; n = n } → AreBins shape bodies words → given ≡ bodies → AreListsOfBodies strands k l given lists
     → CanBeMerged k lists × IsDumpOfBins strands k l bodies (spelled k (whole lists))
 listed share keyed packed strands k p n l shape given bodies words lists some_k some_p shaped are same h =

@@ -44,10 +44,14 @@ passed_on P (Ok x) e is h = absurd is
 passed_on P (Err x) e is h = subst P (sym is) h
 
 -- and so at the cause that it has: the numbers, and why an input gave no bins
-pub counted : {A : Type 0} (most before after failed fails : ℕ) (r : Result A RunError) (e cause : RunError) → IsErrAnd r (λ x. x ≡ e) → AreCountsOf most before after failed fails e
+pub counted : {A : Type 0} (most before after failed fails : ℕ) (r : Result A RunError) (e cause : RunError) → IsErrAnd r (λ x. x ≡ e)
+    → AreCountsOf most before after failed fails e
     → r ≡ Err cause → AreCountsOf most before after failed fails cause
-counted most before after failed fails r e cause passed h is = of_err (AreCountsOf most before after failed fails) r cause is (passed_on (AreCountsOf most before after failed fails) r e passed h)
+counted most before after failed fails r e cause passed h is = of_err (AreCountsOf most before after failed fails) r cause is
+    (passed_on (AreCountsOf most before after failed fails) r e passed h)
 
-pub told_of : {A : Type 0} (format : Format) (most : ℕ) (old new : Option (List ℕ)) (r : Result A RunError) (e cause : RunError) → IsErrAnd r (λ x. x ≡ e) → IsInputError format most old new e
+pub told_of : {A : Type 0} (format : Format) (most : ℕ) (old new : Option (List ℕ)) (r : Result A RunError) (e cause : RunError) → IsErrAnd r
+    (λ x. x ≡ e) → IsInputError format most old new e
     → r ≡ Err cause → IsInputError format most old new cause
-told_of format most old new r e cause passed h is = of_err (IsInputError format most old new) r cause is (passed_on (IsInputError format most old new) r e passed h)
+told_of format most old new r e cause passed h is = of_err (IsInputError format most old new) r cause is
+    (passed_on (IsInputError format most old new) r e passed h)

@@ -20,11 +20,11 @@ use Rattle.kmc_record.specs.Parts.{AreCuts, bin_runs, bin_super_kmers, all_segme
 use Rattle.kmc_record.specs.Laws.{BodyHasOneList}
 use Rattle.kmc_store.specs.Bins.{body_at}
 use Rattle.kmc_store.specs.Holds.{HoldsReads}
-use Rattle.kmc_store.proofs.Sums.{sum_same, sum_none, sum_add, sum_map, sum_flat_map, sum_filter}
+use Rattle.kmc_store.specs.Lemmas.Sums.{sum_same, sum_none, sum_add, sum_map, sum_flat_map, sum_filter}
 use Rattle.kmc_count.specs.Occurrences.{occurrences}
 use Rattle.kmc_count.specs.Merge.{joined}
 use Rattle.kmc_count.proofs.Zips.{zip_at}
-use Rattle.kmc_workers.proofs.Places.{sum_places}
+use Rattle.kmc_workers.specs.Lemmas.Places.{sum_places}
 use Rattle.kmc_tool.proofs.Summed.{sum_range, sum_once, sum_swap, occurs_flat}
 
 fuse : {A B C : Type 0} (f : B → C) (g : A → B) (xs : List A) → map (λ a. f (g a)) xs ≡ map f (map g xs)
@@ -56,7 +56,8 @@ module _ (strands : Strands) (k : ℕ) (x : List ℕ) where
       → sum_by (λ i. sum_by places (bin_runs k n i codes runs)) (range_with_len 0 n) ≡ sum_by (λ r. places (run_codes k codes r)) runs
   in_one_bin n codes runs some =
       sum_same (λ i. sum_by places (bin_runs k n i codes runs)) (λ i. sum_by (cell i) runs)
-      (λ i. sum_map places (run_codes k codes) (filter (λ r. nat_eq (r.signature % n) i) runs) ∙ sum_filter (λ r. places (run_codes k codes r)) (λ r. nat_eq (r.signature % n) i) runs)
+      (λ i. sum_map places (run_codes k codes) (filter (λ r. nat_eq (r.signature % n) i) runs) ∙ sum_filter (λ r. places (run_codes k codes r))
+          (λ r. nat_eq (r.signature % n) i) runs)
       (range_with_len 0 n)
       ∙ sum_swap cell (range_with_len 0 n) runs
       ∙ sum_same (λ r. sum_by (λ i. cell i r) (range_with_len 0 n)) (λ r. places (run_codes k codes r))
@@ -87,12 +88,15 @@ module _ (strands : Strands) (k : ℕ) (x : List ℕ) where
         ∙ sym (sum_by-cons (λ (s : Stretch). places s.codes) s ss)
 
   -- all segments of reads have a word
-  all_long : ((read : List ℕ) → All (IsSegment k read) (segments_of k read)) → (reads : List (List ℕ)) → All (λ (s : Stretch). k ≤ length s.codes) (all_segments k reads)
+  all_long : ((read : List ℕ) → All (IsSegment k read) (segments_of k read)) → (reads : List (List ℕ)) → All (λ (s : Stretch). k ≤ length s.codes)
+      (all_segments k reads)
   all_long are [] = λ i d lt. absurd (let no : ⊥ = omega arith in no)
-  all_long are (read ∷ reads) = All-append (λ (s : Stretch). k ≤ length s.codes) (segments_of k read) (all_segments k reads) (λ i d lt. (are read i d lt).long) (all_long are reads)
+  all_long are (read ∷ reads) = All-append (λ (s : Stretch). k ≤ length s.codes) (segments_of k read) (all_segments k reads)
+      (λ i d lt. (are read i d lt).long) (all_long are reads)
 
   -- the words of the segments are those at the counted places
-  of_reads : ((read : List ℕ) → flat_map (λ s. keys strands k s.codes) (segments_of k read) ≡ map (placed_key strands) (counted_words k read)) → (reads : List (List ℕ))
+  of_reads : ((read : List ℕ) → flat_map (λ s. keys strands k s.codes) (segments_of k read) ≡ map (placed_key strands) (counted_words k read))
+      → (reads : List (List ℕ))
       → sum_by (λ s. places s.codes) (all_segments k reads) ≡ occurrences (flat_map (λ read. map (placed_key strands) (counted_words k read)) reads) x
   of_reads same reads =
       sum_flat_map (λ (s : Stretch). places s.codes) (segments_of k) reads
@@ -102,7 +106,8 @@ module _ (strands : Strands) (k : ℕ) (x : List ℕ) where
       ∙ sym (occurs_flat (λ read. map (placed_key strands) (counted_words k read)) reads x)
 
   -- the words of all bins, bin by bin
-  of_bins : (sss : List (List (List ℕ))) → occurrences (joined (map (record_keys strands k) sss)) x ≡ sum_by (λ i. sum_by places (get_or sss i [])) (range_with_len 0 (length sss))
+  of_bins : (sss : List (List (List ℕ))) → occurrences (joined (map (record_keys strands k) sss)) x ≡ sum_by (λ i. sum_by places (get_or sss i []))
+      (range_with_len 0 (length sss))
   of_bins sss =
       occurs_flat (λ (ws : List (List ℕ)). ws) (map (record_keys strands k) sss) x
       ∙ sum_map (λ (ws : List (List ℕ)). occurrences ws x) (record_keys strands k) sss
@@ -110,14 +115,17 @@ module _ (strands : Strands) (k : ℕ) (x : List ℕ) where
       ∙ sum_places (sum_by places) [] sss
 
 pub held_counted : BodyHasOneList → CutKeepsWords → ((k : ℕ) (read : List ℕ) → All (IsSegment k read) (segments_of k read))
-    → ((strands : Strands) (k : ℕ) (read : List ℕ) → 1 ≤ k → flat_map (λ s. keys strands k s.codes) (segments_of k read) ≡ map (placed_key strands) (counted_words k read))
+    → ((strands : Strands) (k : ℕ) (read : List ℕ) → 1 ≤ k → flat_map (λ s. keys strands k s.codes) (segments_of k read) ≡ map (placed_key strands)
+        (counted_words k read))
     → (strands : Strands) (shape : Sizes) (reads bodies : List (List ℕ)) (sss : List (List (List ℕ)))
     → 1 ≤ shape.k → 1 ≤ shape.n → HoldsReads shape reads bodies → AllZip (IsBodyOf shape.k) sss bodies
-    → (x : List ℕ) → occurrences (joined (map (record_keys strands shape.k) sss)) x ≡ occurrences (flat_map (λ read. map (placed_key strands) (counted_words shape.k read)) reads) x
+    → (x : List ℕ) → occurrences (joined (map (record_keys strands shape.k) sss)) x ≡ occurrences
+        (flat_map (λ read. map (placed_key strands) (counted_words shape.k read)) reads) x
 held_counted one keeps segments keyed strands shape reads bodies sss some_k some h zip x =
     of_bins strands k x sss
     ∙ ap (λ n. sum_by (λ i. sum_by (places strands k x) (get_or sss i [])) (range_with_len 0 n)) wide
-    ∙ sum_range (λ i. sum_by (places strands k x) (get_or sss i [])) (λ i. sum_by (places strands k x) (bin_super_kmers k shape.n i (all_segments k reads) h.cuts)) 0 shape.n same
+    ∙ sum_range (λ i. sum_by (places strands k x) (get_or sss i [])) (λ i. sum_by (places strands k x)
+        (bin_super_kmers k shape.n i (all_segments k reads) h.cuts)) 0 shape.n same
     ∙ of_segments strands k x shape.m shape.n keeps some_k some (all_segments k reads) h.cuts h.cut (all_long strands k x (segments k) reads)
     ∙ of_reads strands k x (λ read. keyed strands k read some_k) reads
   where
@@ -127,8 +135,10 @@ held_counted one keeps segments keyed strands shape reads bodies sss some_k some
     wide : length sss ≡ shape.n
     wide = sym (AllZip-long (IsBodyOf k) sss bodies zip) ∙ h.wide
 
-    same : (i : ℕ) → 0 ≤ i → i < 0 + shape.n → sum_by (places strands k x) (get_or sss i []) ≡ sum_by (places strands k x) (bin_super_kmers k shape.n i (all_segments k reads) h.cuts)
+    same : (i : ℕ) → 0 ≤ i → i < 0 + shape.n → sum_by (places strands k x) (get_or sss i []) ≡ sum_by (places strands k x)
+        (bin_super_kmers k shape.n i (all_segments k reads) h.cuts)
     same i from to =
         let lt : i < shape.n = omega arith in
-        ap (sum_by (places strands k x)) (one k (get_or sss i []) (h.records i) (body_at bodies i) (zip_at (IsBodyOf k) sss bodies i [] [] zip (omega (arith, wide))) (h.each i lt))
+        ap (sum_by (places strands k x)) (one k (get_or sss i []) (h.records i) (body_at bodies i)
+            (zip_at (IsBodyOf k) sss bodies i [] [] zip (omega (arith, wide))) (h.each i lt))
         ∙ h.same i lt (places strands k x)

@@ -25,7 +25,8 @@ consumes_on (Some all) (Some rest) None xs ys a b = absurd b
 consumes_on (Some all) (Some rest) (Some left) xs ys a b = a ∙ ap (λ t. xs ++ t) b ∙ sym (append_assoc xs ys left)
 
 -- nothing was read yet
-pub fed_none : (overlap : ℕ) (format : Format) (old : Option (List ℕ)) (n : ℕ) (text : List ℕ) (taken : List (List ℕ)) (v : FeederState) → StandsCut overlap format text taken v → IsFed overlap format old old n n text taken v
+pub fed_none : (overlap : ℕ) (format : Format) (old : Option (List ℕ)) (n : ℕ) (text : List ℕ) (taken : List (List ℕ)) (v : FeederState)
+    → StandsCut overlap format text taken v → IsFed overlap format old old n n text taken v
 fed_none overlap format old n text taken v s = record {
   bytes = [];
   given = consumes_none old;
@@ -34,7 +35,8 @@ fed_none overlap format old n text taken v s = record {
 }
 
 -- more was read
-pub fed_on : (overlap : ℕ) (format : Format) (old mid new : Option (List ℕ)) (a b c : ℕ) (text : List ℕ) (taken : List (List ℕ)) (v w : FeederState) (f : IsFed overlap format old mid a b text taken v)
+pub fed_on : (overlap : ℕ) (format : Format) (old mid new : Option (List ℕ)) (a b c : ℕ) (text : List ℕ) (taken : List (List ℕ)) (v w : FeederState)
+    (f : IsFed overlap format old mid a b text taken v)
     → IsFed overlap format mid new b c (text ++ f.bytes) taken w → IsFed overlap format old new a c text taken w
 fed_on overlap format old mid new a b c text taken v w f g = record {
   bytes = f.bytes ++ g.bytes;
@@ -44,7 +46,8 @@ fed_on overlap format old mid new a b c text taken v w f g = record {
 }
 
 -- and refused
-pub refused_on : (overlap : ℕ) (format : Format) (old mid new : Option (List ℕ)) (a b : ℕ) (text : List ℕ) (taken : List (List ℕ)) (v : FeederState) (e : ReadsError) (f : IsFed overlap format old mid a b text taken v)
+pub refused_on : (overlap : ℕ) (format : Format) (old mid new : Option (List ℕ)) (a b : ℕ) (text : List ℕ) (taken : List (List ℕ)) (v : FeederState)
+    (e : ReadsError) (f : IsFed overlap format old mid a b text taken v)
     → IsRefused format mid new (text ++ f.bytes) e → IsRefused format old new text e
 refused_on overlap format old mid new a b text taken v e f r =
     let same = append_assoc text f.bytes r.bytes in
@@ -56,7 +59,8 @@ refused_on overlap format old mid new a b text taken v e f r =
     }
 
 -- a fault of a line that has its line feed
-pub refused_for_good : (format : Format) (old new : Option (List ℕ)) (text bytes : List ℕ) (e : ReadsError) → FaultStays → Consumes old new bytes → fault format (text ++ bytes) ≡ Some e → IsRefused format old new text e
+pub refused_for_good : (format : Format) (old new : Option (List ℕ)) (text bytes : List ℕ) (e : ReadsError) → FaultStays → Consumes old new bytes
+    → fault format (text ++ bytes) ≡ Some e → IsRefused format old new text e
 refused_for_good format old new text bytes e law given faulty = record {
   bytes = bytes;
   given = given;
@@ -65,7 +69,8 @@ refused_for_good format old new text bytes e law given faulty = record {
 }
 
 -- whatever was answered after that
-pub fed_by : (overlap : ℕ) (format : Format) (old mid new : Option (List ℕ)) (a b c : ℕ) (text : List ℕ) (taken : List (List ℕ)) (v w : FeederState) (r : Result Bool RunError) (f : IsFed overlap format old mid a b text taken v)
+pub fed_by : (overlap : ℕ) (format : Format) (old mid new : Option (List ℕ)) (a b c : ℕ) (text : List ℕ) (taken : List (List ℕ)) (v w : FeederState)
+    (r : Result Bool RunError) (f : IsFed overlap format old mid a b text taken v)
     → IsFedBy overlap format mid new b c (text ++ f.bytes) taken w r → IsFedBy overlap format old new a c text taken w r
 fed_by overlap format old mid new a b c text taken v w (Ok more) f g = fed_on overlap format old mid new a b c text taken v w f g
 fed_by overlap format old mid new a b c text taken v w (Err Memory) f g = tt
@@ -83,10 +88,12 @@ reads_many (suc n) m before after same more none = let e = more (omega arith) in
 pub record IsUnderWay (old new : Option (List ℕ)) (before after failed fails reads : ℕ) (v w : FeederState) : Type 0 where
   pub kept : fails ≡ failed
   pub many : before + reads ≤ after
-  pub fed : (overlap : ℕ) (format : Format) (text : List ℕ) (taken : List (List ℕ)) → StandsCut overlap format text taken v → IsFed overlap format old new before after text taken w
+  pub fed : (overlap : ℕ) (format : Format) (text : List ℕ) (taken : List (List ℕ)) → StandsCut overlap format text taken v
+      → IsFed overlap format old new before after text taken w
 
 -- what the rounds before one did: the bins hold the pieces of the reads that were taken
-pub record AreStored (format : Format) (shape : Sizes) (limit : ℕ) (old new : Option (List ℕ)) (before after : ℕ) (bins : BinList) (v : FeederState) : Type 0 where
+pub record AreStored (format : Format) (shape : Sizes) (limit : ℕ) (old new : Option (List ℕ)) (before after : ℕ) (bins : BinList)
+    (v : FeederState) : Type 0 where
   pub taken : List (List ℕ)
   pub fed : IsFed (shape.k - 1) format old new before after [] taken v
   pub holds : HoldsPieces shape limit taken bins.bodies
@@ -99,12 +106,14 @@ pub record AreRisen (most before after failed fails : ℕ) (more : Bool) : Type 
   pub some : more ≡ true → before < after
   pub under : more ≡ false → after < most
 
-pub risen : (most before after failed fails : ℕ) (more : Bool) → AreCounts most before after failed fails (Ok more) → AreRisen most before after failed fails more
+pub risen : (most before after failed fails : ℕ) (more : Bool) → AreCounts most before after failed fails (Ok more)
+    → AreRisen most before after failed fails more
 risen most before after failed fails true c = record { kept = c.0; least = omega (arith, c.1); below = c.2; some = λ _. c.1; under = λ e. cc }
 risen most before after failed fails false c = record { kept = c.0; least = c.1; below = omega (arith, c.2); some = λ e. cc; under = λ _. c.2 }
 
 -- the numbers of a refusal after earlier rounds
-pub counts_on : (e : RunError) (most before mid after failed between fails : ℕ) → before ≤ mid → between ≡ failed → AreCountsOf most mid after between fails e → AreCountsOf most before after failed fails e
+pub counts_on : (e : RunError) (most before mid after failed between fails : ℕ) → before ≤ mid → between ≡ failed
+    → AreCountsOf most mid after between fails e → AreCountsOf most before after failed fails e
 counts_on Memory most before mid after failed between fails less same c = (c.0 ∙ same, omega (arith, c.1, less), c.2)
 counts_on Read most before mid after failed between fails less same c = (c.0 ∙ ap (λ n. n + 1) same, omega (arith, c.1, less), c.2)
 counts_on Write most before mid after failed between fails less same c = c
@@ -119,7 +128,8 @@ memory_on most mid after between fails more before failed bound counts less same
 
 module _ (overlap : ℕ) (format : Format) (most : ℕ) (old new : Option (List ℕ)) where
   -- a refusal of the reader or the feeder
-  pub fed_cause : (before after failed fails : ℕ) (taken : List (List ℕ)) (v : FeederState) (e : RunError) → IsFedBy overlap format old new before after [] taken v (Err e)
+  pub fed_cause : (before after failed fails : ℕ) (taken : List (List ℕ)) (v : FeederState) (e : RunError)
+      → IsFedBy overlap format old new before after [] taken v (Err e)
       → AreCountsOf (before + most) before after failed fails e → IsInputError format most old new e
   fed_cause before after failed fails taken v Memory f c = tt
   fed_cause before after failed fails taken v Read f c = tt
@@ -168,5 +178,7 @@ last_bins format shape limit old new before after taken v (Ok bins) f end shaped
 last_bins format shape limit old new before after taken v (Err e) f end shaped h = tt
 
 -- the reads that were ended were taken
-abbrev pub taken_fed : (overlap : ℕ) (format : Format) (old new : Option (List ℕ)) (a b : ℕ) (taken more : List (List ℕ)) (v w : FeederState) (f : IsFed overlap format old new a b [] taken v) → StandsCut overlap format f.bytes (taken ++ more) w → IsFed overlap format old new a b [] (taken ++ more) w
+abbrev pub taken_fed : (overlap : ℕ) (format : Format) (old new : Option (List ℕ)) (a b : ℕ) (taken more : List (List ℕ)) (v w : FeederState)
+    (f : IsFed overlap format old new a b [] taken v) → StandsCut overlap format f.bytes (taken ++ more) w → IsFed overlap format old new a b []
+    (taken ++ more) w
 taken_fed overlap format old new a b taken more v w f s = record { bytes = f.bytes; given = f.given; many = f.many; stands = s }

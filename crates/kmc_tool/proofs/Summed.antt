@@ -3,7 +3,7 @@ use Rattle.std.proofs.Common.{◌≡◌, ◌≢◌, ℕ, zero, suc, ◌+◌, ◌
 use Rattle.std.specs.List.{flat_map, sum_by, range_with_len}
 use Rattle.std.proofs.lemmas.List.Sums.{sum_by-cons}
 use Rattle.std.proofs.lemmas.Bool.Decides.{nat_tests}
-use Rattle.kmc_store.proofs.Sums.{sum_same, sum_none, sum_add, sum_flat_map}
+use Rattle.kmc_store.specs.Lemmas.Sums.{sum_same, sum_none, sum_add, sum_flat_map}
 use Rattle.kmc_count.specs.Occurrences.{same_word, occurrences}
 
 -- sums over a range are equal where the terms below its end are
@@ -33,7 +33,8 @@ here_or_later v g a n le false e later =
 
 pub sum_once : (v g a n : ℕ) → a ≤ v → v < a + n → sum_by (λ i. cond (nat_eq v i) g 0) (range_with_len a n) ≡ g
 sum_once v g a zero le lt = absurd (omega arith)
-sum_once v g a (suc n) le lt = sum_by-cons (λ i. cond (nat_eq v i) g 0) a (range_with_len (a + 1) n) ∙ here_or_later v g a n le (nat_eq v a) refl (λ more. sum_once v g (a + 1) n more (omega arith))
+sum_once v g a (suc n) le lt = sum_by-cons (λ i. cond (nat_eq v i) g 0) a (range_with_len (a + 1) n) ∙ here_or_later v g a n le (nat_eq v a) refl
+    (λ more. sum_once v g (a + 1) n more (omega arith))
 
 -- sums over two lists change their order
 pub sum_swap : {A B : Type 0} (F : A → B → ℕ) (xs : List A) (ys : List B) → sum_by (λ a. sum_by (F a) ys) xs ≡ sum_by (λ b. sum_by (λ a. F a b) xs) ys

@@ -15,8 +15,10 @@ use Rattle.kmc_store.specs.Holds.{HoldsReads}
 use Rattle.kmc_tool.specs.declared.error.RunError.{RunError}
 use Rattle.kmc_tool.specs.declared.error.RunError.TheVariants.{Memory, Read, Write, Input, TooLong}
 
--- the reader gave bytes, at least one a read that was counted, and the feeder, which stood at this text, took them: of its reads, some maybe cut, these were taken
-pub record IsFed (overlap : ℕ) (format : Format) (old new : Option (List ℕ)) (before after : ℕ) (text : List ℕ) (taken : List (List ℕ)) (v : FeederState) : Type 0 where
+-- the reader gave bytes, at least one a read that was counted, and the feeder, which stood at this text, took them: of its reads, some maybe cut,
+-- these were taken
+pub record IsFed (overlap : ℕ) (format : Format) (old new : Option (List ℕ)) (before after : ℕ) (text : List ℕ) (taken : List (List ℕ))
+    (v : FeederState) : Type 0 where
   pub bytes : List ℕ
   pub given : Consumes old new bytes
   pub many : after ≤ before + length bytes

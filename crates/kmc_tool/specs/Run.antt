@@ -46,15 +46,18 @@ IsWriteError untouched failed front (Input e) = ⊥
 IsWriteError untouched failed front TooLong = ⊥
 
 -- lists of bins that are the dump of all that a reader gave, of which at most so many reads gave bytes; or why there are none
-pub record IsCountedInput {R : Type 0} (remaining : R → Option (List ℕ)) (params : Params) (most : ℕ) (reader read : Watched R) (answer : Result BinLists RunError) : Type 0 where
+pub record IsCountedInput {R : Type 0} (remaining : R → Option (List ℕ)) (params : Params) (most : ℕ) (reader read : Watched R)
+    (answer : Result BinLists RunError) : Type 0 where
   pub merge : IfOk answer (λ lists. CanBeMerged params.k (lists_of lists))
-  pub dump : IfOk answer (λ lists. IsDumpOfInput params.format params.strands params.k params.limits (remaining reader.inner) (remaining read.inner) (spelled params.k (whole (lists_of lists))))
+  pub dump : IfOk answer (λ lists. IsDumpOfInput params.format params.strands params.k params.limits (remaining reader.inner) (remaining read.inner)
+      (spelled params.k (whole (lists_of lists))))
   pub sound : OnOk answer ((read.failures ≡ reader.failures) × (reader.reads ≤ read.reads) × (read.reads < reader.reads + most))
   pub counts : IfErr answer (AreCountsOf (reader.reads + most) reader.reads read.reads reader.failures read.failures)
   pub cause : IfErr answer (IsInputError params.format most (remaining reader.inner) (remaining read.inner))
 
 -- a run from a reader to a writer, each before and after, by its answer
-pub record IsRun {R W : Type 0} (remaining : R → Option (List ℕ)) (contents : W → Option (List ℕ)) (params : Params) (reader read : Watched R) (writer written : Watched W) (answer : Result ℕ RunError) : Type 0 where
+pub record IsRun {R W : Type 0} (remaining : R → Option (List ℕ)) (contents : W → Option (List ℕ)) (params : Params) (reader read : Watched R)
+    (writer written : Watched W) (answer : Result ℕ RunError) : Type 0 where
   -- what was written is the dump of what the reader gave to its end, and the answer is its number of lines
   pub ok : IfOk answer (λ lines. (bytes text : List ℕ) × GaveAll (remaining reader.inner) (remaining read.inner) bytes
       × IsDumpOf params.format bytes params.strands params.k params.limits text lines × Appends (contents writer.inner) (contents written.inner) text)
@@ -67,7 +70,8 @@ pub record IsRun {R W : Type 0} (remaining : R → Option (List ℕ)) (contents 
       × IsDumpOf params.format bytes params.strands params.k params.limits text lines × AppendsFront (contents writer.inner) (contents written.inner) text
   pub input : (e : ReadsError) → IsErrOf answer (Input e) → IsRefused params.format (remaining reader.inner) (remaining read.inner) [] e
   pub faulty : IfErr answer (λ e. e ≢ Input NoMemory)
-  pub long : IsErrOf answer TooLong → (read.reads ≡ reader.reads + 2 ^ 32) × (bytes : List ℕ) × Consumes (remaining reader.inner) (remaining read.inner) bytes × (2 ^ 32 ≤ length bytes)
+  pub long : IsErrOf answer TooLong → (read.reads ≡ reader.reads + 2 ^ 32) × (bytes : List ℕ) × Consumes (remaining reader.inner)
+      (remaining read.inner) bytes × (2 ^ 32 ≤ length bytes)
   -- only a failed write leaves anything written, and no other refusal passes over a failure
   pub silent : IfErr answer (λ e. e ≢ Write → written ≡ writer)
   pub reader_kept : IfErr answer (λ e. e ≢ Read → read.failures ≡ reader.failures)

@@ -8,10 +8,12 @@ module _ {A : Type 0} (f : A → List ℕ) (l : List A) (at batch : ℕ) where
   rest = take (length l - at) (drop at l)
 
   rest_is : rest ≡ drop at l
-  rest_is = take_all (length l - at) (drop at l) (subst (λ (n : ℕ). n ≤ length l - at) (sym (length-drop at l)) (let z : length l - at ≤ length l - at = omega arith in z))
+  rest_is = take_all (length l - at) (drop at l) (subst (λ (n : ℕ). n ≤ length l - at) (sym (length-drop at l))
+      (let z : length l - at ≤ length l - at = omega arith in z))
 
   front_is : slice_range (map f l) at (at + batch) ≡ map f (take batch (drop at l))
-  front_is = ap (λ (n : ℕ). take n (drop at (map f l))) (let z : at + batch - at ≡ batch = omega arith in z) ∙ ap (take batch) (drop-map f at l) ∙ take-map f batch (drop at l)
+  front_is = ap (λ (n : ℕ). take n (drop at (map f l))) (let z : at + batch - at ≡ batch = omega arith in z) ∙ ap (take batch) (drop-map f at l)
+      ∙ take-map f batch (drop at l)
 
   -- the last chunk is what is left
   pub last_chunk : length l - at ≤ batch → map f rest ≡ slice_range (map f l) at (at + batch)

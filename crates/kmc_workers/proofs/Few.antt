@@ -17,9 +17,11 @@ use Rattle.kmc_workers.specs.Laws.{AChunkEachSpendsNoNumbers}
 a_part_each : (number : ℕ) (reads : List (List ℕ)) (shape : Sizes) (parts : List Parcel) → ArePartsOf number reads shape parts → length parts ≤ shape.n
 a_part_each number reads shape parts are =
     let test = λ (p : Parcel). nat_lt 0 (length p.body) in
-    let all = map (λ bin. grown shape.k (bin_super_kmers shape.k shape.n bin (all_segments shape.k reads) are.cuts) (empty_part number shape bin)) (range_with_len 0 shape.n) in
+    let all = map (λ bin. grown shape.k (bin_super_kmers shape.k shape.n bin (all_segments shape.k reads) are.cuts) (empty_part number shape bin))
+        (range_with_len 0 shape.n) in
     let passed : length parts ≡ count_by test all = ap length are.are ∙ length-filter test all in
-    let bins : length all ≡ shape.n = length-map-range_with_len (λ bin. grown shape.k (bin_super_kmers shape.k shape.n bin (all_segments shape.k reads) are.cuts) (empty_part number shape bin)) 0 shape.n in
+    let bins : length all ≡ shape.n = length-map-range_with_len (λ bin. grown shape.k
+        (bin_super_kmers shape.k shape.n bin (all_segments shape.k reads) are.cuts) (empty_part number shape bin)) 0 shape.n in
     omega (arith, passed, bins, count_by-le-length test all)
 
 module _ (shape : Sizes) (batch : ℕ) (reads : List (List ℕ)) (sp w : ℕ) where
@@ -27,7 +29,8 @@ module _ (shape : Sizes) (batch : ℕ) (reads : List (List ℕ)) (sp w : ℕ) wh
   abbrev AreFew : ℕ → List Parcel → Type 0
   AreFew c parts = (c ≤ w → length parts ≡ 0) × (length parts ≤ shape.n)
 
-  own_or_other : (c : ℕ) (before own parts : List Parcel) → c % sp ≡ c → parts ≡ before ++ own → AreFew c before → AreSent shape (chunk_at batch reads c) sp w c own → (b : Bool) → nat_eq c w ≡ b → AreFew (suc c) parts
+  own_or_other : (c : ℕ) (before own parts : List Parcel) → c % sp ≡ c → parts ≡ before ++ own → AreFew c before → AreSent shape
+      (chunk_at batch reads c) sp w c own → (b : Bool) → nat_eq c w ≡ b → AreFew (suc c) parts
   own_or_other c before own parts here is few sent true e =
       let same : c ≡ w = grind (arith, nat_tests) in
       let long : length parts ≡ length before + length own = ap length is ∙ length-append before own in

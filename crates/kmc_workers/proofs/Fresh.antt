@@ -7,15 +7,10 @@ use Rattle.kmc_partcore.specs.declared.shape.QueueShape.{QueueShape}
 use Rattle.kmc_partqueue.specs.Counts.{Each}
 use Rattle.kmc_partqueue.specs.Dealing.{row_from}
 use Rattle.kmc_partqueue.specs.Seats.{WriterState, ReaderState, new_writer, new_reader}
-use Rattle.kmc_partqueue.proofs.Dealing.{each_row}
+use Rattle.kmc_partqueue.specs.Lemmas.Numbered.{each_row}
 use Rattle.kmc_store.specs.Bins.{BinList, empty_bins}
 use Rattle.kmc_workers.specs.Workers.{IsFreshWriter, IsFreshReader}
 use Rattle.kmc_workers.specs.Shards.{IsFreshShard, begun}
-
--- what follows from two facts of an answer
-pub both_ok : {A E : Type 0} (P Q R : A → Type 0) (r : Result A E) → IfOk r P → IfOk r Q → ((q : A) → P q → Q q → R q) → IfOk r R
-both_ok P Q R (Ok q) p p' go = go q p p'
-both_ok P Q R (Err e) p p' go = tt
 
 module _ (id : TableId) (q r : QueueShape) where
   pub fresh_writers : (l : List (WriterState Parcel)) → l ≡ row_from (new_writer id r) 0 r.writers → q ≡ r → Each (IsFreshWriter id q) l
@@ -27,7 +22,8 @@ module _ (id : TableId) (q r : QueueShape) where
       (each_row (IsFreshReader id r) (new_reader id r) 0 r.readers (λ j near. ((refl, refl, refl), refl))))
 
   -- and so are these seats with bins
-  others_fresh : (bins : BinList) (l : List (ReaderState Parcel)) → Each (IsFreshReader id q) l → Each (IsFreshShard id q bins.shape) (map (λ s. record { seat = s; bins = bins }) l)
+  others_fresh : (bins : BinList) (l : List (ReaderState Parcel)) → Each (IsFreshReader id q) l → Each (IsFreshShard id q bins.shape)
+      (map (λ s. record { seat = s; bins = bins }) l)
   others_fresh bins [] all = tt
   others_fresh bins (s ∷ l) all = ((all.0, refl), others_fresh bins l all.1)
 

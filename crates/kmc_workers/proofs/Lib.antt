@@ -8,4 +8,3 @@ mod Returned
 mod Sent
 mod Stored
 mod Zips
-pub mod Places

@@ -9,7 +9,7 @@ use Rattle.kmc_partcore.specs.declared.shape.QueueShape.{QueueShape}
 use Rattle.kmc_partqueue.specs.Counts.{Each, Among, total_of, same}
 use Rattle.kmc_partqueue.specs.Dealing.{row_from}
 use Rattle.kmc_partqueue.specs.Seats.{WriterState, ReaderState, AllEnded, IsWriterOf, IsReaderOf, new_writer, new_reader}
-use Rattle.kmc_partqueue.proofs.Numbered.{row_length, each_from, once_from}
+use Rattle.kmc_partqueue.specs.Lemmas.Numbered.{row_length, each_from, once_from}
 use Rattle.kmc_workers.specs.Workers.{IsDone, IsSameReader}
 use Rattle.kmc_store.specs.Bins.{BinList, empty_bins}
 use Rattle.kmc_workers.specs.Shards.{IsShard, begun}
@@ -30,7 +30,8 @@ module _ {A B : Type 0} (R : A → B → Type 0) (f : ℕ → A) where
 
 module _ (id : TableId) (q : QueueShape) where
   -- a writer's seat has the number of its place
-  module _ (shape : Sizes) (batch : ℕ) (reads : List (List ℕ)) (sp : ℕ) (ds : List (WriterState Parcel)) (back : AllZip (IsDone shape batch reads sp) (row_from (new_writer id q) 0 q.writers) ds) where
+  module _ (shape : Sizes) (batch : ℕ) (reads : List (List ℕ)) (sp : ℕ) (ds : List (WriterState Parcel))
+      (back : AllZip (IsDone shape batch reads sp) (row_from (new_writer id q) 0 q.writers) ds) where
     pub its_writer : (j : ℕ) (d : WriterState Parcel) → j < length ds → IsDone shape batch reads sp (new_writer id q j) (get_or ds j d)
     its_writer j d lt = row_back (IsDone shape batch reads sp) (new_writer id q) 0 q.writers ds back j j d lt (omega arith)
 
@@ -51,25 +52,29 @@ module _ (id : TableId) (q : QueueShape) where
   abbrev pub IsBack : ReaderState Parcel → ReaderState Parcel → Type 0
   IsBack s r = IsSameReader s r × AllEnded r.writers r.totals
 
-  others_back : (bins : BinList) (ss : List (ReaderState Parcel)) (hs : List Shard) → AllZip IsShard (map (λ s. record { seat = s; bins = bins }) ss) hs → AllZip IsBack ss (map (λ (h : Shard). h.seat) hs)
+  others_back : (bins : BinList) (ss : List (ReaderState Parcel)) (hs : List Shard) → AllZip IsShard
+      (map (λ s. record { seat = s; bins = bins }) ss) hs → AllZip IsBack ss (map (λ (h : Shard). h.seat) hs)
   others_back bins [] [] z = tt
   others_back bins [] (h ∷ hs) z = absurd z
   others_back bins (s ∷ ss) [] z = absurd z
   others_back bins (s ∷ ss) (h ∷ hs) z = ((z.0.seat, z.0.ended), others_back bins ss hs z.1)
 
-  seats_back : (bins : BinList) (ss : List (ReaderState Parcel)) (hs : List Shard) → AllZip IsShard (begun bins ss) hs → AllZip IsBack ss (map (λ (h : Shard). h.seat) hs)
+  seats_back : (bins : BinList) (ss : List (ReaderState Parcel)) (hs : List Shard) → AllZip IsShard (begun bins ss) hs → AllZip IsBack ss
+      (map (λ (h : Shard). h.seat) hs)
   seats_back bins [] [] z = tt
   seats_back bins [] (h ∷ hs) z = absurd z
   seats_back bins (s ∷ ss) [] z = absurd z
   seats_back bins (s ∷ ss) (h ∷ hs) z = ((z.0.seat, z.0.ended), others_back (empty_bins bins.shape) ss hs z.1)
 
-  first_ended : (n : ℕ) (rs : List (ReaderState Parcel)) → 0 < n → AllZip IsBack (row_from (new_reader id q) 0 n) rs → (s : ReaderState Parcel) × Among s rs × AllEnded s.writers s.totals
+  first_ended : (n : ℕ) (rs : List (ReaderState Parcel)) → 0 < n → AllZip IsBack (row_from (new_reader id q) 0 n) rs → (s : ReaderState Parcel)
+      × Among s rs × AllEnded s.writers s.totals
   first_ended zero rs lt z = absurd (omega arith)
   first_ended (suc n) [] lt z = absurd z
   first_ended (suc n) (r ∷ rs) lt z = (r, (0, refl), z.0.1)
 
   -- a reader's seat has the number of its place
-  module _ (bins : BinList) (hs : List Shard) (rs : List (ReaderState Parcel)) (are : rs ≡ map (λ (h : Shard). h.seat) hs) (back : AllZip IsShard (begun bins (row_from (new_reader id q) 0 q.readers)) hs) where
+  module _ (bins : BinList) (hs : List Shard) (rs : List (ReaderState Parcel)) (are : rs ≡ map (λ (h : Shard). h.seat) hs)
+      (back : AllZip IsShard (begun bins (row_from (new_reader id q) 0 q.readers)) hs) where
     readers_back : AllZip IsBack (row_from (new_reader id q) 0 q.readers) rs
     readers_back = subst (AllZip IsBack (row_from (new_reader id q) 0 q.readers)) (sym are) (seats_back bins (row_from (new_reader id q) 0 q.readers) hs back)
 

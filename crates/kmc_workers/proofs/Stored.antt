@@ -11,19 +11,19 @@ use Rattle.kmc_partqueue.specs.Dealing.{row_from}
 use Rattle.kmc_partqueue.specs.Seats.{WriterState, ReaderState, IsWriterOf, new_writer, new_reader}
 use Rattle.kmc_partqueue.specs.Gathered.{IsGathered}
 use Rattle.kmc_partqueue.specs.Laws.{GatheredLaw}
-use Rattle.kmc_partqueue.proofs.Sums.{each_map}
-use Rattle.kmc_partqueue.proofs.Numbered.{each_from}
+use Rattle.kmc_partqueue.specs.Lemmas.Sums.{each_map}
+use Rattle.kmc_partqueue.specs.Lemmas.Numbered.{each_from}
 use Rattle.kmc_store.specs.Bins.{BinList, empty_bins}
 use Rattle.kmc_store.specs.Bodies.{AreAdded}
 use Rattle.kmc_store.specs.Holds.{HoldsReads}
 use Rattle.kmc_store.specs.Deals.{AreDealt, AreGathered}
 use Rattle.kmc_store.specs.Laws.{GatheredPartsHoldReads}
-use Rattle.kmc_store.proofs.Sums.{sum_same, sum_map, sum_flat_map}
+use Rattle.kmc_store.specs.Lemmas.Sums.{sum_same, sum_map, sum_flat_map}
 use Rattle.kmc_workers.specs.declared.shard.Shard.{Shard}
 use Rattle.kmc_workers.specs.Workers.{items_of, chunks_of, IsDone}
 use Rattle.kmc_workers.specs.Shards.{IsShard, AreGrown, begun}
 use Rattle.kmc_workers.proofs.Returned.{its_writer, all_writers, writers_of, writers_once}
-use Rattle.kmc_workers.proofs.Places.{sum_places}
+use Rattle.kmc_workers.specs.Lemmas.Places.{sum_places}
 use Rattle.kmc_workers.proofs.Merging.{all_got}
 
 -- so many chunks of so many reads have room for all reads
@@ -99,7 +99,8 @@ grown_shaped bins [] grown = tt
 grown_shaped bins (h ∷ shards) grown = (grown.0, grown_shaped (empty_bins bins.shape) shards grown.2)
 
 -- a storer for each reader, of which there are some
-pub some_shards : (id : TableId) (q : QueueShape) (bins : BinList) (n : ℕ) (shards : List Shard) → 0 < n → AllZip IsShard (begun bins (row_from (new_reader id q) 0 n)) shards → 0 < length shards
+pub some_shards : (id : TableId) (q : QueueShape) (bins : BinList) (n : ℕ) (shards : List Shard) → 0 < n → AllZip IsShard
+    (begun bins (row_from (new_reader id q) 0 n)) shards → 0 < length shards
 some_shards id q bins zero shards some all = absurd (omega arith)
 some_shards id q bins (suc n) [] some all = absurd all
 some_shards id q bins (suc n) (h ∷ shards) some all = omega arith

@@ -3,3 +3,4 @@ pub mod Laws
 pub mod Refusals
 pub mod Shards
 pub mod Workers
+pub mod Lemmas

@@ -34,7 +34,8 @@ pub record IsShard (s h : Shard) : Type 0 where
 -- the bins of the first storer are these with what it got added, those of each other what it got alone
 abbrev pub AreGrown : BinList → List Shard → Type 0
 AreGrown bins [] = Unit {0}
-AreGrown bins (h ∷ shards) = (h.bins.shape ≡ bins.shape) × AreAdded bins.shape bins.bodies h.bins.bodies (items_of h.seat.got) × AreGrown (empty_bins bins.shape) shards
+AreGrown bins (h ∷ shards) = (h.bins.shape ≡ bins.shape) × AreAdded bins.shape bins.bodies h.bins.bodies (items_of h.seat.got) × AreGrown
+    (empty_bins bins.shape) shards
 
 -- a legal history of the queue tells how the parts came to the bins: each writer put the parts of its chunks, which all
 -- left, and what the readers took is added to the bins as they were before

@@ -32,7 +32,8 @@ key_is_word Apart k w h = h
 pub window_is_word : (k : ℕ) (s : List ℕ) (i : ℕ) → AreCodes s → i + k ≤ length s → IsWord k (window k s i)
 window_is_word k s i codes room = (length-take-le k (drop i s) (omega (arith, length-drop i s)), codes_part k i s codes)
 
-keys_from : (strands : Strands) (k : ℕ) (s : List ℕ) (a n : ℕ) → AreCodes s → a + n + k ≤ length s + 1 → AreWords k (map (λ i. key strands (window k s i)) (range_with_len a n))
+keys_from : (strands : Strands) (k : ℕ) (s : List ℕ) (a n : ℕ) → AreCodes s → a + n + k ≤ length s + 1 → AreWords k
+    (map (λ i. key strands (window k s i)) (range_with_len a n))
 keys_from strands k s a zero codes room = tt
 keys_from strands k s a (suc n) codes room =
     (key_is_word strands k (window k s a) (window_is_word k s a codes (omega arith)), keys_from strands k s (a + 1) n codes (omega arith))
@@ -83,7 +84,8 @@ codes_of_is_word : (bs : List ℕ) → IsWordOf (length bs) (codes_of bs)
 codes_of_is_word [] = (refl, tt)
 codes_of_is_word (b ∷ bs) = go (code_of b) (codes_of bs) (code_small b) (codes_of_is_word bs)
   where
-    go : (o : Option ℕ) (w : Option (List ℕ)) → IsCode o → IsWordOf (length bs) w → IsWordOf (suc (length bs)) (option_and_then (λ c. option_map (λ cs. c ∷ cs) w) o)
+    go : (o : Option ℕ) (w : Option (List ℕ)) → IsCode o → IsWordOf (length bs) w → IsWordOf (suc (length bs))
+        (option_and_then (λ c. option_map (λ cs. c ∷ cs) w) o)
     go None w small h = tt
     go (Some c) None small h = tt
     go (Some c) (Some w) small h = (ap suc h.0, (small, h.1))
@@ -98,7 +100,8 @@ word_at_is_word k read i = go (nat_lt (length read) (i + k)) refl
         let long : length (window k read i) ≡ k = length-take-le k (drop i read) (omega (arith, length-drop i read)) in
         subst (λ n. IsWordOf n (codes_of (window k read i))) long (codes_of_is_word (window k read i))
 
-keys_placed_at : (strands : Strands) (k : ℕ) (read ns : List ℕ) → AreWords k (map (placed_key strands) (filter_map (λ i. option_map (λ w. (i, w)) (word_at k read i)) ns))
+keys_placed_at : (strands : Strands) (k : ℕ) (read ns : List ℕ) → AreWords k
+    (map (placed_key strands) (filter_map (λ i. option_map (λ w. (i, w)) (word_at k read i)) ns))
 keys_placed_at strands k read [] = tt
 keys_placed_at strands k read (n ∷ ns) = go (word_at k read n) (word_at_is_word k read n) (keys_placed_at strands k read ns)
   where

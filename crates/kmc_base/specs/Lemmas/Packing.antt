@@ -60,11 +60,13 @@ then_equal Less = refl
 then_equal Equal = refl
 then_equal Greater = refl
 
-slice_cmp_more : (xs ys : List ℕ) (a b : ℕ) → length xs ≡ length ys → slice_cmp nat_cmp (xs ++ a ∷ []) (ys ++ b ∷ []) ≡ ordering_then (slice_cmp nat_cmp xs ys) (nat_cmp a b)
+slice_cmp_more : (xs ys : List ℕ) (a b : ℕ) → length xs ≡ length ys → slice_cmp nat_cmp (xs ++ a ∷ []) (ys ++ b ∷ []) ≡ ordering_then
+    (slice_cmp nat_cmp xs ys) (nat_cmp a b)
 slice_cmp_more [] [] a b long = then_equal (nat_cmp a b)
 slice_cmp_more [] (y ∷ ys) a b long = absurd (omega arith)
 slice_cmp_more (x ∷ xs) [] a b long = absurd (omega arith)
-slice_cmp_more (x ∷ xs) (y ∷ ys) a b long = ap (ordering_then (nat_cmp x y)) (slice_cmp_more xs ys a b (omega arith)) ∙ sym (then_assoc (nat_cmp x y) (slice_cmp nat_cmp xs ys) (nat_cmp a b))
+slice_cmp_more (x ∷ xs) (y ∷ ys) a b long = ap (ordering_then (nat_cmp x y)) (slice_cmp_more xs ys a b (omega arith)) ∙ sym
+    (then_assoc (nat_cmp x y) (slice_cmp nat_cmp xs ys) (nat_cmp a b))
 
 nat_cmp_parts : (p q : ℕ) → nat_cmp p q ≡ ordering_then (nat_cmp (p / 4) (q / 4)) (nat_cmp (p % 4) (q % 4))
 nat_cmp_parts p q = grind (arith, nat_tests)
@@ -83,7 +85,8 @@ cmp_unpack (suc n) p q hp hq =
 -- ---- the reverse complement begins with the complement of the last code
 
 pub rev_comp_more : (n p : ℕ) → rev_comp (unpack (n + 1) p) ≡ complement (p % 4) ∷ rev_comp (unpack n (p / 4))
-rev_comp_more n p = rw add-one (ap reverse (map-append complement (unpack n (p / 4)) (p % 4 ∷ [])) ∙ reverse-append (map complement (unpack n (p / 4))) (complement (p % 4) ∷ []))
+rev_comp_more n p = rw add-one (ap reverse (map-append complement (unpack n (p / 4)) (p % 4 ∷ [])) ∙ reverse-append
+    (map complement (unpack n (p / 4))) (complement (p % 4) ∷ []))
 
 -- ---- the code at a place
 

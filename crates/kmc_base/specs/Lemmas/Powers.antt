@@ -27,11 +27,6 @@ masked n t j e =
 pub low_fits : (n t j : ℕ) → t ≡ 4 ^ j → n % t < 4 ^ j
 low_fits n t j e = rw e (mod_below n (4 ^ j) (let h = pow_some j in omega arith))
 
-pub back_below : (b t c r : ℕ) → b / 4 < t → r ≡ b / 4 + (3 - c) * t → r / 4 < t
-back_below b t c r h e =
-    let three : 3 - c ≤ 3 = omega arith in
-    omega (arith, mul-le (3 - c) t 3 t three (le_refl t), e)
-
 -- ---- in a number that holds m codes
 
 pub pow_most : (m j : ℕ) → j < m → 4 ^ j * 4 ≤ 4 ^ m

@@ -9,4 +9,5 @@ one_of false false false true h = (3, refl)
 one_of false false false false h = absurd (cc)
 
 pub returns-clause-yes : goal.returns-clause-yes
-returns-clause-yes c = one_of ((nat_eq c.args.b 65) || (nat_eq c.args.b 97)) ((nat_eq c.args.b 67) || (nat_eq c.args.b 99)) ((nat_eq c.args.b 71) || (nat_eq c.args.b 103)) ((nat_eq c.args.b 84) || (nat_eq c.args.b 116))
+returns-clause-yes c = one_of ((nat_eq c.args.b 65) || (nat_eq c.args.b 97)) ((nat_eq c.args.b 67) || (nat_eq c.args.b 99))
+    ((nat_eq c.args.b 71) || (nat_eq c.args.b 103)) ((nat_eq c.args.b 84) || (nat_eq c.args.b 116))

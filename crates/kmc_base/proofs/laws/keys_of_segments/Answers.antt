@@ -1,4 +1,4 @@
-use Rattle.kmc_base.proofs.Counted.{keys_of_segments}
+use Rattle.kmc_base.specs.Lemmas.Counted.{keys_of_segments}
 use Rattle.kmc_base.proofs.laws.keys_of_segments.Goals as goal
 
 pub returns : goal.returns

@@ -1,6 +1,6 @@
 use Rattle.kmc_base.specs.Lemmas.Keys.{keys_are_words, unpack_all, packs_fit}
 use Rattle.kmc_base.specs.Strands.{keys}
-use Rattle.kmc_base.proofs.Ranges.{codes_each}
+use Rattle.kmc_base.specs.Lemmas.Ranges.{codes_each}
 use Rattle.kmc_base.proofs.laws.keys_unpack.Goals as goal
 
 pub returns : goal.returns

@@ -1,5 +1,5 @@
 use Rattle.kmc_base.specs.Lemmas.Packs.{canonical_rev_comp}
-use Rattle.kmc_base.proofs.Ranges.{codes_each}
+use Rattle.kmc_base.specs.Lemmas.Ranges.{codes_each}
 use Rattle.kmc_base.proofs.laws.one_canonical_form.Goals as goal
 
 pub returns : goal.returns

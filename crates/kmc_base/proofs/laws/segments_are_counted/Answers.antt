@@ -1,4 +1,4 @@
-use Rattle.kmc_base.proofs.Counted.{segments_are_counted}
+use Rattle.kmc_base.specs.Lemmas.Counted.{segments_are_counted}
 use Rattle.kmc_base.proofs.laws.segments_are_counted.Goals as goal
 
 pub returns : goal.returns

@@ -1,5 +1,5 @@
 use Rattle.std.proofs.Common.{refl, arith, below_more, rules}
-use Rattle.kmc_base.proofs.Stretching.{bases_more}
+use Rattle.kmc_base.specs.Lemmas.Stretching.{bases_more}
 use Rattle.kmc_base.proofs.stretch.leading_bases.Goals as goal
 
 pub whole-preserved : goal.whole-preserved

@@ -1,7 +1,7 @@
 use Rattle.std.proofs.Common.{◌≡◌, length, arith, ◌∙◌}
 use Rattle.std.proofs.lemmas.List.{with_items_is}
 use Rattle.std.proofs.lemmas.Grind.{common_steps, elements}
-use Rattle.kmc_base.proofs.Stretching.{leading_is_taken, bases_taken}
+use Rattle.kmc_base.specs.Lemmas.Stretching.{leading_is_taken, bases_taken}
 use Rattle.kmc_base.proofs.stretch.leading_codes.Goals as goal
 
 pub write_codes-requires-clause-bases : goal.write_codes-requires-clause-bases

@@ -1,5 +1,5 @@
 use Rattle.std.proofs.Common.{arith, rules, length-drop}
-use Rattle.kmc_device.proofs.Devices.{rest_is, piece_out, front_out, none_out}
+use Rattle.kmc_device.specs.Lemmas.Devices.{rest_is, piece_out, front_out, none_out}
 use Rattle.kmc_device.proofs.text.write_text.Goals as goal
 
 pub returns-in-Ok-eq0-clause-front : goal.returns-in-Ok-eq0-clause-front

@@ -1,6 +1,6 @@
 use Rattle.std.proofs.Common.{take, ap, arith}
 use Rattle.std.proofs.lemmas.Grind.{common_steps}
-use Rattle.kmc_device.proofs.Devices.{on_err}
+use Rattle.kmc_device.specs.Lemmas.Devices.{on_err}
 use Rattle.kmc_dump.proofs.Pieces.{buffer_front}
 use Rattle.kmc_dump.proofs.waves.write_buffers.Goals as goal
 

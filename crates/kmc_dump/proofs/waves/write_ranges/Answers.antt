@@ -7,7 +7,7 @@ use Rattle.kmc_device.specs.Line.{line_room}
 use Rattle.std.proofs.KnownBytes.{Appends-nil}
 use Rattle.std.proofs.lemmas.Grind.{common_steps}
 use Rattle.kmc_device.specs.Device.{AppendsFront}
-use Rattle.kmc_device.proofs.Devices.{on_err, front_all}
+use Rattle.kmc_device.specs.Lemmas.Devices.{on_err, front_all}
 use Rattle.kmc_dump.proofs.Texts.{no_text, all_text}
 use Rattle.kmc_dump.proofs.Pieces.{wave_out, wave_front, all_out}
 use Rattle.kmc_dump.proofs.waves.write_ranges.Goals as goal

@@ -1,7 +1,7 @@
 use Rattle.std.proofs.Common.{◌≡◌, ◌+◌, ◌-◌, ◌++◌, length, get_or, map, ap, sym, ◌∙◌, arith, append-nil}
 use Rattle.std.proofs.lemmas.List.{map_push}
 use Rattle.kmc_base.specs.Lemmas.Rolling.{roll_start, roll_key, step_at, fits_at, keys_upto, one_more}
-use Rattle.kmc_base.proofs.Ranges.{codes_each}
+use Rattle.kmc_base.specs.Lemmas.Ranges.{codes_each}
 use Rattle.kmc_plain.proofs.keys.push_keys.Goals as goal
 use Rattle.kmc_plain.proofs.keys.push_keys.Goals.{then-i-k+in_ok-push, else-i-k}
 
@@ -17,7 +17,8 @@ loop-i-init g c =
 pub behind-back-requires-clause-back : goal.behind-back-requires-clause-back
 behind-back-requires-clause-back g c =
     let num = g.W.Word.number in
-    fits_at c.args.k c.requires.some c.args.codes.now c.loop-i.i (num c.loop-i.forward) (num c.loop-i.back) (num c.top-top.result) (codes_each c.args.codes.now c.requires.codes)
+    fits_at c.args.k c.requires.some c.args.codes.now c.loop-i.i (num c.loop-i.forward) (num c.loop-i.back) (num c.top-top.result)
+        (codes_each c.args.codes.now c.requires.codes)
     c.loop-i-test.true c.top-top.ensures c.loop-i.invariant.rolling
 
 pub loop-i-preserved : goal.loop-i-preserved
@@ -26,15 +27,18 @@ loop-i-preserved g c =
     let s = c.args.codes.now in
     let k = c.args.k in
     let codes = codes_each s c.requires.codes in
-    let rolled = step_at k c.requires.some s c.loop-i.i _ (num c.loop-i.forward) (num c.loop-i.back) (num c.ahead-forward.result) (num c.behind-back.result) (num c.top-top.result)
+    let rolled = step_at k c.requires.some s c.loop-i.i _ (num c.loop-i.forward) (num c.loop-i.back) (num c.ahead-forward.result)
+        (num c.behind-back.result) (num c.top-top.result)
     codes c.loop-i-test.true (λ _. get_or s c.loop-i.i 0) c.top-top.ensures c.ahead-forward.ensures c.behind-back.ensures c.loop-i.invariant.rolling in
     let old = map num c.args.words.now.items in
     record {
       rolling = rolled;
       pushed = elim c.if-i-k.branch [
-        | then-i-k+in_ok-push w ↦ one_more c.args.strands k s (c.loop-i.i + 1 - k) (c.loop-i.i + 1 + 1 - k) (num w.packed_key.result) (map num c.loop-i.words.items) _ old
+        | then-i-k+in_ok-push w ↦ one_more c.args.strands k s (c.loop-i.i + 1 - k) (c.loop-i.i + 1 + 1 - k) (num w.packed_key.result)
+            (map num c.loop-i.words.items) _ old
             (ap (λ v. map num v.items) w.words-is ∙ ap (map num) w.in_ok-push.ensures.items ∙ map_push num c.loop-i.words.items w.packed_key.result)
-            (w.packed_key.ensures ∙ roll_key c.args.strands k s (c.loop-i.i + 1) (num c.ahead-forward.result) (num c.behind-back.result) codes w.if-i-k.true rolled)
+            (w.packed_key.ensures ∙ roll_key c.args.strands k s (c.loop-i.i + 1) (num c.ahead-forward.result)
+                (num c.behind-back.result) codes w.if-i-k.true rolled)
             (omega arith) c.loop-i.invariant.pushed
         | else-i-k w ↦
             let same : c.loop-i.i + 1 - k ≡ c.loop-i.i + 1 + 1 - k = omega (arith, w.if-i-k.false) in

@@ -2,7 +2,7 @@ use Rattle.std.proofs.Common.{ap, length, drop, length-drop, ◌-◌, ◌∙◌,
 use Rattle.std.proofs.lemmas.List.{take_all}
 use Rattle.std.proofs.lemmas.Grind.{common_steps}
 use Rattle.kmc_base.specs.Stretches.{leading}
-use Rattle.kmc_base.proofs.Stretching.{long_enough}
+use Rattle.kmc_base.specs.Lemmas.Stretching.{long_enough}
 use Rattle.kmc_record.specs.Growing.{HaveTaken}
 use Rattle.kmc_record.proofs.Chunks.{stretch_more}
 use Rattle.kmc_record.proofs.parts.push_read.Goals as goal

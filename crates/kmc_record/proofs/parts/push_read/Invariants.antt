@@ -1,6 +1,6 @@
 use Rattle.std.proofs.Common.{◌≡◌, ◌+◌, ◌-◌, ◌++◌, List, length, drop}
 use Rattle.kmc_base.specs.Stretches.{Stretch, stretches_from, segments_of}
-use Rattle.kmc_base.proofs.Stretching.{long_enough}
+use Rattle.kmc_base.specs.Lemmas.Stretching.{long_enough}
 use Rattle.kmc_record.specs.Growing.{HaveTaken}
 use Rattle.kmc_record.proofs.parts.push_read.Given as goal
 

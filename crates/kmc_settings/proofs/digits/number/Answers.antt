@@ -28,7 +28,8 @@ found_number t digits h =
     let some : nat_lt 0 (length t) ≡ true = (Decides-ltb 0 (length t)).1 h in
     rw (some, digits) refl
 
-reads : {E : Type 0} (t : List ℕ) (r : Result ℕ E) → list_all is_ascii_digit t ≡ true → OkIff r ((0 < length t) × (digits_value 10 t < 2 ^ 64)) (digits_value 10 t) → Reads t (result_ok r)
+reads : {E : Type 0} (t : List ℕ) (r : Result ℕ E) → list_all is_ascii_digit t ≡ true → OkIff r ((0 < length t) × (digits_value 10 t < 2 ^ 64))
+    (digits_value 10 t) → Reads t (result_ok r)
 reads t (Ok n) digits h = found_number t digits h.0.0 ∙ ap Some (sym h.1)
 reads [] (Err e) digits h = λ n is. absurd (cc)
 reads (x ∷ xs) (Err e) digits h = λ n is.

@@ -25,7 +25,8 @@ loop-place-preserved c =
       runs = subst (AreRuns at 0 (place + 256)) (sym c.in_ok-push.ensures.items)
           (appended at c.args.start c.args.end place 256 c.of_value-signature.result c.loop-place.runs.items c.of_value-signature.ensures c.requires.row c.loop-place.invariant.from
           (omega arith) (omega arith) (omega arith) c.loop-place.invariant.runs c.loop-place.invariant.apart);
-      apart = subst (MayFollow (at c.args.start)) (sym c.in_ok-push.ensures.items) (last_is (λ (r : Run). r.signature ≡ at c.args.start → r.words ≡ 256) c.loop-place.runs.items n (λ e. refl));
+      apart = subst (MayFollow (at c.args.start)) (sym c.in_ok-push.ensures.items)
+          (last_is (λ (r : Run). r.signature ≡ at c.args.start → r.words ≡ 256) c.loop-place.runs.items n (λ e. refl));
     }
 
 pub returns-clause-runs : goal.returns-clause-runs
@@ -34,13 +35,17 @@ returns-clause-runs c =
     let place = c.loop-place.place in
     let whole : place + (c.args.end - place) ≡ c.args.end = omega (arith, c.loop-place.invariant.before) in
     subst (AreRuns at 0 c.args.end) (sym c.in_ok-push-2.ensures.items)
-    (subst (λ (e : ℕ). AreRuns at 0 e (c.loop-place.runs.items ++ record { start = place; words = c.args.end - place; signature = c.of_value-signature.result } ∷ [])) whole
-    (appended at c.args.start c.args.end place (c.args.end - place) c.of_value-signature.result c.loop-place.runs.items c.of_value-signature.ensures c.requires.row c.loop-place.invariant.from
-    (omega (arith, c.loop-place.invariant.before)) (omega (arith, c.loop-place.invariant.before)) (omega (arith, c.loop-place-test.false)) c.loop-place.invariant.runs c.loop-place.invariant.apart))
+    (subst (λ (e : ℕ). AreRuns at 0 e (c.loop-place.runs.items ++ record { start = place; words = c.args.end - place;
+        signature = c.of_value-signature.result } ∷ [])) whole
+    (appended at c.args.start c.args.end place
+        (c.args.end - place) c.of_value-signature.result c.loop-place.runs.items c.of_value-signature.ensures c.requires.row c.loop-place.invariant.from
+    (omega (arith, c.loop-place.invariant.before)) (omega (arith, c.loop-place.invariant.before))
+        (omega (arith, c.loop-place-test.false)) c.loop-place.invariant.runs c.loop-place.invariant.apart))
 
 pub returns-clause-last : goal.returns-clause-last
 returns-clause-last c =
     let at : ℕ → ℕ = slice_index c.args.signatures.now in
     let place = c.loop-place.place in
     subst (Last (λ (r : Run). r.signature ≡ at c.args.start)) (sym c.in_ok-push-2.ensures.items)
-    (last_is (λ (r : Run). r.signature ≡ at c.args.start) c.loop-place.runs.items (record { start = place; words = c.args.end - place; signature = c.of_value-signature.result }) c.of_value-signature.ensures)
+    (last_is (λ (r : Run). r.signature ≡ at c.args.start) c.loop-place.runs.items
+        (record { start = place; words = c.args.end - place; signature = c.of_value-signature.result }) c.of_value-signature.ensures)

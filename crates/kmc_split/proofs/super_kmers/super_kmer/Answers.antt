@@ -2,7 +2,7 @@ use Rattle.std.proofs.Common.{◌≡◌, ℕ, ◌+◌, ◌-◌, ◌<◌, ◌++�
 use Rattle.std.proofs.lemmas.List.Elements.{All-take, All-drop}
 use Rattle.kmc_split.specs.SuperKmer.{IsSuperKmer}
 use Rattle.kmc_split.specs.Cut.{run_codes}
-use Rattle.kmc_split.proofs.Least.{length_window}
+use Rattle.kmc_base.specs.Lemmas.Windows.{length_window}
 use Rattle.kmc_split.proofs.super_kmers.super_kmer.Goals as goal
 
 pub invariant_of-result : goal.invariant_of-result

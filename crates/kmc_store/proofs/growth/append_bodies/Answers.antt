@@ -14,7 +14,8 @@ loop-i-preserved c =
     record {
       wide = length-set own i c.append_body.new.own ∙ was.wide;
       wide_more = length-set more i c.append_body.new.more ∙ was.wide_more;
-      done = appended_more own more own₀ more₀ i c.index_mut.result.now c.index_mut-in-loop-i.result.now c.append_body.new.own (omega arith) (omega arith) (omega arith)
+      done = appended_more own more own₀ more₀ i c.index_mut.result.now c.index_mut-in-loop-i.result.now c.append_body.new.own (omega arith)
+          (omega arith) (omega arith)
           c.index_mut.ensures.value c.index_mut-in-loop-i.ensures.value c.append_body.ensures was.left was.left_more was.done;
       left = left_more own own₀ i c.append_body.new.own was.left;
       left_more = left_more more more₀ i c.append_body.new.more was.left_more;

@@ -5,7 +5,8 @@ use Rattle.kmc_store.proofs.growth.make_room.Goals as goal
 
 pub returns-in_err-make_room_for-clause-kept : goal.returns-in_err-make_room_for-clause-kept
 returns-in_err-make_room_for-clause-kept c =
-    set_keeps c.loop-i.own.items c.loop-i.i c.index_mut.result.now c.make_room_for.new.own c.index_mut.ensures.value c.make_room_for.ensures.kept ∙ c.loop-i.invariant.kept
+    set_keeps c.loop-i.own.items c.loop-i.i c.index_mut.result.now c.make_room_for.new.own c.index_mut.ensures.value c.make_room_for.ensures.kept
+        ∙ c.loop-i.invariant.kept
 
 pub loop-i-preserved : goal.loop-i-preserved
 loop-i-preserved c =
@@ -15,6 +16,7 @@ loop-i-preserved c =
     record {
       wide = length-set own i v ∙ c.loop-i.invariant.wide;
       kept = set_keeps own i c.index_mut.result.now v c.index_mut.ensures.value c.make_room_for.ensures.kept ∙ c.loop-i.invariant.kept;
-      room = room_more own c.args.more.now i v c.index-more-i.result _ (omega (arith, c.loop-i.invariant.wide, c.loop-i-test.true)) c.loop-i-test.true c.index-more-i.is (ap length c.deref.ensures.value)
+      room = room_more own c.args.more.now i v c.index-more-i.result _
+          (omega (arith, c.loop-i.invariant.wide, c.loop-i-test.true)) c.loop-i-test.true c.index-more-i.is (ap length c.deref.ensures.value)
           c.in_ok-make_room_for.ensures.ok c.loop-i.invariant.room;
     }

@@ -4,7 +4,7 @@ use Rattle.kmc_base.specs.Lemmas.Powers.{pow_some}
 use Rattle.kmc_base.specs.Packed.{unpack}
 use Rattle.kmc_count.proofs.PassedOn.{passed_on}
 use Rattle.kmc_device.specs.Device.{Watched}
-use Rattle.kmc_device.proofs.Devices.{on_err}
+use Rattle.kmc_device.specs.Lemmas.Devices.{on_err}
 use Rattle.kmc_sum.specs.Heads.{rank, head_at}
 use Rattle.kmc_sum.specs.Sources.{AreReady}
 use Rattle.kmc_sum.specs.State.{IsBegun}

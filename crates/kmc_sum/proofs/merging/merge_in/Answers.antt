@@ -2,7 +2,7 @@ use Rattle.std.proofs.Common.{map, ◌∙◌, arith}
 use Rattle.std.proofs.lemmas.Grind.{common_steps}
 use Rattle.kmc_count.proofs.PassedOn.{passed_on}
 use Rattle.kmc_device.specs.Device.{Watched}
-use Rattle.kmc_device.proofs.Devices.{on_err, on_err_then}
+use Rattle.kmc_device.specs.Lemmas.Devices.{on_err, on_err_then}
 use Rattle.kmc_sum.proofs.Openings.{none_sum}
 use Rattle.kmc_sum.proofs.Advances.{failed_after}
 use Rattle.kmc_sum.proofs.Merges.{begun_none, sum_written, sources_built, if_ok_then}

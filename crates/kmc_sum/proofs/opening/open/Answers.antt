@@ -3,7 +3,7 @@ use Rattle.std.proofs.lemmas.List.{length-set}
 use Rattle.std.proofs.lemmas.Grind.{common_steps}
 use Rattle.kmc_count.proofs.PassedOn.{passed_on}
 use Rattle.kmc_device.specs.Device.{Watched}
-use Rattle.kmc_device.proofs.Devices.{on_err}
+use Rattle.kmc_device.specs.Lemmas.Devices.{on_err}
 use Rattle.kmc_sum.specs.Sources.{AreReady}
 use Rattle.kmc_sum.proofs.Advances.{failed_at, failed_after, kept_at}
 use Rattle.kmc_sum.proofs.Openings.{all_ready, all_sources, reader_opened, reader_at_fault, reader_lost}

@@ -1,6 +1,6 @@
 use Rattle.std.proofs.Common.{length, ap, arith, ◌∙◌, rules}
 use Rattle.std.proofs.lemmas.Grind.{common_steps}
-use Rattle.kmc_device.proofs.Devices.{on_err}
+use Rattle.kmc_device.specs.Lemmas.Devices.{on_err}
 use Rattle.kmc_sum.proofs.Rooms.{goes_trans, goes_like, goes_to, goes_kept, shifted, read_on, rewritten_length}
 use Rattle.kmc_sum.specs.Source.{unread}
 use Rattle.kmc_sum.proofs.source.fill.Goals as goal

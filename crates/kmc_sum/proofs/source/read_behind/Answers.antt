@@ -1,5 +1,5 @@
 use Rattle.std.proofs.Common.{◌-◌, ◌≡◌, length, arith, length-drop}
-use Rattle.kmc_device.proofs.Lines.{length_put_mid}
+use Rattle.kmc_device.specs.Lemmas.Lines.{length_put_mid}
 use Rattle.kmc_sum.proofs.Rooms.{read_more}
 use Rattle.kmc_sum.proofs.source.read_behind.Goals as goal
 

@@ -2,7 +2,7 @@ use Rattle.std.proofs.Common.{◌≡◌, ◌^◌, length, set, cond, refl, sym, 
 use Rattle.std.proofs.lemmas.List.{length-set}
 use Rattle.kmc_count.proofs.PassedOn.{passed_on}
 use Rattle.kmc_device.specs.Device.{Watched}
-use Rattle.kmc_device.proofs.Devices.{on_err}
+use Rattle.kmc_device.specs.Lemmas.Devices.{on_err}
 use Rattle.kmc_sum.specs.Heads.{rank, head_at}
 use Rattle.kmc_sum.specs.Sources.{AreReady}
 use Rattle.kmc_sum.proofs.Advances.{inside_after, settled_after, ready_after, behind_after, failed_at, kept_at, source_was, sources_went_on, source_at_fault, source_lost}

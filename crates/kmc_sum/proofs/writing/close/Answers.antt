@@ -1,6 +1,6 @@
 use Rattle.std.proofs.Common.{arith}
 use Rattle.std.proofs.lemmas.Grind.{common_steps}
-use Rattle.kmc_device.proofs.Devices.{on_err}
+use Rattle.kmc_device.specs.Lemmas.Devices.{on_err}
 use Rattle.kmc_sum.proofs.Written.{out_front, out_kept}
 use Rattle.kmc_sum.proofs.writing.close.Goals as goal
 

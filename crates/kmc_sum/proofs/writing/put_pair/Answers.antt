@@ -4,7 +4,7 @@ use Rattle.kmc_base.specs.Packed.{unpack}
 use Rattle.kmc_base.specs.Lemmas.Packing.{length_unpack}
 use Rattle.kmc_device.specs.Line.{line_of, text_of}
 use Rattle.kmc_sum.specs.Tally.{kept_pair}
-use Rattle.kmc_device.proofs.Devices.{gathered_more}
+use Rattle.kmc_device.specs.Lemmas.Devices.{gathered_more}
 use Rattle.kmc_sum.proofs.Written.{line_kept}
 use Rattle.kmc_sum.proofs.writing.put_pair.Goals as goal
 

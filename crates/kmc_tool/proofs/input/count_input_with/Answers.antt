@@ -25,8 +25,10 @@ returns-clause-dump g c =
       given = input.given;
       reads = input.reads;
       are_reads = input.are_reads;
-      is_dump = same_dump (occurrences (joined (map (record_keys params.strands params.k) of_bins.super_kmers))) (count_of params.strands params.k input.reads) params.limits
-          (λ x. c.held_reads_are_counted.ensures params.strands (shape_of params) (flat_map (pieces params.k PIECE_SYMBOLS) input.cuts) c.in_ok-bins.bins.bodies of_bins.super_kmers params.in_range.0.0.0 params.in_range.0.2.0 input.holds of_bins.records x
+      is_dump = same_dump (occurrences (joined (map (record_keys params.strands params.k) of_bins.super_kmers)))
+          (count_of params.strands params.k input.reads) params.limits
+          (λ x. c.held_reads_are_counted.ensures params.strands (shape_of params)
+              (flat_map (pieces params.k PIECE_SYMBOLS) input.cuts) c.in_ok-bins.bins.bodies of_bins.super_kmers params.in_range.0.0.0 params.in_range.0.2.0 input.holds of_bins.records x
           ∙ c.pieces_are_counted_as_reads.ensures params.strands params.k PIECE_SYMBOLS input.cuts x params.in_range.0.0.0 (within params.in_range.0.0.1)
           ∙ c.cut_reads_are_counted.ensures params.strands params.k input.reads input.cuts params.in_range.0.0.0 input.cut x)
           (spelled params.k (whole (lists_of c.in_ok-stage_two.field-0))) of_bins.dump;

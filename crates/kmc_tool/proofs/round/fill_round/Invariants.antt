@@ -5,5 +5,6 @@ use Rattle.kmc_tool.proofs.round.fill_round.Given as goal
 abbrev pub invariant-loop : goal.invariant-loop
 invariant-loop g l = record {
   most : l.reader.reads ≤ l.most;
-  way : IsUnderWay (g.R.Read.remaining l.initial.reader.inner) (g.R.Read.remaining l.reader.inner) l.initial.reader.reads l.reader.reads l.initial.reader.failures l.reader.failures l.counter l.initial.feeder l.feeder;
+  way : IsUnderWay (g.R.Read.remaining l.initial.reader.inner)
+      (g.R.Read.remaining l.reader.inner) l.initial.reader.reads l.reader.reads l.initial.reader.failures l.reader.failures l.counter l.initial.feeder l.feeder;
 }

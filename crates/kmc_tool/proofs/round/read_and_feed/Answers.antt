@@ -9,14 +9,16 @@ returns-in-Ok-feed-clause-fed g c = λ overlap format text taken s.
     record {
       bytes = take c.in-Ok.n c.read.new.buf;
       given = c.in-Ok.ensures.bytes.0;
-      many = reads_many c.in-Ok.n (length (take c.in-Ok.n c.read.new.buf)) c.args.reader.now.reads c.read.new.self.reads c.in-Ok.ensures.bound.1 more c.in-Ok.ensures.at_end;
+      many = reads_many c.in-Ok.n
+          (length (take c.in-Ok.n c.read.new.buf)) c.args.reader.now.reads c.read.new.self.reads c.in-Ok.ensures.bound.1 more c.in-Ok.ensures.at_end;
       stands = c.in-Ok-feed.ensures.cut overlap format text taken s;
     }
 
 pub returns-else-eq-clause-fed : goal.returns-else-eq-clause-fed
 returns-else-eq-clause-fed g c = λ overlap format text taken s.
     let other : c.in-Err-feed.e ≢ Memory = search rules in
-    refused_for_good format _ _ text (take c.in-Ok.n c.read.new.buf) c.in-Err-feed.e c.fault_stays.ensures c.in-Ok.ensures.bytes.0 (c.in-Err-feed.ensures.cut_refused overlap format text taken s other).0
+    refused_for_good format _ _ text (take c.in-Ok.n c.read.new.buf) c.in-Err-feed.e c.fault_stays.ensures c.in-Ok.ensures.bytes.0
+        (c.in-Err-feed.ensures.cut_refused overlap format text taken s other).0
 
 pub returns-in-Err-clause-counts : goal.returns-in-Err-clause-counts
 returns-in-Err-clause-counts g c = search rules

@@ -130,7 +130,8 @@ loop-preserved g c =
       ended = λ e. c.feed_round-stored.ensures.at_end (c.in_ok-more-2.was ∙ ap Ok e);
       stored = record {
         taken = st.taken ++ round;
-        fed = fed_on (c.args.params.now.k - 1) p.format _ _ _ old.reads mid.reads new.reads [] (st.taken ++ round) c.take_open.new.self c.feed_round-stored.new.feeder f more;
+        fed = fed_on (c.args.params.now.k - 1) p.format _ _ _ old.reads mid.reads new.reads []
+            (st.taken ++ round) c.take_open.new.self c.feed_round-stored.new.feeder f more;
         holds = subst (λ o. OnOk o (HoldsPieces shape c.args.limit (st.taken ++ round) c.feed_round-stored.new.bins.bodies))
             c.in_ok-stored.was (c.feed_round-stored.ensures.holds st.taken st.holds);
       };

@@ -13,5 +13,6 @@ invariant-loop g l = record {
   below : l.reader.reads ≤ l.most;
   under : l.more ≡ false → l.reader.reads < l.most;
   ended : l.more ≡ false → IsAtEnd (g.R.Read.remaining l.reader.inner);
-  stored : AreStored l.params.format (shape_of l.params) l.limit (g.R.Read.remaining l.fn.reader.inner) (g.R.Read.remaining l.reader.inner) l.fn.reader.reads l.reader.reads l.bins l.feeder;
+  stored : AreStored l.params.format (shape_of l.params) l.limit (g.R.Read.remaining l.fn.reader.inner)
+      (g.R.Read.remaining l.reader.inner) l.fn.reader.reads l.reader.reads l.bins l.feeder;
 }

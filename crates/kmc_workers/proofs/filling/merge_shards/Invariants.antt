@@ -14,5 +14,6 @@ invariant-loop-shard l = record {
   left : Each (λ h. h.bins.shape ≡ l.fn.shape) (into_iter_items l.shard-iterator);
   shaped : l.bins.shape ≡ l.fn.shape;
   seats : l.seats.items ≡ map (λ h. h.seat) l.yielded;
-  added : (before : BinList) → before.shape ≡ l.fn.shape → AreGrown before l.fn.shards.items → AreAdded before.shape (before_all l.yielded before).bodies l.bins.bodies (all_got (map (λ h. h.seat) l.yielded));
+  added : (before : BinList) → before.shape ≡ l.fn.shape → AreGrown before l.fn.shards.items → AreAdded before.shape
+      (before_all l.yielded before).bodies l.bins.bodies (all_got (map (λ h. h.seat) l.yielded));
 }

@@ -13,7 +13,8 @@ pub loop-seat-preserved : goal.loop-seat-preserved
 loop-seat-preserved c =
     let inv = c.loop-seat.invariant in let seen = c.loop-seat.yielded in let seat = c.in-Some.seat in let bins = c.args.bins in
     record {
-      seen = inv.seen ∙ ap (λ (l : List (ReaderState Parcel)). seen ++ l) c.in-Some.ensures.steps.0 ∙ sym (append_assoc seen (seat ∷ []) (into_iter_items c.next.new.self));
+      seen = inv.seen ∙ ap (λ (l : List (ReaderState Parcel)). seen ++ l) c.in-Some.ensures.steps.0 ∙ sym
+          (append_assoc seen (seat ∷ []) (into_iter_items c.next.new.self));
       made =
           c.in_ok-push.ensures.items
           ∙ ap (λ (l : List Shard). l ++ record { seat = seat; bins = c.replace.result } ∷ []) inv.made

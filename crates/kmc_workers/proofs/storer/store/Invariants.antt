@@ -4,4 +4,5 @@ use Rattle.kmc_workers.specs.Workers.{items_of, IsSameReader}
 use Rattle.kmc_workers.proofs.storer.store.Given as goal
 
 abbrev pub invariant-loop : goal.invariant-loop
-invariant-loop g l = IsSameReader l.fn.shard.seat l.seat × (l.bins.shape ≡ l.fn.shard.bins.shape) × AreAdded l.fn.shard.bins.shape l.fn.shard.bins.bodies l.bins.bodies (items_of l.seat.got)
+invariant-loop g l = IsSameReader l.fn.shard.seat l.seat × (l.bins.shape ≡ l.fn.shard.bins.shape)
+    × AreAdded l.fn.shard.bins.shape l.fn.shard.bins.bodies l.bins.bodies (items_of l.seat.got)

@@ -1,6 +1,6 @@
 use Rattle.std.proofs.Common.{◌∙◌, ap, ℕ, length, get_or, arith}
 use Rattle.kmc_partqueue.specs.Seats.{IsReaderOf, new_reader, ReaderState}
-use Rattle.kmc_partqueue.proofs.Numbered.{row_length, row_at, each_from, once_from, ok_from}
+use Rattle.kmc_partqueue.specs.Lemmas.Numbered.{row_length, row_at, each_from, once_from, ok_from}
 use Rattle.try_many_threads.proofs.many.read.Goals as goal
 
 pub map_vec-requires-after_bounds : goal.map_vec-requires-after_bounds

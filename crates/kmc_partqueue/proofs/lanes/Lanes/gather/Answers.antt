@@ -7,7 +7,7 @@ use Rattle.kmc_partqueue.specs.Gathered.{Pairs, WriterPairs}
 use Rattle.kmc_partqueue.specs.Told.{IsHistoryOf}
 use Rattle.kmc_partqueue.proofs.Kept.{rule_of}
 use Rattle.kmc_partqueue.proofs.Told.{told}
-use Rattle.kmc_partqueue.proofs.Sums.{append_none, each_split, each_map}
+use Rattle.kmc_partqueue.specs.Lemmas.Sums.{append_none, each_split, each_map}
 use Rattle.kmc_partqueue.proofs.Final.{each_at, pairs_append, gathered, totals_are, counts_are, get_or_at}
 use Rattle.kmc_partqueue.proofs.lanes.Lanes.gather.Given.{Over}
 use Rattle.kmc_partqueue.proofs.lanes.Lanes.gather.Goals.{Start, In-Some, After-join_all, After-first_finished}
@@ -40,7 +40,8 @@ finisher g c =
     (f.0, ap (λ z. slice_get z c.first_finished.result) (sym c.as_slice.ensures.value) ∙ f.1, f.2)
 
 -- the seat that all others are joined to
-others : (g : Over) (c : In-Some g) → let me = c.args.self in Each (IsReaderOf me.table.shared.table_id me.shape) c.pop.new.self.items × (c.in-Some.first.table ≡ me.table.shared.table_id)
+others : (g : Over) (c : In-Some g) → let me = c.args.self in Each (IsReaderOf me.table.shared.table_id me.shape) c.pop.new.self.items
+    × (c.in-Some.first.table ≡ me.table.shared.table_id)
 others g c = let me = c.args.self in let of_queue = IsReaderOf me.table.shared.table_id me.shape in
     let facts = each_split of_queue c.pop.new.self.items (c.in-Some.first ∷ []) (subst (Each of_queue) c.in-Some.ensures.items c.requires.queue.1) in
     (facts.0, facts.1.0.0)
@@ -48,7 +49,8 @@ others g c = let me = c.args.self in let of_queue = IsReaderOf me.table.shared.t
 views : (g : Over) (c : After-join_all g)
     → Pairs c.join_all.new.seat.me.0.readers c.args.readers.items × WriterPairs c.join_all.new.seat.me.0.writers c.args.writers.items
 views g c = let v = c.into_seat-base.ensures.view in let r = c.join_all.ensures.readers in let w = c.join_all.ensures.writers in
-    let readers = subst (Pairs (r.0 ++ v.0 ∷ [])) (sym c.in-Some.ensures.items) (pairs_append r.0 (v.0 ∷ []) c.pop.new.self.items (c.in-Some.first ∷ []) r.2 (v.2, tt)) in (
+    let readers = subst (Pairs (r.0 ++ v.0 ∷ [])) (sym c.in-Some.ensures.items)
+        (pairs_append r.0 (v.0 ∷ []) c.pop.new.self.items (c.in-Some.first ∷ []) r.2 (v.2, tt)) in (
       subst (λ z. Pairs z c.args.readers.items) (sym (r.1 ∙ ap (λ m. r.0 ++ m.0.readers) v.1)) readers,
       subst (λ z. WriterPairs z c.args.writers.items) (sym (w.1 ∙ ap (λ m. w.0 ++ m.0.writers) v.1 ∙ sym (append_none w.0))) w.2,
     )
@@ -76,7 +78,8 @@ returns-clause-history g c =
     let p = goal.at.returns-clause-history g c in let k = c.args.self.table.shared.key in let end = c.close.ensures in
     let vs = views g p.After-join_all in let last = c.requires.finished in
     subst (λ q. (h : History _) × IsHistoryOf q c.args.writers.items c.args.readers.items h) c.args.self.shaped
-    (told k end.0 end.1.0 c.join_all.new.seat.id c.join_all.new.seat.me.0 end.1.1 c.args.writers.items c.args.readers.items vs.1 vs.0 (each_writer g p.Start) (each_reader g p.Start) last.0 last.1 (all_ended g p.Start last.1.0 last.0 last.1.1 last.2))
+    (told k end.0 end.1.0 c.join_all.new.seat.id c.join_all.new.seat.me.0 end.1.1 c.args.writers.items c.args.readers.items vs.1 vs.0
+        (each_writer g p.Start) (each_reader g p.Start) last.0 last.1 (all_ended g p.Start last.1.0 last.0 last.1.1 last.2))
 
 pub returns-clause-totals : goal.returns-clause-totals
 returns-clause-totals g c =
@@ -85,8 +88,11 @@ returns-clause-totals g c =
     let one = c.index.ensures ∙ get_or_at c.args.readers.items c.first_finished.result _ f.0 f.1 in
     let are = subst (λ v. AreKeptTotals v.writers v.totals c.all_totals-totals.result) one c.all_totals-totals.ensures in
     let all = subst (λ (z : ℕ). AreKeptTotals z f.0.totals c.all_totals-totals.result) (lanes_of g p.Start c.first_finished.result f.0 f.1) are in
-    let near = each_map (IsWriterOf me.table.shared.table_id me.shape) (λ s. s.number < me.shape.writers) (λ s p. p.2) c.args.writers.items c.requires.queue.0 in
-    let counts = totals_are k end.0 (rule_of k end.0 end.1.0) c.join_all.new.seat.id c.join_all.new.seat.me.0 end.1.1 c.args.writers.items c.args.readers.items vs.1 vs.0 (each_writer g p.Start) (each_reader g p.Start) f.0 (c.first_finished.result, f.1) (all_ended g p.Start c.first_finished.result f.0 f.1 f.2) in
+    let near = each_map (IsWriterOf me.table.shared.table_id me.shape) (λ s. s.number < me.shape.writers)
+        (λ s p. p.2) c.args.writers.items c.requires.queue.0 in
+    let counts = totals_are k end.0
+        (rule_of k end.0 end.1.0) c.join_all.new.seat.id c.join_all.new.seat.me.0 end.1.1 c.args.writers.items c.args.readers.items vs.1 vs.0
+        (each_writer g p.Start) (each_reader g p.Start) f.0 (c.first_finished.result, f.1) (all_ended g p.Start c.first_finished.result f.0 f.1 f.2) in
     (all.0, counts_are me.shape.writers f.0.totals c.all_totals-totals.result all c.args.writers.items near counts)
 
 pub index-requires : goal.index-requires

@@ -7,7 +7,8 @@ returns-in-Got-clause-again g c =
     λ all. absurd (c.in-Got.ensures.again (subst (λ v. AllEnded v.writers v.totals) (sym (c.loop.invariant.6 all)) all)).1
 
 pub returns-in-Finished-clause-again : goal.returns-in-Finished-clause-again
-returns-in-Finished-clause-again g c = λ all. let same = c.loop.invariant.6 all in ((c.in-Finished.ensures.again (subst (λ v. AllEnded v.writers v.totals) (sym same) all)).0 ∙ same, tt)
+returns-in-Finished-clause-again g c = λ all. let same = c.loop.invariant.6 all in
+    ((c.in-Finished.ensures.again (subst (λ v. AllEnded v.writers v.totals) (sym same) all)).0 ∙ same, tt)
 
 pub loop-preserved : goal.loop-preserved
 loop-preserved g c = let inv = c.loop.invariant in let e = c.in-NotNow.ensures in (

@@ -21,7 +21,8 @@ returns-in-Err-clause-err c =
     ap (λ (bs : List (List ℕ)). record { shape = c.self.inside.shape; bodies = bs; words = c.self.inside.words.items }) same ∙ c.self.view_is
 
 -- the bin with the part
-taken_in : (c : After-saturating_add) → let b = c.bin-bin.result in let bodies = map bytes_of (set c.self.inside.bodies.items b c.extend_from_slice.new.self) in let words = set c.self.inside.words.items b c.saturating_add.result in
+taken_in : (c : After-saturating_add) → let b = c.bin-bin.result in let bodies = map bytes_of
+    (set c.self.inside.bodies.items b c.extend_from_slice.new.self) in let words = set c.self.inside.words.items b c.saturating_add.result in
     AreBins c.self.inside.shape bodies words × Absorbed c.args.self.now c.args.part (record { shape = c.self.inside.shape; bodies = bodies; words = words })
 taken_in c =
     let p = c.args.part in
@@ -30,7 +31,8 @@ taken_in c =
     let b = c.bin-bin.result in
     let within = bin_within c.args.self.now c.self.inside.shape vs words p b c.self.view_is c.requires c.self.invariant c.bin-bin.ensures.kept c.bin-bin.ensures.is in
     let grown = c.in-Ok.ensures.items ∙ ap (λ t. c.index_mut-body.result.now.items ++ t) c.body.ensures.are in
-    let sum : c.saturating_add.result ≡ capped (slice_index words b + p.words) = omega (arith, c.saturating_add.ensures, c.words.ensures.is, get_or_read words b c.index.result.now within.1 c.index.ensures 0) in (
+    let sum : c.saturating_add.result ≡ capped (slice_index words b + p.words) = omega
+        (arith, c.saturating_add.ensures, c.words.ensures.is, get_or_read words b c.index.result.now within.1 c.index.ensures 0) in (
       bins_absorbed c.args.self.now c.self.inside.shape vs words p b c.index_mut-body.result.now c.extend_from_slice.new.self c.saturating_add.result
           c.self.view_is c.requires c.self.invariant c.bin-bin.ensures.kept c.bin-bin.ensures.is within.0 c.index_mut-body.ensures.value grown sum,
       absorbed_is c.args.self.now c.self.inside.shape vs words p b c.index_mut-body.result.now c.extend_from_slice.new.self c.saturating_add.result

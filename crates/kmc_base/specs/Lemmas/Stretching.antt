@@ -31,7 +31,8 @@ Apart p [] = Unit {0}
 Apart p (s ∷ ss) = p < s.start
 
 -- an open stretch that nothing follows is a stretch
-pub joined_alone : (a : ℕ) (c : ℕ) (cs : List ℕ) (ss : List Stretch) → Apart (a + length (c ∷ cs)) ss → joined a (c ∷ cs) ss ≡ record { start = a; codes = c ∷ cs } ∷ ss
+pub joined_alone : (a : ℕ) (c : ℕ) (cs : List ℕ) (ss : List Stretch) → Apart (a + length (c ∷ cs)) ss → joined a (c ∷ cs) ss
+    ≡ record { start = a; codes = c ∷ cs } ∷ ss
 joined_alone a c [] [] apart = refl
 joined_alone a c [] (s ∷ ss) apart =
     let other : (s.start == a + 1) ≡ false = ne_eqb s.start (a + 1) (λ e. omega arith) in
@@ -52,7 +53,8 @@ apart_from i j (b ∷ bs) h = go (code_of b) (stretches_from (i + 1) bs) (apart_
     go (Some c) [] k = h
     go (Some c) (s ∷ ss) k = under (s.start == i + 1) s ss
       where
-        under : (t : Bool) (s : Stretch) (ss : List Stretch) → Apart j (cond t (record { start = i; codes = c ∷ s.codes } ∷ ss) (record { start = i; codes = c ∷ [] } ∷ s ∷ ss))
+        under : (t : Bool) (s : Stretch) (ss : List Stretch) → Apart j
+            (cond t (record { start = i; codes = c ∷ s.codes } ∷ ss) (record { start = i; codes = c ∷ [] } ∷ s ∷ ss))
         under true s ss = h
         under false s ss = h
 
@@ -72,7 +74,8 @@ module _ (k : ℕ) (read : List ℕ) (i : ℕ) (inside : i < length read) where
       let split : drop i read ≡ get_or read i 0 ∷ drop (i + 1) read = rw add-one (drop-cons read i 0 inside) in
       ap (stretches_from i) split ∙ ap (λ t. with_place i t (stretches_from (i + 1) (drop (i + 1) read))) e
 
-  pub base_added : (done whole : List Stretch) (open_codes new : List ℕ) (c : ℕ) → code_of (get_or read i 0) ≡ Some c → length open_codes ≤ i → new ≡ open_codes ++ c ∷ []
+  pub base_added : (done whole : List Stretch) (open_codes new : List ℕ) (c : ℕ) → code_of (get_or read i 0) ≡ Some c → length open_codes ≤ i → new
+      ≡ open_codes ++ c ∷ []
       → done ++ long_enough k (joined (i - length open_codes) open_codes (stretches_from i (drop i read))) ≡ whole
       → done ++ long_enough k (joined (i + 1 - length new) new (stretches_from (i + 1) (drop (i + 1) read))) ≡ whole
   base_added done whole open_codes new c is within more before =
@@ -87,7 +90,8 @@ module _ (k : ℕ) (read : List ℕ) (i : ℕ) (inside : i < length read) where
       ∙ ap (joined (i - length open_codes) open_codes) (sym (here (Some c) is)))
       ∙ before
 
-  pub stretch_ended : (done whole new : List Stretch) (open_codes : List ℕ) (a : ℕ) → 1 ≤ k → code_of (get_or read i 0) ≡ None → length open_codes ≤ i → a ≡ i - length open_codes
+  pub stretch_ended : (done whole new : List Stretch) (open_codes : List ℕ) (a : ℕ) → 1 ≤ k → code_of (get_or read i 0) ≡ None
+      → length open_codes ≤ i → a ≡ i - length open_codes
       → new ≡ done ++ long_enough k (record { start = a; codes = open_codes } ∷ [])
       → done ++ long_enough k (joined (i - length open_codes) open_codes (stretches_from i (drop i read))) ≡ whole
       → new ++ long_enough k (stretches_from (i + 1) (drop (i + 1) read)) ≡ whole
@@ -99,7 +103,8 @@ module _ (k : ℕ) (read : List ℕ) (i : ℕ) (inside : i < length read) where
       ∙ ap (λ (t : List Stretch). done ++ t) (closing k a open_codes rest some apart)
       ∙ (λ j. done ++ long_enough k (joined (at j) open_codes (sym (here None is) j))) ∙ before
 
-pub all_ended : (k : ℕ) (read : List ℕ) (i : ℕ) (done whole new : List Stretch) (open_codes : List ℕ) (a : ℕ) → 1 ≤ k → length read ≤ i → a ≡ i - length open_codes
+pub all_ended : (k : ℕ) (read : List ℕ) (i : ℕ) (done whole new : List Stretch) (open_codes : List ℕ) (a : ℕ) → 1 ≤ k → length read ≤ i → a
+    ≡ i - length open_codes
     → new ≡ done ++ long_enough k (record { start = a; codes = open_codes } ∷ [])
     → done ++ long_enough k (joined (i - length open_codes) open_codes (stretches_from i (drop i read))) ≡ whole → new ≡ whole
 all_ended k read i done whole new open_codes a some end at more before =
@@ -110,12 +115,15 @@ all_ended k read i done whole new open_codes a some end at more before =
 -- ---- the stretch that a text begins with
 
 -- the bases that a text begins with, before the stretches behind the byte that ends them
-led_apart : (a : ℕ) (bs : List ℕ) → stretches_from a bs ≡ joined a (leading bs) (stretches_from (a + (length (leading bs) + 1)) (drop (length (leading bs) + 1) bs))
+led_apart : (a : ℕ) (bs : List ℕ) → stretches_from a bs ≡ joined a (leading bs)
+    (stretches_from (a + (length (leading bs) + 1)) (drop (length (leading bs) + 1) bs))
 led_apart a [] = refl
 led_apart a (b ∷ bs) = go (code_of b) (led_apart (a + 1) bs)
   where
-    go : (o : Option ℕ) → stretches_from (a + 1) bs ≡ joined (a + 1) (leading bs) (stretches_from (a + 1 + (length (leading bs) + 1)) (drop (length (leading bs) + 1) bs))
-        → with_place a o (stretches_from (a + 1) bs) ≡ joined a (led_by o (leading bs)) (stretches_from (a + (length (led_by o (leading bs)) + 1)) (drop (length (led_by o (leading bs)) + 1) (b ∷ bs)))
+    go : (o : Option ℕ) → stretches_from (a + 1) bs ≡ joined (a + 1) (leading bs)
+        (stretches_from (a + 1 + (length (leading bs) + 1)) (drop (length (leading bs) + 1) bs))
+        → with_place a o (stretches_from (a + 1) bs) ≡ joined a (led_by o (leading bs))
+            (stretches_from (a + (length (led_by o (leading bs)) + 1)) (drop (length (led_by o (leading bs)) + 1) (b ∷ bs)))
     go None e = refl
     go (Some c) e =
         let n = length (leading bs) in
@@ -125,24 +133,14 @@ led_apart a (b ∷ bs) = go (code_of b) (led_apart (a + 1) bs)
         ap (with_place a (Some c)) (e ∙ (λ j. joined (a + 1) (leading bs) (stretches_from (place j) (rest j))))
 
 pub first_apart : (k a : ℕ) (bs : List ℕ) → 1 ≤ k
-    → long_enough k (record { start = a; codes = leading bs } ∷ []) ++ long_enough k (stretches_from (a + (length (leading bs) + 1)) (drop (length (leading bs) + 1) bs)) ≡ long_enough k (stretches_from a bs)
+    → long_enough k (record { start = a; codes = leading bs } ∷ []) ++ long_enough k
+        (stretches_from (a + (length (leading bs) + 1)) (drop (length (leading bs) + 1) bs)) ≡ long_enough k (stretches_from a bs)
 first_apart k a bs some =
     let n = length (leading bs) in
     closing k a (leading bs) (stretches_from (a + (n + 1)) (drop (n + 1) bs)) some (apart_from (a + (n + 1)) (a + n) (drop (n + 1) bs) (omega arith))
     ∙ ap (long_enough k) (sym (led_apart a bs))
 
 -- ---- the codes of the bases that a text begins with, while they are written
-
-small_leading : (bs : List ℕ) → AllByRecursion (λ c. c < 4) (leading bs)
-small_leading [] = tt
-small_leading (b ∷ bs) = go (code_of b) (code_small b) (small_leading bs)
-  where
-    go : (o : Option ℕ) → IsCode o → AllByRecursion (λ c. c < 4) (leading bs) → AllByRecursion (λ c. c < 4) (led_by o (leading bs))
-    go None e h = tt
-    go (Some c) e h = (e, h)
-
-pub leading_small : (bs : List ℕ) → All (λ c. c < 4) (leading bs)
-leading_small bs = All-from_recursion (λ (c : ℕ). c < 4) (leading bs) (small_leading bs)
 
 -- codes that are those of the bytes at their places, up to the first byte that is no base
 leading_is : (bytes codes : List ℕ) → length codes ≤ length bytes
@@ -173,12 +171,14 @@ leading_is_taken n bytes codes long within each end =
     (λ h. ap (λ j. code_of (get_or bytes j 0)) long ∙ end (omega arith))
 
 -- so many bases more
-pub bases_more : (n d : ℕ) (bytes more : List ℕ) → more ≡ take (n + d - n) (drop n bytes) → n + d ≤ length bytes → AreBases (length more) more → AreBases n bytes → AreBases (n + d) bytes
+pub bases_more : (n d : ℕ) (bytes more : List ℕ) → more ≡ take (n + d - n) (drop n bytes) → n + d ≤ length bytes → AreBases (length more) more
+    → AreBases n bytes → AreBases (n + d) bytes
 bases_more n d bytes more is long rest each i inside =
     let many : length more ≡ d = ap length is ∙ length-take (n + d - n) (drop n bytes) ∙ omega (arith, length-drop n bytes) in
     elim (nat_cases i n) [
       | inl h ↦ each i h
-      | inr h ↦ let place : n + (i - n) ≡ i = omega arith in subst IsBase (at (i - n) (omega arith) ∙ ap (λ (j : ℕ). get_or bytes j 0) place) (rest (i - n) (omega (arith, many)))
+      | inr h ↦ let place : n + (i - n) ≡ i = omega arith in subst IsBase (at (i - n) (omega arith) ∙ ap (λ (j : ℕ). get_or bytes j 0) place)
+          (rest (i - n) (omega (arith, many)))
     ]
   where
     nat_cases : (i n : ℕ) → (i < n) ⊎ (n ≤ i)

@@ -1,5 +1,6 @@
 -- Facts of each member of a list, sums over a list, and a function changed at one place.
-use Rattle.std.proofs.Common.{lt-ltb, le-ltb, lt_of_not-le, ◌≡◌, ℕ, zero, suc, ◌+◌, ◌<◌, ◌≤◌, ◌≢◌, cond, List, [], ◌∷◌, ◌++◌, set, refl, sym, ap, subst, ⊎_elim, eq-eqb, ne_eqb, arith}
+use Rattle.std.proofs.Common.{lt-ltb, le-ltb, lt_of_not-le, ◌≡◌, ℕ, zero, suc, ◌+◌, ◌<◌, ◌≤◌, ◌≢◌, cond, List, [], ◌∷◌, ◌++◌, get_or, length, set, refl, sym, ap, subst, ⊎_elim, eq-eqb, ne_eqb, arith}
+use Rattle.std.specs.Prelude.{Some, slice_get}
 use mathlib.Core.Option.{some, some-injective, some-ne-none}
 use mathlib.Core.Logic.{dite}
 use native.Mathlib.Decide.{dec_le, ℕ_discrete}
@@ -50,7 +51,8 @@ module _ {A : Type 0} (P Q : A → Type 0) where
   each_absent num w go (x ∷ xs) z p =
       let t : ℕ = total_of (λ (y : A). same (num y) w) xs in let z' : same (num x) w + t ≡ 0 = z in
       let u : ℕ = same (num x) w in
-      (dite (ℕ_discrete (num x) w) (λ e. let one : u ≡ 1 = same_refl (num x) w e in absurd (omega arith)) (λ n. go x n p.0), each_absent num w go xs (omega arith) p.1)
+      (dite (ℕ_discrete (num x) w) (λ e. let one : u ≡ 1 = same_refl (num x) w e in absurd (omega arith)) (λ n. go x n p.0), each_absent num w go xs
+          (omega arith) p.1)
 
 pub each_both : {A : Type 0} (P Q : A → Type 0) (l : List A) → Each P l → Each Q l → Each (λ x. P x × Q x) l
 each_both P Q [] p q = tt
@@ -65,7 +67,8 @@ pub views_stay : {V : Type 0} (Q : ℕ → V → Type 0) (vs : List V) (id : ℕ
     → ((j : ℕ) (v : V) → j ≢ id → get_elem? vs j ≡ some v → Q j v) → (j : ℕ) (v : V)
     → get_elem? (set vs id w) j ≡ some v → Q j v
 views_stay {V} Q vs id w mine others j v e =
-    ⊎_elim (λ (x : (j ≡ id) × (w ≡ v)). subst (λ (y : ℕ × V). Q y.0 y.1) (λ i. (sym x.0 i, x.1 i)) mine) (λ (x : (j ≢ id) × (get_elem? vs j ≡ some v)). others j v x.0 x.1) (at_set vs id j w v e)
+    ⊎_elim (λ (x : (j ≡ id) × (w ≡ v)). subst (λ (y : ℕ × V). Q y.0 y.1) (λ i. (sym x.0 i, x.1 i)) mine)
+        (λ (x : (j ≢ id) × (get_elem? vs j ≡ some v)). others j v x.0 x.1) (at_set vs id j w v e)
 
 abbrev pick : {A P : Type 0} → Dec P → A → A → A
 pick (yes _) a b = a
@@ -98,10 +101,12 @@ below_none n h l = ap (λ b. cond b 1 0) (le-ltb n h l)
 -- one more number
 pub once_next : (n h : ℕ) → once_below n (h + 1) ≡ once_below n h + same h n
 once_next n h = let x : ℕ = once_below n (h + 1) in let y : ℕ = once_below n h in let z : ℕ = same h n in dite (ℕ_discrete h n)
-    (λ e. let x' : x ≡ 1 = below_one n (h + 1) (omega arith) in let y' : y ≡ 0 = below_none n h (omega arith) in let z' : z ≡ 1 = same_refl h n e in omega arith)
+    (λ e. let x' : x ≡ 1 = below_one n (h + 1) (omega arith) in let y' : y ≡ 0 = below_none n h (omega arith) in let z' : z ≡ 1 = same_refl h n e in
+        omega arith)
     (λ ne. let z' : z ≡ 0 = same_ne h n ne in dite (dec_le (suc n) h)
     (λ l. let x' : x ≡ 1 = below_one n (h + 1) (omega arith) in let y' : y ≡ 1 = below_one n h l in omega arith)
-    (λ no'. let far : h < suc n = lt_of_not-le no' in let x' : x ≡ 0 = below_none n (h + 1) (omega arith) in let y' : y ≡ 0 = below_none n h (omega arith) in omega arith))
+    (λ no'. let far : h < suc n = lt_of_not-le no' in let x' : x ≡ 0 = below_none n (h + 1) (omega arith) in let y' : y ≡ 0 = below_none n h
+        (omega arith) in omega arith))
 
 pub each_split : {A : Type 0} (P : A → Type 0) (l m : List A) → Each P (l ++ m) → Each P l × Each P m
 each_split P [] m p = (tt, p)
@@ -110,3 +115,9 @@ each_split P (x ∷ xs) m p = let r = each_split P xs m p.1 in ((p.0, r.0), r.1)
 pub append_none : {A : Type 0} (l : List A) → l ≡ l ++ []
 append_none [] = refl
 append_none (x ∷ xs) = λ j. x ∷ append_none xs j
+
+-- the member at a place
+pub get_at : {A : Type 0} (l : List A) (i : ℕ) (d : A) → i < length l → slice_get l i ≡ Some (get_or l i d)
+get_at [] i d lt = absurd (omega arith)
+get_at (x ∷ l) zero d lt = refl
+get_at (x ∷ l) (suc i) d lt = get_at l i d (omega arith)

@@ -6,7 +6,8 @@ use Rattle.std.proofs.lemmas.Slice.{take-put_mid}
 use borrow.Rule.Slice.PartMut.{put_mid}
 
 -- n bytes are put at a place, and m of them are read back with what stands before
-pub put_then_take : (room out : List ℕ) (at k n : ℕ) → at ≤ length room → length out ≡ n → k ≤ n → take (at + k) (put_mid at n room out) ≡ take at room ++ take k out
+pub put_then_take : (room out : List ℕ) (at k n : ℕ) → at ≤ length room → length out ≡ n → k ≤ n → take (at + k) (put_mid at n room out)
+    ≡ take at room ++ take k out
 put_then_take room out at k n within long less =
     let before : length (take at room) ≡ at = length-take-le at room within in
     let count : at + length out ≡ at + length out = refl in
@@ -23,7 +24,8 @@ put_byte s t b inside = rw add-one (take-suc-set s t b inside)
 pub length_put_mid : (xs ys : List ℕ) (a k : ℕ) → a + k ≤ length xs → length ys ≡ k → length (put_mid a k xs ys) ≡ length xs
 length_put_mid xs ys a k within long =
     let rest = drop k (drop a xs) in
-    length-append (take a xs) (ys ++ rest) ∙ omega (arith, length-append ys rest, length-take-le a xs (omega arith), length-drop k (drop a xs), length-drop a xs, long, within)
+    length-append (take a xs) (ys ++ rest) ∙ omega (arith, length-append ys rest, length-take-le a xs (omega arith), length-drop k (drop a xs),
+        length-drop a xs, long, within)
 
 module _ (room out digits : List ℕ) (at k : ℕ) (within : at + k + length digits + 2 ≤ length room) (long : length out ≡ length room - at) where
   abbrev pub lettered : List ℕ

@@ -10,7 +10,7 @@ use Rattle.kmc_base.specs.Stretches.{Stretch, with_place, stretches_from, segmen
 use Rattle.kmc_base.specs.declared.strands.Strands.{Strands}
 use Rattle.kmc_base.specs.Strands.{key, placed_key, keys}
 use Rattle.kmc_base.specs.Places.{word_at, counted_words, placed_words}
-use Rattle.kmc_base.proofs.Stretching.{Apart, apart_from}
+use Rattle.kmc_base.specs.Lemmas.Stretching.{Apart, apart_from}
 
 abbrev Placed : Type 0
 Placed = List (ℕ × List ℕ)
@@ -88,7 +88,8 @@ counted_more k a b bs =
     let first : a + 0 ≡ a = add-zero a in
     let place : (i : ℕ) → a + (i + 1) ≡ a + 1 + i = λ i. omega arith in
     (λ j. cons_option (option_map (λ w. (first j, w)) (word_at k (b ∷ bs) 0)) (shift_filter (from k a (b ∷ bs)) 0 (length bs) j))
-    ∙ (λ j. cons_option (option_map (λ w. (a, w)) (word_at k (b ∷ bs) 0)) (filter_map (λ i. option_map (λ w. (place i j, w)) (next_word k b bs i j)) (range_with_len 0 (length bs))))
+    ∙ (λ j. cons_option (option_map (λ w. (a, w)) (word_at k (b ∷ bs) 0))
+        (filter_map (λ i. option_map (λ w. (place i j, w)) (next_word k b bs i j)) (range_with_len 0 (length bs))))
 
 -- ---- the words of a stretch
 
@@ -163,7 +164,8 @@ split k some a t = go (stretches_from (a + 1) t) refl (led (a + 1) t)
     go : (ss : List Stretch) → stretches_from (a + 1) t ≡ ss → IsLed (a + 1) (leading t) ss → Split k a t
     go ss e (inl h) = record {
       after = flat_map (placed_words k) ss;
-      without = ap (flat_map (placed_words k)) e ∙ ap (λ (p : Placed). p ++ flat_map (placed_words k) ss) (sym (ap (placed k (a + 1)) h.0 ∙ nothing k (a + 1) some));
+      without = ap (flat_map (placed_words k)) e ∙ ap (λ (p : Placed). p ++ flat_map (placed_words k) ss)
+          (sym (ap (placed k (a + 1)) h.0 ∙ nothing k (a + 1) some));
       with_one = λ c. ap (λ (u : List Stretch). flat_map (placed_words k) (with_place a (Some c) u)) e ∙ ap (flat_map (placed_words k)) (alone c ss h.1)
           ∙ ap (λ (r : List ℕ). placed k a (c ∷ r) ++ flat_map (placed_words k) ss) (sym h.0);
     }
@@ -191,7 +193,8 @@ all_from k some a (b ∷ bs) = go (code_of b) refl (all_from k some (a + 1) bs)
     first : (o : Option ℕ) → code_of b ≡ o → counted_from k a (b ∷ bs) ≡ first_word k a (led_by o (leading bs)) ++ counted_from k (a + 1) bs
     first o e =
         counted_more k a b bs
-        ∙ ap (λ w. cons_option (option_map (λ w. (a, w)) w) (counted_from k (a + 1) bs)) (word_here k (b ∷ bs) ∙ ap (λ p. first_codes k (led_by p (leading bs))) e)
+        ∙ ap (λ w. cons_option (option_map (λ w. (a, w)) w) (counted_from k (a + 1) bs))
+            (word_here k (b ∷ bs) ∙ ap (λ p. first_codes k (led_by p (leading bs))) e)
         ∙ chosen k a (led_by o (leading bs)) (counted_from k (a + 1) bs)
 
     go : (o : Option ℕ) → code_of b ≡ o → flat_map (placed_words k) (stretches_from (a + 1) bs) ≡ counted_from k (a + 1) bs
@@ -228,15 +231,18 @@ segments_are_counted k read some =
 
 -- ---- the keys of the segments are those of the counted places
 
-keys_placed : (strands : Strands) (k : ℕ) (s : Stretch) (ns : List ℕ) → map (λ i. key strands (window k s.codes i)) ns ≡ map (placed_key strands) (map (λ i. (s.start + i, window k s.codes i)) ns)
+keys_placed : (strands : Strands) (k : ℕ) (s : Stretch) (ns : List ℕ) → map (λ i. key strands (window k s.codes i)) ns ≡ map (placed_key strands)
+    (map (λ i. (s.start + i, window k s.codes i)) ns)
 keys_placed strands k s [] = refl
 keys_placed strands k s (n ∷ ns) = ap (λ (t : List (List ℕ)). key strands (window k s.codes n) ∷ t) (keys_placed strands k s ns)
 
-keys_of_placed : (strands : Strands) (k : ℕ) (ss : List Stretch) → flat_map (λ s. keys strands k s.codes) ss ≡ map (placed_key strands) (flat_map (placed_words k) ss)
+keys_of_placed : (strands : Strands) (k : ℕ) (ss : List Stretch) → flat_map (λ s. keys strands k s.codes) ss ≡ map (placed_key strands)
+    (flat_map (placed_words k) ss)
 keys_of_placed strands k [] = refl
 keys_of_placed strands k (s ∷ ss) =
     (λ j. keys_placed strands k s (range_with_len 0 (length s.codes + 1 - k)) j ++ keys_of_placed strands k ss j)
     ∙ sym (map-append (placed_key strands) (placed_words k s) (flat_map (placed_words k) ss))
 
-pub keys_of_segments : (strands : Strands) (k : ℕ) (read : List ℕ) → 1 ≤ k → flat_map (λ s. keys strands k s.codes) (segments_of k read) ≡ map (placed_key strands) (counted_words k read)
+pub keys_of_segments : (strands : Strands) (k : ℕ) (read : List ℕ) → 1 ≤ k → flat_map (λ s. keys strands k s.codes) (segments_of k read) ≡ map
+    (placed_key strands) (counted_words k read)
 keys_of_segments strands k read some = keys_of_placed strands k (segments_of k read) ∙ ap (map (placed_key strands)) (segments_are_counted k read some)

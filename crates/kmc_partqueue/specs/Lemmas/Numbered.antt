@@ -5,7 +5,7 @@ use mathlib.Core.Logic.{dite}
 use native.Mathlib.Decide.{ℕ_discrete}
 use Rattle.kmc_partqueue.specs.Counts.{Each, total_of, same}
 use Rattle.kmc_partqueue.specs.Dealing.{row_from}
-use Rattle.kmc_partqueue.proofs.Sums.{same_refl, same_ne}
+use Rattle.kmc_partqueue.specs.Lemmas.Sums.{same_refl, same_ne}
 
 module _ {A : Type 0} where
   pub row_length : (f : ℕ → A) (i n : ℕ) → length (row_from f i n) ≡ n
@@ -43,9 +43,15 @@ module _ {A : Type 0} where
     once_from i [] go le lt = absurd (omega arith)
     once_from i (x ∷ l) go le lt = let f = first_number i x l go in dite (ℕ_discrete i w)
         (λ e. let r = none_before (suc i) l (numbered_rest i x l go) (omega arith) in let z : same (num x) w ≡ 1 = same_refl (num x) w (f ∙ e) in omega arith)
-        (λ ne. let r = once_from (suc i) l (numbered_rest i x l go) (omega arith) (omega arith) in let z : same (num x) w ≡ 0 = same_ne (num x) w (λ e. ne (sym f ∙ e)) in omega arith)
+        (λ ne. let r = once_from (suc i) l (numbered_rest i x l go) (omega arith) (omega arith) in let z : same (num x) w ≡ 0 = same_ne (num x) w
+            (λ e. ne (sym f ∙ e)) in omega arith)
 
 -- two facts of the value, where there is one, give a third
 pub ok_from : {A E : Type 0} {P Q S : A → Type 0} (r : Result A E) → ((v : A) → P v → Q v → S v) → IfOk r P → IfOk r Q → IfOk r S
 ok_from (Ok v) go p q = go v p q
 ok_from (Err e) go p q = tt
+
+module _ {A : Type 0} where
+  pub each_row : (P : A → Type 0) (f : ℕ → A) (i n : ℕ) → ((j : ℕ) → j < i + n → P (f j)) → Each P (row_from f i n)
+  each_row P f i zero go = tt
+  each_row P f i (suc n) go = (go i (omega arith), each_row P f (suc i) n (λ j l. go j (omega arith)))

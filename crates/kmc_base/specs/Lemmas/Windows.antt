@@ -1,0 +1,14 @@
+-- How long windows are.
+use Rattle.std.proofs.Common.{◌≡◌, ℕ, zero, suc, ◌+◌, ◌-◌, ◌≤◌, List, [], ◌∷◌, length, refl, arith}
+use Rattle.std.proofs.lemmas.List.FromFn.{length-map-range_with_len}
+use Rattle.kmc_base.specs.Words.{window, windows}
+
+pub length_window : (k i : ℕ) (xs : List ℕ) → i + k ≤ length xs → length (window k xs i) ≡ k
+length_window zero i xs h = refl
+length_window (suc k) zero [] h = absurd (omega arith)
+length_window (suc k) zero (x ∷ xs) h = let r = length_window k zero xs (omega arith) in omega arith
+length_window (suc k) (suc i) [] h = absurd (omega arith)
+length_window (suc k) (suc i) (x ∷ xs) h = length_window (suc k) i xs (omega arith)
+
+pub length_windows : (k : ℕ) (codes : List ℕ) → length (windows k codes) ≡ length codes + 1 - k
+length_windows k codes = length-map-range_with_len (window k codes) 0 (length codes + 1 - k)
