@@ -131,8 +131,6 @@ module _ (rows : List (List ℕ)) (n : ℕ) (read line : List ℕ) (w : Scan) wh
   pub not_given : (st : Stage) → (st ≡ Quality → ⊥) → begun_by st read line ≡ [] → At rows (past (record { number = n; stage = st; read = read }) line) [] w → At (rows ++ given_by st read line) (past (record { number = n; stage = st; read = read }) line) [] w
   not_given st other none h = subst (λ t. At t (past (record { number = n; stage = st; read = read }) line) [] w) (sym (append-nil rows) ∙ ap (λ (t : List (List ℕ)). rows ++ t) (sym (none_given st read line other none))) h
 
-}
-
 -- a line is open
 pub last_is_line : (front : List ℕ) → (front ≡ [] → ⊥) → last_line front ≡ strip_last 13 front ∷ []
 last_is_line [] some = absurd (some refl)

@@ -13,7 +13,7 @@ use Rattle.kmc_reads.specs.Stages.{Spot, first_spot, fault, fault_from, reads_fr
 use Rattle.kmc_reads.specs.Standing.{FeederState, StandsAt, StandsCut, Leads, LeadsCut, Goes, Hands, HasFault, At, IsAgain}
 use Rattle.kmc_reads.proofs.Answers.{with_none, reads_join}
 use Rattle.kmc_reads.proofs.Ending.{reads_are}
-use Rattle.kmc_reads.proofs.Feeding.{at_again}
+
 
 -- ---- answers
 
