@@ -48,7 +48,7 @@ pub fn store_reads<R: Threads + Wait + Sync, G: Gate + Sync>(
     };
     match fill_bins(rt, alloc, bins, reads, plan, params.queue(), gate) {
         Ok((bins, _)) => Ok(bins),
-        Err(Refusal::Memory | Refusal::Stopped) => Err(AllocError),
+        Err(Refusal::Memory) => Err(AllocError),
         Err(Refusal::NumbersSpent) => unreachable!(),
     }
 }

@@ -2,10 +2,10 @@
 use Rattle.std.proofs.Common.{◌≡◌, ap, sym, subst}
 use Rattle.std.specs.Prelude.{Result, Ok, Err, MatchResult}
 use Rattle.kmc_workers.specs.Refusals.{both}
-use Rattle.kmc_workers.specs.declared.refusal.Refusal.{Refusal}
+use Rattle.kmc_workers.specs.declared.refusal.GivenUp.{GivenUp}
 
 -- where both hand something back, each does
-pub both_gave : {A B : Type 0} (x : Result A Refusal) (y : Result B Refusal) (a : A) (b : B) → Ok (a, b) ≡ both x y → (x ≡ Ok a) × (y ≡ Ok b)
+pub both_gave : {A B : Type 0} (x : Result A GivenUp) (y : Result B GivenUp) (a : A) (b : B) → Ok (a, b) ≡ both x y → (x ≡ Ok a) × (y ≡ Ok b)
 both_gave {A} {B} (Ok u) (Ok v) a b e =
     let same : (a, b) ≡ (u, v) = cc in
     (ap (λ z. Ok z) (sym (ap (λ (p : A × B). p.0) same)), ap (λ z. Ok z) (sym (ap (λ (p : A × B). p.1) same)))

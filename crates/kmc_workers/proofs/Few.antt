@@ -18,10 +18,10 @@ a_part_each : (number : ℕ) (reads : List (List ℕ)) (shape : Sizes) (parts : 
 a_part_each number reads shape parts are =
     let test = λ (p : Parcel). nat_lt 0 (length p.body) in
     let all = map (λ bin. grown shape.k (bin_super_kmers shape.k shape.n bin (all_segments shape.k reads) are.cuts) (empty_part number shape bin))
-        (range_with_len 0 shape.n) in
+    (range_with_len 0 shape.n) in
     let passed : length parts ≡ count_by test all = ap length are.are ∙ length-filter test all in
     let bins : length all ≡ shape.n = length-map-range_with_len (λ bin. grown shape.k
-        (bin_super_kmers shape.k shape.n bin (all_segments shape.k reads) are.cuts) (empty_part number shape bin)) 0 shape.n in
+    (bin_super_kmers shape.k shape.n bin (all_segments shape.k reads) are.cuts) (empty_part number shape bin)) 0 shape.n in
     omega (arith, passed, bins, count_by-le-length test all)
 
 module _ (shape : Sizes) (batch : ℕ) (reads : List (List ℕ)) (sp w : ℕ) where

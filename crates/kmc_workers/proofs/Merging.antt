@@ -39,7 +39,7 @@ pub begun_more : (bins : BinList) (seats : List (ReaderState Parcel)) (s : Reade
 begun_more bins [] s = refl
 begun_more bins (t ∷ seats) s =
     ap (λ (l : List Shard). record { seat = t; bins = bins } ∷ l) (map-append
-        (λ (r : ReaderState Parcel). record { seat = r; bins = empty_bins bins.shape }) seats (s ∷ []))
+    (λ (r : ReaderState Parcel). record { seat = r; bins = empty_bins bins.shape }) seats (s ∷ []))
 
 pub next_more : {A : Type 0} (xs : List A) (x : A) (bins : BinList) → before_next (xs ++ x ∷ []) bins ≡ empty_bins bins.shape
 next_more [] x bins = refl
@@ -60,12 +60,12 @@ one_more law [] h bins old new before own merged = record {
   wide = merged.wide ∙ before.wide;
   each = λ i l.
       let none : body_at old.bodies i ≡ [] = before.each i l ∙ append-nil (body_at (empty_bins bins.shape).bodies i)
-          ∙ get_or-replicate bins.shape.n i [] [] l in
+      ∙ get_or-replicate bins.shape.n i [] [] l in
       merged.bodies i (omega (arith, before.wide)) ∙ ap (λ t. t ++ body_at h.bins.bodies i) none ∙ own.each i l
       ∙ ap (λ (p : List Parcel). body_at bins.bodies i ++ flat_map (λ q. q.body) (parts_in i p)) (sym (append-nil (items_of h.seat.got)));
 }
 one_more law (g ∷ seen) h bins old new before own merged =
     subst (AreAdded bins.shape bins.bodies new.bodies)
     (flat_map_more (λ (s : ReaderState Parcel). items_of s.got) [] (map (λ (s : Shard). s.seat) (g ∷ seen)) h.seat ∙ ap all_got
-        (sym (map-append (λ (s : Shard). s.seat) (g ∷ seen) (h ∷ []))))
+    (sym (map-append (λ (s : Shard). s.seat) (g ∷ seen) (h ∷ []))))
     (law bins.shape bins.bodies old h.bins new (all_got (map (λ (s : Shard). s.seat) (g ∷ seen))) (items_of h.seat.got) before own merged)

@@ -6,9 +6,9 @@ use Rattle.kmc_partcore.specs.declared.shape.TheConstants.{MAX_ITEMS}
 use Rattle.kmc_store.specs.Deals.{chunk_at, AreSent, AreDealt}
 use Rattle.kmc_partqueue.specs.Seats.{WriterState}
 use Rattle.kmc_workers.specs.Workers.{chunks_of, IsSameWriter}
-use Rattle.kmc_workers.specs.Causes.{AreTooMany, IsCause}
-use Rattle.kmc_workers.specs.declared.refusal.Refusal.{Refusal}
-use Rattle.kmc_workers.specs.declared.refusal.Refusal.TheVariants.{Memory, NumbersSpent, Stopped}
+use Rattle.kmc_workers.specs.Causes.{AreTooMany, IsWorkersCause}
+use Rattle.kmc_workers.specs.declared.refusal.GivenUp.{GivenUp}
+use Rattle.kmc_workers.specs.declared.refusal.GivenUp.TheVariants.{Memory, NumbersSpent, Stopped}
 
 module _ (shape : Sizes) (batch : ℕ) (reads : List (List ℕ)) (sp w : ℕ) where
   next_dealt : (c : ℕ) (sent own new : List Parcel) → AreDealt shape batch reads sp w c sent → AreSent shape (chunk_at batch reads c) sp w c own
@@ -29,12 +29,18 @@ module _ (shape : Sizes) (batch : ℕ) (reads : List (List ℕ)) (sp w : ℕ) wh
   -- the numbers were spent within a chunk
   pub too_many : (chunks c : ℕ) (sent own : List Parcel) → c < chunks → c % sp ≡ w → AreDealt shape batch reads sp w c sent → ArePartsOf c
       (chunk_at batch reads c) shape own → MAX_ITEMS < length (sent ++ own) → AreTooMany shape batch reads sp chunks w
-  too_many chunks c sent own near here was is many = record { first = c + 1; within = (let z : c + 1 ≤ chunks = omega arith in z); parts = sent
-      ++ own; dealt = next_own c sent own (sent ++ own) here was is refl; many = many }
+  too_many chunks c sent own near here was is many = record {
+    first = c + 1;
+    within = (let z : c + 1 ≤ chunks = omega arith in z);
+    parts = sent
+        ++ own;
+    dealt = next_own c sent own (sent ++ own) here was is refl;
+    many = many;
+  }
 
   -- a refusal has a cause where spent numbers have theirs
-  pub cause_of : (cause : Refusal) → (cause ≡ NumbersSpent → (u : ℕ) × (u < sp) × AreTooMany shape batch reads sp (chunks_of batch (length reads)) u)
-      → IsCause shape batch reads sp cause
+  pub cause_of : (cause : GivenUp) → (cause ≡ NumbersSpent → (u : ℕ) × (u < sp) × AreTooMany shape batch reads sp (chunks_of batch (length reads)) u)
+      → IsWorkersCause shape batch reads sp cause
   cause_of NumbersSpent spent = spent refl
   cause_of Memory spent = tt
   cause_of Stopped spent = tt

@@ -72,7 +72,7 @@ pub fn fill_bins<R: Threads + Wait + Sync, G: Gate + Sync>(
     ensures holds { (held : List (List ℕ)) → HoldsReads plan.shape held bins.bodies
         → IfOk result (λ b. HoldsReads plan.shape (held ++ map (λ r. r.now) reads.now) b.0.bodies) }
     ensures passage { IfOk result (λ b. IsPassage plan.shape plan.batch
-        (map (λ r. r.now) reads.now) queue bins.bodies b.0.bodies) }
+        (map (λ r. r.now) reads.now) queue bins.bodies b.0.bodies b.1) }
     ensures cause { IfErr result
         (IsCause plan.shape plan.batch (map (λ r. r.now) reads.now) queue.writers) }
 {

@@ -5,11 +5,11 @@ ghost use Rattle.kmc_partqueue.specs.Counts.{Each};
 ghost use Rattle.kmc_partqueue.specs.Dealing.{row_from};
 ghost use Rattle.kmc_partqueue.specs.Seats.{new_writer, new_reader};
 ghost use Rattle.kmc_workers.specs.Workers.{IsDone, IsFreshWriter};
-ghost use Rattle.kmc_workers.specs.Causes.{IsCause};
+ghost use Rattle.kmc_workers.specs.Causes.{IsCause, IsWorkersCause};
 ghost use Rattle.kmc_workers.specs.Shards.{IsShard, IsFreshShard, begun};
 
 use crate::plan::Plan;
-use crate::refusal::Refusal;
+use crate::refusal::{GivenUp, Refusal};
 use crate::shard::Shard;
 use crate::way::Way;
 use crate::workers::{Seats, store_all};
@@ -68,7 +68,7 @@ fn open_way(alloc: Global, queue: QueueShape, bins: Bins) -> Result<(Way, Seats)
 /// c mod `writers` = w, in rising order, and puts the parts of each in rising order of bins; each storer takes parts and
 /// absorbs them, the first one into these bins, each other into bins of its own. Chunk c holds `batch` reads from c times
 /// `batch` on, or the rest. Once all workers are joined all seats are back, in the order of their numbers. A worker that
-/// meets a refusal stops the others; of several causes want of memory is answered first.
+/// meets a refusal stops the others; of several causes want of memory is answered first, and a stop without a cause is told so.
 pub fn pass_parts<R: Threads + Wait + Sync, G: Gate + Sync>(
     rt: &R,
     alloc: Global,
@@ -94,7 +94,7 @@ pub fn pass_parts<R: Threads + Wait + Sync, G: Gate + Sync>(
     let back = thread::scope(
         thread::scope_env(),
         rt,
-        move |scope| -> Result<(Vec<DoneSeat<Part>>, Vec<Shard>), Refusal>
+        move |scope| -> Result<(Vec<DoneSeat<Part>>, Vec<Shard>), GivenUp>
             requires shards { Each (IsFreshShard shared.now.lanes.table.shared.table_id shared.now.lanes.shape plan.shape) seats.shards.items }
             requires writers { Each (IsFreshWriter shared.now.lanes.table.shared.table_id shared.now.lanes.shape) seats.writers.items }
             ensures done { IfOk result (λ q. AllZip
@@ -102,10 +102,12 @@ pub fn pass_parts<R: Threads + Wait + Sync, G: Gate + Sync>(
                 (map (λ v. v.now) reads.entry.now) shared.entry.now.writers) seats.writers.items q.0.items) }
             ensures shards { IfOk result (λ q. AllZip IsShard seats.shards.items q.1.items) }
             ensures cause { IfErr result
-                (IsCause plan.shape plan.batch
+                (IsWorkersCause plan.shape plan.batch
                 (map (λ v. v.now) reads.entry.now) shared.entry.now.writers) }
         { store_all(rt, scope, shared, seats, reads, plan, gate) },
     );
-    let (done, shards) = back?;
-    Ok((way.into_lanes(), done, shards))
+    match back {
+        Ok((done, shards)) => Ok((way.into_lanes(), done, shards)),
+        Err(cause) => Err(cause.told()),
+    }
 }

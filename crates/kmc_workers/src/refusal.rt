@@ -1,13 +1,22 @@
-//! Why a worker ends without its result.
+//! Why workers end without their result.
 ghost use Rattle.std.specs.Prelude.{◌≡◌, Ok, Err};
-ghost use Rattle.kmc_workers.specs.Refusals.{both, earlier};
-ghost use Rattle.kmc_workers.specs.declared.refusal.Refusal.TheVariants.{Memory};
+ghost use Rattle.kmc_workers.specs.Refusals.{both, earlier, told};
+ghost use Rattle.kmc_workers.specs.declared.refusal.GivenUp.TheVariants.{Memory};
 
 use std::alloc::{AllocError, AllocFailed};
 
-/// Why a worker ends without its result.
+/// Why the workers end without their result.
 #[derive(Clone, Copy, Debug, PartialEq, Eq)]
 pub enum Refusal {
+    /// A growth or the start of a thread was refused.
+    Memory,
+    /// A writer has put as many parts as have numbers.
+    NumbersSpent,
+}
+
+/// Why one worker ends without its result.
+#[derive(Clone, Copy, Debug, PartialEq, Eq)]
+pub(crate) enum GivenUp {
     /// A growth or the start of a thread was refused.
     Memory,
     /// The writer has put as many parts as have numbers.
@@ -16,24 +25,34 @@ pub enum Refusal {
     Stopped,
 }
 
-impl Refusal {
+impl GivenUp {
     /// Of two refusals the one that is answered: want of memory before spent numbers, and either before a stop.
-    fn or(self, other: Refusal) -> Refusal
+    fn or(self, other: GivenUp) -> GivenUp
         ensures { result ≡ earlier self other }
     {
         match (self, other) {
-            (Refusal::Memory, _) | (_, Refusal::Memory) => Refusal::Memory,
-            (Refusal::NumbersSpent, _) | (_, Refusal::NumbersSpent) => Refusal::NumbersSpent,
-            (Refusal::Stopped, Refusal::Stopped) => Refusal::Stopped,
+            (GivenUp::Memory, _) | (_, GivenUp::Memory) => GivenUp::Memory,
+            (GivenUp::NumbersSpent, _) | (_, GivenUp::NumbersSpent) => GivenUp::NumbersSpent,
+            (GivenUp::Stopped, GivenUp::Stopped) => GivenUp::Stopped,
+        }
+    }
+
+    /// What callers are told: a stop that has no other cause is want of memory.
+    pub(crate) fn told(self) -> Refusal
+        ensures { result ≡ told self }
+    {
+        match self {
+            GivenUp::Memory | GivenUp::Stopped => Refusal::Memory,
+            GivenUp::NumbersSpent => Refusal::NumbersSpent,
         }
     }
 }
 
 /// What two workers hand back, or of their refusals the one that is answered.
 pub(crate) fn both<A: Drop, B: Drop>(
-    first: Result<A, Refusal>,
-    second: Result<B, Refusal>,
-) -> Result<(A, B), Refusal>
+    first: Result<A, GivenUp>,
+    second: Result<B, GivenUp>,
+) -> Result<(A, B), GivenUp>
     ensures { result ≡ both first second }
 {
     match (first, second) {
@@ -44,18 +63,28 @@ pub(crate) fn both<A: Drop, B: Drop>(
     }
 }
 
-impl From<AllocError> for Refusal {
+impl From<AllocError> for GivenUp {
     ghost from_gives = { λ _ e. e ≡ Memory };
 
-    fn from(_: AllocError) -> Refusal {
-        Refusal::Memory
+    fn from(_: AllocError) -> GivenUp {
+        GivenUp::Memory
     }
 }
 
-impl<T: Drop> From<AllocFailed<T>> for Refusal {
+impl<T: Drop> From<AllocFailed<T>> for GivenUp {
     ghost from_gives = { λ _ e. e ≡ Memory };
 
-    fn from(_: AllocFailed<T>) -> Refusal {
+    fn from(_: AllocFailed<T>) -> GivenUp {
+        GivenUp::Memory
+    }
+}
+
+impl From<AllocError> for Refusal {
+    ghost use Rattle.kmc_workers.specs.declared.refusal.Refusal.TheVariants.{Memory};
+
+    ghost from_gives = { λ _ e. e ≡ Memory };
+
+    fn from(_: AllocError) -> Refusal {
         Refusal::Memory
     }
 }

@@ -4,11 +4,11 @@ ghost use Rattle.kmc_partcore.specs.declared.shape.TheConstants.{MAX_ITEMS};
 ghost use Rattle.kmc_partqueue.specs.Seats.{IsWriterOf};
 ghost use Rattle.kmc_store.specs.Deals.{chunk_at};
 ghost use Rattle.kmc_workers.specs.Workers.{chunks_of, IsSameWriter, IsFreshWriter, IsDone};
-ghost use Rattle.kmc_workers.specs.Causes.{IsCause};
+ghost use Rattle.kmc_workers.specs.Causes.{IsWorkersCause};
 
 use crate::pause::Pause;
 use crate::plan::Plan;
-use crate::refusal::Refusal;
+use crate::refusal::GivenUp;
 use crate::way::Way;
 use kmc_partqueue::{DoneSeat, Gate, Point, TryPutError, WriterSeat};
 use kmc_record::{Part, parts_of_reads};
@@ -22,11 +22,11 @@ fn put_part<R: Wait, G: Gate>(
     s: &mut WriterSeat<Part>,
     part: Part,
     gate: &G,
-) -> Result<(), Refusal>
+) -> Result<(), GivenUp>
     requires { IsWriterOf way.now.lanes.table.shared.table_id way.now.lanes.shape s.old }
     ensures seat { IsSameWriter s.old s.new }
     ensures put { OnOk result (s.new.sent ≡ s.old.sent ++ part ∷ []) }
-    ensures spent { (result ≡ Err Refusal.NumbersSpent) ↔ (length s.old.sent ≡ MAX_ITEMS) }
+    ensures spent { (result ≡ Err GivenUp.NumbersSpent) ↔ (length s.old.sent ≡ MAX_ITEMS) }
 {
     gate.pass(Point::BeforePut(s.number(), s.next_number()));
     let mut part = part;
@@ -37,11 +37,11 @@ fn put_part<R: Wait, G: Gate>(
                 gate.pass(Point::AfterPut(s.number(), number));
                 return Ok(());
             }
-            Err((TryPutError::NumbersSpent, _)) => return Err(Refusal::NumbersSpent),
+            Err((TryPutError::NumbersSpent, _)) => return Err(GivenUp::NumbersSpent),
             Err((TryPutError::Full, back)) => part = back,
         }
         if way.is_stopped() {
-            return Err(Refusal::Stopped);
+            return Err(GivenUp::Stopped);
         }
         pause.wait(rt, way);
     }
@@ -55,11 +55,11 @@ fn put_all<R: Wait, G: Gate>(
     s: &mut WriterSeat<Part>,
     parts: Vec<Part>,
     gate: &G,
-) -> Result<(), Refusal>
+) -> Result<(), GivenUp>
     requires { IsWriterOf way.now.lanes.table.shared.table_id way.now.lanes.shape s.old }
     ensures seat { IsSameWriter s.old s.new }
     ensures put { OnOk result (s.new.sent ≡ s.old.sent ++ parts.items) }
-    ensures spent { IsErrOf result Refusal.NumbersSpent
+    ensures spent { IsErrOf result GivenUp.NumbersSpent
         → MAX_ITEMS < length (s.old.sent ++ parts.items) }
 {
     for part in parts {
@@ -97,12 +97,12 @@ pub(crate) fn split<R: Wait, G: Gate>(
     reads: &[&[u8]],
     plan: Plan,
     gate: &G,
-) -> Result<DoneSeat<Part>, Refusal>
+) -> Result<DoneSeat<Part>, GivenUp>
     requires { IsFreshWriter way.now.lanes.table.shared.table_id way.now.lanes.shape s }
     ensures done { IfOk result (λ d. IsDone plan.shape plan.batch
         (map (λ r. r.now) reads.now) way.now.writers s d) }
     ensures cause { IfErr result
-        (IsCause plan.shape plan.batch (map (λ r. r.now) reads.now) way.now.writers) }
+        (IsWorkersCause plan.shape plan.batch (map (λ r. r.now) reads.now) way.now.writers) }
 {
     for c in 0..chunks(reads.len(), plan.batch) {
         if c % way.writers == s.number() {

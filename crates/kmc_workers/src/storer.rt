@@ -6,7 +6,7 @@ ghost use Rattle.kmc_workers.specs.Causes.{IsStorersCause};
 ghost use Rattle.kmc_workers.specs.Shards.{IsShard};
 
 use crate::pause::Pause;
-use crate::refusal::Refusal;
+use crate::refusal::GivenUp;
 use crate::shard::Shard;
 use crate::way::Way;
 use kmc_partqueue::{Gate, Point, TryTaken};
@@ -16,16 +16,16 @@ use kmc_store::laws::{absorbed_part_is_added, no_parts_are_added};
 use std::sync::Wait;
 
 /// Absorbs a part that was taken. One of another shape, which no splitter sends, is refused.
-fn absorb(bins: &mut Bins, part: Part) -> Result<(), Refusal>
+fn absorb(bins: &mut Bins, part: Part) -> Result<(), GivenUp>
     ensures ok { OnOk result (Absorbed bins.old part bins.new) }
     ensures cause { IfErr result IsStorersCause }
 {
     if part.shape() != bins.shape() {
-        return Err(Refusal::Stopped);
+        return Err(GivenUp::Stopped);
     }
     match bins.absorb(part) {
         Ok(()) => Ok(()),
-        Err(_) => Err(Refusal::Memory),
+        Err(_) => Err(GivenUp::Memory),
     }
 }
 
@@ -36,7 +36,7 @@ pub(crate) fn store<R: Wait, G: Gate>(
     way: &Way,
     shard: Shard,
     gate: &G,
-) -> Result<Shard, Refusal>
+) -> Result<Shard, GivenUp>
     requires { IsFreshReader way.now.lanes.table.shared.table_id way.now.lanes.shape shard.seat }
     ensures done { IfOk result (λ h. IsShard shard h) }
     ensures cause { IfErr result IsStorersCause }
@@ -48,7 +48,7 @@ pub(crate) fn store<R: Wait, G: Gate>(
     let mut pause = Pause::new();
     for _ in rt.forever() {
         if way.is_stopped() {
-            return Err(Refusal::Stopped);
+            return Err(GivenUp::Stopped);
         }
         match way.lanes.try_take(&mut seat, gate) {
             TryTaken::Got(received) => {

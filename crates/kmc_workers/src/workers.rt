@@ -3,12 +3,12 @@ ghost use Rattle.std.specs.Prelude.{◌≡◌, ◌∷◌, ◌++◌, [], map, Mat
 ghost use Rattle.std.specs.List.{AllZip};
 ghost use Rattle.kmc_partqueue.specs.Counts.{Each};
 ghost use Rattle.kmc_workers.specs.Workers.{IsDone, IsFreshWriter, IsFreshReader};
-ghost use Rattle.kmc_workers.specs.Causes.{IsCause, IsStorersCause};
+ghost use Rattle.kmc_workers.specs.Causes.{IsWorkersCause, IsStorersCause};
 ghost use Rattle.kmc_workers.specs.Shards.{IsShard, IsFreshShard};
-ghost use Rattle.kmc_workers.specs.declared.refusal.Refusal.TheVariants.{Memory};
+ghost use Rattle.kmc_workers.specs.declared.refusal.GivenUp.TheVariants.{Memory};
 
 use crate::plan::Plan;
-use crate::refusal::{Refusal, both};
+use crate::refusal::{GivenUp, both};
 use crate::shard::Shard;
 use crate::splitter::split;
 use crate::storer::store;
@@ -30,10 +30,10 @@ struct Puts<'a> {
     writers: usize,
 }
 
-impl<'a> Promise<Result<DoneSeat<Part>, Refusal>> for Puts<'a> {
+impl<'a> Promise<Result<DoneSeat<Part>, GivenUp>> for Puts<'a> {
     ghost kept_by = { λ p r. MatchResult r
         (λ d. IsDone p.shape p.batch (map (λ v. v.now) p.reads.now) p.writers p.seat.value d)
-        (IsCause p.shape p.batch (map (λ v. v.now) p.reads.now) p.writers) };
+        (IsWorkersCause p.shape p.batch (map (λ v. v.now) p.reads.now) p.writers) };
 }
 
 /// A storer hands its seat back, told that the queue is finished, with its bins, or ends with a cause.
@@ -42,7 +42,7 @@ struct Takes {
     shard: Snapshot<Shard>,
 }
 
-impl Promise<Result<Shard, Refusal>> for Takes {
+impl Promise<Result<Shard, GivenUp>> for Takes {
     ghost kept_by = { λ p r. MatchResult r (λ h. IsShard p.shard.value h) IsStorersCause };
 }
 
@@ -54,11 +54,11 @@ fn split_one<R: Wait, G: Gate>(
     reads: &[&[u8]],
     plan: Plan,
     gate: &G,
-) -> Result<DoneSeat<Part>, Refusal>
+) -> Result<DoneSeat<Part>, GivenUp>
     requires { IsFreshWriter way.now.lanes.table.shared.table_id way.now.lanes.shape seat }
     ensures { MatchResult result
         (λ d. IsDone plan.shape plan.batch (map (λ v. v.now) reads.now) way.now.writers seat d)
-        (IsCause plan.shape plan.batch (map (λ v. v.now) reads.now) way.now.writers) }
+        (IsWorkersCause plan.shape plan.batch (map (λ v. v.now) reads.now) way.now.writers) }
 {
     let done = split(rt, way, seat, reads, plan, gate);
     if done.is_err() {
@@ -85,7 +85,7 @@ fn start_splitter<'s, E, R: Threads + Wait + Sync, G: Gate + Sync>(
     reads: &'s [&'s [u8]],
     plan: Plan,
     gate: &'s G,
-) -> Result<PromisedHandle<Result<DoneSeat<Part>, Refusal>, Puts<'s>>, Refusal>
+) -> Result<PromisedHandle<Result<DoneSeat<Part>, GivenUp>, Puts<'s>>, GivenUp>
     requires { IsFreshWriter way.now.lanes.table.shared.table_id way.now.lanes.shape seat }
     ensures puts { IfOk result (λ h. (h.promise.seat.value ≡ seat) × (h.promise.shape ≡ plan.shape)
         × (h.promise.batch ≡ plan.batch)
@@ -105,12 +105,12 @@ fn start_splitter<'s, E, R: Threads + Wait + Sync, G: Gate + Sync>(
     };
     let started = scope.spawn_with(
         promise,
-        move || -> Result<DoneSeat<Part>, Refusal>
+        move || -> Result<DoneSeat<Part>, GivenUp>
             requires { IsFreshWriter way.now.lanes.table.shared.table_id way.now.lanes.shape seat }
             ensures { MatchResult result
                 (λ d. IsDone plan.shape plan.batch
                 (map (λ v. v.now) reads.entry.now) way.entry.now.writers seat d)
-                (IsCause plan.shape plan.batch
+                (IsWorkersCause plan.shape plan.batch
                 (map (λ v. v.now) reads.entry.now) way.entry.now.writers) }
         { split_one(rt, way, seat, reads, plan, gate) },
     );
@@ -118,7 +118,7 @@ fn start_splitter<'s, E, R: Threads + Wait + Sync, G: Gate + Sync>(
         Ok(child) => Ok(child),
         Err(_) => {
             way.stop();
-            Err(Refusal::Memory)
+            Err(GivenUp::Memory)
         }
     }
 }
@@ -132,13 +132,13 @@ fn split_all<'s, E, R: Threads + Wait + Sync, G: Gate + Sync>(
     reads: &'s [&'s [u8]],
     plan: Plan,
     gate: &'s G,
-) -> Result<Vec<DoneSeat<Part>>, Refusal>
+) -> Result<Vec<DoneSeat<Part>>, GivenUp>
     requires { Each (IsFreshWriter way.now.lanes.table.shared.table_id way.now.lanes.shape) seats.items }
     ensures { MatchResult result
         (λ v. AllZip
         (IsDone plan.shape plan.batch
         (map (λ v. v.now) reads.now) way.now.writers) seats.items v.items)
-        (IsCause plan.shape plan.batch (map (λ v. v.now) reads.now) way.now.writers) }
+        (IsWorkersCause plan.shape plan.batch (map (λ v. v.now) reads.now) way.now.writers) }
 {
     let Some(seat) = seats.pop() else {
         return Ok(Vec::new(way.alloc));
@@ -150,7 +150,7 @@ fn split_all<'s, E, R: Threads + Wait + Sync, G: Gate + Sync>(
 }
 
 /// One storer. Where it has a cause, the others stop.
-fn store_one<R: Wait, G: Gate>(rt: &R, way: &Way, shard: Shard, gate: &G) -> Result<Shard, Refusal>
+fn store_one<R: Wait, G: Gate>(rt: &R, way: &Way, shard: Shard, gate: &G) -> Result<Shard, GivenUp>
     requires { IsFreshReader way.now.lanes.table.shared.table_id way.now.lanes.shape shard.seat }
     ensures { MatchResult result (λ h. IsShard shard h) IsStorersCause }
 {
@@ -168,7 +168,7 @@ fn start_storer<'s, E, R: Threads + Wait + Sync, G: Gate + Sync>(
     way: &'s Way,
     shard: Shard,
     gate: &'s G,
-) -> Result<PromisedHandle<Result<Shard, Refusal>, Takes>, Refusal>
+) -> Result<PromisedHandle<Result<Shard, GivenUp>, Takes>, GivenUp>
     requires { IsFreshReader way.now.lanes.table.shared.table_id way.now.lanes.shape shard.seat }
     ensures takes { IfOk result (λ h. h.promise.shard.value ≡ shard) }
     ensures cause { IfErr result (λ e. e ≡ Memory) }
@@ -178,7 +178,7 @@ fn start_storer<'s, E, R: Threads + Wait + Sync, G: Gate + Sync>(
     };
     let started = scope.spawn_with(
         promise,
-        move || -> Result<Shard, Refusal>
+        move || -> Result<Shard, GivenUp>
             requires { IsFreshReader way.now.lanes.table.shared.table_id way.now.lanes.shape shard.seat }
             ensures { MatchResult result (λ h. IsShard shard h) IsStorersCause }
         { store_one(rt, way, shard, gate) },
@@ -187,7 +187,7 @@ fn start_storer<'s, E, R: Threads + Wait + Sync, G: Gate + Sync>(
         Ok(child) => Ok(child),
         Err(_) => {
             way.stop();
-            Err(Refusal::Memory)
+            Err(GivenUp::Memory)
         }
     }
 }
@@ -208,7 +208,7 @@ pub(crate) fn store_all<'s, E, R: Threads + Wait + Sync, G: Gate + Sync>(
     reads: &'s [&'s [u8]],
     plan: Plan,
     gate: &'s G,
-) -> Result<(Vec<DoneSeat<Part>>, Vec<Shard>), Refusal>
+) -> Result<(Vec<DoneSeat<Part>>, Vec<Shard>), GivenUp>
     requires shards { Each (IsFreshShard way.now.lanes.table.shared.table_id way.now.lanes.shape plan.shape) seats.shards.items }
     requires writers { Each (IsFreshWriter way.now.lanes.table.shared.table_id way.now.lanes.shape) seats.writers.items }
     ensures done { IfOk result (λ q. AllZip
@@ -216,7 +216,7 @@ pub(crate) fn store_all<'s, E, R: Threads + Wait + Sync, G: Gate + Sync>(
         (map (λ v. v.now) reads.now) way.now.writers) seats.writers.items q.0.items) }
     ensures shards { IfOk result (λ q. AllZip IsShard seats.shards.items q.1.items) }
     ensures cause { IfErr result
-        (IsCause plan.shape plan.batch (map (λ v. v.now) reads.now) way.now.writers) }
+        (IsWorkersCause plan.shape plan.batch (map (λ v. v.now) reads.now) way.now.writers) }
 {
     let Seats {
         writers,

@@ -13,5 +13,5 @@ sum_places {A} F d xs = go xs 0 xs (λ i. ap (λ n. get_or xs n d) (let e : 0 + 
     go all a (y ∷ ys) e =
         sum_by-cons F y ys
         ∙ ap₂ (λ (m n : ℕ). m + n) (ap F (sym (ap (λ n. get_or all n d) (let z : a ≡ a + 0 = omega arith in z) ∙ e 0)))
-            (go all (a + 1) ys (λ i. ap (λ n. get_or all n d) (let z : a + 1 + i ≡ a + suc i = omega arith in z) ∙ e (suc i)))
+        (go all (a + 1) ys (λ i. ap (λ n. get_or all n d) (let z : a + 1 + i ≡ a + suc i = omega arith in z) ∙ e (suc i)))
         ∙ sym (sum_by-cons (λ i. F (get_or all i d)) a (range_with_len (a + 1) (length ys)))

@@ -1,4 +1,4 @@
-use Rattle.std.proofs.Common.{◌≡◌, ◌<◌, ℕ, Bor, List, map, subst, arith}
+use Rattle.std.proofs.Common.{◌≡◌, ◌<◌, ℕ, Bor, List, map, sym, subst, arith}
 use Rattle.kmc_partcore.specs.declared.shape.QueueShape.{QueueShape}
 use Rattle.kmc_record.specs.Shapes.{Sizes}
 use Rattle.kmc_partqueue.specs.Counts.{Each}
@@ -65,5 +65,8 @@ returns-clause-passage g c =
       told = subst (λ (q : QueueShape). IsHistoryOf q done c.in_ok-bins.seats.items history.0) c.in_ok-lanes.ensures.queue history.1;
       dealt = each_dealt plan.shape plan.batch reads id queue done c.in_ok-lanes.ensures.done;
       every_writer = writers_once id queue plan.shape plan.batch reads queue.writers done c.in_ok-lanes.ensures.done;
+      every_reader = readers_once id queue bins shards c.in_ok-bins.seats.items c.in_ok-bins.ensures.seats c.in_ok-lanes.ensures.shards;
+      gathered = c.gather-totals.ensures.gathered;
+      counted = rw (sym c.in_ok-lanes.ensures.queue) c.gather-totals.ensures.totals;
       stored = c.in_ok-bins.ensures.bodies bins (some_shards id queue bins queue.readers shards some_r c.in_ok-lanes.ensures.shards) c.requires grown;
     }

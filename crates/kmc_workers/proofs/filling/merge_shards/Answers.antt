@@ -18,7 +18,7 @@ loop-shard-preserved c =
     let before = c.loop-shard.invariant in let shard = c.in-Some.shard in let shape = c.args.shape in let seen = c.loop-shard.yielded in
     let left = subst (Each (λ (h : Shard). h.bins.shape ≡ shape)) c.in-Some.ensures.steps.0 before.left in
     let all : c.args.shards.items ≡ seen ++ shard ∷ into_iter_items c.next.new.self = before.seen ∙ ap
-        (λ (l : List Shard). seen ++ l) c.in-Some.ensures.steps.0 in
+    (λ (l : List Shard). seen ++ l) c.in-Some.ensures.steps.0 in
     record {
       seen = all ∙ sym (append_assoc seen (shard ∷ []) (into_iter_items c.next.new.self));
       left = left.1;
@@ -31,9 +31,9 @@ loop-shard-preserved c =
           let rest = grown_rest seen (shard ∷ into_iter_items c.next.new.self) bins (subst (AreGrown bins) all grown) in
           let own = subst (λ s. AreAdded s (before_next seen bins).bodies shard.bins.bodies (items_of shard.seat.got)) (next_shape seen bins) rest.1 in
           let merged = one_more c.merged_parts_are_added.ensures seen shard bins c.loop-shard.bins c.merge.new.self
-              (before.added bins shaped grown) own c.in-Ok.ensures.ok in
+          (before.added bins shaped grown) own c.in-Ok.ensures.ok in
           subst (λ (b : BinList). AreAdded bins.shape b.bodies c.merge.new.self.bodies (all_got (map (λ (s : Shard). s.seat) (seen ++ shard ∷ []))))
-              (sym (all_before (seen ++ shard ∷ []) bins (omega (arith, length-append seen (shard ∷ []))))) merged;
+          (sym (all_before (seen ++ shard ∷ []) bins (omega (arith, length-append seen (shard ∷ []))))) merged;
     }
 
 pub loop-shard-init : goal.loop-shard-init

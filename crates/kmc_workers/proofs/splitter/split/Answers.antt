@@ -3,7 +3,7 @@ use Rattle.std.specs.Prelude.{Err}
 use Rattle.std.proofs.lemmas.List.{length-map}
 use Rattle.std.proofs.lemmas.Grind.{common_steps}
 use Rattle.kmc_record.specs.Parts.{ArePartsOf}
-use Rattle.kmc_workers.specs.Causes.{IsCause}
+use Rattle.kmc_workers.specs.Causes.{IsWorkersCause}
 use Rattle.kmc_workers.specs.Workers.{chunks_of, IsSameWriter}
 use Rattle.kmc_workers.proofs.Passed.{passed_on}
 use Rattle.kmc_workers.proofs.Sent.{next_own, next_other, too_many, cause_of, same_seat}
@@ -15,16 +15,16 @@ returns-in_err-put_all-clause-cause g c =
     let inv = c.loop-c.invariant in let a = c.args in let p = a.plan in let reads = map (λ r. r.now) a.reads.now in
     let told = c.in_err-put_all.ensures in let back = c.from_residual-in_err-put_all in
     let sized : c.chunks-c-end.result ≡ chunks_of p.batch (length reads) = c.chunks-c-end.ensures.is ∙ ap (chunks_of p.batch)
-        (sym (length-map a.reads.now (λ r. r.now))) in
-    passed_on (IsCause p.shape p.batch reads a.way.now.writers) back.result c.in_err-put_all.field-0.0 back.ensures.1
-        (cause_of p.shape p.batch reads a.way.now.writers a.s.number c.in_err-put_all.field-0.0 (λ is. (
+    (sym (length-map a.reads.now (λ r. r.now))) in
+    passed_on (IsWorkersCause p.shape p.batch reads a.way.now.writers) back.result c.in_err-put_all.field-0.0 back.ensures.1
+    (cause_of p.shape p.batch reads a.way.now.writers a.s.number c.in_err-put_all.field-0.0 (λ is. (
       a.s.number,
       subst (λ (n : ℕ). a.s.number < n) (sym a.way.now.as_many) c.requires.0.2,
       too_many p.shape p.batch reads a.way.now.writers a.s.number (chunks_of p.batch
           (length reads)) c.loop-c.c c.loop-c.s.sent c.in_ok-parts.parts.items (subst (λ (n : ℕ). c.loop-c.c < n) sized c.loop-c-test.true)
           (c.if-c-way.true ∙ c.number.ensures ∙ inv.0.number) inv.1
           (subst (λ z. ArePartsOf c.loop-c.c z p.shape c.in_ok-parts.parts.items) c.chunk_of-chunk.ensures c.in_ok-parts.ensures)
-              (told.spent (ap (λ z. Err z) is)),
+          (told.spent (ap (λ z. Err z) is)),
     )))
 
 pub loop-c-preserved : goal.loop-c-preserved
@@ -35,7 +35,7 @@ loop-c-preserved g c = let inv = c.loop-c.invariant in let a = c.args in let p =
         next_own p.shape p.batch reads a.way.now.writers a.s.number c.loop-c.c c.loop-c.s.sent w.in_ok-parts.parts.items c.if-c-way.s.sent
             (w.if-c-way.true ∙ c.number.ensures ∙ inv.0.number) inv.1
             (subst (λ z. ArePartsOf c.loop-c.c z p.shape w.in_ok-parts.parts.items) w.chunk_of-chunk.ensures w.in_ok-parts.ensures)
-                (ap (λ s. s.sent) w.s-is ∙ e.put),
+            (ap (λ s. s.sent) w.s-is ∙ e.put),
       )
       | else-c-way w ↦ (
         subst (IsSameWriter a.s) (sym w.s-is) inv.0,
