@@ -26,7 +26,7 @@ words_of_records : (k : ℕ) (ss : List (List ℕ)) → AllByRecursion (IsSpelle
 words_of_records k [] h = λ i d lt. absurd (let no : ⊥ = omega arith in no)
 words_of_records k (s ∷ ss) h =
     All-append (IsWord k) (windows k s) (all_windows k ss) (All-from_recursion (IsWord k) (windows k s) (keys_are_words Apart k s h.0.codes))
-        (words_of_records k ss h.1)
+    (words_of_records k ss h.1)
 
 keys_of_words : (strands : Strands) (k : ℕ) (ss : List (List ℕ)) → record_keys strands k ss ≡ map (key strands) (all_windows k ss)
 keys_of_words strands k [] = refl
@@ -43,7 +43,7 @@ record IsKeyIn (strands : Strands) (shape : Sizes) (bin : ℕ) (x : List ℕ) : 
 
 key_in : (strands : Strands) (shape : Sizes) (bin : ℕ) (ss : List (List ℕ)) → AllByRecursion (IsSpelled shape.k) ss
     → All (λ w. signature_of shape.m w % shape.n ≡ bin) (all_windows shape.k ss) → (x : List ℕ) → Contains (record_keys strands shape.k ss) x
-        → IsKeyIn strands shape bin x
+    → IsKeyIn strands shape bin x
 key_in strands shape bin ss spelled belong x at = record {
   word = get_or (all_windows shape.k ss) q [];
   is = sym (get_or-map (key strands) (all_windows shape.k ss) q [] x inside) ∙ found.2;
@@ -95,7 +95,7 @@ keys_apart one fixes strands shape bodies words sss some within are zip i j d le
         let body = zip_at (IsBodyOf shape.k) sss bodies b [] [] zip inside in
         let same : part.super_kmers ≡ get_or sss b [] = one shape.k part.super_kmers (get_or sss b []) (body_at bodies b) part.records body in
         key_in strands shape b (get_or sss b []) body.each (subst (λ (ss : List (List ℕ)). All (λ w. signature_of shape.m w % shape.n ≡ b)
-            (all_windows shape.k ss)) same part.belong) x at
+        (all_windows shape.k ss)) same part.belong) x at
 
     clash : IsKeyIn strands shape i x → IsKeyIn strands shape j x → ⊥
     clash a b =

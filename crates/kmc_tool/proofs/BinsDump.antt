@@ -60,7 +60,7 @@ least_within p k = omega arith
 pub counted : BinsShareNoKey → DumpsOfBodiesAreOfKeys → (strands : Strands) (k p n : ℕ) (l : Limits) (shape : Sizes) (given bodies : List (List ℕ))
     (words : List ℕ) (lists : List (List (List ℕ × ℕ)))
     → 1 ≤ k → 5 ≤ p → shape ≡ record { k = k; m = min p k; n = n } → AreBins shape bodies words → given ≡ bodies
-        → AreDumpsOfBodies strands k l given lists → AreCounted strands k l bodies lists
+    → AreDumpsOfBodies strands k l given lists → AreCounted strands k l bodies lists
 counted share keyed strands k p n l shape given bodies words lists some_k some_p shaped are same dumped =
     let dumps = subst (λ (b : List (List ℕ)). AreDumpsOfBodies strands k l b lists) same dumped in
     let own = subst (λ (s : Sizes). AreBins s bodies words) shaped are in

@@ -26,13 +26,26 @@ most_by most before after failed fails (run.Input e) h = h.2
 most_by most before after failed fails run.TooLong h = omega (arith, h.2)
 
 -- where a refusal is passed on there is no answer
-pub no_answer : {A E : Type 0} {Q : E → Type 0} (P : A → Type 0) (r : Result A E) → IsErrAnd r Q → IfOk r P
-no_answer P (Ok x) is = absurd is
-no_answer P (Err x) is = tt
+pub no_answer : {A E : Type 0} (P : A → Type 0) (Q : E → Type 0) (r : Result A E) → IsErrAnd r Q → IfOk r P
+no_answer P Q (Ok x) is = absurd is
+no_answer P Q (Err x) is = tt
 
-pub not_ok : {A E : Type 0} {Q : E → Type 0} (P : Type 0) (r : Result A E) → IsErrAnd r Q → OnOk r P
-not_ok P (Ok x) is = absurd is
-not_ok P (Err x) is = tt
+pub not_ok : {A E : Type 0} (P : Type 0) (Q : E → Type 0) (r : Result A E) → IsErrAnd r Q → OnOk r P
+not_ok P Q (Ok x) is = absurd is
+not_ok P Q (Err x) is = tt
+
+-- what follows from an answer, or from a refusal
+pub ok_then : {A E : Type 0} (P Q : A → Type 0) (r : Result A E) → ((a : A) → P a → Q a) → IfOk r P → IfOk r Q
+ok_then P Q (Ok a) go p = go a p
+ok_then P Q (Err e) go p = tt
+
+pub on_ok_then : {A E : Type 0} (P : A → Type 0) (Q : Type 0) (r : Result A E) → ((a : A) → P a → Q) → IfOk r P → OnOk r Q
+on_ok_then P Q (Ok a) go p = go a p
+on_ok_then P Q (Err e) go p = tt
+
+pub err_then : {A E : Type 0} (P Q : E → Type 0) (r : Result A E) → ((e : E) → P e → Q e) → IfErr r P → IfErr r Q
+err_then P Q (Ok a) go p = tt
+err_then P Q (Err e) go p = go e p
 
 pub same_err : {A E : Type 0} (r : Result A E) (e : E) → IsErrAnd r (λ x. x ≡ e) → r ≡ Err e
 same_err (Ok x) e is = absurd is

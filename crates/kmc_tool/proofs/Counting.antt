@@ -57,7 +57,7 @@ module _ (strands : Strands) (k : ℕ) (x : List ℕ) where
   in_one_bin n codes runs some =
       sum_same (λ i. sum_by places (bin_runs k n i codes runs)) (λ i. sum_by (cell i) runs)
       (λ i. sum_map places (run_codes k codes) (filter (λ r. nat_eq (r.signature % n) i) runs) ∙ sum_filter (λ r. places (run_codes k codes r))
-          (λ r. nat_eq (r.signature % n) i) runs)
+      (λ r. nat_eq (r.signature % n) i) runs)
       (range_with_len 0 n)
       ∙ sum_swap cell (range_with_len 0 n) runs
       ∙ sum_same (λ r. sum_by (λ i. cell i r) (range_with_len 0 n)) (λ r. places (run_codes k codes r))
@@ -116,16 +116,16 @@ module _ (strands : Strands) (k : ℕ) (x : List ℕ) where
 
 pub held_counted : BodyHasOneList → CutKeepsWords → ((k : ℕ) (read : List ℕ) → All (IsSegment k read) (segments_of k read))
     → ((strands : Strands) (k : ℕ) (read : List ℕ) → 1 ≤ k → flat_map (λ s. keys strands k s.codes) (segments_of k read) ≡ map (placed_key strands)
-        (counted_words k read))
+    (counted_words k read))
     → (strands : Strands) (shape : Sizes) (reads bodies : List (List ℕ)) (sss : List (List (List ℕ)))
     → 1 ≤ shape.k → 1 ≤ shape.n → HoldsReads shape reads bodies → AllZip (IsBodyOf shape.k) sss bodies
     → (x : List ℕ) → occurrences (joined (map (record_keys strands shape.k) sss)) x ≡ occurrences
-        (flat_map (λ read. map (placed_key strands) (counted_words shape.k read)) reads) x
+    (flat_map (λ read. map (placed_key strands) (counted_words shape.k read)) reads) x
 held_counted one keeps segments keyed strands shape reads bodies sss some_k some h zip x =
     of_bins strands k x sss
     ∙ ap (λ n. sum_by (λ i. sum_by (places strands k x) (get_or sss i [])) (range_with_len 0 n)) wide
     ∙ sum_range (λ i. sum_by (places strands k x) (get_or sss i [])) (λ i. sum_by (places strands k x)
-        (bin_super_kmers k shape.n i (all_segments k reads) h.cuts)) 0 shape.n same
+    (bin_super_kmers k shape.n i (all_segments k reads) h.cuts)) 0 shape.n same
     ∙ of_segments strands k x shape.m shape.n keeps some_k some (all_segments k reads) h.cuts h.cut (all_long strands k x (segments k) reads)
     ∙ of_reads strands k x (λ read. keyed strands k read some_k) reads
   where
@@ -140,5 +140,5 @@ held_counted one keeps segments keyed strands shape reads bodies sss some_k some
     same i from to =
         let lt : i < shape.n = omega arith in
         ap (sum_by (places strands k x)) (one k (get_or sss i []) (h.records i) (body_at bodies i)
-            (zip_at (IsBodyOf k) sss bodies i [] [] zip (omega (arith, wide))) (h.each i lt))
+        (zip_at (IsBodyOf k) sss bodies i [] [] zip (omega (arith, wide))) (h.each i lt))
         ∙ h.same i lt (places strands k x)

@@ -57,7 +57,7 @@ word_before : (k : ℕ) (xs ys : List ℕ) (i : ℕ) → i + k ≤ length xs →
 word_before k xs ys i room =
     let long = length-append xs ys in
     let test : nat_lt (length (xs ++ ys)) (i + k) ≡ nat_lt (length xs) (i + k) = lt_same (length (xs ++ ys)) (i + k) (length xs) (i + k)
-        (λ h. omega (arith, h, long, room)) (λ h. omega (arith, h, long, room)) in
+    (λ h. omega (arith, h, long, room)) (λ h. omega (arith, h, long, room)) in
     let same : window k (xs ++ ys) i ≡ window k xs i =
     ap (take k) (drop-append-le i xs ys (omega (arith, room))) ∙ take-append-le k (drop i xs) ys (omega (arith, room, length-drop i xs)) in
     (λ j. cond (test j) None (codes_of (same j)))
@@ -66,7 +66,7 @@ word_behind : (k : ℕ) (xs ys : List ℕ) (i : ℕ) → word_at k ys i ≡ word
 word_behind k xs ys i =
     let long = length-append xs ys in
     let test : nat_lt (length ys) (i + k) ≡ nat_lt (length (xs ++ ys)) (length xs + i + k) = lt_same (length ys) (i + k) (length (xs ++ ys))
-        (length xs + i + k) (λ h. omega (arith, h, long)) (λ h. omega (arith, h, long)) in
+    (length xs + i + k) (λ h. omega (arith, h, long)) (λ h. omega (arith, h, long)) in
     let same : window k ys i ≡ window k (xs ++ ys) (length xs + i) = ap (take k) (sym (drop-append-add xs ys i)) in
     (λ j. cond (test j) None (codes_of (same j)))
 
@@ -94,7 +94,7 @@ module _ (strands : Strands) (k : ℕ) (some : 1 ≤ k) (x : List ℕ) where
       ∙ in_two (hit (a ++ b)) 0 (length a) (length b)
       ∙ ap₂ (λ (m n : ℕ). m + n)
       (sum_range (hit (a ++ b)) (hit read) 0 (length a) (λ i from to. ap hits
-          (sym (ap (λ r. word_at k r i) (sym (append_assoc a b c)) ∙ word_before k (a ++ b) c i (omega (arith, two, long, to, some))))))
+      (sym (ap (λ r. word_at k r i) (sym (append_assoc a b c)) ∙ word_before k (a ++ b) c i (omega (arith, two, long, to, some))))))
       (nothing (hit (a ++ b)) (0 + length a) (length b) (λ i le. ap hits (beyond k (a ++ b) i (omega (arith, two, long, le, some)))))
       ∙ omega arith in
       let rest : places (b ++ c) ≡ sum_by (hit read) (range_with_len (0 + length a) (length (b ++ c))) =

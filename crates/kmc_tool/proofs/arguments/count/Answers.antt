@@ -19,7 +19,7 @@ returns-in-Ok-clause-ok g c =
 pub returns-in-Err-clause-write : goal.returns-in-Err-clause-write
 returns-in-Err-clause-write g c = λ is.
     let asked = c.in_ok-params.ensures.answer in
-    let told = c.in-Err.ensures.write (cc) in (
+    let told = c.in-Err.ensures.write_failed (cc) in (
       told.0,
       told.1,
       told.2,

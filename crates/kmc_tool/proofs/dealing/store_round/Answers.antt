@@ -14,5 +14,5 @@ returns-clause-holds g c = λ held h.
     let before = subst (λ (b : BinList). HoldsReads shape (cut held) b.bodies) (sym c.replace-before.ensures.value) h in
     subst (λ reads. HoldsReads shape reads c.in_ok-more.more.bodies)
     (ap (λ reads. cut held ++ reads) (ap (map (λ (r : Bor (List ℕ)). r.now)) c.deref.ensures.value ∙ c.in_ok-pieces.ensures) ∙ sym
-        (flat_map-append (pieces shape.k dealing.limit) held c.args.round.now))
+    (flat_map-append (pieces shape.k dealing.limit) held c.args.round.now))
     (c.in_ok-more.ensures.holds (cut held) before)

@@ -15,27 +15,28 @@ use Rattle.kmc_tool.proofs.input.count_input_with.Goals as goal
 within : {k : ℕ} → k ≤ 64 → k ≤ PIECE_SYMBOLS
 within le = omega (arith, le)
 
-pub returns-clause-dump : goal.returns-clause-dump
-returns-clause-dump g c =
+pub returns : goal.returns
+returns g c =
     let params = c.args.params.now in
     let of_bins = c.in_ok-stage_two.ensures.all in
     let input = c.in_ok-bins.ensures.ok in
     record {
-      bytes = input.bytes;
-      given = input.given;
-      reads = input.reads;
-      are_reads = input.are_reads;
-      is_dump = same_dump (occurrences (joined (map (record_keys params.strands params.k) of_bins.super_kmers)))
-          (count_of params.strands params.k input.reads) params.limits
-          (λ x. c.held_reads_are_counted.ensures params.strands (shape_of params)
-              (flat_map (pieces params.k PIECE_SYMBOLS) input.cuts) c.in_ok-bins.bins.bodies of_bins.super_kmers params.in_range.0.0.0 params.in_range.0.2.0 input.holds of_bins.records x
-          ∙ c.pieces_are_counted_as_reads.ensures params.strands params.k PIECE_SYMBOLS input.cuts x params.in_range.0.0.0 (within params.in_range.0.0.1)
-          ∙ c.cut_reads_are_counted.ensures params.strands params.k input.reads input.cuts params.in_range.0.0.0 input.cut x)
-          (spelled params.k (whole (lists_of c.in_ok-stage_two.field-0))) of_bins.dump;
+      merge = c.in_ok-stage_two.ensures.merge;
+      dump = record {
+        bytes = input.bytes;
+        given = input.given;
+        reads = input.reads;
+        are_reads = input.are_reads;
+        is_dump = same_dump (occurrences (joined (map (record_keys params.strands params.k) of_bins.super_kmers)))
+            (count_of params.strands params.k input.reads) params.limits
+            (λ x. c.held_reads_are_counted.ensures params.strands (shape_of params) (flat_map (pieces params.k PIECE_SYMBOLS) input.cuts)
+            c.in_ok-bins.bins.bodies of_bins.super_kmers params.in_range.0.0.0 params.in_range.0.2.0 input.holds of_bins.records x
+            ∙ c.pieces_are_counted_as_reads.ensures params.strands params.k PIECE_SYMBOLS input.cuts x params.in_range.0.0.0
+            (within params.in_range.0.0.1)
+            ∙ c.cut_reads_are_counted.ensures params.strands params.k input.reads input.cuts params.in_range.0.0.0 input.cut x)
+            (spelled params.k (whole (lists_of c.in_ok-stage_two.field-0))) of_bins.dump;
+      };
+      sound = c.in_ok-bins.ensures.sound;
+      counts = tt;
+      cause = tt;
     }
-
-pub returns-in_err-bins-clause-counts : goal.returns-in_err-bins-clause-counts
-returns-in_err-bins-clause-counts g c = search rules
-
-pub returns-in_err-bins-clause-cause : goal.returns-in_err-bins-clause-cause
-returns-in_err-bins-clause-cause g c = search rules

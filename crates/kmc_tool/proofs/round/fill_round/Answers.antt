@@ -7,8 +7,11 @@ use Rattle.kmc_tool.proofs.round.fill_round.Goals as goal
 pub loop-init : goal.loop-init
 loop-init g c = record {
   most = c.requires.reads;
-  way = record { kept = refl; many = omega arith;
-      fed = λ overlap format text taken s. fed_none overlap format _ c.args.reader.now.reads text taken c.args.feeder.now s };
+  way = record {
+    kept = refl;
+    many = omega arith;
+    fed = λ overlap format text taken s. fed_none overlap format _ c.args.reader.now.reads text taken c.args.feeder.now s;
+  };
 }
 
 pub loop-preserved : goal.loop-preserved
@@ -17,7 +20,7 @@ loop-preserved g c =
     let most = c.loop.invariant.most in
     let reads = c.loop.reader.reads in let after = c.read_and_feed.new.reader.reads in
     let h = subst (λ b. AreCounts (reads + 1) reads after c.loop.reader.failures c.read_and_feed.new.reader.failures
-        (Ok b)) c.if-not-more.false c.in_ok-more.ensures.counts in
+    (Ok b)) c.if-not-more.false c.in_ok-more.ensures.counts in
     record {
       most = omega (arith, h.2, c.if-reads-most.false, c.reads.ensures);
       way = record {
@@ -34,7 +37,7 @@ returns-in_err-more-clause-fed g c = λ overlap format text taken s.
     let f = c.loop.invariant.way.fed overlap format text taken s in
     fed_by overlap format _ _ _ c.args.reader.now.reads c.loop.reader.reads c.read_and_feed.new.reader.reads text taken c.loop.feeder c.read_and_feed.new.feeder c.from_residual.result f
     (subst (IsFedBy overlap format _ _ _ _ (text ++ f.bytes) taken c.read_and_feed.new.feeder)
-        (sym (same_err c.from_residual.result c.in_err-more.field-0.0 c.from_residual.ensures.1)) (c.in_err-more.ensures.fed overlap format _ taken f.stands))
+    (sym (same_err c.from_residual.result c.in_err-more.field-0.0 c.from_residual.ensures.1)) (c.in_err-more.ensures.fed overlap format _ taken f.stands))
 
 pub returns-then-not-more-clause-fed : goal.returns-then-not-more-clause-fed
 returns-then-not-more-clause-fed g c = λ overlap format text taken s.

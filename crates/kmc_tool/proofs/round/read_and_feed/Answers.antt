@@ -18,7 +18,7 @@ pub returns-else-eq-clause-fed : goal.returns-else-eq-clause-fed
 returns-else-eq-clause-fed g c = λ overlap format text taken s.
     let other : c.in-Err-feed.e ≢ Memory = search rules in
     refused_for_good format _ _ text (take c.in-Ok.n c.read.new.buf) c.in-Err-feed.e c.fault_stays.ensures c.in-Ok.ensures.bytes.0
-        (c.in-Err-feed.ensures.cut_refused overlap format text taken s other).0
+    (c.in-Err-feed.ensures.cut_refused overlap format text taken s other).0
 
 pub returns-in-Err-clause-counts : goal.returns-in-Err-clause-counts
 returns-in-Err-clause-counts g c = search rules
