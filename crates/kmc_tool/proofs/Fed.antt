@@ -6,7 +6,8 @@ use Rattle.kmc_reads.specs.declared.format.Format.{Format}
 use Rattle.kmc_reads.specs.Cuts.{AreCut}
 use Rattle.kmc_reads.specs.Laws.{FaultStays}
 use Rattle.kmc_reads.specs.Reads.{reads_of}
-use Rattle.kmc_reads.specs.Stages.{fault}
+use Rattle.kmc_reads.specs.Pieces.{whole_from}
+use Rattle.kmc_reads.specs.Stages.{fault, fault_from, first_spot}
 use Rattle.kmc_reads.specs.Standing.{FeederState, StandsCut}
 use Rattle.kmc_record.specs.Shapes.{Sizes}
 use Rattle.kmc_store.specs.Bins.{BinList}
@@ -23,6 +24,12 @@ consumes_on None mid new xs ys a b = tt
 consumes_on (Some all) None new xs ys a b = absurd a
 consumes_on (Some all) (Some rest) None xs ys a b = absurd b
 consumes_on (Some all) (Some rest) (Some left) xs ys a b = a ∙ ap (λ t. xs ++ t) b ∙ sym (append_assoc xs ys left)
+
+-- the text at which a feeder stands has no fault
+pub unfaulted : (overlap : ℕ) (format : Format) (text : List ℕ) (taken : List (List ℕ)) (v : FeederState)
+    → StandsCut overlap format text taken v → fault format text ≡ None
+unfaulted overlap format text taken v s =
+    ap (λ t. fault_from (first_spot format) (whole_from [] t)) (sym (append-nil text)) ∙ s.leads.fault []
 
 -- nothing was read yet
 pub fed_none : (overlap : ℕ) (format : Format) (old : Option (List ℕ)) (n : ℕ) (text : List ℕ) (taken : List (List ℕ)) (v : FeederState)
@@ -135,7 +142,12 @@ module _ (overlap : ℕ) (format : Format) (most : ℕ) (old new : Option (List 
   fed_cause before after failed fails taken v Read f c = tt
   fed_cause before after failed fails taken v Write f c = absurd c
   fed_cause before after failed fails taken v (Input e) f c = f
-  fed_cause before after failed fails taken v TooLong f c = (f.bytes, f.given, omega (arith, f.many, c.2))
+  fed_cause before after failed fails taken v TooLong f c = (
+    f.bytes,
+    f.given,
+    omega (arith, f.many, c.2),
+    unfaulted overlap format f.bytes taken v f.stands,
+  )
 
   -- a refusal of the last round
   pub last_counts : {A : Type 0} (bound before after failed fails : ℕ) (text : List ℕ) (r : Result A RunError)

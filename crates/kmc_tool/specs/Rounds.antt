@@ -1,5 +1,5 @@
 -- A text that is read in rounds.
-use Rattle.std.specs.Prelude.{◌≡◌, ◌⊎◌, ℕ, ◌+◌, ◌-◌, ◌<◌, ◌≤◌, Bool, true, false, List, [], ◌++◌, length, Option, Result, Ok, Err}
+use Rattle.std.specs.Prelude.{◌≡◌, ◌⊎◌, ℕ, ◌+◌, ◌-◌, ◌<◌, ◌≤◌, Bool, true, false, List, [], ◌++◌, length, Option, None, Result, Ok, Err}
 use Rattle.std.specs.List.{flat_map}
 use Rattle.std.specs.Io.KnownBytes.{Consumes, IsAtEnd}
 use Rattle.kmc_device.specs.Device.{GaveAll}
@@ -7,6 +7,7 @@ use Rattle.kmc_reads.specs.declared.error.ReadsError.{ReadsError}
 use Rattle.kmc_reads.specs.declared.format.Format.{Format}
 use Rattle.kmc_reads.specs.Cuts.{AreCut}
 use Rattle.kmc_reads.specs.Reads.{reads_of}
+use Rattle.kmc_reads.specs.Stages.{fault}
 use Rattle.kmc_reads.specs.Standing.{FeederState, StandsCut}
 use Rattle.kmc_base.specs.Pieces.{pieces}
 use Rattle.kmc_record.specs.Shapes.{Sizes}
@@ -77,10 +78,10 @@ IsLastError format text Write = ⊥
 IsLastError format text (Input e) = reads_of format text ≡ Err e
 IsLastError format text TooLong = ⊥
 
--- why an input gave no bins: it is refused, or so many reads gave bytes
+-- why an input gave no bins: it is refused, or so many reads gave bytes, which have no fault
 abbrev pub IsInputError : Format → ℕ → Option (List ℕ) → Option (List ℕ) → RunError → Type 0
 IsInputError format most old new Memory = Unit {0}
 IsInputError format most old new Read = Unit {0}
 IsInputError format most old new Write = ⊥
 IsInputError format most old new (Input e) = IsRefused format old new [] e
-IsInputError format most old new TooLong = (bytes : List ℕ) × Consumes old new bytes × (most ≤ length bytes)
+IsInputError format most old new TooLong = (bytes : List ℕ) × Consumes old new bytes × (most ≤ length bytes) × (fault format bytes ≡ None)

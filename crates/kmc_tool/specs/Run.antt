@@ -1,10 +1,11 @@
 -- What a run does.
-use Rattle.std.specs.Prelude.{◌≡◌, ◌≢◌, ℕ, ◌+◌, ◌^◌, ◌<◌, ◌≤◌, List, [], length, Ok, Option, Result, IfOk, IfErr, OnOk, IsErrOf}
+use Rattle.std.specs.Prelude.{◌≡◌, ◌≢◌, ℕ, ◌+◌, ◌^◌, ◌<◌, ◌≤◌, List, [], length, Ok, Option, None, Result, IfOk, IfErr, OnOk, IsErrOf}
 use Rattle.std.specs.Io.KnownBytes.{Appends, Consumes}
 use Rattle.kmc_device.specs.Device.{AppendsFront, GaveAll, Watched}
 use Rattle.kmc_base.specs.declared.strands.Strands.{Strands}
 use Rattle.kmc_reads.specs.declared.format.Format.{Format}
 use Rattle.kmc_reads.specs.Reads.{reads_of}
+use Rattle.kmc_reads.specs.Stages.{fault}
 use Rattle.kmc_count.specs.declared.limits.Limits.{Limits}
 use Rattle.kmc_count.specs.Occurrences.{count_of}
 use Rattle.kmc_count.specs.Dump.{IsDump}
@@ -70,8 +71,8 @@ pub record IsRun {R W : Type 0} (remaining : R → Option (List ℕ)) (contents 
       × IsDumpOf params.format bytes params.strands params.k params.limits text lines × AppendsFront (contents writer.inner) (contents written.inner) text
   pub input : (e : ReadsError) → IsErrOf answer (Input e) → IsRefused params.format (remaining reader.inner) (remaining read.inner) [] e
   pub faulty : IfErr answer (λ e. e ≢ Input NoMemory)
-  pub long : IsErrOf answer TooLong → (read.reads ≡ reader.reads + 2 ^ 32) × (bytes : List ℕ) × Consumes (remaining reader.inner)
-      (remaining read.inner) bytes × (2 ^ 32 ≤ length bytes)
+  pub long : IsErrOf answer TooLong → (read.reads ≡ reader.reads + 2 ^ 32) × (bytes : List ℕ)
+      × Consumes (remaining reader.inner) (remaining read.inner) bytes × (2 ^ 32 ≤ length bytes) × (fault params.format bytes ≡ None)
   -- only a failed write leaves anything written, and no other refusal passes over a failure
   pub silent : IfErr answer (λ e. e ≢ Write → written ≡ writer)
   pub reader_kept : IfErr answer (λ e. e ≢ Read → read.failures ≡ reader.failures)

@@ -1,8 +1,9 @@
 //! The program: from its arguments to the dump and the exit status.
-ghost use Rattle.std.specs.Prelude.{◌≡◌, ◌≢◌, ℕ, ◌+◌, ◌-◌, ◌^◌, ◌<◌, ◌≤◌, ◌⊎◌, List, [], IfOk, IfErr, IsErrOf, length, map, string_bytes};
+ghost use Rattle.std.specs.Prelude.{◌≡◌, ◌≢◌, ℕ, ◌+◌, ◌-◌, ◌^◌, ◌<◌, ◌≤◌, ◌⊎◌, List, [], None, IfOk, IfErr, IsErrOf, length, map, string_bytes};
 ghost use Rattle.std.specs.Io.KnownBytes.{Appends, Consumes};
 ghost use Rattle.std.specs.Process.{exit_status};
 ghost use Rattle.kmc_device.specs.Device.{AppendsFront, GaveAll};
+ghost use Rattle.kmc_reads.specs.Stages.{fault};
 ghost use Rattle.kmc_tool.specs.Rounds.{IsRefused};
 ghost use Rattle.kmc_settings.specs.Words.{Word};
 ghost use Rattle.kmc_options.specs.Glued.{long_forms};
@@ -60,10 +61,12 @@ pub fn count<T: Threads + Wait + Sync, R: Read, W: Write>(
         × IsAnswered (long_forms (map string_bytes argv.items)) bytes text lines
         × AppendsFront (W.contents writer.old.inner) (W.contents writer.new.inner) text }
     ensures long { IsErrOf result (Fault.Run RunError.TooLong)
-        → (reader.new.reads ≡ reader.old.reads + 2 ^ 32)
+        → (asked : IsAsked (long_forms (map string_bytes argv.items)))
+        × (reader.new.reads ≡ reader.old.reads + 2 ^ 32)
         × (bytes : List ℕ)
         × Consumes (R.remaining reader.old.inner) (R.remaining reader.new.inner) bytes
-        × (2 ^ 32 ≤ length bytes) }
+        × (2 ^ 32 ≤ length bytes)
+        × (fault asked.params.format bytes ≡ None) }
     ensures silent { IfErr result (λ e. e ≢ Fault.Run RunError.Write → writer.new ≡ writer.old) }
     ensures kept { IfErr result
         (λ e. e ≢ Fault.Run RunError.Read → reader.new.failures ≡ reader.old.failures) }

@@ -34,3 +34,15 @@ returns-in-Err-clause-read g c = search rules
 
 pub returns-in-Err-clause-silent : goal.returns-in-Err-clause-silent
 returns-in-Err-clause-silent g c = search rules
+
+pub returns-in-Err-clause-long : goal.returns-in-Err-clause-long
+returns-in-Err-clause-long g c = λ is.
+    let asked = c.in_ok-params.ensures.answer in
+    let told = c.in-Err.ensures.long (cc) in (
+      record { taken = asked.0; params = c.in_ok-params.params; given = asked.1 },
+      told.0,
+      told.1,
+      told.2,
+      told.3,
+      told.4,
+    )

@@ -33,7 +33,7 @@ returns-in_err-lists g c =
       long = λ is.
           let why = told_of _ _ _ _ c.from_residual.result c.in_err-lists.field-0.0 run.TooLong same told.cause is in
           let counts = counted _ _ _ _ _ c.from_residual.result c.in_err-lists.field-0.0 run.TooLong same told.counts is in
-          (counts.2, why.0, why.1, why.2);
+          (counts.2, why.0, why.1, why.2, why.3);
       silent = passed_on _ c.from_residual.result c.in_err-lists.field-0.0 same (λ _. refl);
       reader_kept = passed_on _ c.from_residual.result c.in_err-lists.field-0.0 same (kept_by _ _ _ _ _ c.in_err-lists.field-0.0 told.counts);
       reads_most = most_by _ _ _ _ _ c.in_err-lists.field-0.0 told.counts;
