@@ -10,7 +10,7 @@ mod outcome;
 mod points;
 mod records;
 mod refused;
-mod side_by_side;
+pub mod side_by_side;
 
 use kmc_partcore::QueueShape;
 use kmc_record::Shape;

@@ -3,7 +3,9 @@ use super::*;
 use crate::tests::passes::Passes;
 use crate::tests::settings::sized;
 use crate::tests::texts::{direct_dump, vectors_of};
+use crate::tests::workers::side_by_side::{Meets, Pair};
 use kmc_count::Limits;
+use kmc_partqueue::Gate;
 use kmc_tool::run_with_gate;
 
 /// How many splitters and storers there are, how many parts one splitter may have in the queue, and how many reads a chunk has.
@@ -99,17 +101,17 @@ fn every_queue_gives_the_dumps_of_small_texts(rt: HostRuntime) {
 }
 
 /// What a run over the text answers, with a gate.
-fn run_through<R: Threads + Wait + Sync>(
+fn run_through<R: Threads + Wait + Sync, G: Gate + Sync>(
     rt: &R,
     alloc: Global,
     text: &[u8],
     params: &Params,
-    passes: &Passes,
+    gate: &G,
 ) -> Result<u64, RunError> {
     let mut reader = Counted::new(PieceReader::new(text, 1000, 0));
     let device = NarrowWriter::new(Vec::new(alloc), 1000, 1000, Full::Fails, true);
     let mut writer = Counted::new(device);
-    run_with_gate(rt, alloc, &mut reader, &mut writer, params, passes)
+    run_with_gate(rt, alloc, &mut reader, &mut writer, params, gate)
 }
 
 /// Two reads, each a chunk of its own, give three parts each.
@@ -121,4 +123,28 @@ fn a_run_tells_its_gate_of_each_part(rt: HostRuntime) {
     let made = run_through(&rt, rt.alloc(), &text, &params, &passes);
     assert_eq!(rt; made, Ok(3));
     passes.assert_each(&rt, 6);
+}
+
+/// Two workers of a run see each other, of two splitters and so many storers.
+fn assert_meeting<R: Abort + Threads + Wait + Sync + Alloc<A = Global>>(
+    rt: &R,
+    pair: Pair,
+    storers: usize,
+) {
+    let text = fastq(rt, rt.alloc(), &[b"ACGTACGT", b"ACGTACGT"]);
+    let params = queued(rt, 4, 5, 7, Sizes(2, storers, 8, 1));
+    let gate = Meets::new(pair);
+    let made = run_through(rt, rt.alloc(), &text, &params, &gate);
+    assert_eq!(rt; made, Ok(3));
+    assert!(rt; gate.is_held());
+}
+
+#[test]
+fn two_splitters_of_a_run_meet(rt: HostRuntime) {
+    assert_meeting(&rt, Pair::Splitters, 1);
+}
+
+#[test]
+fn two_storers_of_a_run_meet(rt: HostRuntime) {
+    assert_meeting(&rt, Pair::Storers, 2);
 }

@@ -13,7 +13,7 @@ use std::thread::Threads;
 
 /// Which workers meet.
 #[derive(Clone, Copy)]
-enum Pair {
+pub enum Pair {
     /// Splitters, before they put part 1.
     Splitters,
     /// Storers, with their first parts in hand.
@@ -22,9 +22,24 @@ enum Pair {
 
 /// The two workers meet.
 #[derive(Drop)]
-struct Meets {
+pub struct Meets {
     pair: Pair,
     meeting: Meeting,
+}
+
+impl Meets {
+    /// A gate at which each of the two waits for the other.
+    pub fn new(pair: Pair) -> Meets {
+        Meets {
+            pair,
+            meeting: Meeting::new(PATIENT),
+        }
+    }
+
+    /// Both came, and each saw the other.
+    pub fn is_held(&self) -> bool {
+        self.meeting.is_held()
+    }
 }
 
 impl Gate for Meets {
@@ -44,12 +59,9 @@ fn they_meet<R: Abort + Threads + Wait + Sync + Alloc<A = Global>>(
     storers: usize,
 ) {
     let queue = two_writers(storers).expect(rt, "a queue");
-    let gate = Meets {
-        pair,
-        meeting: Meeting::new(PATIENT),
-    };
+    let gate = Meets::new(pair);
     let made = passed_twice(rt, rt.alloc(), queue, &gate);
-    assert!(rt; gate.meeting.is_held());
+    assert!(rt; gate.is_held());
     assert_twice(rt, rt.alloc(), &made).expect(rt, "memory");
 }
 
