@@ -38,9 +38,12 @@ unfolding joined
 joined-empty [] ps = refl
 joined-empty (x ∷ front) ps = ap (λ (t : List ℕ). t ∷ ps) (append-nil (x ∷ front))
 
-lines_step : (front : List ℕ) (b : ℕ) (bs : List ℕ) (t : Bool) → lines_from [] bs ≡ map (strip_last 13) (joined [] (pieces bs)) → lines_from (front ++ b ∷ []) bs ≡ map (strip_last 13) (joined (front ++ b ∷ []) (pieces bs))
-    → cond t (strip_last 13 front ∷ lines_from [] bs) (lines_from (front ++ b ∷ []) bs) ≡ map (strip_last 13) (joined front (cond t ([] ∷ pieces bs) (onto_first b (pieces bs))))
-lines_step front b bs true x y = ap (λ t. strip_last 13 front ∷ t) (x ∙ ap (map (strip_last 13)) (joined-none (pieces bs))) ∙ sym (ap (map (strip_last 13)) (joined-empty front (pieces bs)))
+lines_step : (front : List ℕ) (b : ℕ) (bs : List ℕ) (t : Bool) → lines_from [] bs ≡ map (strip_last 13) (joined [] (pieces bs)) → lines_from
+    (front ++ b ∷ []) bs ≡ map (strip_last 13) (joined (front ++ b ∷ []) (pieces bs))
+    → cond t (strip_last 13 front ∷ lines_from [] bs) (lines_from (front ++ b ∷ []) bs) ≡ map (strip_last 13)
+    (joined front (cond t ([] ∷ pieces bs) (onto_first b (pieces bs))))
+lines_step front b bs true x y = ap (λ t. strip_last 13 front ∷ t) (x ∙ ap (map (strip_last 13)) (joined-none (pieces bs))) ∙ sym
+    (ap (map (strip_last 13)) (joined-empty front (pieces bs)))
 lines_step front b bs false x y = y ∙ ap (map (strip_last 13)) (joined-first front b (pieces bs))
 
 joined_lines : (front bs : List ℕ) → lines_from front bs ≡ map (strip_last 13) (joined front (pieces bs))
@@ -67,7 +70,8 @@ plus_part : (p : List ℕ) (n : ℕ) (r : List ℕ) (x y : Answer) → x ≡ y �
 plus_part [] n r x y e = refl
 plus_part (d ∷ p) n r x y e = plus_bool (d == 43) n x y e
 
-quality_part : (t : Bool) (n : ℕ) (s : List ℕ) (x y : Answer) → x ≡ y → answer_past (cond t None (Some (QualityLength n))) (s ∷ []) x ≡ cond t (with_reads (s ∷ []) y) (Err (QualityLength n))
+quality_part : (t : Bool) (n : ℕ) (s : List ℕ) (x y : Answer) → x ≡ y → answer_past (cond t None (Some (QualityLength n))) (s ∷ []) x ≡ cond t
+    (with_reads (s ∷ []) y) (Err (QualityLength n))
 quality_part true n s x y e = ap (with_reads (s ∷ [])) e
 quality_part false n s x y e = refl
 
@@ -83,12 +87,14 @@ reads_same n ((c ∷ h) ∷ s ∷ p ∷ []) = header_part (c == 64) n _ _
     (with_none _ ∙ plus_part p _ s _ _ (ap (λ k. Err (Truncated k)) (three n)) ∙ ap (λ k. plus_then k p (Err (Truncated (line_past n 3)))) (past_past n 1))
 reads_same n ((c ∷ h) ∷ s ∷ p ∷ q ∷ ls) = header_part (c == 64) n _ _
     (with_none _ ∙ plus_part p _ s _ _
-    (quality_part (nat_eq (length q) (length s)) _ s _ _ (reads_same (line_past (line_past (line_past (line_past n 1) 1) 1) 1) ls ∙ ap (λ k. fastq_reads k ls) (ap (λ k. line_past k 1) (three n) ∙ past_past n 3))
+    (quality_part (nat_eq (length q) (length s)) _ s _ _ (reads_same (line_past (line_past (line_past (line_past n 1) 1) 1) 1) ls ∙ ap
+    (λ k. fastq_reads k ls) (ap (λ k. line_past k 1) (three n) ∙ past_past n 3))
     ∙ ap (λ k. quality_then k s q (with_reads (s ∷ []) (fastq_reads (line_past n 4) ls))) (three n))
     ∙ ap (λ k. plus_then k p (quality_then (line_past n 3) s q (with_reads (s ∷ []) (fastq_reads (line_past n 4) ls)))) (past_past n 1))
 
 -- a FASTA text, from inside a read on
-body_step : (t : Bool) (read l : List ℕ) (rs : List (List ℕ)) (x y : Answer) → x ≡ Ok (onto_read [] rs) → y ≡ Ok (onto_read (read ++ l) rs) → onto_read [] rs ≡ rs
+body_step : (t : Bool) (read l : List ℕ) (rs : List (List ℕ)) (x y : Answer) → x ≡ Ok (onto_read [] rs) → y ≡ Ok (onto_read (read ++ l) rs)
+    → onto_read [] rs ≡ rs
     → with_reads (cond t (read ∷ []) []) (cond t x y) ≡ Ok (onto_read read (cond t ([] ∷ rs) (onto_read l rs)))
 body_step true read l rs x y ex ey none = ap (with_reads (read ∷ [])) ex ∙ (λ i. Ok (sym (append-nil read) i ∷ none i))
 body_step false read l rs x y ex ey none = with_none y ∙ ey ∙ ap Ok (sym (onto_onto read l rs))
@@ -98,7 +104,8 @@ body_past : (t : Bool) (n : ℕ) (read l : List ℕ) (ls : List (List ℕ)) → 
 body_past true n read l ls = refl
 body_past false n read l ls = refl
 
-pub bodies_same : (n : ℕ) (read : List ℕ) (ls : List (List ℕ)) → reads_from (record { number = n; stage = Body; read = read }) ls ≡ Ok (onto_read read (reads_after ls))
+pub bodies_same : (n : ℕ) (read : List ℕ) (ls : List (List ℕ)) → reads_from (record { number = n; stage = Body; read = read }) ls ≡ Ok
+    (onto_read read (reads_after ls))
 bodies_same n read [] = ap (λ (t : List ℕ). Ok (t ∷ [])) (sym (append-nil read))
 bodies_same n read (l ∷ ls) =
     ap (with_reads (cond (is_header l) (read ∷ []) [])) (body_past (is_header l) (line_past n 1) read l ls)

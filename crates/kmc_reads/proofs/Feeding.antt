@@ -51,7 +51,8 @@ module _ (a b : List ℕ) (some : 0 < length b) where
   ends_more =
       let most : nat_lt 0 (length (a ++ b)) ≡ true = lt-ltb 0 (length (a ++ b)) (omega (arith, length-append a b)) in
       let own : nat_lt 0 (length b) ≡ true = lt-ltb 0 (length b) some in
-      let same : get_or (a ++ b) (length (a ++ b) - 1) 0 ≡ get_or b (length b - 1) 0 = ap (λ n. get_or (a ++ b) n 0) last_place ∙ get_or-append-add a b (length b - 1) 0 in
+      let same : get_or (a ++ b) (length (a ++ b) - 1) 0 ≡ get_or b (length b - 1) 0 = ap (λ n. get_or (a ++ b) n 0) last_place
+      ∙ get_or-append-add a b (length b - 1) 0 in
       λ i. (most ∙ sym own) i && (same i == 13)
 
   pub strip_more : strip_last 13 (a ++ b) ≡ a ++ strip_last 13 b
@@ -64,16 +65,19 @@ module _ (a b : List ℕ) (some : 0 < length b) where
       go false = refl
 
 -- a read is whole
-pub closed_bytes : (rows : List (List ℕ)) (read rest bytes : List ℕ) → rest ≡ [] → bytes ≡ concat rows ++ (read ++ rest) → bytes ≡ concat (rows ++ read ∷ []) ++ ([] ++ rest)
+pub closed_bytes : (rows : List (List ℕ)) (read rest bytes : List ℕ) → rest ≡ [] → bytes ≡ concat rows ++ (read ++ rest) → bytes ≡ concat
+    (rows ++ read ∷ []) ++ ([] ++ rest)
 closed_bytes rows read rest bytes none e =
     e ∙ ap (λ (t : List ℕ). concat rows ++ (read ++ t)) none ∙ ap (λ (t : List ℕ). concat rows ++ t) (append-nil read) ∙ sym (concat_snoc rows read)
     ∙ sym (append-nil (concat (rows ++ read ∷ []))) ∙ ap (λ (t : List ℕ). concat (rows ++ read ∷ []) ++ t) (sym none)
 
-pub closed_length : (rows : List (List ℕ)) (read rest bytes : List ℕ) → rest ≡ [] → bytes ≡ concat rows ++ (read ++ rest) → length bytes ≡ length (concat (rows ++ read ∷ []))
+pub closed_length : (rows : List (List ℕ)) (read rest bytes : List ℕ) → rest ≡ [] → bytes ≡ concat rows ++ (read ++ rest) → length bytes ≡ length
+    (concat (rows ++ read ∷ []))
 closed_length rows read rest bytes none e =
     ap length (closed_bytes rows read rest bytes none e ∙ ap (λ (t : List ℕ). concat (rows ++ read ∷ []) ++ t) none ∙ append-nil (concat (rows ++ read ∷ [])))
 
-pub closed_ends : (rows : List (List ℕ)) (read : List ℕ) (n : ℕ) → n ≡ length (concat (rows ++ read ∷ [])) → ends_from 0 rows ++ n ∷ [] ≡ ends_from 0 (rows ++ read ∷ [])
+pub closed_ends : (rows : List (List ℕ)) (read : List ℕ) (n : ℕ) → n ≡ length (concat (rows ++ read ∷ [])) → ends_from 0 rows ++ n ∷ [] ≡ ends_from 0
+    (rows ++ read ∷ [])
 closed_ends rows read n e =
     let k : n ≡ 0 + length (concat rows) + length read = grind (arith, e, ap length (concat_snoc rows read), length-append (concat rows) read) in
     ap (λ t. ends_from 0 rows ++ t ∷ []) k ∙ sym (ends_snoc 0 rows read)
@@ -118,7 +122,8 @@ none_given Name read line other h = refl
 none_given Rest read line other h = refl
 
 module _ (rows : List (List ℕ)) (n : ℕ) (read line : List ℕ) (w : Scan) where
-  pub given : (st : Stage) → st ≡ Quality → At (rows ++ read ∷ []) (past (record { number = n; stage = st; read = [] }) line) [] w → At (rows ++ given_by st read line) (past (record { number = n; stage = st; read = read }) line) [] w
+  pub given : (st : Stage) → st ≡ Quality → At (rows ++ read ∷ []) (past (record { number = n; stage = st; read = [] }) line) [] w → At
+      (rows ++ given_by st read line) (past (record { number = n; stage = st; read = read }) line) [] w
   given Quality q h = h
   given Header q h = cc
   given Sequence q h = cc
@@ -128,8 +133,11 @@ module _ (rows : List (List ℕ)) (n : ℕ) (read line : List ℕ) (w : Scan) wh
   given Name q h = cc
   given Rest q h = cc
 
-  pub not_given : (st : Stage) → (st ≡ Quality → ⊥) → begun_by st read line ≡ [] → At rows (past (record { number = n; stage = st; read = read }) line) [] w → At (rows ++ given_by st read line) (past (record { number = n; stage = st; read = read }) line) [] w
-  not_given st other none h = subst (λ t. At t (past (record { number = n; stage = st; read = read }) line) [] w) (sym (append-nil rows) ∙ ap (λ (t : List (List ℕ)). rows ++ t) (sym (none_given st read line other none))) h
+  pub not_given : (st : Stage) → (st ≡ Quality → ⊥) → begun_by st read line ≡ [] → At rows
+      (past (record { number = n; stage = st; read = read }) line) [] w → At (rows ++ given_by st read line)
+      (past (record { number = n; stage = st; read = read }) line) [] w
+  not_given st other none h = subst (λ t. At t (past (record { number = n; stage = st; read = read }) line) [] w)
+      (sym (append-nil rows) ∙ ap (λ (t : List (List ℕ)). rows ++ t) (sym (none_given st read line other none))) h
 
 -- a line is open
 pub last_is_line : (front : List ℕ) → (front ≡ [] → ⊥) → last_line front ≡ strip_last 13 front ∷ []

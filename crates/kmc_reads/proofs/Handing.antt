@@ -24,7 +24,8 @@ module _ (rows : List (List ℕ)) (front ends bytes : List ℕ) (e : ends ≡ en
 
   pub rising : AreEnds 0 (ends ++ length bytes ∷ []) (length bytes)
   rising =
-      let all : length (concat (rows ++ front ∷ [])) ≡ length (concat rows) + length front = ap length (concat_snoc rows front) ∙ length-append (concat rows) front in
+      let all : length (concat (rows ++ front ∷ [])) ≡ length (concat rows) + length front = ap length (concat_snoc rows front) ∙ length-append
+      (concat rows) front in
       subst (λ t. AreEnds 0 t (length bytes)) (sym places) (ends_rise 0 (rows ++ front ∷ []) (length bytes) (omega (arith, all, all_long)))
 
   rows_and_open : rows_from 0 (ends ++ length bytes ∷ []) bytes ≡ rows ++ front ∷ []
@@ -57,7 +58,8 @@ pub record HasCut (overlap : ℕ) (old new : Scan) (reads : List (List ℕ)) : T
   pub reads_are : reads ≡ rows_from 0 (old.ends.items ++ length old.bytes.items ∷ []) old.bytes.items
 
 module _ (overlap n : ℕ) (rows : List (List ℕ)) (old new : Scan) (reads : List (List ℕ)) (cut : HasCut overlap old new reads) where
-  module _ (open_read : List ℕ) (bytes : old.bytes.items ≡ concat rows ++ open_read) (start : old.place.start ≡ length (concat rows)) (ends : old.ends.items ≡ ends_from 0 rows) where
+  module _ (open_read : List ℕ) (bytes : old.bytes.items ≡ concat rows ++ open_read) (start : old.place.start ≡ length (concat rows))
+      (ends : old.ends.items ≡ ends_from 0 rows) where
     abbrev a : List ℕ
     a = take (length open_read - overlap) open_read
 
@@ -102,20 +104,23 @@ module _ (overlap n : ℕ) (rows : List (List ℕ)) (old new : Scan) (reads : Li
       → (read : List ℕ) → At rows (spot n stage read) [] old → Hands overlap rows (spot n stage read) [] reads new
   between_lines stage none settled lead read at =
       let k = at.keeps in
-      let bytes : old.bytes.items ≡ concat rows ++ read = k.bytes ∙ ap (λ (t : List ℕ). concat rows ++ (read ++ t)) none ∙ ap (λ (t : List ℕ). concat rows ++ t) (append-nil read) in
+      let bytes : old.bytes.items ≡ concat rows ++ read = k.bytes ∙ ap (λ (t : List ℕ). concat rows ++ (read ++ t)) none ∙ ap
+      (λ (t : List ℕ). concat rows ++ t) (append-nil read) in
       let own = a read bytes k.start k.ends in let rest = b read bytes k.start k.ends in
       record {
         more = (own ++ rest) ∷ [];
         next = spot n stage rest;
         left = [];
         given = given read bytes k.start k.ends;
-        leads = subst (λ t. LeadsCut overlap (spot n stage t) [] [] ((own ++ rest) ∷ []) (spot n stage rest) []) (sym (parts read bytes k.start k.ends)) (lead own rest (long read bytes k.start k.ends));
+        leads = subst (λ t. LeadsCut overlap (spot n stage t) [] [] ((own ++ rest) ∷ []) (spot n stage rest) [])
+            (sym (parts read bytes k.start k.ends)) (lead own rest (long read bytes k.start k.ends));
         stands = stands read bytes k.start k.ends stage k.number (cut.between k.many ∙ k.stage) none (settled rest);
       }
 
   -- and where one is, which goes on behind the cut
   within_line : (stage : Stage) (read front : List ℕ) → 0 < length front → kept stage (strip_last 13 front) ≡ strip_last 13 front
-      → ((own rest : List ℕ) → length rest ≡ overlap → read ++ front ≡ own ++ rest → ends_with_byte 13 front ≡ false → LeadsCut overlap (spot n stage read) front [] ((own ++ rest) ∷ []) (spot n Rest rest) [])
+      → ((own rest : List ℕ) → length rest ≡ overlap → read ++ front ≡ own ++ rest → ends_with_byte 13 front ≡ false → LeadsCut overlap
+      (spot n stage read) front [] ((own ++ rest) ∷ []) (spot n Rest rest) [])
       → At rows (spot n stage read) front old → Hands overlap rows (spot n stage read) front reads new
   within_line stage read front begun keeps lead at =
       let k = at.keeps in
@@ -137,18 +142,22 @@ module _ (overlap n : ℕ) (rows : List (List ℕ)) (old new : Scan) (reads : Li
   of_body : (read front : List ℕ) → At rows (spot n Body read) front old → Hands overlap rows (spot n Body read) front reads new
   of_body read [] at = between_lines Body refl (λ own. refl) (λ own rest l. cut_between overlap n own rest l) read at
   of_body read (x ∷ xs) at =
-      within_line Body read (x ∷ xs) (omega arith) refl (λ own rest l whole none. cut_line overlap n own rest l read (x ∷ xs) whole (omega arith) none (λ r. any_read (x == 62) read r at.settled)) at
+      within_line Body read (x ∷ xs) (omega arith) refl (λ own rest l whole none. cut_line overlap n own rest l read (x ∷ xs) whole
+      (omega arith) none (λ r. any_read (x == 62) read r at.settled)) at
 
   of_rest : (read front : List ℕ) → At rows (spot n Rest read) front old → Hands overlap rows (spot n Rest read) front reads new
   of_rest read [] at = between_lines Rest refl (λ own. refl) (λ own rest l. cut_in_rest overlap n own rest l) read at
-  of_rest read (x ∷ xs) at = within_line Rest read (x ∷ xs) (omega arith) refl (λ own rest l whole none. cut_rest overlap n own rest l read (x ∷ xs) whole (omega arith) none) at
+  of_rest read (x ∷ xs) at = within_line Rest read (x ∷ xs) (omega arith) refl
+      (λ own rest l whole none. cut_rest overlap n own rest l read (x ∷ xs) whole (omega arith) none) at
 
 -- what a cut hands out
 pub hands : (overlap : ℕ) (rows : List (List ℕ)) (s : Spot) (front : List ℕ) (old new : Scan) (reads : List (List ℕ)) → HasCut overlap old new reads
     → (old.place.stage ≡ Body) ⊎ (old.place.stage ≡ Rest) → At rows s front old → Hands overlap rows s front reads new
 hands overlap rows s front old new reads cut (inl is) at =
     let same : Body ≡ s.stage = sym is ∙ at.keeps.stage in
-    subst (λ st. At rows (spot s.number st s.read) front old → Hands overlap rows (spot s.number st s.read) front reads new) same (of_body overlap s.number rows old new reads cut s.read front) at
+    subst (λ st. At rows (spot s.number st s.read) front old → Hands overlap rows (spot s.number st s.read) front reads new) same
+    (of_body overlap s.number rows old new reads cut s.read front) at
 hands overlap rows s front old new reads cut (inr is) at =
     let same : Rest ≡ s.stage = sym is ∙ at.keeps.stage in
-    subst (λ st. At rows (spot s.number st s.read) front old → Hands overlap rows (spot s.number st s.read) front reads new) same (of_rest overlap s.number rows old new reads cut s.read front) at
+    subst (λ st. At rows (spot s.number st s.read) front old → Hands overlap rows (spot s.number st s.read) front reads new) same
+    (of_rest overlap s.number rows old new reads cut s.read front) at

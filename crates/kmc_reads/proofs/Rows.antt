@@ -21,7 +21,8 @@ rows_same n (r ∷ rows) more =
     let e : n + length r - n ≡ length r = omega arith in
     let a : (r ++ concat rows) ++ more ≡ r ++ (concat rows ++ more) = append_assoc r (concat rows) more in
     (λ i. take (e i) (a i) ∷ rows_from (n + length r) (ends_from (n + length r) rows) (drop (e i) (a i)))
-    ∙ (λ i. take_at r (concat rows ++ more) (length r) refl i ∷ rows_from (n + length r) (ends_from (n + length r) rows) (drop_at r (concat rows ++ more) (length r) refl i))
+    ∙ (λ i. take_at r (concat rows ++ more) (length r) refl i ∷ rows_from (n + length r) (ends_from (n + length r) rows)
+    (drop_at r (concat rows ++ more) (length r) refl i))
     ∙ ap (λ t. r ∷ t) (rows_same (n + length r) rows more)
 
 -- a buffer that has the rows has their ends within

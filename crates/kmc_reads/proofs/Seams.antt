@@ -42,20 +42,24 @@ rest_end n read (x ∷ left) = refl
 rest_is : (n : ℕ) (read left rest : List ℕ) → reads_from (spot n Rest read) (lines_from left rest) ≡ Ok (onto_read read (rest_after left rest))
 rest_is n read left [] = rest_end n read left
 rest_is n read left (x ∷ rest) = go (x == 10) (rest_is n read (left ++ x ∷ []) rest) where
-  go : (t : Bool) → reads_from (spot n Rest read) (lines_from (left ++ x ∷ []) rest) ≡ Ok (onto_read read (rest_after (left ++ x ∷ []) rest)) → reads_from (spot n Rest read) (cond t (strip_last 13 left ∷ lines_from [] rest) (lines_from (left ++ x ∷ []) rest))
+  go : (t : Bool) → reads_from (spot n Rest read) (lines_from (left ++ x ∷ []) rest) ≡ Ok (onto_read read (rest_after (left ++ x ∷ []) rest))
+      → reads_from (spot n Rest read) (cond t (strip_last 13 left ∷ lines_from [] rest) (lines_from (left ++ x ∷ []) rest))
       ≡ Ok (onto_read read (cond t (onto_read (strip_last 13 left) (reads_after (lines_from [] rest))) (rest_after (left ++ x ∷ []) rest)))
-  go true more = with_none _ ∙ bodies_same (line_past n 1) (read ++ strip_last 13 left) (lines_from [] rest) ∙ ap Ok (sym (onto_onto read (strip_last 13 left) (reads_after (lines_from [] rest))))
+  go true more = with_none _ ∙ bodies_same (line_past n 1) (read ++ strip_last 13 left) (lines_from [] rest) ∙ ap Ok
+      (sym (onto_onto read (strip_last 13 left) (reads_after (lines_from [] rest))))
   go false more = more
 
 -- the same where this much of the line has come, which is no header
 module _ (st : Stage) (u : List ℕ) (some : 0 < length u)
-    (onto : (n : ℕ) (read w : List ℕ) (ls : List (List ℕ)) → reads_from (spot n st read) ((u ++ w) ∷ ls) ≡ reads_from (spot (line_past n 1) Body (read ++ (u ++ w))) ls)
+    (onto : (n : ℕ) (read w : List ℕ) (ls : List (List ℕ)) → reads_from (spot n st read) ((u ++ w) ∷ ls) ≡ reads_from
+    (spot (line_past n 1) Body (read ++ (u ++ w))) ls)
     (whole : (w : List ℕ) → strip_last 13 (u ++ w) ≡ u ++ strip_last 13 w) where
   line_of : (front : List ℕ) → 0 < length front → last_line front ≡ strip_last 13 front ∷ []
   line_of [] less = absurd (omega arith)
   line_of (x ∷ front) less = refl
 
-  line_is : (n : ℕ) (read left : List ℕ) (ls : List (List ℕ)) → reads_from (spot n st read) (strip_last 13 (u ++ left) ∷ ls) ≡ Ok (onto_read (read ++ u) (onto_read (strip_last 13 left) (reads_after ls)))
+  line_is : (n : ℕ) (read left : List ℕ) (ls : List (List ℕ)) → reads_from (spot n st read) (strip_last 13 (u ++ left) ∷ ls) ≡ Ok
+      (onto_read (read ++ u) (onto_read (strip_last 13 left) (reads_after ls)))
   line_is n read left ls =
       let own = strip_last 13 left in
       ap (λ l. reads_from (spot n st read) (l ∷ ls)) (whole left) ∙ onto n read own ls
@@ -65,9 +69,12 @@ module _ (st : Stage) (u : List ℕ) (some : 0 < length u)
 
   front_is : (n : ℕ) (read left rest : List ℕ) → reads_from (spot n st read) (lines_from (u ++ left) rest) ≡ Ok (onto_read (read ++ u) (rest_after left rest))
   front_is n read left [] =
-      ap (reads_from (spot n st read)) (line_of (u ++ left) (omega (arith, some, length-append u left))) ∙ line_is n read left [] ∙ ap (λ (t : List ℕ). Ok (onto_read (read ++ u) (t ∷ []))) (append-nil (strip_last 13 left))
+      ap (reads_from (spot n st read)) (line_of (u ++ left) (omega (arith, some, length-append u left))) ∙ line_is n read left [] ∙ ap
+      (λ (t : List ℕ). Ok (onto_read (read ++ u) (t ∷ []))) (append-nil (strip_last 13 left))
   front_is n read left (x ∷ rest) = go (x == 10) (front_is n read (left ++ x ∷ []) rest) where
-    go : (t : Bool) → reads_from (spot n st read) (lines_from (u ++ (left ++ x ∷ [])) rest) ≡ Ok (onto_read (read ++ u) (rest_after (left ++ x ∷ []) rest)) → reads_from (spot n st read) (cond t (strip_last 13 (u ++ left) ∷ lines_from [] rest) (lines_from ((u ++ left) ++ x ∷ []) rest))
+    go : (t : Bool) → reads_from (spot n st read) (lines_from (u ++ (left ++ x ∷ [])) rest) ≡ Ok
+        (onto_read (read ++ u) (rest_after (left ++ x ∷ []) rest)) → reads_from (spot n st read)
+        (cond t (strip_last 13 (u ++ left) ∷ lines_from [] rest) (lines_from ((u ++ left) ++ x ∷ []) rest))
         ≡ Ok (onto_read (read ++ u) (cond t (onto_read (strip_last 13 left) (reads_after (lines_from [] rest))) (rest_after (left ++ x ∷ []) rest)))
     go true more = line_is n read left (lines_from [] rest)
     go false more = ap (λ t. reads_from (spot n st read) (lines_from t rest)) (append_assoc u left (x ∷ [])) ∙ more
@@ -93,17 +100,20 @@ module _ (overlap : ℕ) (a b : List ℕ) (long : length b ≡ overlap) where
       omega (arith, sum, one, two, last, same)
 
   -- answers of one form, the one from the whole open read and the other from its last symbols
-  cut_answer : (x y : Answer) (rs : List (List ℕ)) → x ≡ Ok (onto_read (a ++ b) rs) → y ≡ Ok (onto_read b rs) → IsCutAnswer overlap x (with_reads ((a ++ b) ∷ []) y)
+  cut_answer : (x y : Answer) (rs : List (List ℕ)) → x ≡ Ok (onto_read (a ++ b) rs) → y ≡ Ok (onto_read b rs) → IsCutAnswer overlap x
+      (with_reads ((a ++ b) ∷ []) y)
   cut_answer x y rs ex ey = subst (λ x. IsCutAnswer overlap x (with_reads ((a ++ b) ∷ []) y)) (sym ex)
       (subst (λ y. IsCutAnswer overlap (Ok (onto_read (a ++ b) rs)) (with_reads ((a ++ b) ∷ []) y)) (sym ey) (two_pieces rs))
 
 -- ---- the three places of an open line
 
-header_onto : (t : Bool) (m : ℕ) (read l : List ℕ) (ls : List (List ℕ)) → cond t (read ∷ []) [] ≡ [] → with_reads (cond t (read ∷ []) []) (reads_from (spot m Body (cond t [] (read ++ l))) ls) ≡ reads_from (spot m Body (read ++ l)) ls
+header_onto : (t : Bool) (m : ℕ) (read l : List ℕ) (ls : List (List ℕ)) → cond t (read ∷ []) [] ≡ [] → with_reads (cond t (read ∷ []) [])
+    (reads_from (spot m Body (cond t [] (read ++ l))) ls) ≡ reads_from (spot m Body (read ++ l)) ls
 header_onto true m read l ls h = absurd (cc)
 header_onto false m read l ls h = with_none _
 
-body_onto : (u : List ℕ) → 0 < length u → ((read : List ℕ) → begun_by Body read u ≡ []) → (n : ℕ) (read w : List ℕ) (ls : List (List ℕ)) → reads_from (spot n Body read) ((u ++ w) ∷ ls) ≡ reads_from (spot (line_past n 1) Body (read ++ (u ++ w))) ls
+body_onto : (u : List ℕ) → 0 < length u → ((read : List ℕ) → begun_by Body read u ≡ []) → (n : ℕ) (read w : List ℕ) (ls : List (List ℕ)) → reads_from
+    (spot n Body read) ((u ++ w) ∷ ls) ≡ reads_from (spot (line_past n 1) Body (read ++ (u ++ w))) ls
 body_onto [] some settled n read w ls = absurd (omega arith)
 body_onto (x ∷ u) some settled n read w ls = header_onto (x == 62) (line_past n 1) read ((x ∷ u) ++ w) ls (settled read)
 
@@ -115,7 +125,8 @@ module _ (overlap n : ℕ) (a b : List ℕ) (long : length b ≡ overlap) where
   pub cut_between : LeadsCut overlap (spot n Body (a ++ b)) [] [] ((a ++ b) ∷ []) (spot n Body b) []
   cut_between = record {
     fault = λ rest. body_sound n (a ++ b) (whole_from [] rest) ∙ sym (body_sound n b (whole_from [] rest));
-    reads = λ rest. cut_answer overlap a b long _ _ (reads_after (lines_from [] rest)) (bodies_same n (a ++ b) (lines_from [] rest)) (bodies_same n b (lines_from [] rest));
+    reads = λ rest. cut_answer overlap a b long _ _ (reads_after (lines_from [] rest)) (bodies_same n (a ++ b) (lines_from [] rest))
+        (bodies_same n b (lines_from [] rest));
   }
 
   pub cut_in_rest : LeadsCut overlap (spot n Rest (a ++ b)) [] [] ((a ++ b) ∷ []) (spot n Rest b) []
@@ -125,7 +136,8 @@ module _ (overlap n : ℕ) (a b : List ℕ) (long : length b ≡ overlap) where
   }
 
   module _ (read u : List ℕ) (parts : read ++ u ≡ a ++ b) (some : 0 < length u) (none : ends_with_byte 13 u ≡ false) where
-    of_front : (st : Stage) → ((m : ℕ) (r w : List ℕ) (ls : List (List ℕ)) → reads_from (spot m st r) ((u ++ w) ∷ ls) ≡ reads_from (spot (line_past m 1) Body (r ++ (u ++ w))) ls)
+    of_front : (st : Stage) → ((m : ℕ) (r w : List ℕ) (ls : List (List ℕ)) → reads_from (spot m st r) ((u ++ w) ∷ ls) ≡ reads_from
+        (spot (line_past m 1) Body (r ++ (u ++ w))) ls)
         → (rest : List ℕ) → reads_from (spot n st read) (lines_from u rest) ≡ Ok (onto_read (a ++ b) (rest_after [] rest))
     of_front st onto rest =
         ap (λ t. reads_from (spot n st read) (lines_from t rest)) (sym (append-nil u)) ∙ front_is st u some onto (whole_of u none) n read [] rest

@@ -20,7 +20,8 @@ module _ (format : Format) (text : List ℕ) (taken : List (List ℕ)) (v : Feed
       ∙ ap (λ (t : List (List ℕ)). (taken ++ s.rows) ++ t) s.stands.settled ∙ append-nil (taken ++ s.rows)
 
 -- a feeder that stands at a text went over a piece
-pub stands_on : (format : Format) (text piece : List ℕ) (taken : List (List ℕ)) (v w : FeederState) (s : StandsAt format text taken v) → Goes s.rows s.spot s.front piece w.scan → w.refusal ≡ None → StandsAt format (text ++ piece) taken w
+pub stands_on : (format : Format) (text piece : List ℕ) (taken : List (List ℕ)) (v w : FeederState) (s : StandsAt format text taken v)
+    → Goes s.rows s.spot s.front piece w.scan → w.refusal ≡ None → StandsAt format (text ++ piece) taken w
 stands_on format text piece taken v w s g sound = record {
   rows = s.rows ++ g.more;
   spot = g.next;
@@ -32,16 +33,20 @@ stands_on format text piece taken v w s g sound = record {
 }
 
 -- the answer at the end of the text
-pub answer_is : (format : Format) (text : List ℕ) (taken : List (List ℕ)) (v : FeederState) (s : StandsAt format text taken v) → reads_of format text ≡ with_reads (taken ++ s.rows) (reads_from s.spot (last_line s.front))
-answer_is format text taken v s = sym (reads_are format text) ∙ ap (λ t. reads_from (first_spot format) (lines_from [] t)) (sym (append-nil text)) ∙ s.leads.reads []
+pub answer_is : (format : Format) (text : List ℕ) (taken : List (List ℕ)) (v : FeederState) (s : StandsAt format text taken v) → reads_of format text
+    ≡ with_reads (taken ++ s.rows) (reads_from s.spot (last_line s.front))
+answer_is format text taken v s = sym (reads_are format text) ∙ ap (λ t. reads_from (first_spot format) (lines_from [] t)) (sym (append-nil text))
+    ∙ s.leads.reads []
 
 -- its reads were taken
-pub taken_stands : (format : Format) (text : List ℕ) (taken reads : List (List ℕ)) (v w : FeederState) (s : StandsAt format text taken v) → reads ≡ s.rows → At [] s.spot s.front w.scan → w.refusal ≡ None → StandsAt format text (taken ++ reads) w
+pub taken_stands : (format : Format) (text : List ℕ) (taken reads : List (List ℕ)) (v w : FeederState) (s : StandsAt format text taken v) → reads
+    ≡ s.rows → At [] s.spot s.front w.scan → w.refusal ≡ None → StandsAt format text (taken ++ reads) w
 taken_stands format text taken reads v w s are at sound = record {
   rows = [];
   spot = s.spot;
   front = s.front;
-  leads = subst (λ t. Leads (first_spot format) [] text t s.spot s.front) (ap (λ (t : List (List ℕ)). taken ++ t) (sym are) ∙ sym (append-nil (taken ++ reads))) s.leads;
+  leads = subst (λ t. Leads (first_spot format) [] text t s.spot s.front)
+      (ap (λ (t : List (List ℕ)). taken ++ t) (sym are) ∙ sym (append-nil (taken ++ reads))) s.leads;
   stands = at;
   sound = sound;
 }

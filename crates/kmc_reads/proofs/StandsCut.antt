@@ -14,7 +14,6 @@ use Rattle.kmc_reads.specs.Standing.{FeederState, StandsAt, StandsCut, Leads, Le
 use Rattle.kmc_reads.proofs.Answers.{with_none, reads_join}
 use Rattle.kmc_reads.proofs.Ending.{reads_are}
 
-
 -- ---- answers
 
 module _ (overlap : ℕ) where
@@ -52,26 +51,31 @@ module _ (overlap : ℕ) where
   pub as_cut : (s t : Spot) (front left p : List ℕ) (more : List (List ℕ)) → Leads s front p more t left → LeadsCut overlap s front p more t left
   as_cut s t front left p more l = record { fault = l.fault; reads = λ rest. of_same _ _ (l.reads rest) }
 
-  pub then_cut : (s t w : Spot) (front left last p q : List ℕ) (more others : List (List ℕ)) → LeadsCut overlap s front p more t left → LeadsCut overlap t left q others w last → LeadsCut overlap s front (p ++ q) (more ++ others) w last
+  pub then_cut : (s t w : Spot) (front left last p q : List ℕ) (more others : List (List ℕ)) → LeadsCut overlap s front p more t left
+      → LeadsCut overlap t left q others w last → LeadsCut overlap s front (p ++ q) (more ++ others) w last
   then_cut s t w front left last p q more others l m = record {
     fault = λ rest. ap (λ x. fault_from s (whole_from front x)) (append_assoc p q rest) ∙ l.fault (q ++ rest) ∙ m.fault rest;
     reads = λ rest.
-        let first = subst (λ x. IsCutAnswer overlap (reads_from s (lines_from front x)) (with_reads more (reads_from t (lines_from left (q ++ rest))))) (sym (append_assoc p q rest)) (l.reads (q ++ rest)) in
+        let first = subst (λ x. IsCutAnswer overlap (reads_from s (lines_from front x))
+        (with_reads more (reads_from t (lines_from left (q ++ rest))))) (sym (append_assoc p q rest)) (l.reads (q ++ rest)) in
         let second = before more _ _ (m.reads rest) in
-        then_cuts _ _ _ first (subst (IsCutAnswer overlap (with_reads more (reads_from t (lines_from left (q ++ rest))))) (reads_join more others (reads_from w (lines_from last rest))) second);
+        then_cuts _ _ _ first (subst (IsCutAnswer overlap (with_reads more (reads_from t (lines_from left (q ++ rest)))))
+        (reads_join more others (reads_from w (lines_from last rest))) second);
   }
 
 -- ---- a feeder
 
 module _ (overlap : ℕ) (format : Format) (text : List ℕ) (taken : List (List ℕ)) (v : FeederState) (s : StandsCut overlap format text taken v) where
   -- it went over a piece
-  pub cut_on : (piece : List ℕ) (w : FeederState) → Goes s.rows s.spot s.front piece w.scan → w.refusal ≡ None → StandsCut overlap format (text ++ piece) taken w
+  pub cut_on : (piece : List ℕ) (w : FeederState) → Goes s.rows s.spot s.front piece w.scan → w.refusal ≡ None → StandsCut overlap format
+      (text ++ piece) taken w
   cut_on piece w g sound = record {
     rows = s.rows ++ g.more;
     spot = g.next;
     front = g.left;
     leads = subst (λ t. LeadsCut overlap (first_spot format) [] (text ++ piece) t g.next g.left) (append_assoc taken s.rows g.more)
-        (then_cut overlap (first_spot format) s.spot g.next [] s.front g.left text piece (taken ++ s.rows) g.more s.leads (as_cut overlap s.spot g.next s.front g.left piece g.more g.leads));
+        (then_cut overlap (first_spot format) s.spot g.next [] s.front g.left text piece (taken ++ s.rows) g.more s.leads
+        (as_cut overlap s.spot g.next s.front g.left piece g.more g.leads));
     stands = g.stands;
     sound = sound;
   }
@@ -81,9 +85,11 @@ module _ (overlap : ℕ) (format : Format) (text : List ℕ) (taken : List (List
   cut_fault piece e h = s.leads.fault piece ∙ ap (λ t. fault_from s.spot (whole_from s.front t)) (sym (append-nil piece)) ∙ h []
 
   -- it handed out what it had
-  pub cut_taken : (reads : List (List ℕ)) (w : FeederState) → Hands overlap s.rows s.spot s.front reads w.scan → w.refusal ≡ None → StandsCut overlap format text (taken ++ reads) w
+  pub cut_taken : (reads : List (List ℕ)) (w : FeederState) → Hands overlap s.rows s.spot s.front reads w.scan → w.refusal ≡ None
+      → StandsCut overlap format text (taken ++ reads) w
   cut_taken reads w h sound =
-      let all : (taken ++ s.rows) ++ h.more ≡ (taken ++ reads) ++ [] = append_assoc taken s.rows h.more ∙ ap (λ (t : List (List ℕ)). taken ++ t) (sym h.given) ∙ sym (append-nil (taken ++ reads)) in
+      let all : (taken ++ s.rows) ++ h.more ≡ (taken ++ reads) ++ [] = append_assoc taken s.rows h.more ∙ ap (λ (t : List (List ℕ)). taken ++ t)
+      (sym h.given) ∙ sym (append-nil (taken ++ reads)) in
       let leads = then_cut overlap (first_spot format) s.spot h.next [] s.front h.left text [] (taken ++ s.rows) h.more s.leads h.leads in
       record {
         rows = [];
@@ -96,13 +102,17 @@ module _ (overlap : ℕ) (format : Format) (text : List ℕ) (taken : List (List
       }
 
   -- the answer at the end of the text
-  pub cut_answer_is : (answer : Answer) → with_reads (taken ++ s.rows) (reads_from s.spot (last_line s.front)) ≡ answer → IsCutAnswer overlap (reads_of format text) answer
+  pub cut_answer_is : (answer : Answer) → with_reads (taken ++ s.rows) (reads_from s.spot (last_line s.front)) ≡ answer → IsCutAnswer overlap
+      (reads_of format text) answer
   cut_answer_is answer e =
-      let same : reads_from (first_spot format) (lines_from [] (text ++ [])) ≡ reads_of format text = ap (λ t. reads_from (first_spot format) (lines_from [] t)) (append-nil text) ∙ reads_are format text in
-      subst (IsCutAnswer overlap (reads_of format text)) e (subst (λ x. IsCutAnswer overlap x (with_reads (taken ++ s.rows) (reads_from s.spot (last_line s.front)))) same (s.leads.reads []))
+      let same : reads_from (first_spot format) (lines_from [] (text ++ [])) ≡ reads_of format text = ap
+      (λ t. reads_from (first_spot format) (lines_from [] t)) (append-nil text) ∙ reads_are format text in
+      subst (IsCutAnswer overlap (reads_of format text)) e (subst (λ x. IsCutAnswer overlap x
+      (with_reads (taken ++ s.rows) (reads_from s.spot (last_line s.front)))) same (s.leads.reads []))
 
 -- handing out rows alone cuts nothing
-pub hands_rows : (overlap : ℕ) (rows : List (List ℕ)) (spot : Spot) (front : List ℕ) (reads : List (List ℕ)) (v : Scan) → reads ≡ rows → At [] spot front v → Hands overlap rows spot front reads v
+pub hands_rows : (overlap : ℕ) (rows : List (List ℕ)) (spot : Spot) (front : List ℕ) (reads : List (List ℕ)) (v : Scan) → reads ≡ rows → At
+    [] spot front v → Hands overlap rows spot front reads v
 hands_rows overlap rows spot front reads v are at = record {
   more = [];
   next = spot;

@@ -14,17 +14,20 @@ use Rattle.kmc_reads.proofs.Ending.{reads_are}
 use Rattle.kmc_reads.proofs.Walking.{name_reads}
 
 -- a fault, of the first line or of those behind it
-first_fault : (o x : Option ReadsError) (given : List (List ℕ)) (y : Answer) (e : ReadsError) → or_else o x ≡ Some e → (x ≡ Some e → y ≡ Err e) → answer_past o given y ≡ Err e
+first_fault : (o x : Option ReadsError) (given : List (List ℕ)) (y : Answer) (e : ReadsError) → or_else o x ≡ Some e → (x ≡ Some e → y ≡ Err e)
+    → answer_past o given y ≡ Err e
 first_fault None x given y e h rest = ap (with_reads given) (rest h)
 first_fault (Some d) x given y e h rest = cc
 
-pub fault_on : (s : Spot) (front bytes rest : List ℕ) (e : ReadsError) → fault_from s (whole_from front bytes) ≡ Some e → reads_from s (lines_from front (bytes ++ rest)) ≡ Err e
+pub fault_on : (s : Spot) (front bytes rest : List ℕ) (e : ReadsError) → fault_from s (whole_from front bytes) ≡ Some e → reads_from s
+    (lines_from front (bytes ++ rest)) ≡ Err e
 fault_on s front [] rest e h = cc
 fault_on s front (b ∷ bs) rest e h =
     go (b == 10) h (fault_on (past s (strip_last 13 front)) [] bs rest e) (fault_on s (front ++ b ∷ []) bs rest e)
   where
     go : (t : Bool) → fault_from s (cond t (strip_last 13 front ∷ whole_from [] bs) (whole_from (front ++ b ∷ []) bs)) ≡ Some e
-        → (fault_from (past s (strip_last 13 front)) (whole_from [] bs) ≡ Some e → reads_from (past s (strip_last 13 front)) (lines_from [] (bs ++ rest)) ≡ Err e)
+        → (fault_from (past s (strip_last 13 front)) (whole_from [] bs) ≡ Some e → reads_from (past s (strip_last 13 front))
+        (lines_from [] (bs ++ rest)) ≡ Err e)
         → (fault_from s (whole_from (front ++ b ∷ []) bs) ≡ Some e → reads_from s (lines_from (front ++ b ∷ []) (bs ++ rest)) ≡ Err e)
         → reads_from s (cond t (strip_last 13 front ∷ lines_from [] (bs ++ rest)) (lines_from (front ++ b ∷ []) (bs ++ rest))) ≡ Err e
     go true h next more = first_fault (fault_of s.number s.stage s.read (strip_last 13 front)) _ (given_by s.stage s.read (strip_last 13 front)) _ e h next
@@ -43,7 +46,8 @@ opened n Rest read front rest = (_, sym (with_none _))
 opened n Body read [] rest = (_, sym (with_none _))
 opened n Body read (c ∷ xs) rest = go (c == 62) refl
   where
-    go : (t : Bool) → (c == 62) ≡ t → (more : Answer) × (reads_from (record { number = n; stage = Body; read = read }) (lines_from (c ∷ xs) rest) ≡ with_reads (cond t (read ∷ []) []) more)
+    go : (t : Bool) → (c == 62) ≡ t → (more : Answer) × (reads_from (record { number = n; stage = Body; read = read }) (lines_from (c ∷ xs) rest)
+        ≡ with_reads (cond t (read ∷ []) []) more)
     go false is = (_, sym (with_none _))
     go true is =
         let e : 62 ≡ c = sym (eqb-true c 62 is) in (
@@ -64,10 +68,13 @@ ended_on s front (b ∷ bs) rest =
     go (b == 10) (ended_on (past s (strip_last 13 front)) [] bs rest) (ended_on s (front ++ b ∷ []) bs rest)
   where
     go : (t : Bool)
-        → ((more : Answer) × (reads_from (past s (strip_last 13 front)) (lines_from [] (bs ++ rest)) ≡ with_reads (ended_from (past s (strip_last 13 front)) (whole_from [] bs) (open_from [] bs)) more))
-        → ((more : Answer) × (reads_from s (lines_from (front ++ b ∷ []) (bs ++ rest)) ≡ with_reads (ended_from s (whole_from (front ++ b ∷ []) bs) (open_from (front ++ b ∷ []) bs)) more))
+        → ((more : Answer) × (reads_from (past s (strip_last 13 front)) (lines_from [] (bs ++ rest)) ≡ with_reads
+        (ended_from (past s (strip_last 13 front)) (whole_from [] bs) (open_from [] bs)) more))
+        → ((more : Answer) × (reads_from s (lines_from (front ++ b ∷ []) (bs ++ rest)) ≡ with_reads
+        (ended_from s (whole_from (front ++ b ∷ []) bs) (open_from (front ++ b ∷ []) bs)) more))
         → (more : Answer) × (reads_from s (cond t (strip_last 13 front ∷ lines_from [] (bs ++ rest)) (lines_from (front ++ b ∷ []) (bs ++ rest)))
-        ≡ with_reads (ended_from s (cond t (strip_last 13 front ∷ whole_from [] bs) (whole_from (front ++ b ∷ []) bs)) (cond t (open_from [] bs) (open_from (front ++ b ∷ []) bs))) more)
+        ≡ with_reads (ended_from s (cond t (strip_last 13 front ∷ whole_from [] bs) (whole_from (front ++ b ∷ []) bs))
+        (cond t (open_from [] bs) (open_from (front ++ b ∷ []) bs))) more)
     go true next more = first_ended (fault_of s.number s.stage s.read (strip_last 13 front)) (given_by s.stage s.read (strip_last 13 front)) _ _ next
     go false next more = more
 

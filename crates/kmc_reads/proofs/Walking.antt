@@ -27,7 +27,8 @@ pub record IsUnder (piece rest : List ℕ) (old new : Scan) : Type 0 where
   pub ends : take (length old.ends.items) new.ends.items ≡ old.ends.items
 
 -- bytes without a line feed go onto the open line, whatever is made of the lines
-module _ {A : Type 0} (made : List ℕ → List ℕ → A) (ended : List ℕ → List ℕ → A) (step : (front : List ℕ) (b : ℕ) (rest : List ℕ) → made front (b ∷ rest) ≡ cond (b == 10) (ended front rest) (made (front ++ b ∷ []) rest)) where
+module _ {A : Type 0} (made : List ℕ → List ℕ → A) (ended : List ℕ → List ℕ → A)
+    (step : (front : List ℕ) (b : ℕ) (rest : List ℕ) → made front (b ∷ rest) ≡ cond (b == 10) (ended front rest) (made (front ++ b ∷ []) rest)) where
   onto_open : (front p rest : List ℕ) → HasNoFeed p → made front (p ++ rest) ≡ made (front ++ p) rest
   onto_open front [] rest unbroken = ap (λ t. made t rest) (sym (append-nil front))
   onto_open front (b ∷ p) rest unbroken =
@@ -55,7 +56,8 @@ open_leads s front p unbroken = record {
 
 -- a line feed ends the open line
 module _ (s : Spot) (front : List ℕ) where
-  pub feed_leads : fault_of s.number s.stage s.read (strip_last 13 front) ≡ None → Leads s front (10 ∷ []) (given_by s.stage s.read (strip_last 13 front)) (past s (strip_last 13 front)) []
+  pub feed_leads : fault_of s.number s.stage s.read (strip_last 13 front) ≡ None → Leads s front (10 ∷ [])
+      (given_by s.stage s.read (strip_last 13 front)) (past s (strip_last 13 front)) []
   feed_leads fine =
       let t = past s (strip_last 13 front) in
       let given = given_by s.stage s.read (strip_last 13 front) in
@@ -95,15 +97,20 @@ module _ (n : ℕ) (read : List ℕ) where
       go false h = h
       go true h = ap (λ u. fault_from u (whole_from [] bs)) (past_same (strip_last 13 (62 ∷ xs)) (header_is xs))
 
-  name_ended : (xs rest : List ℕ) → ended_from body (whole_from (62 ∷ xs) rest) (open_from (62 ∷ xs) rest) ≡ read ∷ ended_from named (whole_from (62 ∷ xs) rest) (open_from (62 ∷ xs) rest)
+  name_ended : (xs rest : List ℕ) → ended_from body (whole_from (62 ∷ xs) rest) (open_from (62 ∷ xs) rest) ≡ read ∷ ended_from named
+      (whole_from (62 ∷ xs) rest) (open_from (62 ∷ xs) rest)
   name_ended xs [] = refl
   name_ended xs (b ∷ bs) = go (b == 10) (name_ended (xs ++ b ∷ []) bs)
     where
-      go : (t : Bool) → ended_from body (whole_from (62 ∷ (xs ++ b ∷ [])) bs) (open_from (62 ∷ (xs ++ b ∷ [])) bs) ≡ read ∷ ended_from named (whole_from (62 ∷ (xs ++ b ∷ [])) bs) (open_from (62 ∷ (xs ++ b ∷ [])) bs)
-          → ended_from body (cond t (strip_last 13 (62 ∷ xs) ∷ whole_from [] bs) (whole_from (62 ∷ (xs ++ b ∷ [])) bs)) (cond t (open_from [] bs) (open_from (62 ∷ (xs ++ b ∷ [])) bs))
-          ≡ read ∷ ended_from named (cond t (strip_last 13 (62 ∷ xs) ∷ whole_from [] bs) (whole_from (62 ∷ (xs ++ b ∷ [])) bs)) (cond t (open_from [] bs) (open_from (62 ∷ (xs ++ b ∷ [])) bs))
+      go : (t : Bool) → ended_from body (whole_from (62 ∷ (xs ++ b ∷ [])) bs) (open_from (62 ∷ (xs ++ b ∷ [])) bs) ≡ read ∷ ended_from named
+          (whole_from (62 ∷ (xs ++ b ∷ [])) bs) (open_from (62 ∷ (xs ++ b ∷ [])) bs)
+          → ended_from body (cond t (strip_last 13 (62 ∷ xs) ∷ whole_from [] bs) (whole_from (62 ∷ (xs ++ b ∷ [])) bs))
+          (cond t (open_from [] bs) (open_from (62 ∷ (xs ++ b ∷ [])) bs))
+          ≡ read ∷ ended_from named (cond t (strip_last 13 (62 ∷ xs) ∷ whole_from [] bs) (whole_from (62 ∷ (xs ++ b ∷ [])) bs))
+          (cond t (open_from [] bs) (open_from (62 ∷ (xs ++ b ∷ [])) bs))
       go false h = h
-      go true h = λ i. given_is (strip_last 13 (62 ∷ xs)) (header_is xs) i ++ ended_from (past_same (strip_last 13 (62 ∷ xs)) (header_is xs) i) (whole_from [] bs) (open_from [] bs)
+      go true h = λ i. given_is (strip_last 13 (62 ∷ xs)) (header_is xs) i ++ ended_from (past_same (strip_last 13 (62 ∷ xs)) (header_is xs) i)
+          (whole_from [] bs) (open_from [] bs)
 
   name_line : (l : List ℕ) (ls : List (List ℕ)) → is_header l ≡ true → reads_from body (l ∷ ls) ≡ with_reads (read ∷ []) (reads_from named (l ∷ ls))
   name_line l ls h =
@@ -120,7 +127,8 @@ module _ (n : ℕ) (read : List ℕ) where
       go false h = h
       go true h = name_line (strip_last 13 (62 ∷ xs)) (lines_from [] bs) (header_is xs)
 
-  pub name_leads : (p : List ℕ) → is_header p ≡ true → HasNoFeed p → Leads (record { number = n; stage = Body; read = read }) [] p (read ∷ []) (record { number = n; stage = Name; read = [] }) p
+  pub name_leads : (p : List ℕ) → is_header p ≡ true → HasNoFeed p → Leads (record { number = n; stage = Body; read = read }) [] p (read ∷ [])
+      (record { number = n; stage = Name; read = [] }) p
   name_leads [] header unbroken = cc
   name_leads (c ∷ xs) header unbroken =
       let is : c ≡ 62 = grind arith in
@@ -132,14 +140,18 @@ module _ (n : ℕ) (read : List ℕ) where
         reads = λ rest. from.reads rest ∙ with_none _ ∙ name_reads xs rest;
       })
 
-pub then_leads : (s t u : Spot) (front left last p q : List ℕ) (more others : List (List ℕ)) → Leads s front p more t left → Leads t left q others u last → Leads s front (p ++ q) (more ++ others) u last
+pub then_leads : (s t u : Spot) (front left last p q : List ℕ) (more others : List (List ℕ)) → Leads s front p more t left
+    → Leads t left q others u last → Leads s front (p ++ q) (more ++ others) u last
 then_leads s t u front left last p q more others a b = record {
   fault = λ rest. ap (λ x. fault_from s (whole_from front x)) (append_assoc p q rest) ∙ a.fault (q ++ rest) ∙ b.fault rest;
-  ended = λ rest. ap (λ x. ended_from s (whole_from front x) (open_from front x)) (append_assoc p q rest) ∙ a.ended (q ++ rest) ∙ ap (λ x. more ++ x) (b.ended rest) ∙ sym (append_assoc more others _);
-  reads = λ rest. ap (λ x. reads_from s (lines_from front x)) (append_assoc p q rest) ∙ a.reads (q ++ rest) ∙ ap (with_reads more) (b.reads rest) ∙ reads_join more others (reads_from u (lines_from last rest));
+  ended = λ rest. ap (λ x. ended_from s (whole_from front x) (open_from front x)) (append_assoc p q rest) ∙ a.ended (q ++ rest) ∙ ap (λ x. more ++ x)
+      (b.ended rest) ∙ sym (append_assoc more others _);
+  reads = λ rest. ap (λ x. reads_from s (lines_from front x)) (append_assoc p q rest) ∙ a.reads (q ++ rest) ∙ ap (with_reads more) (b.reads rest)
+      ∙ reads_join more others (reads_from u (lines_from last rest));
 }
 
-pub then_faults : (s t : Spot) (front left p q : List ℕ) (more : List (List ℕ)) (e : ReadsError) → Leads s front p more t left → HasFault t left q e → HasFault s front (p ++ q) e
+pub then_faults : (s t : Spot) (front left p q : List ℕ) (more : List (List ℕ)) (e : ReadsError) → Leads s front p more t left → HasFault t left q e
+    → HasFault s front (p ++ q) e
 then_faults s t front left p q more e a b = λ rest. ap (λ x. fault_from s (whole_from front x)) (append_assoc p q rest) ∙ a.fault (q ++ rest) ∙ b rest
 
 -- a fault stays whatever follows
@@ -151,10 +163,18 @@ pub none_leads : (s : Spot) (front : List ℕ) → Leads s front [] [] s front
 none_leads s front = record { fault = λ rest. refl; ended = λ rest. refl; reads = λ rest. sym (with_none (reads_from s (lines_from front rest))) }
 
 pub here : (rows : List (List ℕ)) (s : Spot) (front : List ℕ) (v : Scan) → At rows s front v → Goes rows s front [] v
-here rows s front v at = record { more = []; next = s; left = front; leads = none_leads s front; stands = subst (λ t. At t s front v) (sym (append-nil rows)) at }
+here rows s front v at = record {
+  more = [];
+  next = s;
+  left = front;
+  leads = none_leads s front;
+  stands = subst (λ t. At t s front v)
+      (sym (append-nil rows)) at;
+}
 
 -- one way and then another
-pub then_goes : (rows : List (List ℕ)) (s : Spot) (front p q : List ℕ) (v w : Scan) (g : Goes rows s front p v) → Goes (rows ++ g.more) g.next g.left q w → Goes rows s front (p ++ q) w
+pub then_goes : (rows : List (List ℕ)) (s : Spot) (front p q : List ℕ) (v w : Scan) (g : Goes rows s front p v) → Goes
+    (rows ++ g.more) g.next g.left q w → Goes rows s front (p ++ q) w
 then_goes rows s front p q v w g h = record {
   more = g.more ++ h.more;
   next = h.next;
@@ -166,7 +186,13 @@ then_goes rows s front p q v w g h = record {
 -- the line feed behind it
 pub fed : (rows : List (List ℕ)) (s : Spot) (front : List ℕ) (w : Scan) → fault_of s.number s.stage s.read (strip_last 13 front) ≡ None
     → At (rows ++ given_by s.stage s.read (strip_last 13 front)) (past s (strip_last 13 front)) [] w → Goes rows s front (10 ∷ []) w
-fed rows s front w fine at = record { more = given_by s.stage s.read (strip_last 13 front); next = past s (strip_last 13 front); left = []; leads = feed_leads s front fine; stands = at }
+fed rows s front w fine at = record {
+  more = given_by s.stage s.read (strip_last 13 front);
+  next = past s (strip_last 13 front);
+  left = [];
+  leads = feed_leads s front fine;
+  stands = at;
+}
 
 -- the line, its line feed and what follows make the rest
 pub over_split : (over line after rest piece : List ℕ) → IsCut rest line after → over ++ rest ≡ piece → (over ++ (line ++ 10 ∷ [])) ++ after ≡ piece

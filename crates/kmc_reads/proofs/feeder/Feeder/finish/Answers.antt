@@ -32,6 +32,7 @@ pub returns-then-ne-clause-cut_refused : goal.returns-then-ne-clause-cut_refused
 returns-then-ne-clause-cut_refused c = λ overlap format text taken s other.
     let at = subst (λ t. At s.rows s.spot s.front t) (sym (ap (λ v. v.scan) c.feeder.view_is)) s.stands in (
       cut_refusal overlap (reads_of format text) c.in-Err.e
-          (cut_answer_is overlap format text taken c.args.self s (Err c.in-Err.e) (ap (with_reads (taken ++ s.rows)) (c.in-Err.ensures.refused s.rows s.spot s.front at other))),
+          (cut_answer_is overlap format text taken c.args.self s (Err c.in-Err.e)
+          (ap (with_reads (taken ++ s.rows)) (c.in-Err.ensures.refused s.rows s.spot s.front at other))),
       refl,
     )

@@ -6,4 +6,5 @@ use Rattle.kmc_reads.proofs.feeder.Feeder.waiting.Goals as goal
 pub returns : goal.returns
 returns c = λ format text taken s.
     let at = subst (λ t. At s.rows s.spot s.front t) (sym (ap (λ v. v.scan) c.self.view_is)) s.stands in
-    ap length (ended_are format text taken c.args.self.now s) ∙ length-append taken s.rows ∙ ap (λ n. length taken + n) (sym (c.count.ensures s.rows s.spot s.front at))
+    ap length (ended_are format text taken c.args.self.now s) ∙ length-append taken s.rows ∙ ap (λ n. length taken + n)
+    (sym (c.count.ensures s.rows s.spot s.front at))

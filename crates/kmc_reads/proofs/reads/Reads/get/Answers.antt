@@ -19,7 +19,12 @@ slice_bounds-result-count c =
     let ends = c.self.inside.ends.items in let i = c.args.i in
     let inside : i < length ends = omega (arith, c.requires, rows_many 0 ends c.self.inside.bytes.items, ap length c.self.view_is) in
     let start : c.start_of-start.result ≡ get_or (0 ∷ ends) i 0 = c.start_of-start.ensures ∙ ap (λ t. get_or (0 ∷ t) i 0) c.deref.ensures.value in
-    omega (arith, start, get_or_read ends i c.index-end.result.now inside c.index-end.ensures 0, (ends_order 0 ends (length c.self.inside.bytes.items) i c.self.invariant inside).1)
+    omega (
+      arith,
+      start,
+      get_or_read ends i c.index-end.result.now inside c.index-end.ensures 0,
+      (ends_order 0 ends (length c.self.inside.bytes.items) i c.self.invariant inside).1,
+    )
 
 pub slice_bounds-result-start : goal.slice_bounds-result-start
 slice_bounds-result-start c =

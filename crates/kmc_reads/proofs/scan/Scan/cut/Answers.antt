@@ -15,8 +15,10 @@ of_rows-requires c =
     let old = c.args.self.now in
     let counted : c.len-2.result ≡ length old.bytes.items = search rules in
     let bytes : c.replace-bytes.result.items ≡ old.bytes.items = ap items c.replace-bytes.ensures.value in
-    let ends : c.replace-ends.result.items ≡ old.ends.items ++ length old.bytes.items ∷ [] = ap items c.replace-ends.ensures.value ∙ c.in_ok-push.ensures.items ∙ ap (λ n. old.ends.items ++ n ∷ []) counted in
-    subst (λ t. AreEnds 0 t (length c.replace-bytes.result.items)) (sym ends) (subst (λ t. AreEnds 0 (old.ends.items ++ length old.bytes.items ∷ []) (length t)) (sym bytes)
+    let ends : c.replace-ends.result.items ≡ old.ends.items ++ length old.bytes.items ∷ [] = ap items c.replace-ends.ensures.value
+    ∙ c.in_ok-push.ensures.items ∙ ap (λ n. old.ends.items ++ n ∷ []) counted in
+    subst (λ t. AreEnds 0 t (length c.replace-bytes.result.items)) (sym ends)
+    (subst (λ t. AreEnds 0 (old.ends.items ++ length old.bytes.items ∷ []) (length t)) (sym bytes)
     (rising w.rows (w.spot.read ++ kept w.spot.stage (strip_last 13 w.front)) old.ends.items old.bytes.items k.ends k.bytes))
 
 pub returns-clause-taken : goal.returns-clause-taken
@@ -24,14 +26,16 @@ returns-clause-taken c = λ rows spot front at.
     let old = c.args.self.now in
     let counted : c.len-2.result ≡ length old.bytes.items = search rules in
     let bytes : c.replace-bytes.result.items ≡ old.bytes.items = ap items c.replace-bytes.ensures.value in
-    let ends : c.replace-ends.result.items ≡ old.ends.items ++ length old.bytes.items ∷ [] = ap items c.replace-ends.ensures.value ∙ c.in_ok-push.ensures.items ∙ ap (λ n. old.ends.items ++ n ∷ []) counted in
+    let ends : c.replace-ends.result.items ≡ old.ends.items ++ length old.bytes.items ∷ [] = ap items c.replace-ends.ensures.value
+    ∙ c.in_ok-push.ensures.items ∙ ap (λ n. old.ends.items ++ n ∷ []) counted in
     let first : c.len.result ≡ length old.bytes.items = search rules in
     let rest = c.emptied-self.ensures.rest in
     hands c.args.overlap rows spot front old _ c.of_rows.result
     (record {
       held = c.requires.held;
       room = c.requires.open;
-      bytes = ap items c.replace-bytes.ensures.after ∙ c.with_room-next.ensures ∙ c.in_ok-kept.ensures.items ∙ last_of c.deref.result.now old.bytes.items c.len.result c.args.overlap c.deref.ensures.value first;
+      bytes = ap items c.replace-bytes.ensures.after ∙ c.with_room-next.ensures ∙ c.in_ok-kept.ensures.items
+          ∙ last_of c.deref.result.now old.bytes.items c.len.result c.args.overlap c.deref.ensures.value first;
       ends = ap items c.replace-ends.ensures.after ∙ c.new.ensures.items;
       between = c.emptied-self.ensures.between;
       inside = c.emptied-self.ensures.inside;
@@ -47,7 +51,8 @@ pub returns-clause-handed : goal.returns-clause-handed
 returns-clause-handed c =
     let old = c.args.self.now in
     let first : c.len.result ≡ length old.bytes.items = search rules in
-    let bytes = ap items c.replace-bytes.ensures.after ∙ c.with_room-next.ensures ∙ c.in_ok-kept.ensures.items ∙ last_of c.deref.result.now old.bytes.items c.len.result c.args.overlap c.deref.ensures.value first in
+    let bytes = ap items c.replace-bytes.ensures.after ∙ c.with_room-next.ensures ∙ c.in_ok-kept.ensures.items
+    ∙ last_of c.deref.result.now old.bytes.items c.len.result c.args.overlap c.deref.ensures.value first in
     few_open c.args.overlap (record { bytes = c.replace-bytes.new.dest; ends = c.replace-ends.new.dest; place = c.emptied-self.result })
     (ap items c.replace-ends.ensures.after ∙ c.new.ensures.items)
     (omega (arith, ap length bytes, length-drop (length old.bytes.items - c.args.overlap) old.bytes.items, c.requires.open))

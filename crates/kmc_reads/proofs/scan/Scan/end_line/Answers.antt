@@ -19,11 +19,13 @@ returns-clause-at c = λ rows spot front at.
           let q : spot.stage ≡ Quality = sym at.keeps.stage ∙ w.in-Quality.is in
           let none : kept spot.stage line ≡ [] = ap (λ st. kept st line) q in
           let begun : begun_by spot.stage [] line ≡ [] = ap (λ st. begun_by st [] line) q in
-          let closed = subst (λ s. Keeps (rows ++ spot.read ∷ []) emptied line s) (sym w.self-is) (w.in_ok-close-in-Quality.ensures.keeps rows spot line at.keeps none) in
+          let closed = subst (λ s. Keeps (rows ++ spot.read ∷ []) emptied line s) (sym w.self-is)
+          (w.in_ok-close-in-Quality.ensures.keeps rows spot line at.keeps none) in
           given rows spot.number spot.read line next spot.stage q (c.next_line.ensures.at (rows ++ spot.read ∷ []) emptied line closed (λ _. refl) begun)
       | in_default w ↦
           let other : spot.stage ≡ Quality → ⊥ = λ e. w.in_default.not-Quality (at.keeps.stage ∙ e) in
-          not_given rows spot.number spot.read line next spot.stage other settled (c.next_line.ensures.at rows spot line (subst (λ s. Keeps rows spot line s) (sym w.self-is) at.keeps) (λ e. absurd (other e)) settled)
+          not_given rows spot.number spot.read line next spot.stage other settled
+          (c.next_line.ensures.at rows spot line (subst (λ s. Keeps rows spot line s) (sym w.self-is) at.keeps) (λ e. absurd (other e)) settled)
     ]
 
 pub returns-in_err-judge-clause-ends : goal.returns-in_err-judge-clause-ends

@@ -26,7 +26,8 @@ returns-clause-whole c = λ rows spot front at.
     record {
       more = given;
       next = next;
-      reads = ap (reads_from spot) (last_is_line front some) ∙ ap (λ o. answer_past o given (answer_at_end next.number next.stage next.read)) (c.in_ok-end_line.ensures.fine rows spot front at);
+      reads = ap (reads_from spot) (last_is_line front some) ∙ ap (λ o. answer_past o given (answer_at_end next.number next.stage next.read))
+          (c.in_ok-end_line.ensures.fine rows spot front at);
       stands = c.in_ok-end_line.ensures.at rows spot front at;
     }
 

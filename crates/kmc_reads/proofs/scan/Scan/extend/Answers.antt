@@ -25,7 +25,8 @@ returns-then-begins_name-clause-goes c = λ rows spot front at unbroken.
       next = next;
       left = piece;
       leads = subst (λ t. Leads spot t piece (spot.read ∷ []) next piece) (sym is.none)
-          (subst (λ st. Leads (record { number = spot.number; stage = st; read = spot.read }) [] piece (spot.read ∷ []) next piece) (sym is.body) (name_leads spot.number spot.read piece is.header unbroken));
+          (subst (λ st. Leads (record { number = spot.number; stage = st; read = spot.read }) [] piece (spot.read ∷ []) next piece) (sym is.body)
+          (name_leads spot.number spot.read piece is.header unbroken));
       stands = c.in_ok-grow.ensures.at (rows ++ spot.read ∷ []) next [] named some refl;
     }
 

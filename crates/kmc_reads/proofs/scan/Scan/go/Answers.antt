@@ -31,7 +31,8 @@ loop-line-preserved c =
             goes = then_goes rows spot front w.over (line ++ 10 ∷ []) c.loop-line.self new g
                 (then_goes (rows ++ g.more) g.next g.left line (10 ∷ []) between new h (fed ((rows ++ g.more) ++ h.more) h.next h.left new fine next));
           };
-      bytes = ap (take (length c.args.self.now.bytes.items)) c.in_ok-end_line.ensures.bytes ∙ take_front c.args.self.now.bytes.items c.loop-line.self.bytes.items between.bytes.items u.bytes c.in_ok-extend.ensures.bytes;
+      bytes = ap (take (length c.args.self.now.bytes.items)) c.in_ok-end_line.ensures.bytes
+          ∙ take_front c.args.self.now.bytes.items c.loop-line.self.bytes.items between.bytes.items u.bytes c.in_ok-extend.ensures.bytes;
       ends = take_front c.args.self.now.ends.items between.ends.items new.ends.items
           (take_front c.args.self.now.ends.items c.loop-line.self.ends.items between.ends.items u.ends c.in_ok-extend.ensures.ends) c.in_ok-end_line.ensures.ends;
     }
@@ -47,7 +48,8 @@ returns-in_err-end_line-clause-fault c = λ rows spot front at.
     let faulty = feed_faults h.next h.left e (found other) in
     subst (λ t. HasFault spot front t e) (over_split w.over line after _ _ c.in-Some.ensures w.whole)
     (faults_on spot front (w.over ++ (line ++ 10 ∷ [])) after e
-    (then_faults spot g.next front g.left w.over (line ++ 10 ∷ []) g.more e g.leads (then_faults g.next h.next g.left h.left line (10 ∷ []) h.more e h.leads faulty)))
+    (then_faults spot g.next front g.left w.over (line ++ 10 ∷ []) g.more e g.leads
+    (then_faults g.next h.next g.left h.left line (10 ∷ []) h.more e h.leads faulty)))
 
 pub returns-clause-goes : goal.returns-clause-goes
 returns-clause-goes c = λ rows spot front at.

@@ -15,22 +15,34 @@ of_rows-requires c =
     let rows = c.requires.rows in let k = c.requires.stands.keeps in
     let open_read = c.requires.spot.read ++ kept c.requires.spot.stage (strip_last 13 c.requires.front) in
     let bytes : c.replace-bytes.result.items ≡ concat rows =
-    ap items c.replace-bytes.ensures.value ∙ c.in_ok-open.ensures.items ∙ (λ i. take (k.start i) (k.bytes i)) ∙ take_at (concat rows) open_read (length (concat rows)) refl in
+    ap items c.replace-bytes.ensures.value ∙ c.in_ok-open.ensures.items ∙ (λ i. take (k.start i) (k.bytes i)) ∙ take_at (concat rows) open_read
+    (length (concat rows)) refl in
     let ends : c.replace-ends.result.items ≡ ends_from 0 rows = ap items c.replace-ends.ensures.value ∙ k.ends in
-    subst (λ t. AreEnds 0 t (length c.replace-bytes.result.items)) (sym ends) (ends_rise 0 rows (length c.replace-bytes.result.items) (omega (arith, ap length bytes)))
+    subst (λ t. AreEnds 0 t (length c.replace-bytes.result.items)) (sym ends)
+    (ends_rise 0 rows (length c.replace-bytes.result.items) (omega (arith, ap length bytes)))
 
 pub returns-clause-taken : goal.returns-clause-taken
 returns-clause-taken c = λ rows spot front at.
     let k = at.keeps in
     let open_read = spot.read ++ kept spot.stage (strip_last 13 front) in
     let bytes : c.replace-bytes.result.items ≡ concat rows =
-    ap items c.replace-bytes.ensures.value ∙ c.in_ok-open.ensures.items ∙ (λ i. take (k.start i) (k.bytes i)) ∙ take_at (concat rows) open_read (length (concat rows)) refl in
+    ap items c.replace-bytes.ensures.value ∙ c.in_ok-open.ensures.items ∙ (λ i. take (k.start i) (k.bytes i)) ∙ take_at (concat rows) open_read
+    (length (concat rows)) refl in
     let tail : c.replace-bytes.new.dest.items ≡ open_read =
-    ap items c.replace-bytes.ensures.after ∙ c.with_room-next.ensures ∙ c.in_ok-open.ensures.tail ∙ (λ i. drop (k.start i) (k.bytes i)) ∙ drop_at (concat rows) open_read (length (concat rows)) refl in
+    ap items c.replace-bytes.ensures.after ∙ c.with_room-next.ensures ∙ c.in_ok-open.ensures.tail ∙ (λ i. drop (k.start i) (k.bytes i)) ∙ drop_at
+    (concat rows) open_read (length (concat rows)) refl in
     let ends : c.replace-ends.result.items ≡ ends_from 0 rows = ap items c.replace-ends.ensures.value ∙ k.ends in (
       c.of_rows.ensures ∙ (λ i. rows_from 0 (ends i) ((bytes ∙ sym (append-nil (concat rows))) i)) ∙ rows_same 0 rows [],
       record {
-        keeps = record { stage = k.stage; number = k.number; bytes = tail; ends = ap items c.replace-ends.ensures.after ∙ c.new.ensures.items; start = refl; many = k.many; first = k.first };
+        keeps = record {
+          stage = k.stage;
+          number = k.number;
+          bytes = tail;
+          ends = ap items c.replace-ends.ensures.after ∙ c.new.ensures.items;
+          start = refl;
+          many = k.many;
+          first = k.first;
+        };
         held = at.held;
         settled = at.settled;
       },
