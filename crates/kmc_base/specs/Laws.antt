@@ -35,7 +35,7 @@ OneCanonicalForm = (w : List ℕ) → All (λ c. c < 4) w → canonical (rev_com
 abbrev pub PiecesAreCounted : Type 0
 PiecesAreCounted = (k l : ℕ) (read : List ℕ) → 1 ≤ k → k ≤ l
     → flat_map (λ c. map (moved_on (c * step_of k l)) (counted_words k (piece k l read c))) (range_with_len 0 (piece_count k l (length read)))
-        ≡ counted_words k read
+    ≡ counted_words k read
 
 -- the keys of the words at the counted places of the pieces, one after another, are those of the read
 abbrev pub KeysOfPieces : Type 0

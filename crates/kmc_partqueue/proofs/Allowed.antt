@@ -31,7 +31,7 @@ module _ {T : Type 0} (k : QueueShape) where
       → get_elem? s.views id ≡ some v → IsReached k (stepped s i (get_or s.words i 0) id c v keeps)
   still s r i id c v at =
       reached k s (stepped s i (get_or s.words i 0) id c v keeps) r []
-          (step.finds_nothing (λ j. record { words = set-get_or s.words i 0 j; homes = s.homes; views = set_again s.views id v at j }))
+      (step.finds_nothing (λ j. record { words = set-get_or s.words i 0 j; homes = s.homes; views = set_again s.views id v at j }))
 
   one_writer : (a a' : Writing T) → one_of_writers a ≡ one_of_writers a' → a ≡ a'
   one_writer a a' e = let x : a ∷ [] ≡ a' ∷ [] = ap (λ (v : View T). v.writers) e in cc
@@ -62,8 +62,11 @@ module _ {T : Type 0} (k : QueueShape) where
         takes (next_slot_of a) None,
         writer.slot_free k s (rule_of k s r) id a at empty found,
         reached k s (stepped s i y id c (one_of_writers (holding a)) (takes (next_slot_of a) None)) r []
-            (step.claims_free_slot id a at empty found (λ j. record { words = set-get_or s.words i 0 j; homes = set s.homes (next_slot_of a) none;
-            views = set s.views id (one_of_writers (holding a)) })),
+            (step.claims_free_slot id a at empty found (λ j. record {
+              words = set-get_or s.words i 0 j;
+              homes = set s.homes (next_slot_of a) none;
+              views = set s.views id (one_of_writers (holding a));
+            })),
         λ a' e. let one = one_writer a a' e in (
           subst (λ (b : Writing T). y ≡ 2 * (length b.sent / b.per_writer) → claims a c ≡ claims b c) one (λ _. refl),
           subst (λ (b : Writing T). y ≢ 2 * (length b.sent / b.per_writer) → (claims a c ≡ writer_with a c) × (b.per_writer ≤ length b.sent)) one
@@ -71,7 +74,7 @@ module _ {T : Type 0} (k : QueueShape) where
         ),
       ))
       (λ miss. let many : a.per_writer ≤ length a.sent = subst (λ (z : ℕ). z ≤ length a.sent) (sym p.per_writer)
-          (writer.put_many k s (rule_of k s r) id a at (λ e. miss (word_is ∙ e ∙ sym turn_is))) in (
+      (writer.put_many k s (rule_of k s r) id a at (λ e. miss (word_is ∙ e ∙ sym turn_is))) in (
         one_of_writers a,
         keeps,
         tt,
@@ -87,14 +90,18 @@ module _ {T : Type 0} (k : QueueShape) where
       → i ≡ mark_at k a.number (length a.sent % k.per_writer) → new ≡ 2 * (length a.sent / k.per_writer) + 1
       → a.held ≡ true → a.done ≡ false → length a.sent < 4294967295
       → Allows (IsReached k) n id (one_of_writers a, (next_slot_of a, Some x) ∷ c) i (λ _. new)
-          (λ _. published_part (step_of n i new 0 none) (one_of_writers a, (next_slot_of a, Some x) ∷ c) new)
+      (λ _. published_part (step_of n i new 0 none) (one_of_writers a, (next_slot_of a, Some x) ∷ c) new)
   publishes_part n id a x c i new is marks held going small s r wide at _ = (
     one_of_writers (sending a x),
     gives,
     tt,
     reached k s (stepped s i new id ((next_slot_of a, Some x) ∷ c) (one_of_writers (sending a x)) gives) r (step.was_put a x ∷ [])
-        (step.publishes_part id a x at held going small (λ j. record { words = set s.words (is j) (marks j); homes = set s.homes (next_slot_of a)
-        (some (Some x)); views = set s.views id (one_of_writers (sending a x)) })),
+        (step.publishes_part id a x at held going small (λ j. record {
+          words = set s.words (is j) (marks j);
+          homes = set s.homes (next_slot_of a)
+              (some (Some x));
+          views = set s.views id (one_of_writers (sending a x));
+        })),
     λ a' x' c' e. let one = one_writer a a' (ap (λ (m : Seated T). m.0) e) in let cs : (next_slot_of a, Some x) ∷ c ≡ (next_slot_of a', Some x')
         ∷ c' = ap (λ (m : Seated T). m.1) e in
         let xx : x ≡ x' = one_item cs in let tl : c ≡ c' = cc in λ j. (one_of_writers (sending (one j) (xx j)), tl j),
@@ -113,8 +120,12 @@ module _ {T : Type 0} (k : QueueShape) where
     keeps,
     tt,
     reached k s (stepped s i new id c (one_of_writers (completed a)) keeps) r (step.was_completed a ∷ [])
-        (step.closes_lane id a at going (λ j. record { words = set s.words (index j) (is j); homes = s.homes; views = set s.views id
-        (one_of_writers (completed a)) })),
+        (step.closes_lane id a at going (λ j. record {
+          words = set s.words (index j) (is j);
+          homes = s.homes;
+          views = set s.views id
+              (one_of_writers (completed a));
+        })),
     λ a' e j. (one_of_writers (completed (one_writer a a' e j)), c),
   )
 
@@ -127,14 +138,19 @@ module _ {T : Type 0} (k : QueueShape) where
         keeps,
         tt,
         reached k s (stepped s i y id c (one_of_readers (looking b w y)) keeps) r []
-            (step.reads_head id b w at near empty (λ j. record { words = set-get_or s.words i 0 j; homes = s.homes; views = set s.views id
-            (one_of_readers (looking b w (word_is j))) })),
+            (step.reads_head id b w at near empty (λ j. record {
+              words = set-get_or s.words i 0 j;
+              homes = s.homes;
+              views = set s.views id
+                  (one_of_readers (looking b w (word_is j)));
+            })),
         λ b' w' e at_word. let one = one_reader b b' e in let all : b.writers ≡ k.writers = p.writers in let all' : b.writers ≡ b'.writers = ap
             (λ (z : Reading T). z.writers) one in
-            let here : k.writers + w ≡ b'.writers + w' = sym is ∙ at_word in let lane : w ≡ w' = omega arith in
-            ((λ j. (one_of_readers (looking (one j) (lane j) y), c)),
-                (let ok = (rule_of k s r).each_lane w near in let x : h ≤ length ((rule_of k s r).lanes w).sent = ok.behind in let z : length
-                ((rule_of k s r).lanes w).sent ≤ 4294967295 = ok.limit in omega arith)),
+            let here : k.writers + w ≡ b'.writers + w' = sym is ∙ at_word in let lane : w ≡ w' = omega arith in (
+              (λ j. (one_of_readers (looking (one j) (lane j) y), c)),
+              (let ok = (rule_of k s r).each_lane w near in let x : h ≤ length ((rule_of k s r).lanes w).sent = ok.behind in let z : length
+                  ((rule_of k s r).lanes w).sent ≤ 4294967295 = ok.limit in omega arith),
+            ),
       )
 
   pub sees_published_part : (n id : ℕ) (b : Reading T) (c : List (ℕ × Option T)) (i : ℕ) → i ≡ mark_at k b.lane (b.head % k.per_writer)
@@ -149,18 +165,28 @@ module _ {T : Type 0} (k : QueueShape) where
         tt,
         reached k s (stepped s i y id c (one_of_readers (seeing b)) keeps) r []
             (step.sees_published_part id b at (ap (λ (z : ℕ). get_or s.words z 0) (sym index) ∙ hit ∙ ap
-            (λ (z : ℕ). 2 * (b.head / z) + 1) p.per_writer) (λ j. record { words = set-get_or s.words i 0 j; homes = s.homes; views = set s.views id
-            (one_of_readers (seeing b)) })),
-        λ b' e. let one = one_reader b b' e in ((λ _ j. (one_of_readers (seeing (one j)), c)), subst
-            (λ (z : Reading T). y ≢ 2 * (z.head / z.per_writer) + 1 → reader_with (seeing b) c ≡ reader_with b c) one (λ m. absurd (m hit))),
+            (λ (z : ℕ). 2 * (b.head / z) + 1) p.per_writer) (λ j. record {
+              words = set-get_or s.words i 0 j;
+              homes = s.homes;
+              views = set s.views id
+                  (one_of_readers (seeing b));
+            })),
+        λ b' e. let one = one_reader b b' e in (
+          (λ _ j. (one_of_readers (seeing (one j)), c)),
+          subst
+              (λ (z : Reading T). y ≢ 2 * (z.head / z.per_writer) + 1 → reader_with (seeing b) c ≡ reader_with b c) one (λ m. absurd (m hit)),
+        ),
       ))
       (λ miss. (
         one_of_readers b,
         keeps,
         tt,
         still s r i id c (one_of_readers b) at,
-        λ b' e. let one = one_reader b b' e in (subst (λ (z : Reading T). y ≡ 2 * (z.head / z.per_writer) + 1 → reader_with b c ≡ reader_with
-            (seeing z) c) one (λ h. absurd (miss h)), λ _. refl),
+        λ b' e. let one = one_reader b b' e in (
+          subst (λ (z : Reading T). y ≡ 2 * (z.head / z.per_writer) + 1 → reader_with b c ≡ reader_with
+              (seeing z) c) one (λ h. absurd (miss h)),
+          λ _. refl,
+        ),
       ))
 
   pub claims_part : (n id : ℕ) (b : Reading T) (c : List (ℕ × Option T)) (i old new : ℕ) → i ≡ head_at k b.lane
@@ -170,15 +196,22 @@ module _ {T : Type 0} (k : QueueShape) where
       let y : ℕ = get_or s.words i 0 in let told = claimed_part (step_of n i old new none) (one_of_readers b, c) in
       exchanged y old new (λ z. (w : View T) × (a : Act (Option T)) × Valid s.homes c a × IsReached k (stepped s i z id c w a) × told y (w, carried_after c a))
       (λ hit. let at_head : get_or s.words (head_at k b.lane) 0 ≡ b.head = ap (λ (z : ℕ). get_or s.words z 0) (sym index) ∙ hit ∙ is in
-          let t = reader.takes_kept k s (rule_of k s r) id b at set_ready at_head in let x : T = t.0 in (
+      let t = reader.takes_kept k s (rule_of k s r) id b at set_ready at_head in let x : T = t.0 in (
         one_of_readers (taking b x),
         takes (seen_slot_of b) (Some x),
         t.2,
         reached k s (stepped s i new id c (one_of_readers (taking b x)) (takes (seen_slot_of b) (Some x))) r (step.was_taken b x ∷ [])
-            (step.claims_part id b x at set_ready empty at_head t.2 (λ j. record { words = set s.words (index j) (next j); homes = set s.homes
-            (seen_slot_of b) none; views = set s.views id (one_of_readers (taking b x)) })),
-        λ b' e. let one = one_reader b b' e in ((λ _. (x, λ j. (one_of_readers (taking (one j) x), (seen_slot_of (one j), Some x) ∷ c))), λ m. absurd
-            (m (hit ∙ is ∙ ap (λ (z : Reading T). z.head) one))),
+            (step.claims_part id b x at set_ready empty at_head t.2 (λ j. record {
+              words = set s.words (index j) (next j);
+              homes = set s.homes
+                  (seen_slot_of b) none;
+              views = set s.views id (one_of_readers (taking b x));
+            })),
+        λ b' e. let one = one_reader b b' e in (
+          (λ _. (x, λ j. (one_of_readers (taking (one j) x), (seen_slot_of (one j), Some x) ∷ c))),
+          λ m. absurd
+              (m (hit ∙ is ∙ ap (λ (z : Reading T). z.head) one)),
+        ),
       ))
       (λ miss. (
         one_of_readers b,
@@ -191,14 +224,17 @@ module _ {T : Type 0} (k : QueueShape) where
   pub releases_slot : (n id : ℕ) (b : Reading T) (c : List (ℕ × Option T)) (i new : ℕ)
       → i ≡ mark_at k b.lane (b.head % k.per_writer) → new ≡ 2 * (b.head / k.per_writer) + 2 → b.held ≡ true
       → Allows (IsReached k) n id (one_of_readers b, (seen_slot_of b, None) ∷ c) i (λ _. new)
-          (λ _. released_slot (step_of n i new 0 none) (one_of_readers b, (seen_slot_of b, None) ∷ c) new)
+      (λ _. released_slot (step_of n i new 0 none) (one_of_readers b, (seen_slot_of b, None) ∷ c) new)
   releases_slot n id b c i new index is held s r wide at _ = (
     one_of_readers (freeing b),
     gives,
     tt,
     reached k s (stepped s i new id ((seen_slot_of b, None) ∷ c) (one_of_readers (freeing b)) gives) r []
-        (step.releases_slot id b at held (λ j. record { words = set s.words (index j) (is j); homes = set s.homes (seen_slot_of b) (some None);
-        views = set s.views id (one_of_readers (freeing b)) })),
+        (step.releases_slot id b at held (λ j. record {
+          words = set s.words (index j) (is j);
+          homes = set s.homes (seen_slot_of b) (some None);
+          views = set s.views id (one_of_readers (freeing b));
+        })),
     λ b' c' e. let one = one_reader b b' (ap (λ (m : Seated T). m.0) e) in let cs : (seen_slot_of b, None) ∷ c ≡ (seen_slot_of b', None) ∷ c' = ap
         (λ (m : Seated T). m.1) e in let tl : c ≡ c' = cc in λ j. (one_of_readers (freeing (one j)), tl j),
   )
@@ -214,20 +250,26 @@ module _ {T : Type 0} (k : QueueShape) where
         (let s' = stepped s i y id c (one_of_readers (ending b)) keeps in
             let found : get_or s.words (end_at k b.lane) 0 ≡ suc b.head = ap (λ (z : ℕ). get_or s.words z 0) (sym index) ∙ hit in
             let is : s' ≡ record { words = s.words; homes = s.homes; views = set s.views id (one_of_readers (ending b)) } =
-                λ j. record { words = set-get_or s.words i 0 j; homes = s.homes; views = set s.views id (one_of_readers (ending b)) } in
+            λ j. record { words = set-get_or s.words i 0 j; homes = s.homes; views = set s.views id (one_of_readers (ending b)) } in
             all_ends k.writers (ending b).ends (λ totals are. reached k s s' r (step.was_finished b.number totals ∷ [])
-                (step.reads_last_end id b totals at found before are is))
+            (step.reads_last_end id b totals at found before are is))
             (λ more. reached k s s' r [] (step.reads_end id b at found more is))),
-        λ b' e. let one = one_reader b b' e in ((λ _ j. (one_of_readers (ending (one j)), c)), subst
-            (λ (z : Reading T). y ≢ suc z.head → reader_with (ending b) c ≡ reader_with b c) one (λ m. absurd (m hit))),
+        λ b' e. let one = one_reader b b' e in (
+          (λ _ j. (one_of_readers (ending (one j)), c)),
+          subst
+              (λ (z : Reading T). y ≢ suc z.head → reader_with (ending b) c ≡ reader_with b c) one (λ m. absurd (m hit)),
+        ),
       ))
       (λ miss. (
         one_of_readers b,
         keeps,
         tt,
         still s r i id c (one_of_readers b) at,
-        λ b' e. let one = one_reader b b' e in (subst (λ (z : Reading T). y ≡ suc z.head → reader_with b c ≡ reader_with (ending z) c) one
-            (λ h. absurd (miss h)), λ _. refl),
+        λ b' e. let one = one_reader b b' e in (
+          subst (λ (z : Reading T). y ≡ suc z.head → reader_with b c ≡ reader_with (ending z) c) one
+              (λ h. absurd (miss h)),
+          λ _. refl,
+        ),
       ))
 
   pub splits_writer : (id : ℕ) (v : View T) → Splits (IsReached k) id v (no_writer v) (its_writer v)
@@ -241,4 +283,4 @@ module _ {T : Type 0} (k : QueueShape) where
   pub joins_seat : (id : ℕ) (v : View T) (other : ℕ) (w : View T) → Joins (IsReached k) id v other w (both v w) spent
   joins_seat id v other w s r at ne at' =
       reached k s record { words = s.words; homes = s.homes; views = set (set s.views id (both v w)) other spent } r []
-          (step.joins_seat id other v w at ne (sym (set_else s.views id other (both v w) ne) ∙ at') refl)
+      (step.joins_seat id other v w at ne (sym (set_else s.views id other (both v w) ne) ∙ at') refl)

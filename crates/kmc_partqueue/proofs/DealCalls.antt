@@ -57,5 +57,15 @@ pub fresh_between : {T : Type 0} (k : QueueShape) (i per_writer writers : ℕ) (
     → own ≡ (one_of_readers (fresh_reader k i), []) → k.per_writer ≡ per_writer → k.writers ≡ writers → 0 < writers
     → writers ≤ 16 → Between own i per_writer 0 writers (replicate 16 None)
 fresh_between k i per_writer writers own e r ws pos few =
-    record { view = fresh_reader k i; is = e; number_is = refl; writers_is = ws; per_writer_is = r; empty = refl;
-        noted = record { kept = λ w t e. none_kept 16 w t e; all = tt }; long = refl; near = pos; few = few }
+    record {
+      view = fresh_reader k i;
+      is = e;
+      number_is = refl;
+      writers_is = ws;
+      per_writer_is = r;
+      empty = refl;
+      noted = record { kept = λ w t e. none_kept 16 w t e; all = tt };
+      long = refl;
+      near = pos;
+      few = few;
+    }

@@ -36,8 +36,8 @@ module _ {A B : Type 0} (list : A → List B) (l : List A) where
   pub over_same : (f g : B → ℕ) → Each (λ (x : A). Each (λ (y : B). f y ≡ g y) (list x)) l → over f ≡ over g
   over_same f g e =
       same_terms (λ (x : A). total_of f (list x)) (λ (x : A). total_of g (list x)) l
-          (each_map (λ (x : A). Each (λ (y : B). f y ≡ g y) (list x)) (λ (x : A). total_of f (list x) ≡ total_of g (list x))
-          (λ x p. same_terms f g (list x) p) l e)
+      (each_map (λ (x : A). Each (λ (y : B). f y ≡ g y) (list x)) (λ (x : A). total_of f (list x) ≡ total_of g (list x))
+      (λ x p. same_terms f g (list x) p) l e)
 
   pub over_zero : over (λ (y : B). 0) ≡ 0
   over_zero = (λ j. total_of (λ (x : A). zero_terms (list x) j) l) ∙ zero_terms l

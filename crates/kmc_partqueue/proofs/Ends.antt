@@ -50,5 +50,5 @@ pub all_ends : {A : Type 0} (n : ℕ) (ends : List Ending) → ((totals : List �
 all_ends zero ends seen unseen = seen [] (refl, λ w near. absurd (omega arith))
 all_ends (suc n) ends seen unseen = one_end ends n
     (λ t p. all_ends n ends (λ totals are. seen (totals ++ t ∷ []) (one_more n ends totals t are p))
-        (λ few. unseen (λ all. few (λ w near. all w (omega arith)))))
+    (λ few. unseen (λ all. few (λ w near. all w (omega arith)))))
     (λ none. unseen (λ all. let a = all n (omega arith) in none a.0 a.1))

@@ -30,7 +30,7 @@ module _ {A : Type 0} where
   find_number num w [] e = absurd (let e' : 0 ≡ 1 = e in omega arith)
   find_number num w (x ∷ l) e = dite (ℕ_discrete (num x) w) (λ is. (x, (0, refl), is))
       (λ other. let t : ℕ = total_of (λ (y : A). same (num y) w) l in let u : ℕ = same (num x) w in let z : u ≡ 0 = same_ne (num x) w other in
-          let e' : u + t ≡ 1 = e in let r = find_number num w l (omega arith) in (r.0, (suc r.1.0, r.1.1), r.2))
+      let e' : u + t ≡ 1 = e in let r = find_number num w l (omega arith) in (r.0, (suc r.1.0, r.1.1), r.2))
 
   total_zero : (f : A → ℕ) (l : List A) → ((j : ℕ) (u : A) → get_elem? l j ≡ some u → f u ≡ 0) → total_of f l ≡ 0
   total_zero f [] z = refl
@@ -73,7 +73,7 @@ module _ {T : Type 0} where
   module _ (k : QueueShape) (s : St T) (r : LanesRule k s) (id : ℕ) (v : View T) (at : get_elem? s.views id ≡ some v)
       (writers : List (WriterState T)) (readers : List (ReaderState T)) (ws : WriterPairs v.writers writers) (bs : Pairs v.readers readers)
       (each_writer : (w : ℕ) → w < k.writers → total_of (λ (x : WriterState T). same x.number w) writers ≡ 1)
-          (each_reader : (q : ℕ) → q < k.readers → total_of (λ (x : ReaderState T). same x.number q) readers ≡ 1)
+      (each_reader : (q : ℕ) → q < k.readers → total_of (λ (x : ReaderState T). same x.number q) readers ≡ 1)
       (last : ReaderState T) (among : Among last readers) (ended : AllEnded k.writers last.totals) where
     abbrev heads : ℕ → ℕ
     heads = heads_of k s.words
@@ -84,8 +84,11 @@ module _ {T : Type 0} where
 
     pub of_lanes : Each OfLane writers
     of_lanes =
-        writers_each (WriterOk k r.lanes heads) OfLane (λ a x t p. (subst (λ (z : ℕ). z < k.writers) t.number p.known, sym t.sent ∙ p.sent ∙ ap
-            (λ (z : ℕ). (r.lanes z).sent) t.number)) v.writers writers ws (r.each_seat id v at).0
+        writers_each (WriterOk k r.lanes heads) OfLane (λ a x t p. (
+          subst (λ (z : ℕ). z < k.writers) t.number p.known,
+          sym t.sent ∙ p.sent ∙ ap
+              (λ (z : ℕ). (r.lanes z).sent) t.number,
+        )) v.writers writers ws (r.each_seat id v at).0
 
     -- every lane is at its end
     abbrev EndsAt : ReaderState T → Type 0
@@ -94,7 +97,7 @@ module _ {T : Type 0} where
     ends_at : Each EndsAt readers
     ends_at =
         pairs_each (ReaderOk k r.lanes heads) EndsAt (λ b x t p w n e. let a = t.noted.kept w n e in each_at
-            (EndOk k r.lanes heads) b.ends p.ends a.0 _ a.1) v.readers readers bs (r.each_seat id v at).1
+        (EndOk k r.lanes heads) b.ends p.ends a.0 _ a.1) v.readers readers bs (r.each_seat id v at).1
 
     pub full : (w : ℕ) → w < k.writers
         → (slice_get last.totals w ≡ Some (Some (length (r.lanes w).sent))) × (heads w ≡ length (r.lanes w).sent)
@@ -111,7 +114,7 @@ module _ {T : Type 0} where
             let q : ℕ = b.number in let t = total_two (readers_of q) s.views j id u v other e at in
             let o = r.one_reader q known in let a : ℕ = readers_of q v in let a₁ : ℕ = readers_of q u in
             let one : a ≡ 1 = pairs_total (λ (x : Reading T). same x.number q) (λ (x : ReaderState T). same x.number q)
-                (λ x y p. ap (λ (z : ℕ). same z q) p.number) v.readers readers bs ∙ each_reader q known in
+            (λ x y p. ap (λ (z : ℕ). same z q) p.number) v.readers readers bs ∙ each_reader q known in
             let m : ℕ = total_of (λ (x : Reading T). same x.number q) more in let s₁ : ℕ = same q q in
             let two : a₁ ≡ s₁ + m = ap (total_of (λ (x : Reading T). same x.number q)) is in
             let s₂ : s₁ ≡ 1 = same_refl q q refl in
@@ -124,7 +127,7 @@ module _ {T : Type 0} where
     pub counted : (w n : ℕ) → w < k.writers → total_of (in_list w n) readers ≡ once_below n (length (r.lanes w).sent)
     counted w n near =
         sym (pairs_total (got_once w n) (in_list w n) (λ b x p. ap (total_of (is_entry w n)) p.got) v.readers readers bs) ∙ sym
-            (total_only (entries w n) s.views id v at (λ j u other e. no_reader j u other e w n))
+        (total_only (entries w n) s.views id v at (λ j u other e. no_reader j u other e w n))
         ∙ r.taken_once w n near ∙ ap (once_below n) (full w near).1
 
     abbrev Stands : Received T → Type 0
@@ -142,14 +145,16 @@ module _ {T : Type 0} where
           (λ x p n lt. let long : length x.sent ≡ length (r.lanes x.number).sent = ap length p.1 in counted x.number n p.0 ∙ below_one n
           (length (r.lanes x.number).sent) (omega arith)) writers of_lanes;
       others = pairs_each (ReaderOk k r.lanes heads) (λ x. Each Stands x.got × Rises x.got)
-          (λ b x t p. (subst (Each Stands) t.got (each_map (GotOk k r.lanes heads) Stands stands b.got p.shown),
-          subst Rises t.got p.rises)) v.readers readers bs (r.each_seat id v at).1;
+          (λ b x t p. (
+            subst (Each Stands) t.got (each_map (GotOk k r.lanes heads) Stands stands b.got p.shown),
+            subst Rises t.got p.rises,
+          )) v.readers readers bs (r.each_seat id v at).1;
     }
 
     pub totals_are : Each (λ (x : WriterState T). slice_get last.totals x.number ≡ Some (Some (length x.sent))) writers
     totals_are =
         each_map OfLane (λ x. slice_get last.totals x.number ≡ Some (Some (length x.sent)))
-            (λ x p. (full x.number p.0).0 ∙ (λ j. Some (Some (length (sym p.1 j))))) writers of_lanes
+        (λ x p. (full x.number p.0).0 ∙ (λ j. Some (Some (length (sym p.1 j))))) writers of_lanes
 
   pub pairs_append : (bs cs : List (Reading T)) (ss us : List (ReaderState T)) → Pairs bs ss → Pairs cs us → Pairs (bs ++ cs) (ss ++ us)
   pairs_append [] cs [] us p q = q

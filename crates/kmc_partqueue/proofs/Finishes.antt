@@ -61,8 +61,12 @@ module _ {T : Type 0} (k : QueueShape) where
   -- some lane is still to be seen at its end, before and after the load
   tells_more : (h : History T) (b : Reading T) → FinishTold h b → ¬ SawAllEnds k.writers (ending b).ends → FinishTold h (ending b)
   tells_more h b t few =
-      record { told = λ all. absurd (few all); once = λ all. absurd (few all); never = λ _. t.never
-          (λ all. few (λ w near. let a = all w near in (a.0, among_left _ b.ends _ a.1))) }
+      record {
+        told = λ all. absurd (few all);
+        once = λ all. absurd (few all);
+        never = λ _. t.never
+            (λ all. few (λ w near. let a = all w near in (a.0, among_left _ b.ends _ a.1)));
+      }
 
   abbrev AllTell : History T → List (View T) → Type 0
   AllTell h vs = (j : ℕ) (v : View T) → get_elem? vs j ≡ some v → Each (FinishTold h) v.readers
@@ -87,7 +91,7 @@ module _ {T : Type 0} (k : QueueShape) where
       → Each (FinishTold h) left.readers → Each (FinishTold h) right.readers → AllTell h (set vs id left ++ right ∷ [])
   seat_splits h vs id left right old a b j u e =
       ⊎_elim (seat_moves h vs id left old a j u) (λ (is : right ≡ u). subst (λ (z : View T). Each (FinishTold h) z.readers) is b)
-          (at_snoc (set vs id left) right u j e)
+      (at_snoc (set vs id left) right u j e)
 
   module _ (s s' : St T) (r : LanesRule k s) (h : History T) (old : AllTell h s.views) where
     moved : (e : History T) → IsStep k s s' e → AllTell (e ++ h) s'.views
@@ -105,7 +109,7 @@ module _ {T : Type 0} (k : QueueShape) where
         subst (λ (z : St T). AllTell h z.views) (sym is) (seat_moves h s.views id _ old (record { told = t.told; once = t.once; never = t.never }, tt))
     moved e (step.claims_part id b x at ready empty at_head has is) = let t = (old id (one_of_readers b) at).0 in
         subst (λ (z : St T). AllTell (step.was_taken b x ∷ h) z.views) (sym is)
-            (seat_adds h (step.was_taken b x) (λ _. refl) s.views id _ old (record { told = t.told; once = t.once; never = t.never }, tt))
+        (seat_adds h (step.was_taken b x) (λ _. refl) s.views id _ old (record { told = t.told; once = t.once; never = t.never }, tt))
     moved e (step.releases_slot id b at held is) =
         let t = (old id (one_of_readers b) at).0 in
         subst (λ (z : St T). AllTell h z.views) (sym is) (seat_moves h s.views id _ old (record { told = t.told; once = t.once; never = t.never }, tt))
@@ -117,17 +121,17 @@ module _ {T : Type 0} (k : QueueShape) where
         subst (λ (z : St T). AllTell (d ∷ h) z.views) (sym is)
         (views_stay (λ _ (u : View T). Each (FinishTold (d ∷ h)) u.readers) s.views id (one_of_readers (ending b)) (tells_now h b totals t before are, tt)
         (λ j u other at'. each_absent (FinishTold h) (FinishTold (d ∷ h)) (λ (c : Reading T). c.number) b.number
-            (λ c apart t'. tells_on h d c (same_ne b.number c.number (λ i. apart (sym i))) t') u.readers (reader.alone k s r id b at j u other at')
-            (old j u at')))
+        (λ c apart t'. tells_on h d c (same_ne b.number c.number (λ i. apart (sym i))) t') u.readers (reader.alone k s r id b at j u other at')
+        (old j u at')))
     moved e (step.finds_nothing is) = subst (λ (z : St T). AllTell h z.views) (sym is) old
     moved e (step.splits_writer id v at is) =
         subst (λ (z : St T). AllTell h z.views) (sym is) (seat_splits h s.views id (no_writer v) (its_writer v) old (old id v at) tt)
     moved e (step.splits_reader id v at is) =
         subst (λ (z : St T). AllTell h z.views) (sym is) (seat_splits h s.views id (no_reader v) (its_reader v) old
-            (each_rest (FinishTold h) v.readers (old id v at)) (each_first (FinishTold h) v.readers (old id v at)))
+        (each_rest (FinishTold h) v.readers (old id v at)) (each_first (FinishTold h) v.readers (old id v at)))
     moved e (step.joins_seat id other v w at ne at' is) = subst (λ (z : St T). AllTell h z.views) (sym is)
         (seat_moves h (set s.views id (both v w)) other spent (seat_moves h s.views id (both v w) old
-            (each_append (FinishTold h) w.readers v.readers (old other w at') (old id v at))) tt)
+        (each_append (FinishTold h) w.readers v.readers (old other w at') (old id v at))) tt)
 
   all_moved : (s s' : St T) (e : History T) → AreSteps k s s' e → LanesRule k s → (h : History T) → AllTell h s.views
       → AllTell (e ++ h) s'.views
@@ -135,14 +139,14 @@ module _ {T : Type 0} (k : QueueShape) where
       subst (λ (z : History T). AllTell (z ++ h) s'.views) (sym none_yet) (subst (λ (z : St T). AllTell h z.views) is old)
   all_moved s s' e (step.then t d f steps move is) r h old =
       subst (λ (z : History T). AllTell z s'.views) (sym (append_assoc f d h) ∙ ap (λ (z : History T). z ++ h) (sym is))
-          (moved t s' (ruled k s t d steps r) (d ++ h) (all_moved s t d steps r h old) f move)
+      (moved t s' (ruled k s t d steps r) (d ++ h) (all_moved s t d steps r h old) f move)
 
   -- nothing was told, and no end was seen
   opening_tells : AllTell (registrations k.writers) (opened {T = T} k).views
   opening_tells j v e = ⊎_elim (λ (x : get_elem? [] j ≡ some v). absurd (maybe.some-ne-none v (sym x)))
       (λ (x : all_seats k ≡ v). subst (λ (u : View T). Each (FinishTold (registrations k.writers)) u.readers) x
-          (each_row (FinishTold (registrations k.writers)) (fresh_reader k) 0 k.readers
-          (λ i _. record { told = λ all. absurd (unseen all); once = λ all. absurd (unseen all); never = λ _. none_told T i k.writers })))
+      (each_row (FinishTold (registrations k.writers)) (fresh_reader k) 0 k.readers
+      (λ i _. record { told = λ all. absurd (unseen all); once = λ all. absurd (unseen all); never = λ _. none_told T i k.writers })))
       (at_snoc [] (all_seats k) v j e)
     where
       unseen : SawAllEnds k.writers [] → ⊥

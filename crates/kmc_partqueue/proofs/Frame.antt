@@ -78,19 +78,19 @@ module _ {T : Type 0} (k : QueueShape) where
   hands_put lanes w₀ i sent' held' done' cell' r apart w n e = let l' = lane_of sent' held' done' (put (lanes w₀).cells i cell') in
       at_put lanes w₀ l' (λ m l. m ≡ w → l.cells (n % k.per_writer) ≡ (n, reading r)) w
       (λ is. at_put (lanes w₀).cells i cell' (λ m x. m ≡ n % k.per_writer → x ≡ (n, reading r)) (n % k.per_writer)
-          (λ at. absurd (apart (ap (λ (x : Cell). x.1) (ap (λ (z : ℕ). (lanes w₀).cells z) at ∙ ap (λ (z : ℕ). (lanes z).cells (n % k.per_writer)) is
-          ∙ e)))) (λ _ _. ap (λ (z : ℕ). (lanes z).cells (n % k.per_writer)) is ∙ e) refl)
+      (λ at. absurd (apart (ap (λ (x : Cell). x.1) (ap (λ (z : ℕ). (lanes w₀).cells z) at ∙ ap (λ (z : ℕ). (lanes z).cells (n % k.per_writer)) is
+      ∙ e)))) (λ _ _. ap (λ (z : ℕ). (lanes z).cells (n % k.per_writer)) is ∙ e) refl)
       (λ _ _. e) refl
 
   -- a step by the seat id on the lane w₀
   pub rule_moves : (s : St T) (r : LanesRule k s) (id : ℕ) (v v' : View T) (w₀ : ℕ) (l' : Lane T) (ws' : List ℕ) (homes' : List (maybe.Option (Option T)))
       → get_elem? s.views id ≡ some v → length ws' ≡ length s.words → length homes' ≡ length s.homes
       → LaneOk k.per_writer l' (get_or ws' (head_at k w₀) 0) (get_or ws' (end_at k w₀) 0) (λ i. get_or ws' (mark_at k w₀ i) 0)
-          (λ i. get_elem? homes' (slot_at k w₀ i))
+      (λ i. get_elem? homes' (slot_at k w₀ i))
       → ((w : ℕ) → w < k.writers → w ≢ w₀ → (get_or ws' (head_at k w) 0 ≡ get_or s.words (head_at k w) 0)
-          × (get_or ws' (end_at k w) 0 ≡ get_or s.words (end_at k w) 0)
-          × ((i : ℕ) → i < k.per_writer → get_or ws' (mark_at k w i) 0 ≡ get_or s.words (mark_at k w i) 0)
-          × ((i : ℕ) → i < k.per_writer → get_elem? homes' (slot_at k w i) ≡ get_elem? s.homes (slot_at k w i)))
+      × (get_or ws' (end_at k w) 0 ≡ get_or s.words (end_at k w) 0)
+      × ((i : ℕ) → i < k.per_writer → get_or ws' (mark_at k w i) 0 ≡ get_or s.words (mark_at k w i) 0)
+      × ((i : ℕ) → i < k.per_writer → get_elem? homes' (slot_at k w i) ≡ get_elem? s.homes (slot_at k w i)))
       → ViewOk k (put r.lanes w₀ l') (heads_of k ws') v'
       → ((j : ℕ) (u : View T) → j ≢ id → get_elem? s.views j ≡ some u → ViewOk k (put r.lanes w₀ l') (heads_of k ws') u)
       → ((w : ℕ) → writers_of w v' ≡ writers_of w v) → ((w : ℕ) → readers_of w v' ≡ readers_of w v)
@@ -104,11 +104,11 @@ module _ {T : Type 0} (k : QueueShape) where
     slots = slots ∙ r.slots;
     each_lane =
         λ w near. at_put r.lanes w₀ l' (λ m l. LaneOk k.per_writer l (get_or ws' (head_at k m) 0) (get_or ws' (end_at k m) 0)
-            (λ i. get_or ws' (mark_at k m i) 0) (λ i. get_elem? homes' (slot_at k m i))) w here
+        (λ i. get_or ws' (mark_at k m i) 0) (λ i. get_elem? homes' (slot_at k m i))) w here
         (λ n. let o = other w near n in lane_stays k.per_writer r.some_room (r.lanes w) (get_or s.words (head_at k w) 0)
-            (get_or s.words (end_at k w) 0) (λ i. get_or s.words (mark_at k w i) 0) (λ i. get_elem? s.homes (slot_at k w i)) (r.each_lane w near)
-            (get_or ws' (head_at k w) 0) (get_or ws' (end_at k w) 0) (λ i. get_or ws' (mark_at k w i) 0)
-            (λ i. get_elem? homes' (slot_at k w i)) o.0 o.1 o.2 o.3);
+        (get_or s.words (end_at k w) 0) (λ i. get_or s.words (mark_at k w i) 0) (λ i. get_elem? s.homes (slot_at k w i)) (r.each_lane w near)
+        (get_or ws' (head_at k w) 0) (get_or ws' (end_at k w) 0) (λ i. get_or ws' (mark_at k w i) 0)
+        (λ i. get_elem? homes' (slot_at k w i)) o.0 o.1 o.2 o.3);
     each_seat = views_stay (λ j u. ViewOk k (put r.lanes w₀ l') (heads_of k ws') u) s.views id v' mine others;
     one_writer = λ w near. let t = total_set (writers_of w) s.views id v v' at in let e = ws w in let o = r.one_writer w near in omega arith;
     one_reader = λ w near. let t = total_set (readers_of w) s.views id v v' at in let e = rs w in let o = r.one_reader w near in omega arith;
@@ -144,4 +144,4 @@ module _ {T : Type 0} (k : QueueShape) where
   reviewed s r id v v' at mine ws rs es = reseated s r (set s.views id v')
       (views_stay (λ j u. ViewOk k r.lanes (heads_of k s.words) u) s.views id v' mine (λ j u _ e. r.each_seat j u e))
       (λ w. same_total (writers_of w) s id v v' at (ws w)) (λ w. same_total (readers_of w) s id v v' at (rs w))
-          (λ w n. same_total (entries w n) s id v v' at (es w n))
+      (λ w n. same_total (entries w n) s id v v' at (es w n))

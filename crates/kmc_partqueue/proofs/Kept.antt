@@ -26,13 +26,19 @@ module _ {T : Type 0} (k : QueueShape) (s s' : St T) (r : LanesRule k s) where
   -- the part at the head is the one at home
   pub claimed : (id : ℕ) (b : Reading T) (x : T) → get_elem? s.views id ≡ some (one_of_readers b) → b.ready ≡ true
       → get_or s.words (head_at k b.lane) 0 ≡ b.head → get_elem? s.homes (seen_slot_of b) ≡ some (some (Some x))
-      → (get_elem? (r.lanes b.lane).sent b.head ≡ some x) × LanesRule k record { words = set s.words (head_at k b.lane) (b.head + 1);
-          homes = set s.homes (seen_slot_of b) none; views = set s.views id (one_of_readers (taking b x)) }
+      → (get_elem? (r.lanes b.lane).sent b.head ≡ some x) × LanesRule k record {
+        words = set s.words (head_at k b.lane) (b.head + 1);
+        homes = set s.homes (seen_slot_of b) none;
+        views = set s.views id (one_of_readers (taking b x));
+      }
   claimed id b x at ready at_head has =
       let t = reader.takes_kept k s r id b at ready at_head in let is : t.0 ≡ x = one_part t.0 x (sym t.2 ∙ has) in
       subst (λ (z : T). (get_elem? (r.lanes b.lane).sent b.head ≡ some z)
-          × LanesRule k record { words = set s.words (head_at k b.lane) (b.head + 1); homes = set s.homes (seen_slot_of b) none;
-          views = set s.views id (one_of_readers (taking b z)) }) is (t.1, t.3)
+      × LanesRule k record {
+        words = set s.words (head_at k b.lane) (b.head + 1);
+        homes = set s.homes (seen_slot_of b) none;
+        views = set s.views id (one_of_readers (taking b z));
+      }) is (t.1, t.3)
 
   pub kept : (e : History T) → IsStep k s s' e → LanesRule k s'
   kept e (step.claims_free_slot id a at empty found is) = subst (LanesRule k) (sym is) (writer.holds_kept k s r id a at empty found)

@@ -40,7 +40,7 @@ module _ {A : Type 0} where
   some_member f [] le = absurd (omega arith)
   some_member f (x ∷ l) le = dite (dec_le 1 (f x)) (λ here. (x, (0, refl), here))
       (λ no. let z : f x < 1 = lt_of_not-le no in let a : ℕ = f x in let t : ℕ = total_of f l in let le' : 1 ≤ a + t = le in let r = some_member f l
-          (omega arith) in (r.0, (suc r.1.0, r.1.1), r.2))
+      (omega arith) in (r.0, (suc r.1.0, r.1.1), r.2))
 
   pub member_at : (l : List A) (i : ℕ) (x : A) → slice_get l i ≡ Some x → get_elem? l i ≡ some x
   member_at [] i x e = cc

@@ -119,7 +119,7 @@ module _ {T : Type 0} where
       pub late : mark (len % c) ≢ 2 * (len / c) → c ≤ len
       late other =
           dite (dec_le c len) (λ le. le) (λ far. let i : ℕ = len % c in let k = cell_of len in let q : ℕ = (l.cells i).0 in
-              let lt : len < c = lt_of_not-le far in let f : q < head + c = k.freed in let b : head ≤ len = ok.behind in
+          let lt : len < c = lt_of_not-le far in let f : q < head + c = k.freed in let b : head ≤ len = ok.behind in
           let is : q ≡ len = near_one c len q (omega arith) (omega arith) k.lies in absurd (go (l.cells i) is k.phase))
         where
           go : (cell : Cell) → cell.0 ≡ len → InPhase c head l.sent (mark (len % c)) (home (len % c)) cell.0 cell.1 → ⊥
@@ -145,7 +145,7 @@ module _ {T : Type 0} where
         limit = limit;
         each_cell = λ j near. at_put l.cells i cell' (λ m x. CellOk c head' sent' held' m (mark' m) (home' m) x) j here (λ other.
             cell_stays head head' l.sent sent' l.held held' j (mark j) (mark' j) (home j) (home' j) (l.cells j) a b more
-                (λ q e. lq q (λ is. other (sym e ∙ is))) (λ q e. hq q (λ is. other (sym e ∙ is))) (λ q e. wq q (λ is. other (sym e ∙ is)))
+            (λ q e. lq q (λ is. other (sym e ∙ is))) (λ q e. hq q (λ is. other (sym e ∙ is))) (λ q e. wq q (λ is. other (sym e ∙ is)))
             (λ is. keep (l.cells j).0 (λ at. other (sym (ok.each_cell j near).lies ∙ at)) is) (em j near other) (eo j near other) (ok.each_cell j near));
         writes = writes;
       }
@@ -158,7 +158,7 @@ module _ {T : Type 0} where
       lane_holds home' at found out eo =
           let i : ℕ = len % c in let k = subst (CellOk c head l.sent l.held i (mark i) (home i)) at (cell_of len) in
           lane_moves l.sent true l.done head ending mark home' i (len, writing) ok.ended (le_refl head) (le_refl len)
-              (λ p x e. e) ok.behind ok.within ok.limit (λ q n e. e) (λ q n e. e) (λ q n e. e) (λ q n e h. refl) (λ j _ _. refl) eo
+          (λ p x e. e) ok.behind ok.within ok.limit (λ q n e. e) (λ q n e. e) (λ q n e. e) (λ q n e h. refl) (λ j _ _. refl) eo
           record { lies = refl; freed = k.freed; waits = k.waits; phase = (found, refl, out); in_hand = λ _. refl } (λ _. put_here l.cells i (len, writing))
 
       -- a part is published
@@ -173,13 +173,18 @@ module _ {T : Type 0} where
           let n : ℕ = len in let n' : ℕ = length (l.sent ++ x ∷ []) in let long' : n' ≡ suc n = long in
           let f : n < head + c = k.freed in let b : head ≤ n = ok.behind in
           lane_moves (l.sent ++ x ∷ []) false l.done head ending mark' home' i (len, full)
-              (subst (λ (d : Bool). ending ≡ end_word d len → ending ≡ end_word d n') (sym going) (λ e. e) ok.ended) (le_refl head) (omega arith)
-              (λ p y. at_longer l.sent (x ∷ []) p y)
+          (subst (λ (d : Bool). ending ≡ end_word d len → ending ≡ end_word d n') (sym going) (λ e. e) ok.ended) (le_refl head) (omega arith)
+          (λ p y. at_longer l.sent (x ∷ []) p y)
           (omega arith) (omega arith) (omega arith) (λ q other le. let ne : q ≢ n = λ e. other (ap (λ (z : ℕ). z % c) e) in omega arith)
-              (λ q _ le. le) (λ q other e. absurd (other (ap (λ (z : ℕ). z % c) e))) (λ q other e _. absurd (other (ap (λ (z : ℕ). z % c) e))) em eo
-          record { lies = refl; freed = k.freed; waits = (let g : n' ≤ n + c = omega arith in g);
-              phase = (em₀, ok.behind, (let g : n < n' = omega arith in g), (x, at_last l.sent x len refl, eo₀)); in_hand = λ e. let e' : full
-              ≡ writing = e in cc } (λ e. let e' : false ≡ true = e in cc)
+          (λ q _ le. le) (λ q other e. absurd (other (ap (λ (z : ℕ). z % c) e))) (λ q other e _. absurd (other (ap (λ (z : ℕ). z % c) e))) em eo
+          record {
+            lies = refl;
+            freed = k.freed;
+            waits = (let g : n' ≤ n + c = omega arith in g);
+            phase = (em₀, ok.behind, (let g : n < n' = omega arith in g), (x, at_last l.sent x len refl, eo₀));
+            in_hand = λ e. let e' : full
+                ≡ writing = e in cc;
+          } (λ e. let e' : false ≡ true = e in cc)
 
       -- the lane is closed
       pub lane_ends : (ending' : ℕ) → ending' ≡ suc len → LaneOk c (lane_of l.sent l.held true l.cells) head ending' mark home
@@ -218,7 +223,7 @@ module _ {T : Type 0} where
           go (n, writing) e is k = let b : n ≡ len = k.1 in absurd (omega arith)
           go (n, full) e is k =
               subst (λ (z : ℕ). (l.cells (h % c) ≡ (z, full)) × (mark (h % c) ≡ 2 * (z / c) + 1)
-                  × ((x : T) × (get_elem? l.sent z ≡ some x) × (home (h % c) ≡ some (some (Some x))))) is (e, k.0, k.3)
+              × ((x : T) × (get_elem? l.sent z ≡ some x) × (home (h % c) ≡ some (some (Some x))))) is (e, k.0, k.3)
           go (n, reading r) e is k = let b : n < head = k.1 in absurd (omega arith)
 
       pub lane_takes : (h r head' : ℕ) (home' : ℕ → maybe.Option (Home T)) → head ≡ h → h < len → head' ≡ h + 1
@@ -229,10 +234,15 @@ module _ {T : Type 0} where
           let k = subst (CellOk c head l.sent l.held i (mark i) (home i)) fl.0 (cell_of h) in
           let w : len ≤ head + c = ok.within in let f : h < head + c = k.freed in let n : ℕ = len in
           lane_moves l.sent l.held l.done head' ending mark home' i (h, reading r) ok.ended (omega arith) (le_refl len) (λ p x e. e) (omega arith)
-              (omega arith) ok.limit (λ q n e. e)
+          (omega arith) ok.limit (λ q n e. e)
           (λ q other le. let ne : q ≢ h = λ e. other (ap (λ (z : ℕ). z % c) e) in omega arith) (λ q n e. e) (λ q n e h. h) (λ j _ _. refl) eo
-          record { lies = refl; freed = (let g : h < head' + c = omega arith in g); waits = k.waits;
-              phase = (fl.1, (let g : h < head' = omega arith in g), out); in_hand = λ e. let e' : reading r ≡ writing = e in cc }
+          record {
+            lies = refl;
+            freed = (let g : h < head' + c = omega arith in g);
+            waits = k.waits;
+            phase = (fl.1, (let g : h < head' = omega arith in g), out);
+            in_hand = λ e. let e' : reading r ≡ writing = e in cc;
+          }
           (λ e. at_put l.cells i (h, reading r) (λ m x. m ≡ len % c → x ≡ (len, writing)) (len % c) (λ is. clash e is fl.0) (λ _ _. ok.writes e) refl)
         where
           clash : {A : Type 0} → l.held ≡ true → h % c ≡ len % c → l.cells (h % c) ≡ (h, full) → A
@@ -248,10 +258,15 @@ module _ {T : Type 0} where
           let u = next_use c pos h in let a : ℕ = (h + c) / c in let b : ℕ = h / c in let u' : a ≡ b + 1 = u in
           let below : h < head = k.phase.1 in
           lane_moves l.sent l.held l.done head ending mark' home' i (h + c, free) ok.ended (le_refl head) (le_refl len)
-              (λ p x e. e) ok.behind ok.within ok.limit (λ q n e. e) (λ q n e. e) (λ q n e. e) (λ q n e h. h) em eo
-          record { lies = next_slot c pos h; freed = (let g : h + c < head + c = omega arith in g);
-              waits = (let w : len ≤ h + c = k.waits in let g : len ≤ h + c + c = omega arith in g); phase =
-              (em₀ ∙ (let g : 2 * b + 2 ≡ 2 * a = omega arith in g), k.waits, eo₀); in_hand = λ e. let e' : free ≡ writing = e in cc }
+          (λ p x e. e) ok.behind ok.within ok.limit (λ q n e. e) (λ q n e. e) (λ q n e. e) (λ q n e h. h) em eo
+          record {
+            lies = next_slot c pos h;
+            freed = (let g : h + c < head + c = omega arith in g);
+            waits = (let w : len ≤ h + c = k.waits in let g : len ≤ h + c + c = omega arith in g);
+            phase =
+                (em₀ ∙ (let g : 2 * b + 2 ≡ 2 * a = omega arith in g), k.waits, eo₀);
+            in_hand = λ e. let e' : free ≡ writing = e in cc;
+          }
           (λ e. at_put l.cells i (h + c, free) (λ m x. m ≡ len % c → x ≡ (len, writing)) (len % c) (λ is. clash e is) (λ _ _. ok.writes e) refl)
         where
           clash : {A : Type 0} → l.held ≡ true → h % c ≡ len % c → A

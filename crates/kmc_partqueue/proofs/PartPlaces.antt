@@ -58,7 +58,7 @@ module _ {T : Type 0} (k : QueueShape) (s : St T) (r : LanesRule k s) where
     in_slot : head ≤ n → IsInSlot k s w n x
     in_slot le =
         let f = full_found k.per_writer r.some_room (r.lanes w) head (get_or s.words (end_at k w) 0) (λ (j : ℕ). get_or s.words (mark_at k w j) 0)
-            (λ (j : ℕ). get_elem? s.homes (slot_at k w j)) (r.each_lane w own.known) n le (within (r.lanes w).sent n x sent_is) in
+        (λ (j : ℕ). get_elem? s.homes (slot_at k w j)) (r.each_lane w own.known) n le (within (r.lanes w).sent n x sent_is) in
         record {
           marked = f.1;
           lies = f.2.2 ∙ (λ j. some (some (Some (some-injective f.2.0 x (sym f.2.1 ∙ sent_is) j))));
@@ -94,9 +94,9 @@ module _ {T : Type 0} (k : QueueShape) (s : St T) (r : LanesRule k s) where
         let b : Reading T = h.by in let seat : HasReader s b = (h.seat, h.view, h.at, h.among) in
         let o = reader_ok b seat in let has = o.held h.holds.0 in let i : ℕ = n % k.per_writer in
         let at_cell : (r.lanes w).cells i ≡ (n, reading b.number) = (λ j. (r.lanes (sym h.holds.1 j)).cells (sym h.holds.2 j % k.per_writer)) ∙ has.0
-            ∙ (λ j. (h.holds.2 j, reading b.number)) in
+        ∙ (λ j. (h.holds.2 j, reading b.number)) in
         let cell = subst (CellOk k.per_writer head (r.lanes w).sent (r.lanes w).held i (get_or s.words (mark_at k w i) 0)
-            (get_elem? s.homes (slot_at k w i))) at_cell ((r.each_lane w own.known).each_cell i (mod-lt n r.some_room)) in
+        (get_elem? s.homes (slot_at k w i))) at_cell ((r.each_lane w own.known).each_cell i (mod-lt n r.some_room)) in
         let e : Received T = record { writer = b.lane; number = b.head; item = has.1.1 } in
         let listed = subst (Among e) (sym has.1.2) (among_last e has.1.0) in
         let ok = each_at (GotOk k r.lanes heads) b.got o.shown listed.0 e listed.1 in record {
@@ -151,19 +151,19 @@ module _ {T : Type 0} (k : QueueShape) (s : St T) (r : LanesRule k s) where
     held_alone = record {
       out =
           (let cell = subst (CellOk k.per_writer (get_or s.words (head_at k b.lane) 0) (r.lanes b.lane).sent (r.lanes b.lane).held i₀
-              (get_or s.words (mark_at k b.lane i₀) 0) (get_elem? s.homes (slot_at k b.lane i₀))) at_cell
-              ((r.each_lane b.lane ok.lane).each_cell i₀ (near b.head)) in
+          (get_or s.words (mark_at k b.lane i₀) 0) (get_elem? s.homes (slot_at k b.lane i₀))) at_cell
+          ((r.each_lane b.lane ok.lane).each_cell i₀ (near b.head)) in
           ap (get_elem? s.homes) slot_is ∙ cell.phase.2);
       writers =
           λ a seat busy same_slot. (let o = writer_ok a seat in let l = r.lanes a.number in let j : ℕ = length l.sent % k.per_writer in
           let next_is : next_slot_of a ≡ slot_at k a.number j = (λ t. a.number * o.per_writer t + length (o.sent t) % o.per_writer t) in
           let one = one_lane a.number b.lane j i₀ (near (length l.sent)) (near b.head) (sym next_is ∙ same_slot ∙ slot_is) in
           let e : (length l.sent, writing) ≡ (b.head, reading b.number) = sym ((r.each_lane a.number o.known).writes (sym o.held ∙ busy))
-              ∙ (λ t. (r.lanes (one.0 t)).cells (one.1 t)) ∙ at_cell in
+          ∙ (λ t. (r.lanes (one.0 t)).cells (one.1 t)) ∙ at_cell in
           clash (ap (λ (z : Cell). z.1) e));
       readers = λ d seat busy same_slot. (let o = reader_ok d seat in let j : ℕ = d.head % k.per_writer in
           let one = one_lane d.lane b.lane j i₀ (near d.head) (near b.head)
-              (sym (ap (λ (z : ℕ). d.lane * z + d.head % z) o.per_writer) ∙ same_slot ∙ slot_is) in
+          (sym (ap (λ (z : ℕ). d.lane * z + d.head % z) o.per_writer) ∙ same_slot ∙ slot_is) in
           let e : (d.head, reading d.number) ≡ (b.head, reading b.number) = sym (o.held busy).0 ∙ (λ t. (r.lanes (one.0 t)).cells (one.1 t)) ∙ at_cell in
           ap who (ap (λ (z : Cell). z.1) e));
     }

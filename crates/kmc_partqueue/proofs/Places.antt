@@ -11,8 +11,11 @@ use Rattle.kmc_partqueue.proofs.Turns.{other_lane, lane_within}
 module _ (k : QueueShape) (w₀ i₀ : ℕ) (near : w₀ < k.writers) (in_room : i₀ < k.per_writer) where
   pub other_slot : (w i : ℕ) → i < k.per_writer → ¬ ((w ≡ w₀) × (i ≡ i₀)) → slot_at k w i ≢ slot_at k w₀ i₀
   other_slot w i l n e =
-      dite (ℕ_discrete w w₀) (λ same. n (same, (let x : ℕ = w * k.per_writer in let y : ℕ = w₀ * k.per_writer in let xy : x ≡ y = ap
-          (λ (z : ℕ). z * k.per_writer) same in let e' : x + i ≡ y + i₀ = e in omega arith))) (λ other. other_lane k.per_writer w w₀ i i₀ l in_room other e)
+      dite (ℕ_discrete w w₀) (λ same. n (
+        same,
+        (let x : ℕ = w * k.per_writer in let y : ℕ = w₀ * k.per_writer in let xy : x ≡ y = ap
+            (λ (z : ℕ). z * k.per_writer) same in let e' : x + i ≡ y + i₀ = e in omega arith),
+      )) (λ other. other_lane k.per_writer w w₀ i i₀ l in_room other e)
 
   pub slot_within : slot_at k w₀ i₀ < k.writers * k.per_writer
   slot_within = lane_within k.per_writer w₀ k.writers i₀ near in_room
@@ -25,7 +28,7 @@ module _ {H : Type 0} (k : QueueShape) (ws ws' : List ℕ) (homes homes' : List 
   abbrev pub LaneSame : ℕ → Type 0
   LaneSame w =
       (get_or ws' (head_at k w) 0 ≡ get_or ws (head_at k w) 0) × (get_or ws' (end_at k w) 0 ≡ get_or ws (end_at k w) 0)
-          × ((i : ℕ) → i < k.per_writer → get_or ws' (mark_at k w i) 0 ≡ get_or ws (mark_at k w i) 0)
+      × ((i : ℕ) → i < k.per_writer → get_or ws' (mark_at k w i) 0 ≡ get_or ws (mark_at k w i) 0)
       × ((i : ℕ) → i < k.per_writer → get_elem? homes' (slot_at k w i) ≡ get_elem? homes (slot_at k w i))
 
 module _ (k : QueueShape) (ws : List ℕ) (w₀ : ℕ) (near : w₀ < k.writers) (x : ℕ) where
@@ -33,7 +36,7 @@ module _ (k : QueueShape) (ws : List ℕ) (w₀ : ℕ) (near : w₀ < k.writers)
     pub mark_head : (w : ℕ) → w < k.writers → get_or (set ws (mark_at k w₀ i₀) x) (head_at k w) 0 ≡ get_or ws (head_at k w) 0
     mark_head w l =
         get_or-set_other ws (mark_at k w₀ i₀) (head_at k w) x 0 (λ e. let a : ℕ = slot_at k w₀ i₀ in let e' : k.writers + w
-            ≡ 2 * k.writers + a = e in omega arith)
+        ≡ 2 * k.writers + a = e in omega arith)
 
     pub mark_end : (w : ℕ) → w < k.writers → get_or (set ws (mark_at k w₀ i₀) x) (end_at k w) 0 ≡ get_or ws (end_at k w) 0
     mark_end w l =
@@ -43,8 +46,8 @@ module _ (k : QueueShape) (ws : List ℕ) (w₀ : ℕ) (near : w₀ < k.writers)
         → get_or (set ws (mark_at k w₀ i₀) x) (mark_at k w i) 0 ≡ get_or ws (mark_at k w i) 0
     mark_mark w i l n =
         get_or-set_other ws (mark_at k w₀ i₀) (mark_at k w i) x 0 (λ e. other_slot k w₀ i₀ near in_room w i l n
-            (let a : ℕ = slot_at k w₀ i₀ in let b : ℕ = slot_at k w i in let e' : 2 * k.writers + b ≡ 2 * k.writers + a = e in let g : b
-            ≡ a = omega arith in g))
+        (let a : ℕ = slot_at k w₀ i₀ in let b : ℕ = slot_at k w i in let e' : 2 * k.writers + b ≡ 2 * k.writers + a = e in let g : b
+        ≡ a = omega arith in g))
 
   pub head_head : (w : ℕ) → w ≢ w₀ → get_or (set ws (head_at k w₀) x) (head_at k w) 0 ≡ get_or ws (head_at k w) 0
   head_head w n =

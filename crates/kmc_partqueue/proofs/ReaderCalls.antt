@@ -93,14 +93,14 @@ module _ {T : Type 0} (k : QueueShape) (n id : ℕ) (b : Reading T) (me : Seated
       → Allows (IsReached k) n id me i (λ y. either (eqb y old) new y) (claimed_part (step n i old new none) me)
   take_call i old new e is o m ready empty =
       subst (λ (x : Seated T). Allows (IsReached k) n id x i (λ y. either (eqb y old) new y) (claimed_part (step n i old new none) x)) (sym e)
-          (claims_part k n id b [] i old new is o m ready empty)
+      (claims_part k n id b [] i old new is o m ready empty)
 
   pub free_call : (i new : ℕ) → me ≡ with_slot b None → i ≡ mark_at k b.lane (b.head % k.per_writer)
       → new ≡ 2 * (b.head / k.per_writer) + 2 → b.held ≡ true
       → Allows (IsReached k) n id me i (λ _. new) (λ _. released_slot (step n i new 0 none) me new)
   free_call i new e is m held =
       subst (λ (x : Seated T). Allows (IsReached k) n id x i (λ _. new) (λ _. released_slot (step n i new 0 none) x new)) (sym e)
-          (releases_slot k n id b [] i new is m held)
+      (releases_slot k n id b [] i new is m held)
 
 -- notes of a lane more
 pub set_same : {A : Type 0} (l : List A) (i : ℕ) (a : A) → i < length l → slice_get (set l i a) i ≡ Some a
@@ -120,11 +120,11 @@ pub noted_more : (es : List Ending) (ts : List (Option ℕ)) (w t : ℕ) → Not
 noted_more es ts w t n new inside = record {
   kept = λ v u e. dite (ℕ_discrete v w)
       (λ is. let same : Some (Some t) ≡ Some (Some u) = sym (set_same ts w (Some t) inside) ∙ ap (slice_get (set ts w (Some t))) (sym is) ∙ e in
-          let tu : t ≡ u = inner same in
+      let tu : t ≡ u = inner same in
       subst (λ (z : Ending). Among z (es ++ record { writer = w; total = t } ∷ [])) (λ j. record { writer = sym is j; total = tu j })
-          (among_last (record { writer = w; total = t }) es))
+      (among_last (record { writer = w; total = t }) es))
       (λ other. among_left (record { writer = v; total = u }) es (record { writer = w; total = t } ∷ [])
-          (n.kept v u (sym (set_rest ts w v (Some t) other) ∙ e)));
+      (n.kept v u (sym (set_rest ts w v (Some t) other) ∙ e)));
   all = each_append (λ (e : Ending). slice_get (set ts w (Some t)) e.writer ≡ Some (Some e.total)) es (record { writer = w; total = t } ∷ [])
       (olds es n.all) (set_same ts w (Some t) inside, tt);
 }
@@ -158,5 +158,7 @@ pub not_all_seen : (ends : List Ending) (totals : List (Option ℕ)) (n w : ℕ)
     → slice_get totals w ≡ Some None → w < n → ¬ SawAllEnds n ends
 not_all_seen ends totals n w noted none_yet near all =
     let t = all w near in
-    open_or_ended none_yet (each_at (λ (e : Ending). slice_get totals e.writer ≡ Some (Some e.total)) ends noted.all t.1.0 record { writer = w;
-        total = t.0 } t.1.1)
+    open_or_ended none_yet (each_at (λ (e : Ending). slice_get totals e.writer ≡ Some (Some e.total)) ends noted.all t.1.0 record {
+      writer = w;
+      total = t.0;
+    } t.1.1)

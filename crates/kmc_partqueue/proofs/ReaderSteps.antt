@@ -60,8 +60,11 @@ module _ {T : Type 0} (k : QueueShape) where
   pub takes_kept : (s : St T) (r : LanesRule k s) (id : ℕ) (b : Reading T) (at : get_elem? s.views id ≡ some (one_of_readers b))
       → b.ready ≡ true → get_or s.words (head_at k b.lane) 0 ≡ b.head
       → (x : T) × (get_elem? (r.lanes b.lane).sent b.head ≡ some x) × (get_elem? s.homes (seen_slot_of b) ≡ some (some (Some x)))
-          × LanesRule k record { words = set s.words (head_at k b.lane) (b.head + 1); homes = set s.homes (seen_slot_of b) none;
-          views = set s.views id (one_of_readers (taking b x)) }
+      × LanesRule k record {
+        words = set s.words (head_at k b.lane) (b.head + 1);
+        homes = set s.homes (seen_slot_of b) none;
+        views = set s.views id (one_of_readers (taking b x));
+      }
   takes_kept s r id b at set_ready at_head =
       let p = own s r id b at in let w₀ : ℕ = b.lane in let l : Lane T = r.lanes w₀ in let C : ℕ = k.per_writer in
       let ok = r.each_lane w₀ p.lane in let h : ℕ = b.head in
@@ -79,18 +82,18 @@ module _ {T : Type 0} (k : QueueShape) where
       let hs' = heads_of k ws' in
       let prod : ℕ = k.writers * k.per_writer in let low : w₀ < k.writers = p.lane in
       let inside : head_at k w₀ < length s.words = subst (λ (z : ℕ). head_at k w₀ < z) (sym r.wide)
-          (let g : k.writers + w₀ < 2 * k.writers + prod = omega arith in g) in
+      (let g : k.writers + w₀ < 2 * k.writers + prod = omega arith in g) in
       let here_head : get_or ws' (head_at k w₀) 0 ≡ h + 1 = get_or-set_same s.words (head_at k w₀) new 0 inside ∙ next in
       let here = lane_takes C r.some_room l h₀ e₀ ms os ok h b.number (get_or ws' (head_at k w₀) 0)
-          (λ (j : ℕ). get_elem? homes' (slot_at k w₀ j)) at_head lt here_head
-          (set_here s.homes at_slot none (subst (λ (z : ℕ). at_slot < z) (sym r.slots) (slot_within k w₀ i₀ p.lane near)))
-          (λ j lj other. home_else k s.homes w₀ i₀ p.lane near none w₀ j lj (λ e. other e.1)) in
+      (λ (j : ℕ). get_elem? homes' (slot_at k w₀ j)) at_head lt here_head
+      (set_here s.homes at_slot none (subst (λ (z : ℕ). at_slot < z) (sym r.slots) (slot_within k w₀ i₀ p.lane near)))
+      (λ j lj other. home_else k s.homes w₀ i₀ p.lane near none w₀ j lj (λ e. other e.1)) in
       let g : Grows k r.lanes ls hs hs' = grows_put k r.lanes hs hs' w₀ l'
-          (λ w lw. heads_up s.words (head_at k w₀) new (head_at k w) inside (let n₀ : h₀ ≤ new = omega arith in n₀))
-          (λ w _ other. head_head k s.words w₀ p.lane new w other) (le_refl (length l.sent)) (λ q z e. e)
+      (λ w lw. heads_up s.words (head_at k w₀) new (head_at k w) inside (let n₀ : h₀ ≤ new = omega arith in n₀))
+      (λ w _ other. head_head k s.words w₀ p.lane new w other) (le_refl (length l.sent)) (λ q z e. e)
       (λ d e. let long : length l.sent ≡ h₀ = e in absurd (omega arith)) in
       let hands : (q : ℕ) → Hands k r.lanes ls q = λ q. hands_put k r.lanes w₀ i₀ l.sent l.held l.done cell' q
-          (λ e. let z : full ≡ reading q = ap (λ (z : Cell). z.1) (sym fl.0) ∙ e in cc) in
+      (λ e. let z : full ≡ reading q = ap (λ (z : Cell). z.1) (sym fl.0) ∙ e in cc) in
       let entry : Received T = record { writer = w₀; number = h; item = x } in let v' : View T = one_of_readers (taking b x) in
       let sent_is : l.sent ≡ (ls w₀).sent = ap (λ (z : Lane T). z.sent) (sym (put_here r.lanes w₀ l')) in
       let old_ok = reader_stays k r.lanes ls hs hs' g b (λ _. hands b.number) p in
@@ -101,29 +104,42 @@ module _ {T : Type 0} (k : QueueShape) where
         lane = p.lane;
         head = old_ok.head;
         ready = old_ok.ready;
-        shown = each_append (GotOk k ls hs') b.got (entry ∷ []) old_ok.shown
-            (record { known = p.lane; taken = (let g' : h < get_or ws' (head_at k w₀) 0 = omega arith in g'); put = ap
-            (λ (z : List T). get_elem? z h) (sym sent_is) ∙ fl.2.1 }, tt);
+        shown = each_append (GotOk k ls hs') b.got (entry ∷ []) old_ok.shown (
+          record {
+            known = p.lane;
+            taken = (let g' : h < get_or ws' (head_at k w₀) 0 = omega arith in g');
+            put = ap
+                (λ (z : List T). get_elem? z h) (sym sent_is) ∙ fl.2.1;
+          },
+          tt,
+        );
         rises = rises_more b.got entry p.rises (each_map (GotOk k r.lanes hs) (λ (f : Received T). f.writer ≡ w₀ → f.number < h)
             (λ f q e. let t : f.number < h₀ = subst (λ (z : ℕ). f.number < get_or s.words (head_at k z) 0) e q.taken in omega arith) b.got p.shown);
         ends = old_ok.ends;
         held = λ _. (ap (λ (z : Lane T). z.cells i₀) (put_here r.lanes w₀ l') ∙ put_here l.cells i₀ cell', (b.got, x, refl));
       } in
       let go : LanesRule k record { words = ws'; homes = homes'; views = set s.views id v' } = rule_moves k s r id
-          (one_of_readers b) v' w₀ l' ws' homes' at (length-set s.words (head_at k w₀) new) (length-set s.homes at_slot none)
+      (one_of_readers b) v' w₀ l' ws' homes' at (length-set s.words (head_at k w₀) new) (length-set s.homes at_slot none)
       (lane_stays C r.some_room l' (get_or ws' (head_at k w₀) 0) e₀ ms (λ (j : ℕ). get_elem? homes' (slot_at k w₀ j)) here
-          (get_or ws' (head_at k w₀) 0) (get_or ws' (end_at k w₀) 0) (λ (j : ℕ). get_or ws' (mark_at k w₀ j) 0)
-          (λ (j : ℕ). get_elem? homes' (slot_at k w₀ j)) refl (head_end k s.words w₀ p.lane new w₀ p.lane)
-          (λ j lj. head_mark k s.words w₀ p.lane new w₀ j) (λ j lj. refl))
-      (λ w lw other. (head_head k s.words w₀ p.lane new w other, head_end k s.words w₀ p.lane new w lw,
-          (λ j lj. head_mark k s.words w₀ p.lane new w j), (λ j lj. home_else k s.homes w₀ i₀ p.lane near none w j lj (λ e. other e.0))))
+      (get_or ws' (head_at k w₀) 0) (get_or ws' (end_at k w₀) 0) (λ (j : ℕ). get_or ws' (mark_at k w₀ j) 0)
+      (λ (j : ℕ). get_elem? homes' (slot_at k w₀ j)) refl (head_end k s.words w₀ p.lane new w₀ p.lane)
+      (λ j lj. head_mark k s.words w₀ p.lane new w₀ j) (λ j lj. refl))
+      (λ w lw other. (
+        head_head k s.words w₀ p.lane new w other,
+        head_end k s.words w₀ p.lane new w lw,
+        (λ j lj. head_mark k s.words w₀ p.lane new w j),
+        (λ j lj. home_else k s.homes w₀ i₀ p.lane near none w j lj (λ e. other e.0)),
+      ))
       (tt, (mine, tt))
-      (λ j u other e. let o = r.each_seat j u e in (each_map (WriterOk k r.lanes hs) (WriterOk k ls hs')
-          (λ a q. writer_same r.lanes hs hs' w₀ i₀ cell' a q) u.writers o.0, each_map (ReaderOk k r.lanes hs) (ReaderOk k ls hs')
-          (λ q z. reader_stays k r.lanes ls hs hs' g q (λ _. hands q.number) z) u.readers o.1))
+      (λ j u other e. let o = r.each_seat j u e in (
+        each_map (WriterOk k r.lanes hs) (WriterOk k ls hs')
+            (λ a q. writer_same r.lanes hs hs' w₀ i₀ cell' a q) u.writers o.0,
+        each_map (ReaderOk k r.lanes hs) (ReaderOk k ls hs')
+            (λ q z. reader_stays k r.lanes ls hs hs' g q (λ _. hands q.number) z) u.readers o.1,
+      ))
       (λ w. refl) (λ w. refl)
       (λ w m lw. let t = total_set (entries w m) s.views id (one_of_readers b) v' at in let o = r.taken_once w m lw in let x₁ : ℕ = total_of
-          (entries w m) (set s.views id v') in let x₀ : ℕ = total_of (entries w m) s.views in
+      (entries w m) (set s.views id v') in let x₀ : ℕ = total_of (entries w m) s.views in
       let q₀ : ℕ = got_once w m b in let q₁ : ℕ = got_once w m (taking b x) in
       let t' : x₁ + (q₀ + 0) ≡ x₀ + (q₁ + 0) = t in let d₀ : ℕ = same w₀ w in let d₁ : ℕ = same h m in
       let q' : q₁ ≡ q₀ + (d₀ * d₁ + 0) = total_append (is_entry w m) b.got (entry ∷ []) in
@@ -132,24 +148,35 @@ module _ {T : Type 0} (k : QueueShape) where
       dite (ℕ_discrete w₀ w)
       (λ e. let one : d₀ * d₁ ≡ d₁ = ap (λ (z : ℕ). z * d₁) (same_refl w₀ w e) ∙ (let g' : 1 * d₁ ≡ d₁ = omega arith in g') in
       let up : a₁ ≡ a₀ + d₁ = ap (λ (z : ℕ). once_below m (get_or ws' (head_at k z) 0)) (sym e) ∙ ap (once_below m) here_head ∙ once_next m h ∙ ap
-          (λ (z : ℕ). once_below m z + d₁) (sym at_head ∙ ap (λ (z : ℕ). get_or s.words (head_at k z) 0) e) in
+      (λ (z : ℕ). once_below m z + d₁) (sym at_head ∙ ap (λ (z : ℕ). get_or s.words (head_at k z) 0) e) in
       omega arith)
       (λ ne. let none_of : d₀ * d₁ ≡ 0 = ap (λ (z : ℕ). z * d₁) (same_ne w₀ w ne) ∙ (let g' : 0 * d₁ ≡ 0 = omega arith in g') in
-      let up : a₁ ≡ a₀ = ap (once_below m) (head_head k s.words w₀ p.lane new w (λ e. ne (sym e))) in omega arith)) in
-      (x, fl.2.1, ap (get_elem? s.homes) eslot ∙ fl.2.2, subst (λ (z : ℕ). LanesRule k record { words = set s.words (head_at k w₀) new;
-          homes = set s.homes z none; views = set s.views id v' }) (sym eslot) go)
+      let up : a₁ ≡ a₀ = ap (once_below m) (head_head k s.words w₀ p.lane new w (λ e. ne (sym e))) in omega arith)) in (
+        x,
+        fl.2.1,
+        ap (get_elem? s.homes) eslot ∙ fl.2.2,
+        subst (λ (z : ℕ). LanesRule k record {
+          words = set s.words (head_at k w₀) new;
+          homes = set s.homes z none;
+          views = set s.views id v';
+        }) (sym eslot) go,
+      )
     where
       heads_up : (ws : List ℕ) (w₀ new w : ℕ) → w₀ < length ws → get_or ws w₀ 0 ≤ new → get_or ws w 0 ≤ get_or (set ws w₀ new) w 0
       heads_up ws w₀ new w inside le = dite (ℕ_discrete w w₀)
           (λ e. subst (λ (z : ℕ). get_or ws z 0 ≤ get_or (set ws w₀ new) z 0) (sym e)
-              (subst (λ (z : ℕ). get_or ws w₀ 0 ≤ z) (sym (get_or-set_same ws w₀ new 0 inside)) le))
+          (subst (λ (z : ℕ). get_or ws w₀ 0 ≤ z) (sym (get_or-set_same ws w₀ new 0 inside)) le))
           (λ n. subst (λ (z : ℕ). get_or ws w 0 ≤ z) (sym (get_or-set_other ws w₀ w new 0 n)) (le_refl (get_or ws w 0)))
 
   -- the slot is free again
   pub frees_kept : (s : St T) (r : LanesRule k s) (id : ℕ) (b : Reading T) (at : get_elem? s.views id ≡ some (one_of_readers b))
       → b.held ≡ true
-      → LanesRule k record { words = set s.words (mark_at k b.lane (b.head % k.per_writer)) (2 * (b.head / k.per_writer) + 2); homes = set s.homes
-          (seen_slot_of b) (some None); views = set s.views id (one_of_readers (freeing b)) }
+      → LanesRule k record {
+        words = set s.words (mark_at k b.lane (b.head % k.per_writer)) (2 * (b.head / k.per_writer) + 2);
+        homes = set s.homes
+            (seen_slot_of b) (some None);
+        views = set s.views id (one_of_readers (freeing b));
+      }
   frees_kept s r id b at held = let new : ℕ = 2 * (b.head / k.per_writer) + 2 in let is : new ≡ 2 * (b.head / k.per_writer) + 2 = refl in
       let p = own s r id b at in let w₀ : ℕ = b.lane in let l : Lane T = r.lanes w₀ in let C : ℕ = k.per_writer in
       let ok = r.each_lane w₀ p.lane in let h : ℕ = b.head in let i₀ : ℕ = h % C in
@@ -164,29 +191,43 @@ module _ {T : Type 0} (k : QueueShape) where
       let homes' : List (maybe.Option (Option T)) = set s.homes at_slot (some None) in let hs = heads_of k s.words in
       let hs' = heads_of k ws' in
       let here = lane_frees C r.some_room l h₀ e₀ ms os ok h b.number (λ (j : ℕ). get_or ws' (mark_at k w₀ j) 0)
-          (λ (j : ℕ). get_elem? homes' (slot_at k w₀ j)) has
+      (λ (j : ℕ). get_elem? homes' (slot_at k w₀ j)) has
       (get_or-set_same s.words at_mark new 0 (subst (λ (z : ℕ). at_mark < z) (sym r.wide) (mark_within k w₀ i₀ p.lane near)) ∙ is)
-          (set_here s.homes at_slot (some None) (subst (λ (z : ℕ). at_slot < z) (sym r.slots) (slot_within k w₀ i₀ p.lane near)))
+      (set_here s.homes at_slot (some None) (subst (λ (z : ℕ). at_slot < z) (sym r.slots) (slot_within k w₀ i₀ p.lane near)))
       (λ j lj other. mark_mark k s.words w₀ p.lane new i₀ near w₀ j lj (λ e. other e.1))
-          (λ j lj other. home_else k s.homes w₀ i₀ p.lane near (some None) w₀ j lj (λ e. other e.1)) in
+      (λ j lj other. home_else k s.homes w₀ i₀ p.lane near (some None) w₀ j lj (λ e. other e.1)) in
       let heads : (w : ℕ) → w < k.writers → get_or ws' (head_at k w) 0 ≡ get_or s.words (head_at k w) 0 = mark_head k s.words w₀ p.lane new i₀ near in
       let ends' : (w : ℕ) → w < k.writers → get_or ws' (end_at k w) 0 ≡ get_or s.words (end_at k w) 0 = mark_end k s.words w₀ p.lane new i₀ near in
       let g : Grows k r.lanes ls hs hs' = grows_put k r.lanes hs hs' w₀ l'
-          (λ w lw. let e = heads w lw in let x : ℕ = get_or ws' (head_at k w) 0 in let y : ℕ = get_or s.words (head_at k w) 0 in let e' : x
-          ≡ y = e in (let g' : y ≤ x = omega arith in g')) (λ w lw _. heads w lw) (le_refl (length l.sent)) (λ q z e. e)
+      (λ w lw. let e = heads w lw in let x : ℕ = get_or ws' (head_at k w) 0 in let y : ℕ = get_or s.words (head_at k w) 0 in let e' : x
+      ≡ y = e in (let g' : y ≤ x = omega arith in g')) (λ w lw _. heads w lw) (le_refl (length l.sent)) (λ q z e. e)
       (λ d e. (d, refl, heads w₀ p.lane)) in
       let hands : (q : ℕ) → q ≢ b.number → Hands k r.lanes ls q = λ q other. hands_put k r.lanes w₀ i₀ l.sent l.held l.done cell' q
-          (λ e. other (sym (ap who (sym (ap (λ (z : Cell). z.1) has) ∙ e)))) in
+      (λ e. other (sym (ap who (sym (ap (λ (z : Cell). z.1) has) ∙ e)))) in
       let v' : View T = one_of_readers (freeing b) in
       let mine : ReaderOk k ls hs' (freeing b) = reader_stays k r.lanes ls hs hs' g (freeing b)
-          (λ e. clash e) record { known = p.known; writers = p.writers; per_writer = p.per_writer; lane = p.lane; head = p.head; ready = p.ready;
-          shown = p.shown; rises = p.rises; ends = p.ends; held = λ e. clash e } in
+      (λ e. clash e) record {
+        known = p.known;
+        writers = p.writers;
+        per_writer = p.per_writer;
+        lane = p.lane;
+        head = p.head;
+        ready = p.ready;
+        shown = p.shown;
+        rises = p.rises;
+        ends = p.ends;
+        held = λ e. clash e;
+      } in
       let go : LanesRule k record { words = ws'; homes = homes'; views = set s.views id v' } = rule_moves k s r id
-          (one_of_readers b) v' w₀ l' ws' homes' at (length-set s.words at_mark new) (length-set s.homes at_slot (some None))
+      (one_of_readers b) v' w₀ l' ws' homes' at (length-set s.words at_mark new) (length-set s.homes at_slot (some None))
       (subst (λ (z : ℕ × ℕ). LaneOk C l' z.0 z.1 (λ (j : ℕ). get_or ws' (mark_at k w₀ j) 0) (λ (j : ℕ). get_elem? homes' (slot_at k w₀ j)))
-          (λ j. (sym (heads w₀ p.lane) j, sym (ends' w₀ p.lane) j)) here)
-      (λ w lw other. (heads w lw, ends' w lw, (λ j lj. mark_mark k s.words w₀ p.lane new i₀ near w j lj (λ e. other e.0)),
-          (λ j lj. home_else k s.homes w₀ i₀ p.lane near (some None) w j lj (λ e. other e.0))))
+      (λ j. (sym (heads w₀ p.lane) j, sym (ends' w₀ p.lane) j)) here)
+      (λ w lw other. (
+        heads w lw,
+        ends' w lw,
+        (λ j lj. mark_mark k s.words w₀ p.lane new i₀ near w j lj (λ e. other e.0)),
+        (λ j lj. home_else k s.homes w₀ i₀ p.lane near (some None) w j lj (λ e. other e.0)),
+      ))
       (tt, (mine, tt))
       (λ j u other e. let o = r.each_seat j u e in (
         each_map (WriterOk k r.lanes hs) (WriterOk k ls hs') (λ a q. writer_same r.lanes hs hs' w₀ i₀ cell' a q) u.writers o.0,
@@ -195,7 +236,7 @@ module _ {T : Type 0} (k : QueueShape) where
       ))
       (λ w. refl) (λ w. refl)
       (λ w m lw. let t = total_set (entries w m) s.views id (one_of_readers b) v' at in let o = r.taken_once w m lw in let x₁ : ℕ = total_of
-          (entries w m) (set s.views id v') in let x₀ : ℕ = total_of (entries w m) s.views in
+      (entries w m) (set s.views id v') in let x₀ : ℕ = total_of (entries w m) s.views in
       let q₀ : ℕ = got_once w m b in let t' : x₁ + (q₀ + 0) ≡ x₀ + (q₀ + 0) = t in
       let same_now : x₁ ≡ x₀ = omega arith in same_now ∙ o ∙ ap (once_below m) (sym (heads w lw))) in
       subst (λ (z : ℕ). LanesRule k record { words = set s.words at_mark new; homes = set s.homes z (some None); views = set s.views id v' }) (sym eslot) go
@@ -216,14 +257,24 @@ module _ {T : Type 0} (k : QueueShape) where
         → LanesRule k record { words = s.words; homes = s.homes; views = set s.views id (one_of_readers b') }
     noted b' en eg ok =
         reviewed k s r id (one_of_readers b) (one_of_readers b') at (tt, (ok, tt)) (λ w. refl) (λ w. ap (λ (z : ℕ). same z w + 0) en)
-            (λ w n. ap (λ (z : List (Received T)). total_of (is_entry w n) z + 0) eg)
+        (λ w n. ap (λ (z : List (Received T)). total_of (is_entry w n) z + 0) eg)
 
     -- the head of a lane is read
     pub looks_kept : (w : ℕ) → w < k.writers → b.held ≡ false
         → LanesRule k record { words = s.words; homes = s.homes; views = set s.views id (one_of_readers (looking b w (get_or s.words (head_at k w) 0))) }
     looks_kept w near empty = let p = own s r id b at in let h : ℕ = get_or s.words (head_at k w) 0 in
-        noted (looking b w h) refl refl record { known = p.known; writers = p.writers; per_writer = p.per_writer; lane = near; head = le_refl h;
-            ready = λ e. never refl e; shown = p.shown; rises = p.rises; ends = p.ends; held = λ e. never empty e }
+        noted (looking b w h) refl refl record {
+          known = p.known;
+          writers = p.writers;
+          per_writer = p.per_writer;
+          lane = near;
+          head = le_refl h;
+          ready = λ e. never refl e;
+          shown = p.shown;
+          rises = p.rises;
+          ends = p.ends;
+          held = λ e. never empty e;
+        }
       where
         never : {A : Type 0} {x : Bool} → x ≡ false → x ≡ true → A
         never {A} {x} d e = let z : false ≡ true = sym d ∙ e in cc
@@ -233,9 +284,19 @@ module _ {T : Type 0} (k : QueueShape) where
         → LanesRule k record { words = s.words; homes = s.homes; views = set s.views id (one_of_readers (seeing b)) }
     sees_kept found = let p = own s r id b at in let w₀ : ℕ = b.lane in
         let lt = ready_found k.per_writer r.some_room (r.lanes w₀) (get_or s.words (head_at k w₀) 0) (get_or s.words (end_at k w₀) 0)
-            (λ (j : ℕ). get_or s.words (mark_at k w₀ j) 0) (λ (j : ℕ). get_elem? s.homes (slot_at k w₀ j)) (r.each_lane w₀ p.lane) b.head p.head found in
-        noted (seeing b) refl refl record { known = p.known; writers = p.writers; per_writer = p.per_writer; lane = p.lane; head = p.head;
-            ready = λ _. lt; shown = p.shown; rises = p.rises; ends = p.ends; held = p.held }
+        (λ (j : ℕ). get_or s.words (mark_at k w₀ j) 0) (λ (j : ℕ). get_elem? s.homes (slot_at k w₀ j)) (r.each_lane w₀ p.lane) b.head p.head found in
+        noted (seeing b) refl refl record {
+          known = p.known;
+          writers = p.writers;
+          per_writer = p.per_writer;
+          lane = p.lane;
+          head = p.head;
+          ready = λ _. lt;
+          shown = p.shown;
+          rises = p.rises;
+          ends = p.ends;
+          held = p.held;
+        }
 
     -- the end of the lane is seen, and each total that the view then has is the lane's
     pub ends_noted : get_or s.words (end_at k b.lane) 0 ≡ suc b.head → Each (EndOk k r.lanes hs) (ending b).ends
@@ -245,10 +306,20 @@ module _ {T : Type 0} (k : QueueShape) where
         let h₀ : ℕ = get_or s.words (head_at k w₀) 0 in let below : b.head ≤ h₀ = p.head in
         let behind : h₀ ≤ length l.sent = ok.behind in let long : length l.sent ≡ b.head = d.1 in
         each_append (EndOk k r.lanes hs) b.ends (record { writer = b.lane; total = b.head } ∷ []) p.ends
-            (record { known = p.lane; done = d.0; sent = long; taken = (let g : h₀ ≡ b.head = omega arith in g) }, tt)
+        (record { known = p.lane; done = d.0; sent = long; taken = (let g : h₀ ≡ b.head = omega arith in g) }, tt)
 
     pub ends_kept : get_or s.words (end_at k b.lane) 0 ≡ suc b.head
         → LanesRule k record { words = s.words; homes = s.homes; views = set s.views id (one_of_readers (ending b)) }
     ends_kept found = let p = own s r id b at in
-        noted (ending b) refl refl record { known = p.known; writers = p.writers; per_writer = p.per_writer; lane = p.lane; head = p.head;
-            ready = p.ready; shown = p.shown; rises = p.rises; ends = ends_noted found; held = p.held }
+        noted (ending b) refl refl record {
+          known = p.known;
+          writers = p.writers;
+          per_writer = p.per_writer;
+          lane = p.lane;
+          head = p.head;
+          ready = p.ready;
+          shown = p.shown;
+          rises = p.rises;
+          ends = ends_noted found;
+          held = p.held;
+        }

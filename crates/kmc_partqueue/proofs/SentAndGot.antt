@@ -87,7 +87,7 @@ module _ {T : Type 0} (F : T → ℕ) where
     shared_out : Each Apart writers → (e : Received T) → Stands e → total_of (share_of e) writers ≡ F e.item
     shared_out apart e (s, (i, among), writer, item) =
         total_only (share_of e) writers i s at (λ j t other there. no_share e t.number 0 t.sent
-            (λ n le. of_other_writer e t.number n (λ is. other_number i j s t (each_at Apart writers apart i s among) other at there (writer ∙ is))))
+        (λ n le. of_other_writer e t.number n (λ is. other_number i j s t (each_at Apart writers apart i s among) other at there (writer ∙ is))))
         ∙ whole_share e s.number 0 e.number s.sent (sym writer) (omega arith) item
       where
         at : get_elem? writers i ≡ some s
@@ -100,7 +100,7 @@ module _ {T : Type 0} (F : T → ℕ) where
     falls_to w i (x ∷ l) once =
         over_added (λ (r : ReaderState T). r.got) readers (λ (e : Received T). is_entry w i e * F x) (λ (e : Received T). share e w (suc i) l)
         ∙ ap₂ (λ (m n : ℕ). m + n) (over_scaled (λ (r : ReaderState T). r.got) readers (is_entry w i) (F x) ∙ ap (λ (n : ℕ). n * F x)
-            (once i (omega arith) (omega arith)) ∙ single)
+        (once i (omega arith) (omega arith)) ∙ single)
         (falls_to w (suc i) l (λ n le lt. once n (omega arith) (omega arith)))
       where
         single : 1 * F x ≡ F x
@@ -116,15 +116,15 @@ module _ {T : Type 0} (F : T → ℕ) where
         each_got : Each (λ (r : ReaderState T). Each (λ (e : Received T). total_of (share_of e) writers ≡ F e.item) r.got) readers
         each_got =
             each_map (λ (r : ReaderState T). Each Stands r.got × Rises r.got)
-                (λ (r : ReaderState T). Each (λ (e : Received T). total_of (share_of e) writers ≡ F e.item) r.got)
-                (λ r p. each_map Stands (λ (e : Received T). total_of (share_of e) writers ≡ F e.item) (shared_out apart) r.got p.0) readers all.others
+            (λ (r : ReaderState T). Each (λ (e : Received T). total_of (share_of e) writers ≡ F e.item) r.got)
+            (λ r p. each_map Stands (λ (e : Received T). total_of (share_of e) writers ≡ F e.item) (shared_out apart) r.got p.0) readers all.others
 
         each_sent : Each (λ (s : WriterState T). over_got (λ (e : Received T). share_of e s) ≡ total_of F s.sent) writers
         each_sent =
             each_map GotOnce (λ (s : WriterState T). over_got (λ (e : Received T). share_of e s) ≡ total_of F s.sent)
-                (λ s once. falls_to s.number 0 s.sent (λ n le lt. once n (omega arith))) writers all.once
+            (λ s once. falls_to s.number 0 s.sent (λ n le lt. once n (omega arith))) writers all.once
 
 pub gathered_law : (T : Type 0) → GatheredLaw T
 gathered_law T F writers readers all apart =
     sym (over_is_sum (λ (r : ReaderState T). r.got) readers (λ (e : Received T). F e.item)) ∙ same_total F writers readers all apart ∙ over_is_sum
-        (λ (s : WriterState T). s.sent) writers F
+    (λ (s : WriterState T). s.sent) writers F

@@ -57,7 +57,7 @@ module _ {T : Type 0} (k : QueueShape) (h : History T) where
 pub told : {T : Type 0} (k : QueueShape) (s : St T) (r : IsReached k s) (id : ℕ) (v : View T) (at : get_elem? s.views id ≡ some v)
     (writers : List (WriterState T)) (readers : List (ReaderState T)) (ws : WriterPairs v.writers writers) (bs : Pairs v.readers readers)
     (each_writer : (w : ℕ) → w < k.writers → total_of (λ (x : WriterState T). same x.number w) writers ≡ 1)
-        (each_reader : (q : ℕ) → q < k.readers → total_of (λ (x : ReaderState T). same x.number q) readers ≡ 1)
+    (each_reader : (q : ℕ) → q < k.readers → total_of (λ (x : ReaderState T). same x.number q) readers ≡ 1)
     (last : ReaderState T) (among : Among last readers) (ended : AllEnded k.writers last.totals)
     → (h : History T) × IsHistoryOf k writers readers h
 told {T} k s r id v at writers readers ws bs each_writer each_reader last among ended =
@@ -67,14 +67,21 @@ told {T} k s r id v at writers readers ws bs each_writer each_reader last among 
     let lanes = of_lanes k s rule id v at writers readers ws bs each_writer each_reader last among ended in
     let lane_full = full k s rule id v at writers readers ws bs each_writer each_reader last among ended in
     let IsIn : WriterState T → Type 0 = λ x. (accepted x.number h ≡ x.sent) × (has_completed x.number h ≡ true) in
-    let shown = writers_each (WriterShows (state_of h)) IsIn (λ a x t p. (ap (λ (n : ℕ). accepted n h) (sym t.number) ∙ sym p.0 ∙ t.sent, ap
-        (λ (n : ℕ). has_completed n h) (sym t.number) ∙ sym p.1 ∙ t.done)) v.writers writers ws (shows.writers id v at) in (
+    let shown = writers_each (WriterShows (state_of h)) IsIn (λ a x t p. (
+      ap (λ (n : ℕ). accepted n h) (sym t.number) ∙ sym p.0 ∙ t.sent,
+      ap
+          (λ (n : ℕ). has_completed n h) (sym t.number) ∙ sym p.1 ∙ t.done,
+    )) v.writers writers ws (shows.writers id v at) in (
       h,
       record {
         legal = law.1;
         of_writers = each_map (λ (x : WriterState T). Lane x × IsIn x) (HistoryOfWriter h)
-            (λ x p. record { put = p.1.0; completed = p.1.1; all_left = shows.heads x.number p.0.0 ∙ (lane_full x.number p.0.0).1 ∙ ap length
-            (sym p.0.1) }) writers (each_both Lane IsIn writers lanes shown);
+            (λ x p. record {
+              put = p.1.0;
+              completed = p.1.1;
+              all_left = shows.heads x.number p.0.0 ∙ (lane_full x.number p.0.0).1 ∙ ap length
+                  (sym p.0.1);
+            }) writers (each_both Lane IsIn writers lanes shown);
         of_readers =
             pairs_each (λ (b : Reading T). ReaderShows (state_of h) b × FinishTold k h b) (HistoryOfReader k h) (reader_told k h) v.readers readers bs
             (each_both (ReaderShows (state_of h)) (FinishTold k h) v.readers (shows.readers id v at) (reached_tells k s r id v at));

@@ -20,7 +20,7 @@ module _ (c : ℕ) where
     pub next_use : (h : ℕ) → (h + c) / c ≡ h / c + 1
     next_use h = let a : ℕ = h / c in let r : ℕ = h % c in let is : a * c + r ≡ h = div-add-mod' h c in let near : r < c = mod-lt h pos in
         ap (λ (z : ℕ). z / c) (let g : h + c ≡ suc a * c + r = omega (arith, suc-mul a c) in g) ∙ digits_div (suc a) near
-            ∙ (let g : suc a ≡ a + 1 = omega arith in g)
+        ∙ (let g : suc a ≡ a + 1 = omega arith in g)
 
     pub next_slot : (h : ℕ) → (h + c) % c ≡ h % c
     next_slot h = add-mod_right h c
@@ -31,15 +31,15 @@ module _ (c : ℕ) where
       let a : ℕ = p / c in let b : ℕ = q / c in let i : ℕ = p % c in let j : ℕ = q % c in let m' : i ≡ j = m in
       let p' : a * c + i ≡ p = div-add-mod' p c in let q' : b * c + j ≡ q = div-add-mod' q c in
       dite (dec_le b a) (λ le. let x : ℕ = a * c in let y : ℕ = b * c in let le' : y ≤ x = mul-le-mul_right c le in absurd (omega arith))
-          (λ no. lt_of_not-le no)
+      (λ no. lt_of_not-le no)
 
 -- slots of different lanes are different
 pub other_lane : (c w v i j : ℕ) → i < c → j < c → w ≢ v → w * c + i ≢ v * c + j
 other_lane c w v i j a b n e = dite (dec_le (suc w) v)
     (λ lt. let m : suc w * c ≤ v * c = mul-le-mul_right c lt in let x : ℕ = w * c in let y : ℕ = v * c in let m' : x + c ≤ y = omega
-        (arith, suc-mul w c) in let e' : x + i ≡ y + j = e in omega arith)
+    (arith, suc-mul w c) in let e' : x + i ≡ y + j = e in omega arith)
     (λ no. let lt : suc v ≤ w = (let g : v < suc w = lt_of_not-le no in omega arith) in let m : suc v * c ≤ w * c = mul-le-mul_right c lt in
-        let x : ℕ = w * c in let y : ℕ = v * c in let m' : y + c ≤ x = omega (arith, suc-mul v c) in let e' : x + i ≡ y + j = e in omega arith)
+    let x : ℕ = w * c in let y : ℕ = v * c in let m' : y + c ≤ x = omega (arith, suc-mul v c) in let e' : x + i ≡ y + j = e in omega arith)
 
 pub lane_within : (c w n i : ℕ) → w < n → i < c → w * c + i < n * c
 lane_within c w n i a b =

@@ -71,9 +71,9 @@ module _ {T : Type 0} (k : QueueShape) where
       → Allows (IsReached k) n id me i (λ _. new) (λ _. published_part (step n i new 0 none) me new)
   send_call n id me number per_writer count slot i new s x e l small is index marks = let a : Writing T = holding (open_writer number per_writer s false) in
       subst (λ (m : Seated T). Allows (IsReached k) n id m i (λ _. new) (λ _. published_part (step n i new 0 none) m new))
-          (sym (e ∙ (λ j. (one_of_writers a, ((is ∙ ap (λ (z : ℕ). number * per_writer + z % per_writer) (sym l)) j, Some x) ∷ []))))
+      (sym (e ∙ (λ j. (one_of_writers a, ((is ∙ ap (λ (z : ℕ). number * per_writer + z % per_writer) (sym l)) j, Some x) ∷ []))))
       (publishes_part k n id a x [] i new (index ∙ ap (λ (z : ℕ). mark_at k number (z % k.per_writer)) (sym l))
-          (marks ∙ ap (λ (z : ℕ). 2 * (z / k.per_writer) + 1) (sym l)) refl refl (subst (λ (z : ℕ). z < 4294967295) (sym l) small))
+      (marks ∙ ap (λ (z : ℕ). 2 * (z / k.per_writer) + 1) (sym l)) refl refl (subst (λ (z : ℕ). z < 4294967295) (sym l) small))
 
   pub end_call : (n id : ℕ) (me : Seated T) (number per_writer count i new : ℕ) → AtRest me number per_writer count
       → i ≡ end_at k number → new ≡ suc count

@@ -41,7 +41,7 @@ StepsLaw T = (k : QueueShape) (s : State (Option T) (View T)) (e : History T) �
 abbrev pub GatheredLaw : Type 0 → Type 0
 GatheredLaw T =
     (F : T → ℕ) (writers : List (WriterState T)) (readers : List (ReaderState T)) → IsGathered writers readers → Each
-        (λ (s : WriterState T). total_of (λ (t : WriterState T). same t.number s.number) writers ≡ 1) writers
+    (λ (s : WriterState T). total_of (λ (t : WriterState T). same t.number s.number) writers ≡ 1) writers
     → sum_by (λ (r : ReaderState T). sum_by (λ (e : Received T). F e.item) r.got) readers ≡ sum_by (λ (s : WriterState T). sum_by F s.sent) writers
 
 -- wherever steps lead, a part that a writer has put is in one place: in its slot, in one reader's hand, or in one reader's list with its slot given back

@@ -80,7 +80,7 @@ module _ {T : Type 0} where
       pub ends : Each EndOk b.ends
       pub held : b.held ≡ true
           → ((lanes b.lane).cells (b.head % k.per_writer) ≡ (b.head, reading b.number))
-              × ((before : List (Received T)) × (x : T) × (b.got ≡ before ++ record { writer = b.lane; number = b.head; item = x } ∷ []))
+          × ((before : List (Received T)) × (x : T) × (b.got ≡ before ++ record { writer = b.lane; number = b.head; item = x } ∷ []))
 
     abbrev pub ViewOk : View T → Type 0
     ViewOk v = Each WriterOk v.writers × Each ReaderOk v.readers
@@ -93,7 +93,7 @@ module _ {T : Type 0} where
     pub slots : length s.homes ≡ k.writers * k.per_writer
     pub each_lane : (w : ℕ) → w < k.writers
         → LaneOk k.per_writer (lanes w) (slice_index s.words (head_at k w)) (slice_index s.words (end_at k w))
-            (λ i. slice_index s.words (mark_at k w i)) (λ i. get_elem? s.homes (slot_at k w i))
+        (λ i. slice_index s.words (mark_at k w i)) (λ i. get_elem? s.homes (slot_at k w i))
     pub each_seat : (j : ℕ) (v : View T) → get_elem? s.views j ≡ some v → ViewOk k lanes (λ w. slice_index s.words (head_at k w)) v
     pub one_writer : (w : ℕ) → w < k.writers → total_of (writers_of w) s.views ≡ 1
     pub one_reader : (r : ℕ) → r < k.readers → total_of (readers_of r) s.views ≡ 1

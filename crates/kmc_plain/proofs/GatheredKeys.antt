@@ -14,7 +14,7 @@ pub keys_of_reads_are_words : (strands : Strands) (k : ℕ) (reads : List (List 
 keys_of_reads_are_words strands k [] = tt
 keys_of_reads_are_words strands k (read ∷ reads) =
     words_append k (map (placed_key strands) (counted_words k read)) (keys_of_reads strands k reads) (counted_keys_are_words strands k read)
-        (keys_of_reads_are_words strands k reads)
+    (keys_of_reads_are_words strands k reads)
 
 -- the packed keys of one read more
 pub read_added : (strands : Strands) (k : ℕ) (read : List ℕ) (old reads : List (List ℕ)) (before after : List ℕ) → before ≡ map pack

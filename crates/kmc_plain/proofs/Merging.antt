@@ -44,7 +44,7 @@ once x (ps ∷ lists) rise apart =
     let P : List (List ℕ × ℕ) → Type 0 = λ qs. IsStrictlySortedBy kmer_cmp (words_of qs) in
     let wss = map words_of lists in
     go (occurrences (words_of ps) x) refl (rising_once x (words_of ps) (All-head P ps lists rise))
-        (once x lists (All-tail P ps lists rise) (tail_apart (words_of ps) wss apart))
+    (once x lists (All-tail P ps lists rise) (tail_apart (words_of ps) wss apart))
   where
     go : (n : ℕ) → occurrences (words_of ps) x ≡ n → occurrences (words_of ps) x ≤ 1 → occurrences (joined (map words_of lists)) x ≤ 1 → occurrences
         (joined (map words_of (ps ∷ lists))) x ≤ 1
@@ -62,7 +62,7 @@ apart_next w v ws few = go (same_word v w) refl
     go false e = refl
     go true e =
         let first : occurrences (w ∷ v ∷ ws) w ≡ 1 + occurrences (v ∷ ws) w = occurrences_more w w (v ∷ ws) ∙ ap
-            (λ b. cond b 1 0 + occurrences (v ∷ ws) w) (same_itself w) in
+        (λ b. cond b 1 0 + occurrences (v ∷ ws) w) (same_itself w) in
         let second : occurrences (v ∷ ws) w ≡ 1 + occurrences ws w = occurrences_more w v ws ∙ ap (λ b. cond b 1 0 + occurrences ws w) e in
         absurd (omega (arith, few, first, second))
 
@@ -97,7 +97,7 @@ merged lists pairs rise apart moves sorted = record {
   all = moves;
   rising = strictly (words_of pairs) (words_sorted pairs sorted) (λ x.
       let moved = sum_by-IsPermutation (λ (w : List ℕ). cond (same_word w x) 1 0) (words_of (joined lists)) (words_of pairs)
-          (IsPermutation-map (λ (p : List ℕ × ℕ). p.0) (joined lists) pairs moves) in
+      (IsPermutation-map (λ (p : List ℕ × ℕ). p.0) (joined lists) pairs moves) in
       let same = ap (λ (t : List (List ℕ)). occurrences t x) (words_joined lists) in
       omega (arith, once x lists rise apart, moved, same));
 }

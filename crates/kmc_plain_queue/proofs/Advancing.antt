@@ -11,6 +11,11 @@ live_advances T q h legal e w = let b = begins q h legal w in let l = left w h i
     item_accepted w e in
     let rest : drop (length (l ++ more)) (a ++ added) ≡ drop (length more) (drop (length l) a ++ added)
     = ap (λ n. drop n (a ++ added)) (length-append l more) ∙ sym (drop-drop (length more) (length l) (a ++ added)) ∙ ap (drop (length more))
-        (drop-append-le (length l) a added b.within) in
-    λ i. record { registered = registers w e || is_registered w h; completed = completes w e || has_completed w h;
-        accepted_count = length-append a added i; left_count = length-append l more i; outstanding_items = rest i }
+    (drop-append-le (length l) a added b.within) in
+    λ i. record {
+      registered = registers w e || is_registered w h;
+      completed = completes w e || has_completed w h;
+      accepted_count = length-append a added i;
+      left_count = length-append l more i;
+      outstanding_items = rest i;
+    }

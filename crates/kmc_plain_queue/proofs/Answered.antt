@@ -20,14 +20,25 @@ module _ {T : Type 0} (q : QueueShape) (ws : List Counters) (xs : List (Queued T
 
   pub put_legal : (v : ℕ) (x : T) (c : Counters) (ys : List (Queued T)) → v < q.writers → c ≡ counters_of ws v → c.registered ≡ true → c.completed
       ≡ false → c.accepted_count < MAX_ITEMS → c.accepted_count - c.left_count < q.per_writer → ys ≡ xs ++ queued v x ∷ []
-      → MovesOn held (event.Put v x, reply.Put (Ok c.accepted_count)) record { shape = q; writers = set ws v
-          (record c { accepted_count = c.accepted_count + 1 }); queue = ys }
+      → MovesOn held (event.Put v x, reply.Put (Ok c.accepted_count)) record {
+        shape = q;
+        writers = set ws v
+            (record c { accepted_count = c.accepted_count + 1 });
+        queue = ys;
+      }
   put_legal v x c ys near is registered going more below pushed = let was = waiting q ws xs v c core near is in
-      put_moves held record { shape = q; writers = set ws v (record c { accepted_count = c.accepted_count + 1 });
-          queue = ys } v x c.accepted_count core.all_writers
-      ((near, ap (λ (z : Counters). z.registered) (sym is) ∙ registered, ap (λ (z : Counters). z.completed) (sym is) ∙ going), subst
-          (λ (z : Counters). z.accepted_count < MAX_ITEMS) is more, (let g : length (items_of v xs) < q.per_writer = omega arith in g), ap
-          (λ (z : Counters). z.accepted_count) is)
+      put_moves held record {
+        shape = q;
+        writers = set ws v (record c { accepted_count = c.accepted_count + 1 });
+        queue = ys;
+      } v x c.accepted_count core.all_writers (
+        (near, ap (λ (z : Counters). z.registered) (sym is) ∙ registered, ap (λ (z : Counters). z.completed) (sym is) ∙ going),
+        subst
+            (λ (z : Counters). z.accepted_count < MAX_ITEMS) is more,
+        (let g : length (items_of v xs) < q.per_writer = omega arith in g),
+        ap
+            (λ (z : Counters). z.accepted_count) is,
+      )
       (λ i. record { shape = q; writers = set ws v (record (is i) { accepted_count = c.accepted_count + 1 }); queue = pushed i })
 
   front : (zs : List (Queued T)) (y : Queued T) → slice_get zs 0 ≡ Some y → zs ≡ y ∷ drop 1 zs
@@ -63,9 +74,13 @@ module _ {T : Type 0} (q : QueueShape) (ws : List Counters) (xs : List (Queued T
     take_becomes = (ys, begins, λ i. record { shape = q; writers = set ws y.writer (record (counters i) { left_count = c.left_count + 1 }); queue = ys })
 
     pub take_legal : MovesOn held (event.Take r, reply.Take (Ok (Got given))) after
-    take_legal = take_moves held after r given core.all_writers
-        (near, front_core.known.0, ap (λ (z : Counters). z.left_count) counters, ap (λ z. slice_get (items_of y.writer z) 0) begins ∙ ap
-            (λ z. slice_get z 0) (hit y.writer (y.item ∷ items_of y.writer ys) (items_of y.writer ys)))
+    take_legal = take_moves held after r given core.all_writers (
+      near,
+      front_core.known.0,
+      ap (λ (z : Counters). z.left_count) counters,
+      ap (λ z. slice_get (items_of y.writer z) 0) begins ∙ ap
+          (λ z. slice_get z 0) (hit y.writer (y.item ∷ items_of y.writer ys) (items_of y.writer ys)),
+    )
         take_becomes
 
     -- the writer has an item that has not left
@@ -73,7 +88,7 @@ module _ {T : Type 0} (q : QueueShape) (ws : List Counters) (xs : List (Queued T
     one_waits = let was = waiting q ws (y ∷ ys) y.writer c front_core front_core.known.0 counters in let few = below_max q ws
         (y ∷ ys) y.writer c front_core front_core.known.0 counters in
         let e : length (items_of y.writer (y ∷ ys)) ≡ suc (length (items_of y.writer ys)) = ap length
-            (hit y.writer (y.item ∷ items_of y.writer ys) (items_of y.writer ys)) in omega arith
+        (hit y.writer (y.item ∷ items_of y.writer ys) (items_of y.writer ys)) in omega arith
 
   -- a take where none is
   module _ (r : ℕ) (ys : List (Queued T)) (near : r < q.readers) (none : slice_get xs 0 ≡ None) (rest : ys ≡ drop 1 xs) where
@@ -93,18 +108,32 @@ module _ {T : Type 0} (q : QueueShape) (ws : List Counters) (xs : List (Queued T
 
     pub finished_fits : (totals : List ℕ) → All (λ (c : Counters). c.completed ≡ true) ws → totals ≡ map (λ (c : Counters). c.accepted_count) ws
         → FitsTake q (live_in held) r (Ok (Finished totals))
-    finished_fits totals all are = (near, is_dry, λ w lt. all w unknown (inside w lt),
-        (ap length are ∙ length-map ws (λ (c : Counters). c.accepted_count) ∙ core.all_writers, λ w lt. ap (λ z. slice_get z w) are ∙ total_at ws w
-        (inside w lt)))
+    finished_fits totals all are = (
+      near,
+      is_dry,
+      λ w lt. all w unknown (inside w lt),
+      (
+        ap length are ∙ length-map ws (λ (c : Counters). c.accepted_count) ∙ core.all_writers,
+        λ w lt. ap (λ z. slice_get z w) are ∙ total_at ws w
+            (inside w lt),
+      ),
+    )
 
     pub finished_legal : (totals : List ℕ) → All (λ (c : Counters). c.completed ≡ true) ws → totals ≡ map (λ (c : Counters). c.accepted_count) ws
         → MovesOn held (event.Take r, reply.Take (Ok (Finished totals))) record { shape = q; writers = ws; queue = ys }
-    finished_legal totals all are = subst (λ z. MovesOn held (event.Take r, reply.Take (Ok (Finished totals))) record { shape = q; writers = ws;
-        queue = z }) (sym same) (stays held (event.Take r, reply.Take (Ok (Finished totals))) (finished_fits totals all are) (λ w. (refl, refl, refl, refl)))
+    finished_legal totals all are = subst (λ z. MovesOn held (event.Take r, reply.Take (Ok (Finished totals))) record {
+      shape = q;
+      writers = ws;
+      queue = z;
+    }) (sym same) (stays held (event.Take r, reply.Take (Ok (Finished totals))) (finished_fits totals all are) (λ w. (refl, refl, refl, refl)))
 
     pub empty_fits : ¬ All (λ (c : Counters). c.completed ≡ true) ws → FitsTake q (live_in held) r (Ok Empty)
-    empty_fits some = (near, is_dry, λ all. some (λ k d lt. subst (λ (c : Counters). c.completed ≡ true) (get_or_default ws k unknown d lt)
-        (all k (subst (λ n. k < n) core.all_writers lt))))
+    empty_fits some = (
+      near,
+      is_dry,
+      λ all. some (λ k d lt. subst (λ (c : Counters). c.completed ≡ true) (get_or_default ws k unknown d lt)
+          (all k (subst (λ n. k < n) core.all_writers lt))),
+    )
 
     pub empty_legal : ¬ All (λ (c : Counters). c.completed ≡ true) ws → MovesOn held
         (event.Take r, reply.Take (Ok Empty)) record { shape = q; writers = ws; queue = ys }

@@ -44,12 +44,18 @@ module _ {T : Type 0} where
   take_next zero [] x is = cc
   take_next (suc n) [] x is = cc
   take_next zero (y ∷ a) x is = let e : y ≡ x = cc in (ap (λ z. z ∷ []) e, omega arith)
-  take_next (suc n) (y ∷ a) x is = let t = take_next n a x is in (subst (λ k. take k (y ∷ a) ≡ y ∷ (take n a ++ x ∷ []))
-      (let e : suc (n + 1) ≡ suc n + 1 = omega arith in e) (ap (λ z. y ∷ z) t.0), (let lt = t.1 in omega arith))
+  take_next (suc n) (y ∷ a) x is = let t = take_next n a x is in (
+    subst (λ k. take k (y ∷ a) ≡ y ∷ (take n a ++ x ∷ []))
+        (let e : suc (n + 1) ≡ suc n + 1 = omega arith in e) (ap (λ z. y ∷ z) t.0),
+    (let lt = t.1 in omega arith),
+  )
 
   grows : (l : List (Leaving T)) (a added : List T) → Begins l a → Begins l (a ++ added)
-  grows l a added b = record { items = b.items ∙ sym (take-append-le (length l) a added b.within);
-      within = (let e = length-append a added in let w = b.within in omega arith); numbers = b.numbers }
+  grows l a added b = record {
+    items = b.items ∙ sym (take-append-le (length l) a added b.within);
+    within = (let e = length-append a added in let w = b.within in omega arith);
+    numbers = b.numbers;
+  }
 
   next : (l : List (Leaving T)) (a : List T) (x : Leaving T) → Begins l a → x.1 ≡ length l → slice_get (drop (length l) a) 0 ≡ Some x.2 → Begins (l ++ x ∷ []) a
   next l a x b number is = let t = take_next (length l) a x.2 is in let e = length-append l (x ∷ []) in record {

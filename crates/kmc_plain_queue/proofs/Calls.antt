@@ -31,8 +31,13 @@ hit v x y = ap (λ b. cond b x y) (eq-eqb v v refl)
 
 module _ {T : Type 0} where
   nothing : (l : LiveWriter T) → advanced false false [] [] l ≡ l
-  nothing l = λ i. record { registered = l.registered; completed = l.completed; accepted_count = add-zero l.accepted_count i;
-      left_count = add-zero l.left_count i; outstanding_items = append-nil l.outstanding_items i }
+  nothing l = λ i. record {
+    registered = l.registered;
+    completed = l.completed;
+    accepted_count = add-zero l.accepted_count i;
+    left_count = add-zero l.left_count i;
+    outstanding_items = append-nil l.outstanding_items i;
+  }
 
   -- one writer's counters and items were changed: here, and elsewhere
   module _ (ws : List Counters) (v : ℕ) (c : Counters) (near : v < length ws) (xs ys : ℕ → List T) (r k : ℕ → Bool) (a : ℕ → List T)
@@ -46,39 +51,63 @@ module _ {T : Type 0} where
         (λ (t : (eqb v w ≡ true) × (v ≡ w)). subst Advances t.1 (ap (λ z. live_writer z (ys v)) (get_or-set_same ws v c unknown near) ∙ here))
         (λ (f : (eqb v w ≡ false) × _). let o = off w f.0 in
         ap (λ z. live_writer z (ys w)) (get_or-set_other ws v w c unknown (other v w f.0)) ∙ ap (live_writer (counters_of ws w)) o.0 ∙ sym
-            (nothing (live_writer (counters_of ws w) (xs w)))
+        (nothing (live_writer (counters_of ws w) (xs w)))
         ∙ (λ i. advanced (sym o.1 i) (sym o.2 i) (sym o.3 i) (sym o.4 i) (live_writer (counters_of ws w) (xs w))))
         (eqb_tells v w)
 
   -- the live part that the object holds after a put
   pub held_put : (s : CoreState T) (v : ℕ) (x : T) (n : ℕ) → v < length s.writers → n ≡ (counters_of s.writers v).accepted_count → (w : ℕ)
-      → live_in (record s { writers = set s.writers v (record (counters_of s.writers v) { accepted_count = n + 1 }); queue = s.queue ++ queued v x
-          ∷ [] }) w ≡ live_after (event.Put v x, reply.Put (Ok n)) (live_in s) w
+      → live_in (record s {
+        writers = set s.writers v (record (counters_of s.writers v) { accepted_count = n + 1 });
+        queue = s.queue ++ queued v x
+            ∷ [];
+      }) w ≡ live_after (event.Put v x, reply.Put (Ok n)) (live_in s) w
   held_put s v x n near is w = spot s.writers v (record (counters_of s.writers v) { accepted_count = n + 1 }) near (λ u. items_of u s.queue)
       (λ u. items_of u (s.queue ++ queued v x ∷ []))
       (λ _. false) (λ _. false) (λ u. cond (eqb v u) (x ∷ []) []) (λ _. [])
-      (λ i. record { registered = (counters_of s.writers v).registered; completed = (counters_of s.writers v).completed;
-          accepted_count = (ap (λ m. m + 1) is ∙ ap (λ z. (counters_of s.writers v).accepted_count + length z) (sym (hit v (x ∷ []) []))) i;
-          left_count = sym (add-zero (counters_of s.writers v).left_count) i; outstanding_items = items_push v s.queue (queued v x) i })
-      (λ u f. (items_push u s.queue (queued v x) ∙ ap (λ b. items_of u s.queue ++ cond b (x ∷ []) []) f ∙ append-nil (items_of u s.queue), refl,
-          refl, ap (λ b. cond b (x ∷ []) []) f, refl)) w
+      (λ i. record {
+        registered = (counters_of s.writers v).registered;
+        completed = (counters_of s.writers v).completed;
+        accepted_count = (ap (λ m. m + 1) is ∙ ap (λ z. (counters_of s.writers v).accepted_count + length z) (sym (hit v (x ∷ []) []))) i;
+        left_count = sym (add-zero (counters_of s.writers v).left_count) i;
+        outstanding_items = items_push v s.queue (queued v x) i;
+      })
+      (λ u f. (
+        items_push u s.queue (queued v x) ∙ ap (λ b. items_of u s.queue ++ cond b (x ∷ []) []) f ∙ append-nil (items_of u s.queue),
+        refl,
+        refl,
+        ap (λ b. cond b (x ∷ []) []) f,
+        refl,
+      )) w
 
   -- and after a take that gave an item
   pub held_take : (s : CoreState T) (r v n : ℕ) (x : T) (rest : List (Queued T)) → v < length s.writers → n ≡ (counters_of s.writers v).left_count
       → s.queue ≡ queued v x ∷ rest → (w : ℕ)
       → live_in (record s { writers = set s.writers v (record (counters_of s.writers v) { left_count = n + 1 }); queue = rest }) w ≡ live_after
-          (event.Take r, reply.Take (Ok (Got record { writer = v; number = n; item = x }))) (live_in s) w
+      (event.Take r, reply.Take (Ok (Got record { writer = v; number = n; item = x }))) (live_in s) w
   held_take s r v n x rest near is front w = let gone : List (Leaving T) = (r, n, x) ∷ [] in let none : List (Leaving T) = [] in
       let remaining : items_of v rest ≡ drop (length (cond (eqb v v) gone none)) (items_of v s.queue ++ []) = sym (append-nil (items_of v rest)) ∙ ap
-          (λ z. drop 1 (z ++ [])) (sym (hit v (x ∷ items_of v rest) (items_of v rest)) ∙ ap (items_of v) (sym front)) ∙ ap
-          (λ z. drop (length z) (items_of v s.queue ++ [])) (sym (hit v gone none)) in
+      (λ z. drop 1 (z ++ [])) (sym (hit v (x ∷ items_of v rest) (items_of v rest)) ∙ ap (items_of v) (sym front)) ∙ ap
+      (λ z. drop (length z) (items_of v s.queue ++ [])) (sym (hit v gone none)) in
       spot s.writers v (record (counters_of s.writers v) { left_count = n + 1 }) near (λ u. items_of u s.queue) (λ u. items_of u rest)
       (λ _. false) (λ _. false) (λ _. []) (λ u. cond (eqb v u) gone none)
-      (λ i. record { registered = (counters_of s.writers v).registered; completed = (counters_of s.writers v).completed; accepted_count = sym
-          (add-zero (counters_of s.writers v).accepted_count) i; left_count =
-          (ap (λ m. m + 1) is ∙ ap (λ z. (counters_of s.writers v).left_count + length z) (sym (hit v gone none))) i; outstanding_items = remaining i })
-      (λ u f. (ap (λ b. cond b (x ∷ items_of u rest) (items_of u rest)) (sym f) ∙ ap (items_of u) (sym front), refl, refl, refl, ap
-          (λ b. cond b gone none) f)) w
+      (λ i. record {
+        registered = (counters_of s.writers v).registered;
+        completed = (counters_of s.writers v).completed;
+        accepted_count = sym
+            (add-zero (counters_of s.writers v).accepted_count) i;
+        left_count =
+            (ap (λ m. m + 1) is ∙ ap (λ z. (counters_of s.writers v).left_count + length z) (sym (hit v gone none))) i;
+        outstanding_items = remaining i;
+      })
+      (λ u f. (
+        ap (λ b. cond b (x ∷ items_of u rest) (items_of u rest)) (sym f) ∙ ap (items_of u) (sym front),
+        refl,
+        refl,
+        refl,
+        ap
+            (λ b. cond b gone none) f,
+      )) w
 
   fits_agree : (q : QueueShape) (a b : LiveQueue T) → ((w : ℕ) → w < q.writers → b w ≡ a w) → (e : Entry T) → Fits q a e → Fits q b e
   fits_agree q a b agree e fits = grind (arith, common_steps)
@@ -90,7 +119,7 @@ module _ {T : Type 0} where
     (fits_agree s.shape (live_in s) (live_of (state_of h)) holds e fits, legal),
     λ w lt. live_advances T s.shape h legal e w
         ∙ ap (advanced (registers w e) (completes w e) (item_accepted w e) (item_left w e))
-            (holds w (subst (λ (q : QueueShape). w < q.writers) shape lt)) ∙ sym (held w),
+        (holds w (subst (λ (q : QueueShape). w < q.writers) shape lt)) ∙ sym (held w),
   )
 
   -- of a call that changed nothing
@@ -118,21 +147,21 @@ module _ {T : Type 0} where
     known = known;
     counted = λ w lt. ⊎_elim
         (λ (t : (eqb v w ≡ true) × (v ≡ w)). subst (λ u. (counters_of (set ws v c) u).accepted_count
-            ≡ (counters_of (set ws v c) u).left_count + length (items_of u ys)) t.1
-            (subst (λ (z : Counters). z.accepted_count ≡ z.left_count + length (items_of v ys))
-            (sym (get_or-set_same ws v c unknown (subst (λ n. v < n) (sym core.all_writers) near))) counted))
+        ≡ (counters_of (set ws v c) u).left_count + length (items_of u ys)) t.1
+        (subst (λ (z : Counters). z.accepted_count ≡ z.left_count + length (items_of v ys))
+        (sym (get_or-set_same ws v c unknown (subst (λ n. v < n) (sym core.all_writers) near))) counted))
         (λ (f : (eqb v w ≡ false) × _). subst (λ (z : Counters). z.accepted_count ≡ z.left_count + length (items_of w ys))
-            (sym (get_or-set_other ws v w c unknown (other v w f.0)))
-            (subst (λ z. (counters_of ws w).accepted_count ≡ (counters_of ws w).left_count + length z) (sym (off w f.0)) (core.counted w lt)))
+        (sym (get_or-set_other ws v w c unknown (other v w f.0)))
+        (subst (λ z. (counters_of ws w).accepted_count ≡ (counters_of ws w).left_count + length z) (sym (off w f.0)) (core.counted w lt)))
         (eqb_tells v w);
     room = λ w lt. ⊎_elim (λ (t : (eqb v w ≡ true) × (v ≡ w)). subst (λ u. length (items_of u ys) ≤ q.per_writer) t.1 room)
         (λ (f : (eqb v w ≡ false) × _). subst (λ z. length z ≤ q.per_writer) (sym (off w f.0)) (core.room w lt)) (eqb_tells v w);
     numbers = λ w lt. ⊎_elim
         (λ (t : (eqb v w ≡ true) × (v ≡ w)). subst (λ u. (counters_of (set ws v c) u).accepted_count ≤ MAX_ITEMS) t.1
-            (subst (λ (z : Counters). z.accepted_count ≤ MAX_ITEMS) (sym
-            (get_or-set_same ws v c unknown (subst (λ n. v < n) (sym core.all_writers) near))) few))
+        (subst (λ (z : Counters). z.accepted_count ≤ MAX_ITEMS) (sym
+        (get_or-set_same ws v c unknown (subst (λ n. v < n) (sym core.all_writers) near))) few))
         (λ (f : (eqb v w ≡ false) × _). subst (λ (z : Counters). z.accepted_count ≤ MAX_ITEMS)
-            (sym (get_or-set_other ws v w c unknown (other v w f.0))) (core.numbers w lt))
+        (sym (get_or-set_other ws v w c unknown (other v w f.0))) (core.numbers w lt))
         (eqb_tells v w);
   }
 
@@ -157,9 +186,9 @@ module _ {T : Type 0} where
   core_put q ws xs v x c core near is few below = let more : items_of v (xs ++ queued v x ∷ []) ≡ items_of v xs ++ x ∷ [] = items_push v xs
       (queued v x) ∙ ap (λ z. items_of v xs ++ z) (hit v (x ∷ []) []) in
       let long : length (items_of v (xs ++ queued v x ∷ [])) ≡ length (items_of v xs) + 1 = ap length more ∙ length-append (items_of v xs)
-          (x ∷ []) in let was = waiting q ws xs v c core near is in
+      (x ∷ []) in let was = waiting q ws xs v c core near is in
       core_set q ws xs (xs ++ queued v x ∷ []) v (record c { accepted_count = c.accepted_count + 1 }) core near
-          (known_push q.writers xs (queued v x) core.known near) (omega arith) (omega arith) (omega arith)
+      (known_push q.writers xs (queued v x) core.known near) (omega arith) (omega arith) (omega arith)
       (λ w f. items_push w xs (queued v x) ∙ ap (λ b. items_of w xs ++ cond b (x ∷ []) []) f ∙ append-nil (items_of w xs))
 
   -- where a writer may put, the ring has a place
@@ -177,7 +206,7 @@ module _ {T : Type 0} where
       (length (items_of v rest)) = ap length (hit v (x ∷ items_of v rest) (items_of v rest)) in
       let was = waiting q ws (queued v x ∷ rest) v c core near is in let room = core.room v near in
       core_set q ws (queued v x ∷ rest) rest v (record c { left_count = c.left_count + 1 }) core near core.known.1 (omega arith) (omega arith)
-          (below_max q ws (queued v x ∷ rest) v c core near is)
+      (below_max q ws (queued v x ∷ rest) v c core near is)
       (λ w f. ap (λ b. cond b (x ∷ items_of w rest) (items_of w rest)) (sym f))
 
   -- of a new queue

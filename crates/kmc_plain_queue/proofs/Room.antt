@@ -42,7 +42,7 @@ module _ {T : Type 0} where
       (eqb_tells x.writer w)
   items_push w (y ∷ xs) x = let h = items_push w xs x in ⊎_elim
       (λ (t : (eqb y.writer w ≡ true) × (y.writer ≡ w)). ap (λ b. cond b (y.item ∷ items_of w (xs ++ x ∷ [])) (items_of w (xs ++ x ∷ []))) t.0 ∙ ap
-          (λ z. y.item ∷ z) h ∙ ap (λ b. cond b (y.item ∷ items_of w xs) (items_of w xs) ++ cond (eqb x.writer w) (x.item ∷ []) []) (sym t.0))
+      (λ z. y.item ∷ z) h ∙ ap (λ b. cond b (y.item ∷ items_of w xs) (items_of w xs) ++ cond (eqb x.writer w) (x.item ∷ []) []) (sym t.0))
       (λ (f : (eqb y.writer w ≡ false) × (y.writer ≡ w → ⊥)). ap (λ b. cond b (y.item ∷ items_of w (xs ++ x ∷ [])) (items_of w (xs ++ x ∷ []))) f.0
-          ∙ h ∙ ap (λ b. cond b (y.item ∷ items_of w xs) (items_of w xs) ++ cond (eqb x.writer w) (x.item ∷ []) []) (sym f.0))
+      ∙ h ∙ ap (λ b. cond b (y.item ∷ items_of w xs) (items_of w xs) ++ cond (eqb x.writer w) (x.item ∷ []) []) (sym f.0))
       (eqb_tells y.writer w)

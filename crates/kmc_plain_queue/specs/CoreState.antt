@@ -31,8 +31,13 @@ module _ {T : Type 0} where
   items_of w (x ∷ xs) = cond (eqb x.writer w) (x.item ∷ items_of w xs) (items_of w xs)
 
   abbrev pub live_writer : Counters → List T → LiveWriter T
-  live_writer c items = record { registered = c.registered; completed = c.completed; accepted_count = c.accepted_count; left_count = c.left_count;
-      outstanding_items = items }
+  live_writer c items = record {
+    registered = c.registered;
+    completed = c.completed;
+    accepted_count = c.accepted_count;
+    left_count = c.left_count;
+    outstanding_items = items;
+  }
 
   -- the live part that the object holds
   abbrev pub live_in : CoreState T → LiveQueue T
@@ -61,8 +66,11 @@ module _ {T : Type 0} where
   abbrev pub Becomes : CoreState T → Entry T → CoreState T → Type 0
   Becomes s (event.Register w, reply.Register (Ok u)) s' = s' ≡ record s
       { writers = slice_set s.writers w (record (counters_of s.writers w) { registered = true }) }
-  Becomes s (event.Put w x, reply.Put (Ok n)) s' = s' ≡ record s { writers = slice_set s.writers w
-      (record (counters_of s.writers w) { accepted_count = n + 1 }); queue = s.queue ++ queued w x ∷ [] }
+  Becomes s (event.Put w x, reply.Put (Ok n)) s' = s' ≡ record s {
+    writers = slice_set s.writers w
+        (record (counters_of s.writers w) { accepted_count = n + 1 });
+    queue = s.queue ++ queued w x ∷ [];
+  }
   Becomes s (event.Take r, reply.Take (Ok (Got g))) s' = (rest : List (Queued T)) × (s.queue ≡ queued g.writer g.item ∷ rest)
       × (s' ≡ record s { writers = slice_set s.writers g.writer (record (counters_of s.writers g.writer) { left_count = g.number + 1 }); queue = rest })
   Becomes s (event.Complete w, reply.Complete (Ok u)) s' = s' ≡ record s

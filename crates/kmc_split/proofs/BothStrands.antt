@@ -51,7 +51,7 @@ strands_share m w within h =
     sym (signature_is m n (rev_comp w) bt (omega (arith, length_rev_comp w)) (λ j less. refl))
     ∙ low_back at bt n
     (λ j less. ap (λ v. min (4 ^ m) (offer m v)) (window_back m j w (omega arith)) ∙ ap (min (4 ^ m))
-        (offer_same m (window m w (n - j)) (codes_part m (n - j) w h)))
+    (offer_same m (window m w (n - j)) (codes_part m (n - j) w h)))
     ∙ signature_is m n w at (omega arith) (λ j less. refl)
 
 canonical_shares : (m : ℕ) (w : List ℕ) → m ≤ length w → AreCodes w → signature_of m (canonical w) ≡ signature_of m w

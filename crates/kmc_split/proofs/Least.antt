@@ -39,14 +39,14 @@ module _ (most : ℕ) (f : ℕ → List ℕ) (at : ℕ → ℕ) where
       → least most (map pack (filter is_allowed (map canonical (map f (range_with_len a (suc n)))))) ≡ low at (suc n) i
   least_is zero a i each =
       let here : at i ≡ min most (worth most (canonical (f a))) = ap at (sym (add-zero i)) ∙ each 0 (omega arith) ∙ ap
-          (λ (j : ℕ). min most (worth most (canonical (f j)))) (add-zero a) in
+      (λ (j : ℕ). min most (worth most (canonical (f j)))) (add-zero a) in
       least_one most (canonical (f a)) [] ∙ omega (arith, here)
   least_is (suc n) a i each =
       let here : at i ≡ min most (worth most (canonical (f a))) = ap at (sym (add-zero i)) ∙ each 0 (omega arith) ∙ ap
-          (λ (j : ℕ). min most (worth most (canonical (f j)))) (add-zero a) in
+      (λ (j : ℕ). min most (worth most (canonical (f j)))) (add-zero a) in
       let rest = least_is n (a + 1) (i + 1)
       (λ j h. let e : i + 1 + j ≡ i + (j + 1) = omega arith in let d : a + (j + 1) ≡ a + 1 + j = omega arith in ap at e ∙ each (j + 1) (omega arith)
-          ∙ ap (λ (x : ℕ). min most (worth most (canonical (f x)))) d) in
+      ∙ ap (λ (x : ℕ). min most (worth most (canonical (f x)))) d) in
       least_one most (canonical (f a)) (map canonical (map f (range_with_len (a + 1) (suc n))))
       ∙ (λ t. min (sym here t) (rest t))
 

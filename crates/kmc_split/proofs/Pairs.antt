@@ -184,7 +184,7 @@ head_fits (suc j) p h =
 
 pub allowed_long : (m p marks_given : ℕ) → 3 ≤ m → p < 4 ^ m → marks_given ≡ pair_marks (m - 1)
     → ((not (nat_eq (p / 2 ^ (2 * (m - 3))) 0) && not (nat_eq (p / 2 ^ (2 * (m - 3))) 4)) && nat_eq
-        (bit_and (marks_given - bit_and (either p) marks_given) ((marks_given - bit_and (either p) marks_given) / 4)) 0) ≡ is_allowed (unpack m p)
+    (bit_and (marks_given - bit_and (either p) marks_given) ((marks_given - bit_and (either p) marks_given) / 4)) 0) ≡ is_allowed (unpack m p)
 allowed_long zero p g some fits e = absurd (omega arith)
 allowed_long (suc zero) p g some fits e = absurd (omega arith)
 allowed_long (suc (suc zero)) p g some fits e = absurd (omega arith)
@@ -196,12 +196,12 @@ allowed_long (suc (suc (suc j))) p g some fits e =
     let h = p / 4 ^ j in
     let fit = head_fits j p fits in
     let is_aaa : begins (0 ∷ 0 ∷ 0 ∷ []) w ≡ nat_eq h 0 = ap (λ (t : List ℕ). pointwise nat_eq t (0 ∷ 0 ∷ 0 ∷ [])) (first_three j p) ∙ aaa
-        (h / 4 / 4 % 4) (h / 4 % 4) (h % 4) h (omega arith) in
+    (h / 4 / 4 % 4) (h / 4 % 4) (h % 4) h (omega arith) in
     let is_aca : begins (0 ∷ 1 ∷ 0 ∷ []) w ≡ nat_eq h 4 = ap (λ (t : List ℕ). pointwise nat_eq t (0 ∷ 1 ∷ 0 ∷ [])) (first_three j p) ∙ aca
-        (h / 4 / 4 % 4) (h / 4 % 4) (h % 4) h (omega arith) (omega arith) (omega arith) (omega arith) in
+    (h / 4 / 4 % 4) (h / 4 % 4) (h % 4) h (omega arith) (omega arith) (omega arith) (omega arith) in
     let is_apart : nat_eq (bit_and (g - bit_and (either p) g) ((g - bit_and (either p) g) / 4)) 0 ≡ not (has_pair (drop 1 w)) =
     ap (λ (y : ℕ). nat_eq (bit_and (y - bit_and (either p) y) ((y - bit_and (either p) y) / 4)) 0) (e ∙ ap pair_marks less) ∙ no_pair (suc (suc j)) p
-        ∙ ap (λ (t : List ℕ). not (has_pair t)) (sym (drop_unpack (suc (suc j)) p)) in
+    ∙ ap (λ (t : List ℕ). not (has_pair t)) (sym (drop_unpack (suc (suc j)) p)) in
     let ra = sym is_aaa in
     let rc = sym is_aca in
     (λ i. (not (nat_eq (head i) 0) && not (nat_eq (head i) 4)) && is_apart i) ∙ (λ i. (not (ra i) && not (rc i)) && not (has_pair (drop 1 w)))

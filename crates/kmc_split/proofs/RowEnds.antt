@@ -78,7 +78,7 @@ module _ (at : ℕ → ℕ) where
   -- the next row of those that are left, and the rows behind it
   pub next_row : (p end n : ℕ) (ends : List ℕ) → n < length ends → AreRowEnds at p end (drop n ends)
       → (p < get_or ends n 0) × (get_or ends n 0 ≤ end) × IsRow at p (get_or ends n 0) × (at p ≢ at (get_or ends n 0)) × AreRowEnds at
-          (get_or ends n 0) end (drop (n + 1) ends)
+      (get_or ends n 0) end (drop (n + 1) ends)
   next_row p end n ends inside h =
       let split : drop n ends ≡ get_or ends n 0 ∷ drop (n + 1) ends = rw add-one (drop-cons ends n 0 inside) in
       let rows : AreRowEnds at p end (get_or ends n 0 ∷ drop (n + 1) ends) = subst (AreRowEnds at p end) split h in

@@ -41,7 +41,7 @@ module _ (exists : CutExists) (k m n : ℕ) where
       → bin_super_kmers k n i (all_segments k reads) cuts ≡ read_records i reads
   read_records_are unique i reads cuts h =
       ap (bin_super_kmers k n i (all_segments k reads)) (one_cuts unique k m (all_segments k reads) cuts (map cut_of (all_segments k reads)) h
-          (are_cuts (all_segments k reads))) ∙ segment_records i (all_segments k reads)
+      (are_cuts (all_segments k reads))) ∙ segment_records i (all_segments k reads)
 
   -- a sum over the super-k-mers of reads, read by read
   abbrev pub read_sum : (List ℕ → ℕ) → ℕ → List ℕ → ℕ

@@ -22,8 +22,14 @@ module _ (batch : ℕ) (reads : List (List ℕ)) (g : List ℕ → ℕ) where
   so_far (suc n) =
       let m = n * batch in
       let next : m + batch ≡ suc n * batch = sym (suc-mul n batch) in
-      omega (arith, so_far n, ap (sum_by g) (drop_split reads m (m + batch) (omega arith)), sum_by-append g (chunk_at batch reads n)
-          (drop (m + batch) reads), ap (λ j. sum_by g (drop j reads)) next)
+      omega (
+        arith,
+        so_far n,
+        ap (sum_by g) (drop_split reads m (m + batch) (omega arith)),
+        sum_by-append g (chunk_at batch reads n)
+            (drop (m + batch) reads),
+        ap (λ j. sum_by g (drop j reads)) next,
+      )
 
   pub chunks_sum : (n : ℕ) → length reads ≤ n * batch → sum_below (λ c. sum_by g (chunk_at batch reads c)) n ≡ sum_by g reads
   chunks_sum n all = omega (arith, so_far n, ap (sum_by g) (drop_all (n * batch) reads all))
@@ -44,9 +50,9 @@ module _ (exists : CutExists) (unique : CutIsUnique) (shape : Sizes) (batch : �
   parts_are c parts h =
       let cuts = map (cut_of exists shape.k shape.m shape.n) (chunk_segments c) in
       let same : h.cuts ≡ cuts = one_cuts unique shape.k shape.m (chunk_segments c) h.cuts cuts h.cut
-          (are_cuts exists shape.k shape.m shape.n (chunk_segments c)) in
+      (are_cuts exists shape.k shape.m shape.n (chunk_segments c)) in
       h.are ∙ ap (λ (cs : List (List Run)). filter (λ p. nat_lt 0 (length p.body))
-          (map (λ bin. grown shape.k (bin_super_kmers shape.k shape.n bin (chunk_segments c) cs) (empty_part c shape bin)) (range_with_len 0 shape.n))) same
+      (map (λ bin. grown shape.k (bin_super_kmers shape.k shape.n bin (chunk_segments c) cs) (empty_part c shape bin)) (range_with_len 0 shape.n))) same
 
   module _ (F : Parcel → ℕ) (sp : ℕ) (some : 0 < sp) where
     abbrev total : ℕ → ℕ
@@ -69,8 +75,13 @@ module _ (exists : CutExists) (unique : CutIsUnique) (shape : Sizes) (batch : �
 
     writers_sum : (c : ℕ) → sum_by (λ w. sum_below (λ j. turn j w) c) (range_with_len 0 sp) ≡ sum_below total c
     writers_sum zero = sum_none (range_with_len 0 sp)
-    writers_sum (suc c) = omega (arith, sum_add (λ w. sum_below (λ j. turn j w) c) (turn c) (range_with_len 0 sp), writers_sum c, range_one (c % sp)
-        (λ v. total c) sp (mod-lt c some))
+    writers_sum (suc c) = omega (
+      arith,
+      sum_add (λ w. sum_below (λ j. turn j w) c) (turn c) (range_with_len 0 sp),
+      writers_sum c,
+      range_one (c % sp)
+          (λ v. total c) sp (mod-lt c some),
+    )
 
     -- the sum over what was got is the sum over the parts of all chunks
     pub gathered_sum : (chunks : ℕ) (sent : ℕ → List Parcel) (got : List Parcel)
@@ -78,4 +89,4 @@ module _ (exists : CutExists) (unique : CutIsUnique) (shape : Sizes) (batch : �
         → sum_by F got ≡ sum_below total chunks
     gathered_sum chunks sent got dealt all =
         all F ∙ range_same (λ w. sum_by F (sent w)) (λ w. sum_below (λ j. turn j w) chunks) 0 sp
-            (λ w l h. writer_sum chunks w (sent w) (dealt w (omega arith))) ∙ writers_sum chunks
+        (λ w l h. writer_sum chunks w (sent w) (dealt w (omega arith))) ∙ writers_sum chunks

@@ -50,11 +50,11 @@ bins_absorb shape bodies words b body w are part = record {
   counted = length-set words b (capped (slice_index words b + w)) ∙ are.counted;
   each = λ i l. dite (ℕ_discrete i b)
       (λ e. subst (λ j. IsPart j shape (get_or (set bodies b (body_at bodies b ++ body)) j [])
-          (get_or (set words b (capped (slice_index words b + w))) j 0)) (sym e)
+      (get_or (set words b (capped (slice_index words b + w))) j 0)) (sym e)
       (let more = get_or-set_same bodies b (body_at bodies b ++ body) [] (omega (arith, are.wide, part.within)) in
       let sum = get_or-set_same words b (capped (slice_index words b + w)) 0 (omega (arith, are.counted, part.within)) in
       subst (λ (p : List ℕ × ℕ). IsPart b shape p.0 p.1) (sym (λ t. (more t, sum t)))
-          (part_joined b shape (body_at bodies b) body (slice_index words b) w (are.each b part.within) part)))
+      (part_joined b shape (body_at bodies b) body (slice_index words b) w (are.each b part.within) part)))
       (λ ne. let more = get_or-set_other bodies b i (body_at bodies b ++ body) [] ne in
       let sum = get_or-set_other words b i (capped (slice_index words b + w)) 0 ne in
       subst (λ (p : List ℕ × ℕ). IsPart i shape p.0 p.1) (sym (λ t. (more t, sum t))) (are.each i l));
@@ -70,24 +70,24 @@ bin_within old s vs words p b view same are part at =
 pub absorbed_is : (old : BinList) (s : Sizes) (vs : List Bytes) (words : List ℕ) (p : Parcel) (b : ℕ) (x v : Bytes) (sum : ℕ)
     → record { shape = s; bodies = map bytes_of vs; words = words } ≡ old → b ≡ p.bin → b < length vs
     → x ≡ get_or vs b x → v.items ≡ x.items ++ p.body → sum ≡ capped (slice_index words b + p.words) → Absorbed old p
-        (record { shape = s; bodies = map bytes_of (set vs b v); words = set words b sum })
+    (record { shape = s; bodies = map bytes_of (set vs b v); words = set words b sum })
 absorbed_is old s vs words p b x v sum view at inside is grown total = subst
     (λ (o : BinList). Absorbed o p (record { shape = s; bodies = map bytes_of (set vs b v); words = set words b sum })) view (record {
-  shape = refl;
-  bodies = map-set bytes_of vs b v ∙ ap (set (map bytes_of vs) b) (grown ∙ ap (λ t. t ++ p.body) (sym (body_is vs b x inside is))) ∙ ap
-      (λ j. set (map bytes_of vs) j (body_at (map bytes_of vs) j ++ p.body)) at;
-  words = ap (set words b) total ∙ ap (λ j. set words j (capped (slice_index words j + p.words))) at;
-})
+      shape = refl;
+      bodies = map-set bytes_of vs b v ∙ ap (set (map bytes_of vs) b) (grown ∙ ap (λ t. t ++ p.body) (sym (body_is vs b x inside is))) ∙ ap
+          (λ j. set (map bytes_of vs) j (body_at (map bytes_of vs) j ++ p.body)) at;
+      words = ap (set words b) total ∙ ap (λ j. set words j (capped (slice_index words j + p.words))) at;
+    })
 
 pub bins_absorbed : (old : BinList) (s : Sizes) (vs : List Bytes) (words : List ℕ) (p : Parcel) (b : ℕ) (x v : Bytes) (sum : ℕ)
     → record { shape = s; bodies = map bytes_of vs; words = words } ≡ old → p.shape ≡ old.shape
     → AreBins s (map bytes_of vs) words → IsPart p.bin p.shape p.body p.words → b ≡ p.bin → b < length vs → x ≡ get_or vs b x → v.items ≡ x.items
-        ++ p.body → sum ≡ capped (slice_index words b + p.words)
+    ++ p.body → sum ≡ capped (slice_index words b + p.words)
     → AreBins s (map bytes_of (set vs b v)) (set words b sum)
 bins_absorbed old s vs words p b x v sum view same are part at inside is grown total =
     let shaped : p.shape ≡ s = same ∙ ap (λ (t : BinList). t.shape) (sym view) in
     let here : IsPart b s p.body p.words = subst (λ (j : ℕ). IsPart j s p.body p.words) (sym at)
-        (subst (λ (t : Sizes). IsPart p.bin t p.body p.words) shaped part) in
+    (subst (λ (t : Sizes). IsPart p.bin t p.body p.words) shaped part) in
     let body : map bytes_of (set vs b v) ≡ set (map bytes_of vs) b (body_at (map bytes_of vs) b ++ p.body) =
     map-set bytes_of vs b v ∙ ap (set (map bytes_of vs) b) (grown ∙ ap (λ t. t ++ p.body) (sym (body_is vs b x inside is))) in
     let both = sym (λ i. (body i, ap (set words b) total i)) in
@@ -98,7 +98,7 @@ bins_absorbed old s vs words p b x v sum view same are part at inside is grown t
 pub bins_merge : (s t : Sizes) (old other new : List (List ℕ)) (words more sums : List ℕ) → t ≡ s → AreBins s old words → AreBins t other more
     → length new ≡ length old → length sums ≡ length words
     → ((i : ℕ) → i < length old → body_at new i ≡ body_at old i ++ body_at other i)
-        → ((i : ℕ) → i < length words → slice_index sums i ≡ capped (slice_index words i + slice_index more i)) → AreBins s new sums
+    → ((i : ℕ) → i < length words → slice_index sums i ≡ capped (slice_index words i + slice_index more i)) → AreBins s new sums
 bins_merge s t old other new words more sums same are others wide counted bodies each = record {
   wide = wide ∙ are.wide;
   counted = counted ∙ are.counted;
@@ -106,9 +106,9 @@ bins_merge s t old other new words more sums same are others wide counted bodies
       let body = bodies i (omega (arith, are.wide)) in
       let sum = each i (omega (arith, are.counted)) in
       let here : IsPart i s (body_at other i) (slice_index more i) = subst (λ (z : Sizes). IsPart i z (body_at other i) (slice_index more i)) same
-          (others.each i (omega (arith, ap (λ (z : Sizes). z.n) same))) in
+      (others.each i (omega (arith, ap (λ (z : Sizes). z.n) same))) in
       subst (λ (p : List ℕ × ℕ). IsPart i s p.0 p.1) (sym (λ j. (body j, sum j)))
-          (part_joined i s (body_at old i) (body_at other i) (slice_index words i) (slice_index more i) (are.each i l) here);
+      (part_joined i s (body_at old i) (body_at other i) (slice_index words i) (slice_index more i) (are.each i l) here);
 }
 
 pub merged_is : (old other : BinList) (s t : Sizes) (vs ws new : List Bytes) (words more sums : List ℕ)
@@ -119,9 +119,9 @@ pub merged_is : (old other : BinList) (s t : Sizes) (vs ws new : List Bytes) (wo
     → Merged old other (record { shape = s; bodies = map bytes_of new; words = sums })
 merged_is old other s t vs ws new words more sums view others wide counted bodies each = subst
     (λ (q : BinList × BinList). Merged q.0 q.1 (record { shape = s; bodies = map bytes_of new; words = sums })) (λ i. (view i, others i)) (record {
-  shape = refl;
-  wide = length-map new bytes_of ∙ wide ∙ sym (length-map vs bytes_of);
-  counted = counted;
-  bodies = λ i l. bodies i (omega (arith, length-map vs bytes_of));
-  words = each;
-})
+      shape = refl;
+      wide = length-map new bytes_of ∙ wide ∙ sym (length-map vs bytes_of);
+      counted = counted;
+      bodies = λ i l. bodies i (omega (arith, length-map vs bytes_of));
+      words = each;
+    })

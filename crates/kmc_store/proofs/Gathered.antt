@@ -64,7 +64,7 @@ module _ (exists : CutExists) (unique : CutIsUnique) (has_runs : CutHasRuns) (sh
   part_body c bin =
       let segments = chunk_segments exists unique shape batch reads c in
       ap (flat_map (spelling shape.k)) (read_records_are exists shape.k shape.m shape.n unique bin (chunk_at batch reads c)
-          (map (cut_of exists shape.k shape.m shape.n) segments) (are_cuts exists shape.k shape.m shape.n segments))
+      (map (cut_of exists shape.k shape.m shape.n) segments) (are_cuts exists shape.k shape.m shape.n segments))
 
   -- a sum over the parts of a chunk, bin by bin
   parts_sum : (F : Parcel → ℕ) (c : ℕ) → sum_by F (chunk_parts exists unique shape batch reads c) ≡ sum_by
@@ -130,17 +130,17 @@ module _ (exists : CutExists) (unique : CutIsUnique) (has_runs : CutHasRuns) (sh
   pub gathered_held : (sp chunks : ℕ) (sent : ℕ → List Parcel) (got : List Parcel) (before bodies : List (List ℕ)) → 1 ≤ shape.k → 0 < sp
       → length reads ≤ chunks * batch
       → ((w : ℕ) → w < sp → AreDealt shape batch reads sp w chunks (sent w)) → AreGathered sp sent got → HoldsReads shape held before
-          → AreAdded shape before bodies got → HoldsReads shape (held ++ reads) bodies
+      → AreAdded shape before bodies got → HoldsReads shape (held ++ reads) bodies
   gathered_held sp chunks sent got before bodies some writers all dealt gathered hold are =
       let old = sums_held exists unique shape held before hold in
       let sum = λ (F : Parcel → ℕ). gathered_sum exists unique shape batch reads F sp writers chunks sent got dealt gathered in
       let as_spelled : AllByRecursion (λ (p : Parcel). p.body ≡ spelled_of p) got =
       none_each (λ (p : Parcel). p.body ≡ spelled_of p) is_other not_other got
-          (sum is_other ∙ below_none (λ c. sum_by is_other (chunk_parts exists unique shape batch reads c)) chunks none_other) in
+      (sum is_other ∙ below_none (λ c. sum_by is_other (chunk_parts exists unique shape batch reads c)) chunks none_other) in
       let own_sum = λ (i : ℕ) (G : List ℕ → ℕ) (l : i < shape.n).
       sum_flat_map G records_of (parts_in i got) ∙ sum_filter (λ p. sum_by G (records_of p)) (λ p. nat_eq p.bin i) got ∙ sum (weight G i)
       ∙ below_same (λ c. sum_by (weight G i) (chunk_parts exists unique shape batch reads c))
-          (λ c. sum_by (read_sum exists shape.k shape.m shape.n G i) (chunk_at batch reads c)) chunks (λ c. chunk_weight G i c l)
+      (λ c. sum_by (read_sum exists shape.k shape.m shape.n G i) (chunk_at batch reads c)) chunks (λ c. chunk_weight G i c l)
       ∙ chunks_sum batch reads (read_sum exists shape.k shape.m shape.n G i) chunks all in
       held_by_sums exists unique shape (held ++ reads) bodies (record {
         wide = are.wide;

@@ -35,7 +35,7 @@ left_more xs ys i v left k d l = get_or-set_other xs i k v d (omega arith) ∙ l
 pub room_more : (own more : List Bytes) (i : ℕ) (v w : Bytes) (size : ℕ) → i < length own → i < length more → w ≡ get_or more i w → size
     ≡ length w.items → HasRoom v size
     → ((k : ℕ) (a b : Bytes) → k < i → HasRoom (get_or own k a) (length (get_or more k b).items)) → (k : ℕ) (a b : Bytes) → k < i + 1 → HasRoom
-        (get_or (set own i v) k a) (length (get_or more k b).items)
+    (get_or (set own i v) k a) (length (get_or more k b).items)
 room_more own more i v w size inside inside_more is long here below k a b l =
     each_more (λ j x. HasRoom x (length (get_or more j b).items)) own i v a inside (λ j lj. below j a b lj)
     (subst (HasRoom v) (long ∙ ap (λ (z : Bytes). length z.items) (get_or_read more i w inside_more is b)) here) k l
@@ -44,7 +44,7 @@ room_more own more i v w size inside inside_more is long here below k a b l =
 pub appended_more : (own more own₀ more₀ : List Bytes) (i : ℕ) (x y v : Bytes) → i < length own → i < length own₀ → i < length more₀ → x
     ≡ get_or own i x → y ≡ get_or more i y
     → v.items ≡ x.items ++ y.items → ((k : ℕ) (d : Bytes) → i ≤ k → get_or own k d ≡ get_or own₀ k d)
-        → ((k : ℕ) (d : Bytes) → i ≤ k → get_or more k d ≡ get_or more₀ k d)
+    → ((k : ℕ) (d : Bytes) → i ≤ k → get_or more k d ≡ get_or more₀ k d)
     → ((k : ℕ) → k < i → body_at (map bytes_of own) k ≡ body_at (map bytes_of own₀) k ++ body_at (map bytes_of more₀) k)
     → (k : ℕ) → k < i + 1 → body_at (map bytes_of (set own i v)) k ≡ body_at (map bytes_of own₀) k ++ body_at (map bytes_of more₀) k
 appended_more own more own₀ more₀ i x y v inside inside₀ inside_more own_is more_is grown left left_others done k l =
@@ -52,7 +52,7 @@ appended_more own more own₀ more₀ i x y v inside inside₀ inside_more own_i
     let other : body_at (map bytes_of more₀) i ≡ y.items = body_is more₀ i y inside_more (more_is ∙ left_others i y (omega arith)) in
     ap (λ (bs : List (List ℕ)). get_or bs k []) (map-set bytes_of own i v)
     ∙ each_more (λ j b. b ≡ body_at (map bytes_of own₀) j ++ body_at (map bytes_of more₀) j) (map bytes_of own) i v.items []
-        (omega (arith, length-map own bytes_of)) done
+    (omega (arith, length-map own bytes_of)) done
     (grown ∙ sym (λ j. here j ++ other j)) k l
 
 -- the bodies have grown, whose vectors had got more room before

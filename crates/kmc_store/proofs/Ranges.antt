@@ -33,16 +33,27 @@ only i f j = cond (nat_eq j i) (f j) 0
 
 range_none : (i : ℕ) (f : ℕ → ℕ) (a n : ℕ) → i < a → sum_by (only i f) (range_with_len a n) ≡ 0
 range_none i f a zero h = refl
-range_none i f a (suc n) h = omega (arith, sum_by-cons (only i f) a (range_with_len (a + 1) n), range_none i f (a + 1) n (omega arith), ap
-    (λ t. cond t (f a) 0) (is_ne a i (λ e. omega arith)))
+range_none i f a (suc n) h = omega (
+  arith,
+  sum_by-cons (only i f) a (range_with_len (a + 1) n),
+  range_none i f (a + 1) n (omega arith),
+  ap
+      (λ t. cond t (f a) 0) (is_ne a i (λ e. omega arith)),
+)
 
 range_from : (i : ℕ) (f : ℕ → ℕ) (a n : ℕ) → a ≤ i → i < a + n → sum_by (only i f) (range_with_len a n) ≡ f i
 range_from i f a zero h l = absurd (omega arith)
 range_from i f a (suc n) h l = go (λ ne. range_from i f (a + 1) n (omega arith) (omega arith)) (nat_eq a i) refl
   where
     go : (a ≢ i → sum_by (only i f) (range_with_len (a + 1) n) ≡ f i) → (t : Bool) → nat_eq a i ≡ t → sum_by (only i f) (range_with_len a (suc n)) ≡ f i
-    go rest true e = omega (arith, sum_by-cons (only i f) a (range_with_len (a + 1) n), range_none i f (a + 1) n (omega (arith, eq_of a i e)), ap
-        (λ t. cond t (f a) 0) e, ap f (eq_of a i e))
+    go rest true e = omega (
+      arith,
+      sum_by-cons (only i f) a (range_with_len (a + 1) n),
+      range_none i f (a + 1) n (omega (arith, eq_of a i e)),
+      ap
+          (λ t. cond t (f a) 0) e,
+      ap f (eq_of a i e),
+    )
     go rest false e = omega (arith, sum_by-cons (only i f) a (range_with_len (a + 1) n), rest (ne_of a i e), ap (λ t. cond t (f a) 0) e)
 
 pub range_one : (i : ℕ) (f : ℕ → ℕ) (n : ℕ) → i < n → sum_by (only i f) (range_with_len 0 n) ≡ f i

@@ -100,7 +100,7 @@ runs_spelled k m n i codes (r ∷ rs) some small h = go (runs_spelled k m n i co
   where
     go : AllByRecursion (IsSpelled k) (bin_runs k n i codes rs) → (t : Bool)
         → AllByRecursion (IsSpelled k) (map (run_codes k codes) (cond t (r ∷ filter (λ r. nat_eq (r.signature % n) i) rs)
-            (filter (λ r. nat_eq (r.signature % n) i) rs)))
+        (filter (λ r. nat_eq (r.signature % n) i) rs)))
     go rest true = (run_spelled k m codes r some h.0 small, rest)
     go rest false = rest
 
@@ -111,7 +111,7 @@ module _ (exists : CutExists) (has_runs : CutHasRuns) (k m n : ℕ) (some : 1 �
       let cut = exists k m s.codes in
       let runs = recursion_from_All (IsRunOf k m s.codes) cut.0 (has_runs k m s.codes cut.0 some h.0.0 cut.1) in
       all_joined (IsSpelled k) (runs_of exists k m n i s) (flat_map (runs_of exists k m n i) ss) (runs_spelled k m n i s.codes cut.0 some h.0.1 runs)
-          (segments_spelled i ss h.1)
+      (segments_spelled i ss h.1)
 
   pub records_spelled : (i : ℕ) (reads : List (List ℕ)) → AllByRecursion (IsSpelled k) (read_records exists k m n i reads)
   records_spelled i reads = segments_spelled i (all_segments k reads) (segments_have_words k reads)

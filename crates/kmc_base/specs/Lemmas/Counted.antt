@@ -89,7 +89,7 @@ counted_more k a b bs =
     let place : (i : ℕ) → a + (i + 1) ≡ a + 1 + i = λ i. omega arith in
     (λ j. cons_option (option_map (λ w. (first j, w)) (word_at k (b ∷ bs) 0)) (shift_filter (from k a (b ∷ bs)) 0 (length bs) j))
     ∙ (λ j. cons_option (option_map (λ w. (a, w)) (word_at k (b ∷ bs) 0))
-        (filter_map (λ i. option_map (λ w. (place i j, w)) (next_word k b bs i j)) (range_with_len 0 (length bs))))
+    (filter_map (λ i. option_map (λ w. (place i j, w)) (next_word k b bs i j)) (range_with_len 0 (length bs))))
 
 -- ---- the words of a stretch
 
@@ -194,7 +194,7 @@ all_from k some a (b ∷ bs) = go (code_of b) refl (all_from k some (a + 1) bs)
     first o e =
         counted_more k a b bs
         ∙ ap (λ w. cons_option (option_map (λ w. (a, w)) w) (counted_from k (a + 1) bs))
-            (word_here k (b ∷ bs) ∙ ap (λ p. first_codes k (led_by p (leading bs))) e)
+        (word_here k (b ∷ bs) ∙ ap (λ p. first_codes k (led_by p (leading bs))) e)
         ∙ chosen k a (led_by o (leading bs)) (counted_from k (a + 1) bs)
 
     go : (o : Option ℕ) → code_of b ≡ o → flat_map (placed_words k) (stretches_from (a + 1) bs) ≡ counted_from k (a + 1) bs

@@ -96,7 +96,7 @@ back_step x c t =
     let r = rev_comp t in
     let old : pack (rev_comp (x ∷ t)) ≡ pack r * 4 + (3 - x) = ap pack (rev_comp_cons x t) ∙ pack_after_append 0 r (complement x) in
     let new : pack (rev_comp (t ++ c ∷ [])) ≡ (0 * 4 + (3 - c)) * 4 ^ length r + pack r = ap pack (rev_comp_push t c) ∙ pack_after_is
-        (0 * 4 + complement c) r in
+    (0 * 4 + complement c) r in
     let long : length r ≡ length t = length_rev_comp t in
     let new2 : pack (rev_comp (t ++ c ∷ [])) ≡ (0 * 4 + (3 - c)) * 4 ^ length t + pack r = rw long at new in
     let quarter : pack (rev_comp (x ∷ t)) / 4 ≡ pack r = omega arith in

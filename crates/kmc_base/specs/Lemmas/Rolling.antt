@@ -150,7 +150,7 @@ pub roll_key : (strands : Strands) (k : ℕ) (s : List ℕ) (i forward back : �
     → packed_key strands forward back ≡ pack (key strands (window k s (i - k)))
 roll_key Joined k s i forward back h behind rolling =
     (λ j. min (rolling.ahead j) (rolling.behind j)) ∙ sym (pack_canonical (trail k s i) (codes_trail k s i h)) ∙ ap (λ w. pack (canonical w))
-        (at_word k s i behind)
+    (at_word k s i behind)
 roll_key Apart k s i forward back h behind rolling = rolling.ahead ∙ ap pack (at_word k s i behind)
 
 -- ---- the keys so far
@@ -165,9 +165,9 @@ one_more strands k s n m v old new whole pushed is count before =
     let f : ℕ → List ℕ = λ i. key strands (window k s i) in
     let more : keys_upto strands k s (n + 1) ≡ keys_upto strands k s n ++ v ∷ [] =
     ap (map pack) (map-range_with_len_more f 0 n n (omega arith)) ∙ map_push pack (map f (range_with_len 0 n)) (f n) ∙ ap
-        (λ u. keys_upto strands k s n ++ u ∷ []) (sym is) in
+    (λ u. keys_upto strands k s n ++ u ∷ []) (sym is) in
     pushed ∙ ap (λ (t : List ℕ). t ++ v ∷ []) before ∙ append_assoc whole (keys_upto strands k s n) (v ∷ []) ∙ ap (λ (t : List ℕ). whole ++ t)
-        (sym more ∙ ap (keys_upto strands k s) (sym count))
+    (sym more ∙ ap (keys_upto strands k s) (sym count))
 
 -- ---- the same at any k but 0
 
@@ -206,7 +206,7 @@ byte_step k some s i a b c d f g top x y h inside ea eb ec ed t ex ey rolling =
     let r1 = step_at k some s i a f g (ahead top f a) (behind top g a) top h (omega arith) ea t refl refl rolling in
     let r2 = step_at k some s (i + 1) b _ _ (ahead top (ahead top f a) b) (behind top (behind top g a) b) top h (omega arith) eb t refl refl r1 in
     let r3 = step_at k some s (i + 2) c _ _ (ahead top (ahead top (ahead top f a) b) c) (behind top (behind top (behind top g a) b) c) top h
-        (omega arith) ec t refl refl (rw one at r2) in
+    (omega arith) ec t refl refl (rw one at r2) in
     rw three at (step_at k some s (i + 3) d _ _ x y top h (omega arith) ed t ex ey (rw two at r3))
 
 -- ---- four codes at once are four times one
@@ -261,7 +261,7 @@ ahead_bytes top q f b some e small =
     let part : top / 64 ≡ q = omega arith in
     let whole : b ≡ b / 64 % 4 * 64 + b / 16 % 4 * 16 + b / 4 % 4 * 4 + b % 4 = omega arith in
     (λ i. f % part i * 256 + whole i) ∙ sym (ahead_four top q f (b / 64 % 4) (b / 16 % 4) (b / 4 % 4) (b % 4) some e (omega arith) (omega arith)
-        (omega arith) (omega arith))
+    (omega arith) (omega arith))
 
 pub behind_bytes : (top q x b : ℕ) → top ≡ q * 64 → behind_byte top x b ≡ behind top
     (behind top (behind top (behind top x (b / 64 % 4)) (b / 16 % 4)) (b / 4 % 4)) (b % 4)
@@ -279,7 +279,7 @@ pub record IsFilled (strands : Strands) (k : ℕ) (s : List ℕ) (i forward back
 pub fill_one : (strands : Strands) (k : ℕ) → 1 ≤ k → (s : List ℕ) (i c f b g d top : ℕ) (old new next : List ℕ) → AreCodes s → i < length s
     → k ≤ i + 1 → c ≡ get_or s i 0 → top ≡ 4 ^ (k - 1)
     → g ≡ ahead top f c → d ≡ behind top b c → next ≡ new ++ packed_key strands g d ∷ [] → IsFilled strands k s i f b old new → IsFilled strands k s
-        (i + 1) g d old next
+    (i + 1) g d old next
 fill_one strands k some s i c f b g d top old new next h inside enough is t eg ed more filled =
     let rolled = step_at k some s i c f b g d top h inside is t eg ed filled.rolling in
     record {

@@ -123,7 +123,7 @@ led_apart a (b ∷ bs) = go (code_of b) (led_apart (a + 1) bs)
     go : (o : Option ℕ) → stretches_from (a + 1) bs ≡ joined (a + 1) (leading bs)
         (stretches_from (a + 1 + (length (leading bs) + 1)) (drop (length (leading bs) + 1) bs))
         → with_place a o (stretches_from (a + 1) bs) ≡ joined a (led_by o (leading bs))
-            (stretches_from (a + (length (led_by o (leading bs)) + 1)) (drop (length (led_by o (leading bs)) + 1) (b ∷ bs)))
+        (stretches_from (a + (length (led_by o (leading bs)) + 1)) (drop (length (led_by o (leading bs)) + 1) (b ∷ bs)))
     go None e = refl
     go (Some c) e =
         let n = length (leading bs) in
@@ -134,7 +134,7 @@ led_apart a (b ∷ bs) = go (code_of b) (led_apart (a + 1) bs)
 
 pub first_apart : (k a : ℕ) (bs : List ℕ) → 1 ≤ k
     → long_enough k (record { start = a; codes = leading bs } ∷ []) ++ long_enough k
-        (stretches_from (a + (length (leading bs) + 1)) (drop (length (leading bs) + 1) bs)) ≡ long_enough k (stretches_from a bs)
+    (stretches_from (a + (length (leading bs) + 1)) (drop (length (leading bs) + 1) bs)) ≡ long_enough k (stretches_from a bs)
 first_apart k a bs some =
     let n = length (leading bs) in
     closing k a (leading bs) (stretches_from (a + (n + 1)) (drop (n + 1) bs)) some (apart_from (a + (n + 1)) (a + n) (drop (n + 1) bs) (omega arith))

@@ -24,8 +24,15 @@ put_byte s t b inside = rw add-one (take-suc-set s t b inside)
 pub length_put_mid : (xs ys : List ℕ) (a k : ℕ) → a + k ≤ length xs → length ys ≡ k → length (put_mid a k xs ys) ≡ length xs
 length_put_mid xs ys a k within long =
     let rest = drop k (drop a xs) in
-    length-append (take a xs) (ys ++ rest) ∙ omega (arith, length-append ys rest, length-take-le a xs (omega arith), length-drop k (drop a xs),
-        length-drop a xs, long, within)
+    length-append (take a xs) (ys ++ rest) ∙ omega (
+      arith,
+      length-append ys rest,
+      length-take-le a xs (omega arith),
+      length-drop k (drop a xs),
+      length-drop a xs,
+      long,
+      within,
+    )
 
 module _ (room out digits : List ℕ) (at k : ℕ) (within : at + k + length digits + 2 ≤ length room) (long : length out ≡ length room - at) where
   abbrev pub lettered : List ℕ

@@ -44,7 +44,7 @@ module _ {A : Type 0} where
     once_from i (x ∷ l) go le lt = let f = first_number i x l go in dite (ℕ_discrete i w)
         (λ e. let r = none_before (suc i) l (numbered_rest i x l go) (omega arith) in let z : same (num x) w ≡ 1 = same_refl (num x) w (f ∙ e) in omega arith)
         (λ ne. let r = once_from (suc i) l (numbered_rest i x l go) (omega arith) (omega arith) in let z : same (num x) w ≡ 0 = same_ne (num x) w
-            (λ e. ne (sym f ∙ e)) in omega arith)
+        (λ e. ne (sym f ∙ e)) in omega arith)
 
 -- two facts of the value, where there is one, give a third
 pub ok_from : {A E : Type 0} {P Q S : A → Type 0} (r : Result A E) → ((v : A) → P v → Q v → S v) → IfOk r P → IfOk r Q → IfOk r S

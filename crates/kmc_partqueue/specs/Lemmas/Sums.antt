@@ -50,9 +50,11 @@ module _ {A : Type 0} (P Q : A → Type 0) where
   each_absent num w go [] z p = tt
   each_absent num w go (x ∷ xs) z p =
       let t : ℕ = total_of (λ (y : A). same (num y) w) xs in let z' : same (num x) w + t ≡ 0 = z in
-      let u : ℕ = same (num x) w in
-      (dite (ℕ_discrete (num x) w) (λ e. let one : u ≡ 1 = same_refl (num x) w e in absurd (omega arith)) (λ n. go x n p.0), each_absent num w go xs
-          (omega arith) p.1)
+      let u : ℕ = same (num x) w in (
+        dite (ℕ_discrete (num x) w) (λ e. let one : u ≡ 1 = same_refl (num x) w e in absurd (omega arith)) (λ n. go x n p.0),
+        each_absent num w go xs
+            (omega arith) p.1,
+      )
 
 pub each_both : {A : Type 0} (P Q : A → Type 0) (l : List A) → Each P l → Each Q l → Each (λ x. P x × Q x) l
 each_both P Q [] p q = tt
@@ -68,7 +70,7 @@ pub views_stay : {V : Type 0} (Q : ℕ → V → Type 0) (vs : List V) (id : ℕ
     → get_elem? (set vs id w) j ≡ some v → Q j v
 views_stay {V} Q vs id w mine others j v e =
     ⊎_elim (λ (x : (j ≡ id) × (w ≡ v)). subst (λ (y : ℕ × V). Q y.0 y.1) (λ i. (sym x.0 i, x.1 i)) mine)
-        (λ (x : (j ≢ id) × (get_elem? vs j ≡ some v)). others j v x.0 x.1) (at_set vs id j w v e)
+    (λ (x : (j ≢ id) × (get_elem? vs j ≡ some v)). others j v x.0 x.1) (at_set vs id j w v e)
 
 abbrev pick : {A P : Type 0} → Dec P → A → A → A
 pick (yes _) a b = a
@@ -102,11 +104,11 @@ below_none n h l = ap (λ b. cond b 1 0) (le-ltb n h l)
 pub once_next : (n h : ℕ) → once_below n (h + 1) ≡ once_below n h + same h n
 once_next n h = let x : ℕ = once_below n (h + 1) in let y : ℕ = once_below n h in let z : ℕ = same h n in dite (ℕ_discrete h n)
     (λ e. let x' : x ≡ 1 = below_one n (h + 1) (omega arith) in let y' : y ≡ 0 = below_none n h (omega arith) in let z' : z ≡ 1 = same_refl h n e in
-        omega arith)
+    omega arith)
     (λ ne. let z' : z ≡ 0 = same_ne h n ne in dite (dec_le (suc n) h)
     (λ l. let x' : x ≡ 1 = below_one n (h + 1) (omega arith) in let y' : y ≡ 1 = below_one n h l in omega arith)
     (λ no'. let far : h < suc n = lt_of_not-le no' in let x' : x ≡ 0 = below_none n (h + 1) (omega arith) in let y' : y ≡ 0 = below_none n h
-        (omega arith) in omega arith))
+    (omega arith) in omega arith))
 
 pub each_split : {A : Type 0} (P : A → Type 0) (l m : List A) → Each P (l ++ m) → Each P l × Each P m
 each_split P [] m p = (tt, p)

@@ -23,10 +23,23 @@ module _ {A : Type 0} where
     where
       go : sum_by F (filter p xs) ≡ sum_by (λ (y : A). cond (p y) (F y) 0) xs → (t : Bool) → p x ≡ t → sum_by F
           (cond (p x) (x ∷ filter p xs) (filter p xs)) ≡ sum_by (λ (y : A). cond (p y) (F y) 0) (x ∷ xs)
-      go rest true e = omega (arith, sum_by-cons F x (filter p xs), sum_by-cons (λ (y : A). cond (p y) (F y) 0) x xs, rest, ap
-          (λ t. cond t (F x) 0) e, ap (λ t. sum_by F (cond t (x ∷ filter p xs) (filter p xs))) e)
-      go rest false e = omega (arith, sum_by-cons (λ (y : A). cond (p y) (F y) 0) x xs, rest, ap (λ t. cond t (F x) 0) e, ap
-          (λ t. sum_by F (cond t (x ∷ filter p xs) (filter p xs))) e)
+      go rest true e = omega (
+        arith,
+        sum_by-cons F x (filter p xs),
+        sum_by-cons (λ (y : A). cond (p y) (F y) 0) x xs,
+        rest,
+        ap
+            (λ t. cond t (F x) 0) e,
+        ap (λ t. sum_by F (cond t (x ∷ filter p xs) (filter p xs))) e,
+      )
+      go rest false e = omega (
+        arith,
+        sum_by-cons (λ (y : A). cond (p y) (F y) 0) x xs,
+        rest,
+        ap (λ t. cond t (F x) 0) e,
+        ap
+            (λ t. sum_by F (cond t (x ∷ filter p xs) (filter p xs))) e,
+      )
 
 module _ {A B : Type 0} where
   pub sum_flat_map : (F : B → ℕ) (f : A → List B) (xs : List A) → sum_by F (flat_map f xs) ≡ sum_by (λ (x : A). sum_by F (f x)) xs

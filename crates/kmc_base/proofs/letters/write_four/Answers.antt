@@ -10,5 +10,5 @@ returns c =
     let inside : 4 * b + 3 < length FOUR_LETTERS = omega (arith, c.ranges.byte.fits) in
     (λ i.
     set (set (set (set c.args.out.now (at + 3) (last_letter FOUR_LETTERS refl b inside i)) (at + 2) (third_letter FOUR_LETTERS refl b inside i))
-        (at + 1) (second_letter FOUR_LETTERS refl b inside i)) at
+    (at + 1) (second_letter FOUR_LETTERS refl b inside i)) at
     (first_letter FOUR_LETTERS refl b inside i))

@@ -13,10 +13,16 @@ returns-clause-line c =
     let digits = c.as_bytes-text.result.now in
     let out = c.write_letters.new.out in
     let letters : take k out ≡ map letter word = ap (take k) c.write_letters.ensures ∙ take_at (map letter word) _ k
-        (length-map word letter ∙ sym c.k.ensures.is) in
+    (length-map word letter ∙ sym c.k.ensures.is) in
     let text : digits ≡ decimal c.args.count = c.as_bytes-text.ensures.value ∙ c.format.ensures.text in
     (λ i. take (at + k + 1 + length digits + 1) (set (put_mid (at + k + 1) (at + k + 1 + length digits - (at + k + 1))
-        (set (put_mid at (length c.args.room.now - at) c.args.room.now out) (at + k) 9) (c.copy_from_slice.ensures.after i)) (at + k + 1 + length digits) 10))
-    ∙ line_made c.args.room.now out digits at k (omega (arith, c.requires, c.k.ensures.is, c.format.ensures.fits, c.as_bytes-text.ensures.len,
-        ap length text)) (omega arith)
+    (set (put_mid at (length c.args.room.now - at) c.args.room.now out) (at + k) 9) (c.copy_from_slice.ensures.after i)) (at + k + 1 + length digits) 10))
+    ∙ line_made c.args.room.now out digits at k (omega (
+      arith,
+      c.requires,
+      c.k.ensures.is,
+      c.format.ensures.fits,
+      c.as_bytes-text.ensures.len,
+      ap length text,
+    )) (omega arith)
     ∙ (λ i. take at c.args.room.now ++ (letters i ++ (9 ∷ text i) ++ 10 ∷ []))

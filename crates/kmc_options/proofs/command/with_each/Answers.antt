@@ -18,4 +18,4 @@ pub returns : goal.returns
 returns g c =
     let rule : g.row.N.Denot → Rule = λ n. rule_of g.N.Named.action (g.N.Named.known_as n) in
     c.loop-named.invariant ∙ ap (λ l. fold with_rule (app_of c.args.plain) (map rule l))
-        (take_all c.loop-named.named-index c.args.all.now (omega (arith, c.loop-named-test.false)))
+    (take_all c.loop-named.named-index c.args.all.now (omega (arith, c.loop-named-test.false)))

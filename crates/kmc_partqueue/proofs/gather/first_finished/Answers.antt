@@ -12,7 +12,7 @@ was_false {A} {b} x y = let e : false ≡ true = sym x ∙ y in cc
 pub loop-i-preserved : goal.loop-i-preserved
 loop-i-preserved g c = λ j lt s e all. let i : ℕ = c.loop-i.i in let r = c.index-readers-i.result in dite (ℕ_discrete j i)
     (λ is. let one = c.index-readers-i.is ∙ get_or_at c.args.readers.now i r s (ap (slice_get c.args.readers.now) (sym is) ∙ e) in
-        was_false c.if-finished.false (c.finished.ensures.1 (subst (λ v. AllEnded v.writers v.totals) (sym one) all)))
+    was_false c.if-finished.false (c.finished.ensures.1 (subst (λ v. AllEnded v.writers v.totals) (sym one) all)))
     (λ ne. c.loop-i.invariant j (omega arith) s e all)
 
 pub unreachable-requires : goal.unreachable-requires

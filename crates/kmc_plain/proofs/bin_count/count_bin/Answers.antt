@@ -8,4 +8,4 @@ returns-in_err-count_into-clause-damaged c = λ fault offset is.
 pub returns-in_err-count_into-2-clause-damaged : goal.returns-in_err-count_into-2-clause-damaged
 returns-in_err-count_into-2-clause-damaged c = λ fault offset is.
     c.count_into-else-k-le-NARROW_K.ensures.damaged fault offset
-        (passed_on c.count_into-else-k-le-NARROW_K.result c.from_residual-in_err-count_into-2.result _ _ c.in_err-count_into-2.was c.from_residual-in_err-count_into-2.ensures.1 is)
+    (passed_on c.count_into-else-k-le-NARROW_K.result c.from_residual-in_err-count_into-2.result _ _ c.in_err-count_into-2.was c.from_residual-in_err-count_into-2.ensures.1 is)

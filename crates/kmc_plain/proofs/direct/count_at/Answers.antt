@@ -31,10 +31,10 @@ loop-read-preserved g c =
     let reads = c.args.reads.now in
     let i = c.loop-read.read-index in
     read_added c.args.rule.strands c.args.rule.k c.read-item.result.items (take i (texts reads)) (take (i + 1) (texts reads))
-        (map num c.loop-read.words.items) _ c.loop-read.invariant
+    (map num c.loop-read.words.items) _ c.loop-read.invariant
     (next_read reads i c.read-item.result c.loop-read-test.true c.read-item.is)
     (c.in_ok-push_read.ensures ∙ ap (λ t. map num c.loop-read.words.items ++ map pack
-        (map (placed_key c.args.rule.strands) (counted_words c.args.rule.k t))) c.deref.ensures.value)
+    (map (placed_key c.args.rule.strands) (counted_words c.args.rule.k t))) c.deref.ensures.value)
 
 all_reads : (reads : List (Vec ℕ Global)) (i : ℕ) → length reads ≤ i → take i (texts reads) ≡ texts reads
 all_reads reads i end =
@@ -47,9 +47,9 @@ tally-requires-clause-fit g c =
     let k = c.args.rule.k in
     let reads = texts c.args.reads.now in
     let is = c.loop-read.invariant ∙ ap (λ t. map pack (keys_of_reads c.args.rule.strands k t))
-        (all_reads c.args.reads.now c.loop-read.read-index c.loop-read-test.false) in
+    (all_reads c.args.reads.now c.loop-read.read-index c.loop-read-test.false) in
     let fit = sorted_fit k (keys_of_reads c.args.rule.strands k reads) (keys_of_reads_are_words c.args.rule.strands k reads)
-        (map num c.loop-read.words.items) (map num c.sort.new.words.items) is c.sort.ensures.moved in
+    (map num c.loop-read.words.items) (map num c.sort.new.words.items) is c.sort.ensures.moved in
     subst (λ ns. All (λ n. n < 4 ^ k) (map num ns)) (sym c.deref-2.ensures.value) fit
 
 pub tally-requires-clause-sorted : goal.tally-requires-clause-sorted
@@ -62,8 +62,8 @@ returns g c =
     let reads = texts c.args.reads.now in
     let pairs = c.tally.new.pairs.items in
     let is = c.loop-read.invariant ∙ ap (λ t. map pack (keys_of_reads c.args.rule.strands k t))
-        (all_reads c.args.reads.now c.loop-read.read-index c.loop-read-test.false) in
+    (all_reads c.args.reads.now c.loop-read.read-index c.loop-read-test.false) in
     let dump = subst (λ ns. IsDump (occurrences (map (unpack k) (map num ns))) c.args.limits.now pairs) c.deref-2.ensures.value c.in_ok-tally.ensures.dump in
     let same = sorted_occurrences k (keys_of_reads c.args.rule.strands k reads) (keys_of_reads_are_words c.args.rule.strands k reads)
-        (map num c.loop-read.words.items) (map num c.sort.new.words.items) is c.sort.ensures.moved in
+    (map num c.loop-read.words.items) (map num c.sort.new.words.items) is c.sort.ensures.moved in
     subst (λ n. IsDump n c.args.limits.now pairs) (λ i x. (same x ∙ of_reads c.args.rule.strands k x reads) i) dump

@@ -21,7 +21,7 @@ one_more f items i s old before after inside is was now =
     let more : take (i + 1) ss ≡ take i ss ++ stretch s ∷ [] = take_more ss i (stretch s) long ∙ ap (λ t. take i ss ++ t ∷ []) here in
     let keys_more : flat_map f (take (i + 1) ss) ≡ flat_map f (take i ss) ++ f (stretch s) =
     ap (flat_map f) more ∙ flat_map-append f (take i ss) (stretch s ∷ []) ∙ ap (λ (t : List (List ℕ)). flat_map f (take i ss) ++ t)
-        (append-nil (f (stretch s))) in
+    (append-nil (f (stretch s))) in
     now ∙ ap (λ (t : List ℕ). t ++ map pack (f (stretch s))) was
     ∙ append_assoc old (map pack (flat_map f (take i ss))) (map pack (f (stretch s)))
     ∙ ap (λ (t : List ℕ). old ++ t) (sym (map-append pack (flat_map f (take i ss)) (f (stretch s))) ∙ ap (map pack) (sym keys_more))
@@ -31,7 +31,7 @@ loop-segment-preserved g c =
     one_more (λ s. keys c.args.rule.strands c.args.rule.k s.codes) c.deref-segment-items.result.now c.loop-segment.segment-index c.segment-item.result
     (map g.W.Word.number c.args.words.now.items) _ _ c.loop-segment-test.true c.segment-item.is c.loop-segment.invariant
     (c.in_ok-push_keys.ensures ∙ ap (λ t. map g.W.Word.number c.loop-segment.words.items ++ map pack
-        (keys c.args.rule.strands c.args.rule.k t)) c.deref.ensures.value)
+    (keys c.args.rule.strands c.args.rule.k t)) c.deref.ensures.value)
 
 pub returns : goal.returns
 returns g c =
@@ -39,7 +39,7 @@ returns g c =
     let ss = map stretch items in
     let f : Stretch → List (List ℕ) = λ s. keys c.args.rule.strands c.args.rule.k s.codes in
     let all : take c.loop-segment.segment-index ss ≡ ss = take_all c.loop-segment.segment-index ss
-        (omega (arith, c.loop-segment-test.false, length-map items stretch)) in
+    (omega (arith, c.loop-segment-test.false, length-map items stretch)) in
     let are : ss ≡ segments_of c.args.rule.k c.args.read.now = ap (map stretch) c.deref-segment-items.ensures.value ∙ c.in_ok-stretches.ensures in
     c.loop-segment.invariant
     ∙ ap (λ (t : List (List ℕ)). map g.W.Word.number c.args.words.now.items ++ map pack t)

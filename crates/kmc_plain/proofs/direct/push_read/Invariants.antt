@@ -9,4 +9,4 @@ use Rattle.kmc_plain.proofs.direct.push_read.Given as goal
 abbrev pub invariant-loop-segment : goal.invariant-loop-segment
 invariant-loop-segment g l = map g.W.Word.number l.words.items
     ≡ map g.W.Word.number l.initial.words.items ++ map pack (flat_map (λ s. keys l.rule.strands l.rule.k s.codes)
-        (take l.segment-index (map stretch l.segment-items)))
+    (take l.segment-index (map stretch l.segment-items)))

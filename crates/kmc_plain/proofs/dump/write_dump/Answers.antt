@@ -6,7 +6,7 @@ use Rattle.kmc_plain.proofs.dump.write_dump.Goals as goal
 pub returns-in_err-filled-clause-front : goal.returns-in_err-filled-clause-front
 returns-in_err-filled-clause-front g c =
     on_err c.from_residual.result _ (gathered_front _ _ _ c.args.pairs.now c.loop-word.word-index
-        (take c.loop-word.filled c.loop-word.room) c.loop-word.invariant.out c.in_err-filled.ensures.front)
+    (take c.loop-word.filled c.loop-word.room) c.loop-word.invariant.out c.in_err-filled.ensures.front)
 
 pub put_line-filled-requires : goal.put_line-filled-requires
 put_line-filled-requires g c = omega (arith, c.in_ok-filled.ensures.ok.0, c.line_room.ensures.is, c.k.ensures.is)
@@ -22,9 +22,9 @@ loop-word-preserved g c = record {
 pub returns-in_err-write_text-clause-front : goal.returns-in_err-write_text-clause-front
 returns-in_err-write_text-clause-front g c =
     on_err c.from_residual-in_err-write_text.result _ (gathered_front _ _ _ c.args.pairs.now c.loop-word.word-index
-        (take c.loop-word.filled c.loop-word.room) c.loop-word.invariant.out c.in_err-write_text.ensures.front)
+    (take c.loop-word.filled c.loop-word.room) c.loop-word.invariant.out c.in_err-write_text.ensures.front)
 
 pub returns-in-Err-clause-front : goal.returns-in-Err-clause-front
 returns-in-Err-clause-front g c =
     not_flushed _ _ _ _ c.args.pairs.now c.loop-word.word-index
-        (take c.loop-word.filled c.loop-word.room) c.loop-word.invariant.out c.in_ok-write_text.ensures.ok c.in-Err.ensures.bytes
+    (take c.loop-word.filled c.loop-word.room) c.loop-word.invariant.out c.in_ok-write_text.ensures.ok c.in-Err.ensures.bytes

@@ -18,7 +18,7 @@ pub behind-back-requires-clause-back : goal.behind-back-requires-clause-back
 behind-back-requires-clause-back g c =
     let num = g.W.Word.number in
     fits_at c.args.k c.requires.some c.args.codes.now c.loop-i.i (num c.loop-i.forward) (num c.loop-i.back) (num c.top-top.result)
-        (codes_each c.args.codes.now c.requires.codes)
+    (codes_each c.args.codes.now c.requires.codes)
     c.loop-i-test.true c.top-top.ensures c.loop-i.invariant.rolling
 
 pub loop-i-preserved : goal.loop-i-preserved
@@ -28,7 +28,7 @@ loop-i-preserved g c =
     let k = c.args.k in
     let codes = codes_each s c.requires.codes in
     let rolled = step_at k c.requires.some s c.loop-i.i _ (num c.loop-i.forward) (num c.loop-i.back) (num c.ahead-forward.result)
-        (num c.behind-back.result) (num c.top-top.result)
+    (num c.behind-back.result) (num c.top-top.result)
     codes c.loop-i-test.true (λ _. get_or s c.loop-i.i 0) c.top-top.ensures c.ahead-forward.ensures c.behind-back.ensures c.loop-i.invariant.rolling in
     let old = map num c.args.words.now.items in
     record {
@@ -38,7 +38,7 @@ loop-i-preserved g c =
             (map num c.loop-i.words.items) _ old
             (ap (λ v. map num v.items) w.words-is ∙ ap (map num) w.in_ok-push.ensures.items ∙ map_push num c.loop-i.words.items w.packed_key.result)
             (w.packed_key.ensures ∙ roll_key c.args.strands k s (c.loop-i.i + 1) (num c.ahead-forward.result)
-                (num c.behind-back.result) codes w.if-i-k.true rolled)
+            (num c.behind-back.result) codes w.if-i-k.true rolled)
             (omega arith) c.loop-i.invariant.pushed
         | else-i-k w ↦
             let same : c.loop-i.i + 1 - k ≡ c.loop-i.i + 1 + 1 - k = omega (arith, w.if-i-k.false) in

@@ -8,4 +8,4 @@ use Rattle.kmc_plain.proofs.merge.sort_pairs.Goals as goal
 pub returns-clause-sorted : goal.returns-clause-sorted
 returns-clause-sorted c =
     c.sort_unstable_by.ensures.sorted (λ p q. is_lt (kmer_cmp p.0 q.0)) (ranks_by kmer_total (λ (p : List ℕ × ℕ). p.0))
-        (answers_always _ _ _ (λ f a r f' k. search rules))
+    (answers_always _ _ _ (λ f a r f' k. search rules))

@@ -22,7 +22,7 @@ loop-b-preserved c =
       | in-Some+in_ok-push w ↦
           let more = ap items w.open-is ∙ w.in_ok-push.ensures.items in
           let small = subst (All (λ (x : ℕ). x < 4)) (sym more) (All-push
-              (λ (x : ℕ). x < 4) open_codes w.in-Some.c c.loop-b.invariant.1 w.in-Some.ensures.small) in
+          (λ (x : ℕ). x < 4) open_codes w.in-Some.c c.loop-b.invariant.1 w.in-Some.ensures.small) in
           let count : length c.match-code.open.items ≡ length open_codes + 1 = ap length more ∙ length-append open_codes (w.in-Some.c ∷ []) in (
             omega (arith, c.loop-b.invariant.0),
             small,
@@ -30,7 +30,7 @@ loop-b-preserved c =
             ap (λ (t : List Stretch). t ++ long_enough k (joined (i + 1 - length c.match-code.open.items) c.match-code.open.items rest))
                 (ap found w.segments-is)
                 ∙ base_added k read i c.loop-b-test.true done _ open_codes c.match-code.open.items w.in-Some.c
-                    (sym w.in-Some.ensures.is) c.loop-b.invariant.2 more c.loop-b.invariant.3,
+                (sym w.in-Some.ensures.is) c.loop-b.invariant.2 more c.loop-b.invariant.3,
           )
       | in_default+in_ok-close w ↦
           let none = ap items (w.open-is ∙ w.replace-codes.ensures.after) ∙ w.new.ensures.items in
@@ -38,7 +38,7 @@ loop-b-preserved c =
           let at : start ≡ i - length open_codes =
           omega (arith, w.len.ensures, w.replace-codes.result.ok.0, ap length (ap items w.replace-codes.ensures.value), c.loop-b.invariant.0) in
           let more = ap found w.segments-is ∙ w.in_ok-close.ensures ∙ (λ j. done ++ long_enough k
-              (record { start = start; codes = items (w.replace-codes.ensures.value j) } ∷ [])) in
+          (record { start = start; codes = items (w.replace-codes.ensures.value j) } ∷ [])) in
           let small = subst (All (λ (x : ℕ). x < 4)) (sym none) (λ j d h. absurd (omega arith)) in
           let count : length c.match-code.open.items ≡ 0 = ap length none in (
             omega (arith, c.loop-b.invariant.0),
@@ -46,7 +46,7 @@ loop-b-preserved c =
             omega (arith, count),
             (λ j. found c.match-code.segments ++ long_enough k (joined (i + 1 - length (none j)) (none j) rest))
                 ∙ stretch_ended k read i c.loop-b-test.true done _ _ open_codes start c.requires
-                    (sym w.in_default.ensures.is) c.loop-b.invariant.2 at more c.loop-b.invariant.3,
+                (sym w.in_default.ensures.is) c.loop-b.invariant.2 at more c.loop-b.invariant.3,
           )
     ]
 
@@ -55,4 +55,4 @@ returns c =
     let start = c.loop-b.place - c.len-2.result in
     let at : start ≡ c.loop-b.b-index - length c.loop-b.open.items = omega (arith, c.len-2.ensures, c.loop-b.open.ok.0, c.loop-b.invariant.0) in
     all_ended c.args.k c.args.read.now c.loop-b.b-index
-        (map stretch c.loop-b.segments.items) _ _ c.loop-b.open.items start c.requires c.loop-b-test.false at c.in_ok-close-2.ensures c.loop-b.invariant.3
+    (map stretch c.loop-b.segments.items) _ _ c.loop-b.open.items start c.requires c.loop-b-test.false at c.in_ok-close-2.ensures c.loop-b.invariant.3

@@ -9,4 +9,4 @@ use Rattle.kmc_plain.proofs.stretch.segments.Given as goal
 abbrev pub invariant-loop-b : goal.invariant-loop-b
 invariant-loop-b l = (l.place ≡ l.b-index) × All (λ c. c < 4) l.open.items × (length l.open.items ≤ l.b-index)
     × (map stretch l.segments.items ++ long_enough l.k (joined (l.b-index - length l.open.items) l.open.items
-        (stretches_from l.b-index (drop l.b-index l.read))) ≡ segments_of l.k l.read)
+    (stretches_from l.b-index (drop l.b-index l.read))) ≡ segments_of l.k l.read)

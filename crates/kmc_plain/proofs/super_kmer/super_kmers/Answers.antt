@@ -14,7 +14,7 @@ returns-clause-words c =
     let codes = c.args.s.now.codes.items in
     let runs = c.cut.new.runs.items in
     let all : take c.loop-r.r-index c.deref-r-items.result.now ≡ runs = take_all c.loop-r.r-index c.deref-r-items.result.now c.loop-r-test.false
-        ∙ c.deref-r-items.ensures.value in
+    ∙ c.deref-r-items.ensures.value in
     ap all_words (c.loop-r.invariant ∙ ap (map (piece k codes)) all)
     ∙ flat_map-map piece_words (piece k codes) runs
     ∙ ap (λ (l : List ℕ). run_words k l runs) (sym c.deref.ensures.value) ∙ c.in_ok-cut.ensures.words ∙ ap (windows k) c.deref.ensures.value

@@ -31,10 +31,10 @@ loop-event-preserved g c = let inv = c.loop-event.invariant in let pushed = c.in
 pub returns-clause-all : goal.returns-clause-all
 returns-clause-all g c = let inv = c.loop-event.invariant in let end = c.in-None.ensures.steps.0 in let ok = c.loop-event.event-iterator.rest.ok.0 in
     let done = none_left c.loop-event.event-iterator.rest.items (sym ok ∙ end) in inv.all ∙ ap length
-        (sym (append-nil c.loop-event.yielded) ∙ ap (λ z. c.loop-event.yielded ++ z) (sym done) ∙ inv.whole)
+    (sym (append-nil c.loop-event.yielded) ∙ ap (λ z. c.loop-event.yielded ++ z) (sym done) ∙ inv.whole)
 
 pub returns-clause-legal : goal.returns-clause-legal
 returns-clause-legal g c = let inv = c.loop-event.invariant in let end = c.in-None.ensures.steps.0 in let ok = c.loop-event.event-iterator.rest.ok.0 in
     let done = none_left c.loop-event.event-iterator.rest.items (sym ok ∙ end) in subst
-        (λ z. IsLegal c.args.shape (history_of z c.loop-event.replies.items))
-        (sym (append-nil c.loop-event.yielded) ∙ ap (λ z. c.loop-event.yielded ++ z) (sym done) ∙ inv.whole) inv.legal
+    (λ z. IsLegal c.args.shape (history_of z c.loop-event.replies.items))
+    (sym (append-nil c.loop-event.yielded) ∙ ap (λ z. c.loop-event.yielded ++ z) (sym done) ∙ inv.whole) inv.legal

@@ -4,6 +4,12 @@ use Rattle.kmc_plain_queue.specs.CoreState.{Holds}
 use Rattle.kmc_plain_queue.proofs.replay.run.Given as goal
 
 abbrev pub invariant-loop-event : goal.invariant-loop-event
-invariant-loop-event g l = record { shape : l.core.shape ≡ l.fn.shape; all : length l.replies.items ≡ length l.yielded; whole : l.yielded
-    ++ l.event-iterator.rest.items ≡ l.fn.events.items; legal : IsLegal l.fn.shape (history_of l.yielded l.replies.items); holds : Holds l.core
-    (history_of l.yielded l.replies.items) }
+invariant-loop-event g l = record {
+  shape : l.core.shape ≡ l.fn.shape;
+  all : length l.replies.items ≡ length l.yielded;
+  whole : l.yielded
+      ++ l.event-iterator.rest.items ≡ l.fn.events.items;
+  legal : IsLegal l.fn.shape (history_of l.yielded l.replies.items);
+  holds : Holds l.core
+      (history_of l.yielded l.replies.items);
+}

@@ -8,4 +8,4 @@ returns-clause-each c = λ i inside.
     let here : i < length c.canonical_values.new.out = omega arith in
     c.judge.ensures i inside
     ∙ packed_offer_is c.args.m (slice_index c.canonical_values.new.out i) (window c.args.m c.args.codes.now i)
-        (c.canonical_values.ensures.fit i here) (c.canonical_values.ensures.each i here)
+    (c.canonical_values.ensures.fit i here) (c.canonical_values.ensures.each i here)

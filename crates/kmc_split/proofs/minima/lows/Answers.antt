@@ -9,9 +9,9 @@ loop-width-preserved c =
     let width = c.loop-width.width in
     let at : ℕ → ℕ = slice_index c.args.values.now.items in
     let new_is : c.swap.new.x.items ≡ c.lower.new.out = ap (λ (v : Vec ℕ Global). v.items) c.swap.ensures.x_after
-        ∙ with_items_is c.resize.new.self c.lower.new.out (omega (arith, c.resize.new.self.ok.0, c.lower.auto.out, c.deref_mut.ensures.len)) in
+    ∙ with_items_is c.resize.new.self c.lower.new.out (omega (arith, c.resize.new.self.ok.0, c.lower.auto.out, c.deref_mut.ensures.len)) in
     let long : length c.swap.new.x.items ≡ length c.loop-width.values.items - d = omega
-        (arith, ap length new_is, c.in_ok-resize.ensures.len, c.resize.new.self.ok.0, c.lower.auto.out, c.deref_mut.ensures.len) in (
+    (arith, ap length new_is, c.in_ok-resize.ensures.len, c.resize.new.self.ok.0, c.lower.auto.out, c.deref_mut.ensures.len) in (
       omega arith,
       omega arith,
       omega arith,

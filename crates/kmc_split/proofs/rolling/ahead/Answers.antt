@@ -8,13 +8,21 @@ overflow_sub-result c = omega (arith, pow_some c.requires.top.0, c.requires.top.
 
 pub overflow_mul-result : goal.overflow_mul-result
 overflow_mul-result c =
-    omega (arith, masked c.args.word c.args.top c.requires.top.0 c.requires.top.2, low_fits c.args.word c.args.top c.requires.top.0 c.requires.top.2,
-        fits_most c.requires.top.0 (omega arith))
+    omega (
+      arith,
+      masked c.args.word c.args.top c.requires.top.0 c.requires.top.2,
+      low_fits c.args.word c.args.top c.requires.top.0 c.requires.top.2,
+      fits_most c.requires.top.0 (omega arith),
+    )
 
 pub overflow_add-result : goal.overflow_add-result
 overflow_add-result c =
-    omega (arith, masked c.args.word c.args.top c.requires.top.0 c.requires.top.2, low_fits c.args.word c.args.top c.requires.top.0 c.requires.top.2,
-        fits_most c.requires.top.0 (omega arith))
+    omega (
+      arith,
+      masked c.args.word c.args.top c.requires.top.0 c.requires.top.2,
+      low_fits c.args.word c.args.top c.requires.top.0 c.requires.top.2,
+      fits_most c.requires.top.0 (omega arith),
+    )
 
 pub returns : goal.returns
 returns c = omega (arith, masked c.args.word c.args.top c.requires.top.0 c.requires.top.2)

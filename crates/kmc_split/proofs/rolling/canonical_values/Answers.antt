@@ -26,7 +26,7 @@ pub behind-back-requires-clause-back : goal.behind-back-requires-clause-back
 behind-back-requires-clause-back c =
     let codes = c.args.codes.now in
     fits_at c.args.m c.requires.some codes c.loop-i.i c.loop-i.forward c.loop-i.back c.weight-top.result
-        (recursion_from_All (λ (x : ℕ). x < 4) codes c.requires.codes)
+    (recursion_from_All (λ (x : ℕ). x < 4) codes c.requires.codes)
     (omega arith) c.weight-top.ensures c.loop-i.invariant
 
 pub loop-i-preserved : goal.loop-i-preserved
@@ -34,13 +34,13 @@ loop-i-preserved c =
     let codes = c.args.codes.now in
     step_at c.args.m c.requires.some codes c.loop-i.i c.from-code.result c.loop-i.forward c.loop-i.back c.ahead-forward.result c.behind-back.result c.weight-top.result
     (recursion_from_All (λ (x : ℕ). x < 4) codes c.requires.codes)
-        (omega arith) c.from-code.ensures c.weight-top.ensures c.ahead-forward.ensures c.behind-back.ensures c.loop-i.invariant
+    (omega arith) c.from-code.ensures c.weight-top.ensures c.ahead-forward.ensures c.behind-back.ensures c.loop-i.invariant
 
 pub behind-back-requires-in-loop-j-clause-back : goal.behind-back-requires-in-loop-j-clause-back
 behind-back-requires-in-loop-j-clause-back c =
     let codes = c.args.codes.now in
     fits_at c.args.m c.requires.some codes (c.loop-j.j + (c.args.m - 1)) c.loop-j.forward c.loop-j.back c.weight-top.result
-        (recursion_from_All (λ (x : ℕ). x < 4) codes c.requires.codes)
+    (recursion_from_All (λ (x : ℕ). x < 4) codes c.requires.codes)
     (omega arith) c.weight-top.ensures c.loop-j.invariant.0
 
 pub loop-j-preserved : goal.loop-j-preserved
@@ -54,7 +54,7 @@ loop-j-preserved c =
     are_codes (omega arith) c.from-code-in-loop-j.ensures c.weight-top.ensures c.ahead-forward-in-loop-j.ensures c.behind-back-in-loop-j.ensures c.loop-j.invariant.0 in
     let here : Holds m (window m codes j) c.min.result =
     lesser_holds m codes j (i + 1) c.ahead-forward-in-loop-j.result c.behind-back-in-loop-j.result c.min.result are_codes (omega arith)
-        (omega arith) rolled c.min.ensures in
+    (omega arith) rolled c.min.ensures in
     let next : i + 1 ≡ j + 1 + (m - 1) = omega arith in
     let inside : j < length c.loop-j.out = omega arith in (
       subst (λ (n : ℕ). IsRolling m codes n c.ahead-forward-in-loop-j.result c.behind-back-in-loop-j.result) next rolled,

@@ -10,7 +10,7 @@ pub loop-end-init : goal.loop-end-init
 loop-end-init c =
     let at : ℕ → ℕ = slice_index c.args.signatures.now in
     let ends : c.deref.result.now ≡ c.row_ends-count.new.ends = c.deref.ensures.value ∙ with_items_is c.resize.new.self c.row_ends-count.new.ends
-        (omega (arith, c.row_ends-count.auto.ends, c.deref_mut.ensures.len)) in
+    (omega (arith, c.row_ends-count.auto.ends, c.deref_mut.ensures.len)) in
     record {
       rows = subst (λ (e : List ℕ). AreRowEnds at 0 (length c.args.signatures.now) (take c.row_ends-count.result e)) (sym ends) c.row_ends-count.ensures.rows;
       runs = subst (AreRuns at 0 0) (sym c.clear.ensures.items) refl;
@@ -20,13 +20,13 @@ loop-end-init c =
 pub push_row-requires-clause-inside : goal.push_row-requires-clause-inside
 push_row-requires-clause-inside c =
     (next_row (slice_index c.args.signatures.now) c.loop-end.start (length c.args.signatures.now) c.loop-end.end-index
-        (take c.row_ends-count.result c.deref.result.now) c.loop-end-test.true c.loop-end.invariant.rows).1
+    (take c.row_ends-count.result c.deref.result.now) c.loop-end-test.true c.loop-end.invariant.rows).1
 
 pub loop-end-preserved : goal.loop-end-preserved
 loop-end-preserved c =
     let at : ℕ → ℕ = slice_index c.args.signatures.now in
     let next = next_row at c.loop-end.start (length c.args.signatures.now) c.loop-end.end-index
-        (take c.row_ends-count.result c.deref.result.now) c.loop-end-test.true c.loop-end.invariant.rows in
+    (take c.row_ends-count.result c.deref.result.now) c.loop-end-test.true c.loop-end.invariant.rows in
     record {
       rows = next.4;
       runs = c.in_ok-push_row.ensures.runs;

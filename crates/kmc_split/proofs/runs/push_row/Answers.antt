@@ -35,12 +35,15 @@ returns-clause-runs c =
     let place = c.loop-place.place in
     let whole : place + (c.args.end - place) ≡ c.args.end = omega (arith, c.loop-place.invariant.before) in
     subst (AreRuns at 0 c.args.end) (sym c.in_ok-push-2.ensures.items)
-    (subst (λ (e : ℕ). AreRuns at 0 e (c.loop-place.runs.items ++ record { start = place; words = c.args.end - place;
-        signature = c.of_value-signature.result } ∷ [])) whole
+    (subst (λ (e : ℕ). AreRuns at 0 e (c.loop-place.runs.items ++ record {
+      start = place;
+      words = c.args.end - place;
+      signature = c.of_value-signature.result;
+    } ∷ [])) whole
     (appended at c.args.start c.args.end place
-        (c.args.end - place) c.of_value-signature.result c.loop-place.runs.items c.of_value-signature.ensures c.requires.row c.loop-place.invariant.from
+    (c.args.end - place) c.of_value-signature.result c.loop-place.runs.items c.of_value-signature.ensures c.requires.row c.loop-place.invariant.from
     (omega (arith, c.loop-place.invariant.before)) (omega (arith, c.loop-place.invariant.before))
-        (omega (arith, c.loop-place-test.false)) c.loop-place.invariant.runs c.loop-place.invariant.apart))
+    (omega (arith, c.loop-place-test.false)) c.loop-place.invariant.runs c.loop-place.invariant.apart))
 
 pub returns-clause-last : goal.returns-clause-last
 returns-clause-last c =
@@ -48,4 +51,4 @@ returns-clause-last c =
     let place = c.loop-place.place in
     subst (Last (λ (r : Run). r.signature ≡ at c.args.start)) (sym c.in_ok-push-2.ensures.items)
     (last_is (λ (r : Run). r.signature ≡ at c.args.start) c.loop-place.runs.items
-        (record { start = place; words = c.args.end - place; signature = c.of_value-signature.result }) c.of_value-signature.ensures)
+    (record { start = place; words = c.args.end - place; signature = c.of_value-signature.result }) c.of_value-signature.ensures)

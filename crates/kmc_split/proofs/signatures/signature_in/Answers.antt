@@ -24,7 +24,7 @@ lowest_is m codes values v within long is fit e =
 pub of_value-requires : goal.of_value-requires
 of_value-requires c =
     let is = lowest_is c.args.m c.args.codes.now c.offers.new.out c.lowest.result c.requires.within
-        (omega arith) c.offers.ensures.each c.offers.ensures.fit c.lowest.ensures in
+    (omega arith) c.offers.ensures.each c.offers.ensures.fit c.lowest.ensures in
     let below : signature_of c.args.m c.args.codes.now ≤ 4 ^ c.args.m = signature_le c.args.m c.args.codes.now in
     let up = fits_most c.args.m (omega arith) in
     omega (arith, is)
@@ -33,12 +33,12 @@ pub returns-clause-is : goal.returns-clause-is
 returns-clause-is c =
     c.of_value.ensures
     ∙ lowest_is c.args.m c.args.codes.now c.offers.new.out c.lowest.result c.requires.within
-        (omega arith) c.offers.ensures.each c.offers.ensures.fit c.lowest.ensures
+    (omega arith) c.offers.ensures.each c.offers.ensures.fit c.lowest.ensures
 
 pub returns-clause-most : goal.returns-clause-most
 returns-clause-most c =
     let is = lowest_is c.args.m c.args.codes.now c.offers.new.out c.lowest.result c.requires.within
-        (omega arith) c.offers.ensures.each c.offers.ensures.fit c.lowest.ensures in
+    (omega arith) c.offers.ensures.each c.offers.ensures.fit c.lowest.ensures in
     let below : signature_of c.args.m c.args.codes.now ≤ 4 ^ c.args.m = signature_le c.args.m c.args.codes.now in
     let same : c.of_value.result ≡ c.lowest.result = c.of_value.ensures in
     omega (arith, is, same)

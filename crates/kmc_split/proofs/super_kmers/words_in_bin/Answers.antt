@@ -6,5 +6,5 @@ pub returns : goal.returns
 returns c =
     let e = c.lows_in_bin.ensures in
     let b = bins_are c.args.m c.args.k c.args.n c.args.bin c.args.codes.now c.offers.new.out c.requires.some c.requires.within c.requires.inside
-        (omega arith) c.offers.ensures.each c.offers.ensures.fit in
+    (omega arith) c.offers.ensures.each c.offers.ensures.fit in
     ((λ h. b.0 (e.0 h)), (λ all. e.1 (b.1 all)))

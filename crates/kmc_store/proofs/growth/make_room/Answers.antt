@@ -6,7 +6,7 @@ use Rattle.kmc_store.proofs.growth.make_room.Goals as goal
 pub returns-in_err-make_room_for-clause-kept : goal.returns-in_err-make_room_for-clause-kept
 returns-in_err-make_room_for-clause-kept c =
     set_keeps c.loop-i.own.items c.loop-i.i c.index_mut.result.now c.make_room_for.new.own c.index_mut.ensures.value c.make_room_for.ensures.kept
-        ∙ c.loop-i.invariant.kept
+    ∙ c.loop-i.invariant.kept
 
 pub loop-i-preserved : goal.loop-i-preserved
 loop-i-preserved c =

@@ -11,5 +11,8 @@ pub gather-requires-clause-finished : goal.gather-requires-clause-finished
 gather-requires-clause-finished g c =
     let long = c.args.readers.ok.0 in
     let some = some_left c.args.readers.len (sym c.is_empty.ensures ∙ c.if-is_empty.false) in
-    let first = c.index.result.now in (first, (0, get_at c.args.readers.items 0 first (omega arith) ∙ ap Some (sym c.index.ensures)),
-        c.finished.ensures.0 c.if-not-finished.false)
+    let first = c.index.result.now in (
+      first,
+      (0, get_at c.args.readers.items 0 first (omega arith) ∙ ap Some (sym c.index.ensures)),
+      c.finished.ensures.0 c.if-not-finished.false,
+    )

@@ -6,8 +6,11 @@ use Rattle.kmc_base.proofs.Subwords.{masked_fits, sub_is}
 use Rattle.kmc_base.proofs.kmer.Kmer.sub.Goals as goal
 
 pub invariant_of-result : goal.invariant_of-result
-invariant_of-result c = record { some = c.requires.some; most = omega (arith, c.requires.inside, c.k.ensures.is, c.k.ensures.most);
-    fits = masked_fits c.args.m _ c.ones.result c.ones.ensures }
+invariant_of-result c = record {
+  some = c.requires.some;
+  most = omega (arith, c.requires.inside, c.k.ensures.is, c.k.ensures.most);
+  fits = masked_fits c.args.m _ c.ones.result c.ones.ensures;
+}
 
 pub returns : goal.returns
 returns c =

@@ -25,5 +25,10 @@ invariant_of-result g c = let now = ended g (goal.at.invariant_of-result g c).Af
 
 pub returns : goal.returns
 returns g c = let now = ended g (goal.at.returns g c).After-store in
-    (λ j. record { table = c.store.ensures.0 j; number = c.s.inside.number; per_writer = ap (λ m. per_writer_of m.0) now j; sent = ap
-        (λ m. sent_of m.0) now j }) ∙ c.s.view_is
+    (λ j. record {
+      table = c.store.ensures.0 j;
+      number = c.s.inside.number;
+      per_writer = ap (λ m. per_writer_of m.0) now j;
+      sent = ap
+          (λ m. sent_of m.0) now j;
+    }) ∙ c.s.view_is

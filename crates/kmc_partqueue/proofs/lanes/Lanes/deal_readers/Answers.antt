@@ -7,17 +7,19 @@ use Rattle.kmc_partqueue.proofs.lanes.Lanes.deal_readers.Goals as goal
 
 pub split_seat-own-requires : goal.split_seat-own-requires
 split_seat-own-requires g c =
-    let me = c.args.self.now in let all : ℕ = me.shape.writers * me.shape.per_writer in
-    (c.loop-number.invariant.0, subst (λ (z : ℕ). 0 < z) (sym me.sized.0)
-        (let w : 0 < me.shape.writers = me.shape.within.0 in let x : 0 < 2 * me.shape.writers + all = omega arith in x),
-        splits_reader me.table.shared.key c.loop-number.seat.id c.loop-number.seat.me.0)
+    let me = c.args.self.now in let all : ℕ = me.shape.writers * me.shape.per_writer in (
+      c.loop-number.invariant.0,
+      subst (λ (z : ℕ). 0 < z) (sym me.sized.0)
+          (let w : 0 < me.shape.writers = me.shape.within.0 in let x : 0 < 2 * me.shape.writers + all = omega arith in x),
+      splits_reader me.table.shared.key c.loop-number.seat.id c.loop-number.seat.me.0,
+    )
 
 pub fresh-requires : goal.fresh-requires
 fresh-requires g c =
     let me = c.args.self.now in let inv = c.loop-number.invariant in let i : ℕ = c.loop-number.number in
     let p = pops i inv.1.0 me.shape.readers inv.1.1 c.loop-number-test.true in
     own_reader me.table.shared.key i inv.1.0 p.0 p.1 c.loop-number.seat.me c.split_seat-own.result.me inv.1.2 c.split_seat-own.ensures.4
-        ∙ (λ j. (one_of_readers (fresh_reader (me.shaped j) i), []))
+    ∙ (λ j. (one_of_readers (fresh_reader (me.shaped j) i), []))
 
 pub loop-number-preserved : goal.loop-number-preserved
 loop-number-preserved g c =

@@ -6,5 +6,5 @@ use Rattle.kmc_partqueue.proofs.lanes.Lanes.deal_readers.Given as goal
 abbrev pub invariant-loop-number : goal.invariant-loop-number
 invariant-loop-number g l = (l.seat.table_id ≡ l.self.table.shared.table_id)
     × ((left : ℕ) × (l.number + left ≡ l.self.shape.readers) × (l.seat.me
-        ≡ (record { writers = []; readers = row_from (fresh_reader l.self.table.shared.key) l.number left }, [])))
+    ≡ (record { writers = []; readers = row_from (fresh_reader l.self.table.shared.key) l.number left }, [])))
     × (l.seats.items ≡ row_from (new_reader l.self.table.shared.table_id l.self.shape) 0 l.number)

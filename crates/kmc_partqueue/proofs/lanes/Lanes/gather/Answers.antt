@@ -50,7 +50,7 @@ views : (g : Over) (c : After-join_all g)
     → Pairs c.join_all.new.seat.me.0.readers c.args.readers.items × WriterPairs c.join_all.new.seat.me.0.writers c.args.writers.items
 views g c = let v = c.into_seat-base.ensures.view in let r = c.join_all.ensures.readers in let w = c.join_all.ensures.writers in
     let readers = subst (Pairs (r.0 ++ v.0 ∷ [])) (sym c.in-Some.ensures.items)
-        (pairs_append r.0 (v.0 ∷ []) c.pop.new.self.items (c.in-Some.first ∷ []) r.2 (v.2, tt)) in (
+    (pairs_append r.0 (v.0 ∷ []) c.pop.new.self.items (c.in-Some.first ∷ []) r.2 (v.2, tt)) in (
       subst (λ z. Pairs z c.args.readers.items) (sym (r.1 ∙ ap (λ m. r.0 ++ m.0.readers) v.1)) readers,
       subst (λ z. WriterPairs z c.args.writers.items) (sym (w.1 ∙ ap (λ m. w.0 ++ m.0.writers) v.1 ∙ sym (append_none w.0))) w.2,
     )
@@ -79,7 +79,7 @@ returns-clause-history g c =
     let vs = views g p.After-join_all in let last = c.requires.finished in
     subst (λ q. (h : History _) × IsHistoryOf q c.args.writers.items c.args.readers.items h) c.args.self.shaped
     (told k end.0 end.1.0 c.join_all.new.seat.id c.join_all.new.seat.me.0 end.1.1 c.args.writers.items c.args.readers.items vs.1 vs.0
-        (each_writer g p.Start) (each_reader g p.Start) last.0 last.1 (all_ended g p.Start last.1.0 last.0 last.1.1 last.2))
+    (each_writer g p.Start) (each_reader g p.Start) last.0 last.1 (all_ended g p.Start last.1.0 last.0 last.1.1 last.2))
 
 pub returns-clause-totals : goal.returns-clause-totals
 returns-clause-totals g c =
@@ -89,10 +89,10 @@ returns-clause-totals g c =
     let are = subst (λ v. AreKeptTotals v.writers v.totals c.all_totals-totals.result) one c.all_totals-totals.ensures in
     let all = subst (λ (z : ℕ). AreKeptTotals z f.0.totals c.all_totals-totals.result) (lanes_of g p.Start c.first_finished.result f.0 f.1) are in
     let near = each_map (IsWriterOf me.table.shared.table_id me.shape) (λ s. s.number < me.shape.writers)
-        (λ s p. p.2) c.args.writers.items c.requires.queue.0 in
+    (λ s p. p.2) c.args.writers.items c.requires.queue.0 in
     let counts = totals_are k end.0
-        (rule_of k end.0 end.1.0) c.join_all.new.seat.id c.join_all.new.seat.me.0 end.1.1 c.args.writers.items c.args.readers.items vs.1 vs.0
-        (each_writer g p.Start) (each_reader g p.Start) f.0 (c.first_finished.result, f.1) (all_ended g p.Start c.first_finished.result f.0 f.1 f.2) in
+    (rule_of k end.0 end.1.0) c.join_all.new.seat.id c.join_all.new.seat.me.0 end.1.1 c.args.writers.items c.args.readers.items vs.1 vs.0
+    (each_writer g p.Start) (each_reader g p.Start) f.0 (c.first_finished.result, f.1) (all_ended g p.Start c.first_finished.result f.0 f.1 f.2) in
     (all.0, counts_are me.shape.writers f.0.totals c.all_totals-totals.result all c.args.writers.items near counts)
 
 pub index-requires : goal.index-requires

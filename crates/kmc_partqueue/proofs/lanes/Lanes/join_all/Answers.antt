@@ -16,16 +16,25 @@ some_word g c =
     subst (λ (z : ℕ). 0 < z) (sym me.sized.0) (let x : 0 < 2 * me.shape.writers + all = omega arith in x)
 
 pub loop-reader-init : goal.loop-reader-init
-loop-reader-init g c =
-    (refl, refl, refl, joins_none
-        (IsReaderOf c.args.self.now.table.shared.table_id c.args.self.now.shape) Pairs c.args.seat.now.me.0.readers c.args.readers.items c.requires.readers tt)
+loop-reader-init g c = (
+  refl,
+  refl,
+  refl,
+  joins_none
+      (IsReaderOf c.args.self.now.table.shared.table_id c.args.self.now.shape) Pairs c.args.seat.now.me.0.readers c.args.readers.items c.requires.readers tt,
+)
 
 pub join_seat-requires : goal.join_seat-requires
 join_seat-requires g c = let me = c.args.self.now in let inv = c.loop-reader.invariant in
     let own = (each_split (IsReaderOf me.table.shared.table_id me.shape) c.pop.new.self.items (c.in-Some.reader ∷ [])
-        (subst (Each (IsReaderOf me.table.shared.table_id me.shape)) c.in-Some.ensures.items inv.3.each)).1.0 in
-    (inv.0 ∙ c.requires.queue, c.into_seat.ensures.table ∙ own.0, ap (λ m. m.1) c.into_seat.ensures.view.1, some_word g
-        (goal.at.join_seat-requires g c).Start, joins_seat me.table.shared.key _ _ _ _)
+    (subst (Each (IsReaderOf me.table.shared.table_id me.shape)) c.in-Some.ensures.items inv.3.each)).1.0 in (
+      inv.0 ∙ c.requires.queue,
+      c.into_seat.ensures.table ∙ own.0,
+      ap (λ m. m.1) c.into_seat.ensures.view.1,
+      some_word g
+          (goal.at.join_seat-requires g c).Start,
+      joins_seat me.table.shared.key _ _ _ _,
+    )
 
 pub loop-reader-preserved : goal.loop-reader-preserved
 loop-reader-preserved g c =
@@ -38,17 +47,25 @@ loop-reader-preserved g c =
     )
 
 pub loop-writer-init : goal.loop-writer-init
-loop-writer-init g c =
-    (refl, refl, refl, joins_none
-        (IsWriterOf c.args.self.now.table.shared.table_id c.args.self.now.shape) WriterPairs c.loop-reader.seat.me.0.writers c.args.writers.items c.requires.writers tt)
+loop-writer-init g c = (
+  refl,
+  refl,
+  refl,
+  joins_none
+      (IsWriterOf c.args.self.now.table.shared.table_id c.args.self.now.shape) WriterPairs c.loop-reader.seat.me.0.writers c.args.writers.items c.requires.writers tt,
+)
 
 pub join_seat-requires-in-Some-pop : goal.join_seat-requires-in-Some-pop
 join_seat-requires-in-Some-pop g c = let me = c.args.self.now in let inv = c.loop-writer.invariant in
     let own = (each_split (IsWriterOf me.table.shared.table_id me.shape) c.pop-in-loop-writer.new.self.items (c.in-Some-pop.writer ∷ [])
-        (subst (Each (IsWriterOf me.table.shared.table_id me.shape)) c.in-Some-pop.ensures.items inv.3.each)).1.0 in
-    (inv.0 ∙ c.loop-reader.invariant.0 ∙ c.requires.queue, c.into_seat-in-Some-pop.ensures.table ∙ own.0, ap
-        (λ m. m.1) c.into_seat-in-Some-pop.ensures.view.1, some_word g (goal.at.join_seat-requires-in-Some-pop g c).Start,
-        joins_seat me.table.shared.key _ _ _ _)
+    (subst (Each (IsWriterOf me.table.shared.table_id me.shape)) c.in-Some-pop.ensures.items inv.3.each)).1.0 in (
+      inv.0 ∙ c.loop-reader.invariant.0 ∙ c.requires.queue,
+      c.into_seat-in-Some-pop.ensures.table ∙ own.0,
+      ap
+          (λ m. m.1) c.into_seat-in-Some-pop.ensures.view.1,
+      some_word g (goal.at.join_seat-requires-in-Some-pop g c).Start,
+      joins_seat me.table.shared.key _ _ _ _,
+    )
 
 pub loop-writer-preserved : goal.loop-writer-preserved
 loop-writer-preserved g c =

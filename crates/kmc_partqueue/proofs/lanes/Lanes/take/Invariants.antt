@@ -5,5 +5,5 @@ use Rattle.kmc_partqueue.proofs.lanes.Lanes.take.Given as goal
 abbrev pub invariant-loop : goal.invariant-loop
 invariant-loop g l =
     (l.s.table ≡ l.initial.s.table) × (l.s.number ≡ l.initial.s.number) × (l.s.per_writer ≡ l.initial.s.per_writer)
-        × (l.s.writers ≡ l.initial.s.writers) × (l.s.got ≡ l.initial.s.got) × KeepsNotes l.initial.s l.s
+    × (l.s.writers ≡ l.initial.s.writers) × (l.s.got ≡ l.initial.s.got) × KeepsNotes l.initial.s l.s
     × (AllEnded l.initial.s.writers l.initial.s.totals → l.s ≡ l.initial.s)

@@ -21,7 +21,7 @@ at_head g c = looking c.s.invariant.view c.args.lane c.load-head.result
 looked : (g : Over) (c : After-load-head g) → (c.load-head.new.seat.me ≡ alone (at_head g c)) × (c.load-head.result ≤ 4294967295)
 looked g c = let inv = c.s.invariant in let writers = inv.writers_is ∙ ap (λ v. v.writers) c.s.view_is ∙ c.requires.queue.2 in
     after_head inv.view c.s.inside.seat.me c.load-head.new.seat.me c.args.self.now.table.shared.table_id.slots
-        (c.args.self.now.shape.writers + c.args.lane) c.args.lane c.load-head.result inv.is (λ j. sym writers j + c.args.lane) c.load-head.ensures.2
+    (c.args.self.now.shape.writers + c.args.lane) c.args.lane c.load-head.result inv.is (λ j. sym writers j + c.args.lane) c.load-head.ensures.2
 
 of_table : (g : Over) (c : After-load-head g) → c.load-head.new.seat.table_id ≡ c.args.self.now.table.shared.table_id
 of_table g c = c.load-head.ensures.0 ∙ ap (λ v. v.table) c.s.view_is ∙ c.requires.queue.0
@@ -69,7 +69,7 @@ not_seen : (g : Over) (c : After-load-head g) (me : Seated g.row.T.Denot) (r : �
     → r ≢ 2 * (c.load-head.result / c.args.self.now.shape.per_writer) + 1 → me ≡ alone (at_head g c)
 not_seen g c me r told miss =
     after_not_ready (at_head g c) c.load-head.new.seat.me me r (looked g c).0 told
-        (λ e. miss (e ∙ ap (λ (z : ℕ). 2 * (c.load-head.result / z) + 1) (slots_are g c)))
+    (λ e. miss (e ∙ ap (λ (z : ℕ). 2 * (c.load-head.result / z) + 1) (slots_are g c)))
 
 at_end : (g : Over) (c : After-load-end g) → let b = at_head g (goal.at.overflow_add-head-2 g c).After-load-head in
     (c.load-end.result ≡ c.load-head.result + 1 → c.load-end.new.seat.me ≡ alone (ending b))
@@ -87,10 +87,12 @@ load-head-requires g c =
     let me = c.args.self.now in let inv = c.s.invariant in let vi = c.s.view_is in let lane : ℕ = c.args.lane in
     let near : lane < me.shape.writers = c.requires.lane.0 in
     let all : ℕ = me.shape.writers * me.shape.per_writer in let ws = sym (ap (λ q. q.writers) me.shaped) in
-    let bound : me.shape.writers + lane < 2 * me.shape.writers + all = omega arith in
-    (ap (λ v. v.table) vi ∙ c.requires.queue.0, subst (λ (z : ℕ). me.shape.writers + lane < z) (sym me.sized.0) bound,
-        head_call me.table.shared.key _ _ inv.view c.s.inside.seat.me lane (me.shape.writers + lane) inv.is (λ j. ws j + lane) inv.empty
-        (subst (λ (z : ℕ). lane < z) ws near))
+    let bound : me.shape.writers + lane < 2 * me.shape.writers + all = omega arith in (
+      ap (λ v. v.table) vi ∙ c.requires.queue.0,
+      subst (λ (z : ℕ). me.shape.writers + lane < z) (sym me.sized.0) bound,
+      head_call me.table.shared.key _ _ inv.view c.s.inside.seat.me lane (me.shape.writers + lane) inv.is (λ j. ws j + lane) inv.empty
+          (subst (λ (z : ℕ). lane < z) ws near),
+    )
 
 pub overflow_mul-turn : goal.overflow_mul-turn
 overflow_mul-turn g c = let few = small g c in omega arith
@@ -101,9 +103,12 @@ overflow_add-turn g c = let few = small g c in omega arith
 pub load-seen-requires : goal.load-seen-requires
 load-seen-requires g c =
     let p = (goal.at.load-seen-requires g c).After-load-head in let me = c.args.self.now in
-    let ws = sym (ap (λ q. q.writers) me.shaped) in let rs = sym (ap (λ q. q.per_writer) me.shaped) in
-    (of_table g p, mark_within g p, ready_call me.table.shared.key _ _ (at_head g p) c.load-head.new.seat.me _ (looked g p).0
-        (λ j. 2 * ws j + (c.args.lane * rs j + c.load-head.result % rs j)))
+    let ws = sym (ap (λ q. q.writers) me.shaped) in let rs = sym (ap (λ q. q.per_writer) me.shaped) in (
+      of_table g p,
+      mark_within g p,
+      ready_call me.table.shared.key _ _ (at_head g p) c.load-head.new.seat.me _ (looked g p).0
+          (λ j. 2 * ws j + (c.args.lane * rs j + c.load-head.result % rs j)),
+    )
 
 pub overflow_add-head : goal.overflow_add-head
 overflow_add-head g c = let few = small g (goal.at.overflow_add-head g c).After-load-head in omega arith
@@ -115,10 +120,13 @@ compare_exchange-was-requires g c =
     let all : ℕ = me.shape.writers * me.shape.per_writer in
     let S = saw g p c.load-seen.new.seat.me c.load-seen.result c.load-seen.ensures.2 c.if-seen-turn.true in
     let ws = sym (ap (λ q. q.writers) me.shaped) in
-    let bound : me.shape.writers + lane < 2 * me.shape.writers + all = omega arith in
-    (c.load-seen.ensures.0 ∙ of_table g p, subst (λ (z : ℕ). me.shape.writers + lane < z) (sym me.sized.0) bound, take_call me.table.shared.key _ _
-        (at_part g p) c.load-seen.new.seat.me (me.shape.writers + lane) c.load-head.result (c.load-head.result + 1) S
-        (λ j. ws j + lane) refl refl refl c.s.invariant.empty)
+    let bound : me.shape.writers + lane < 2 * me.shape.writers + all = omega arith in (
+      c.load-seen.ensures.0 ∙ of_table g p,
+      subst (λ (z : ℕ). me.shape.writers + lane < z) (sym me.sized.0) bound,
+      take_call me.table.shared.key _ _
+          (at_part g p) c.load-seen.new.seat.me (me.shape.writers + lane) c.load-head.result (c.load-head.result + 1) S
+          (λ j. ws j + lane) refl refl refl c.s.invariant.empty,
+    )
 
 -- another reader was before this one
 missed : (g : Over) (c : Then-was-head g)
@@ -132,7 +140,7 @@ pub invariant_of-s : goal.invariant_of-s
 invariant_of-s g c =
     let inv = c.s.invariant in
     between (at_part g (goal.at.invariant_of-s g c).After-load-head) c.compare_exchange-was.new.seat.me _ _ _ _ _
-        (missed g c) inv.number_is inv.writers_is inv.per_writer_is inv.empty inv.noted inv.long inv.near inv.few
+    (missed g c) inv.number_is inv.writers_is inv.per_writer_is inv.empty inv.noted inv.long inv.near inv.few
 
 pub returns-then-was-head-clause-got : goal.returns-then-was-head-clause-got
 returns-then-was-head-clause-got g c =
@@ -173,11 +181,11 @@ invariant_of-s-then-seen-turn g c =
     let near : c.args.lane < me.shape.writers = c.requires.lane.0 in
     let some : 0 < me.shape.writers = me.shape.within.0 in
     let next : c.if-lane-self.s < me.shape.writers = elim c.if-lane-self.branch
-        [ then-lane-self w ↦ (let a = w.if-lane-self.true in let e = w.s-is in omega arith) | else-lane-self w ↦ (let e = w.s-is in omega arith) ] in
+    [ then-lane-self w ↦ (let a = w.if-lane-self.true in let e = w.s-is in omega arith) | else-lane-self w ↦ (let e = w.s-is in omega arith) ] in
     let R = released g p.After-store in
     between (freeing (taking
-        (at_part g p.After-load-head) R.0)) c.store.new.seat.me _ _ _ _ _ R.2 inv.number_is inv.writers_is inv.per_writer_is refl inv.noted inv.long
-        (subst (λ (z : ℕ). c.if-lane-self.s < z) (sym (ap (λ v. v.writers) c.s.view_is ∙ c.requires.queue.2)) next) inv.few
+    (at_part g p.After-load-head) R.0)) c.store.new.seat.me _ _ _ _ _ R.2 inv.number_is inv.writers_is inv.per_writer_is refl inv.noted inv.long
+    (subst (λ (z : ℕ). c.if-lane-self.s < z) (sym (ap (λ v. v.writers) c.s.view_is ∙ c.requires.queue.2)) next) inv.few
 
 pub returns-then-seen-turn-clause-got : goal.returns-then-seen-turn-clause-got
 returns-then-seen-turn-clause-got g c =
@@ -192,10 +200,13 @@ load-end-requires g c =
     let near : lane < me.shape.writers = c.requires.lane.0 in let all : ℕ = me.shape.writers * me.shape.per_writer in
     let S = not_seen g p c.load-seen.new.seat.me c.load-seen.result c.load-seen.ensures.2 c.if-seen-turn.false in
     let bound : lane < 2 * me.shape.writers + all = omega arith in
-    let of_key = subst (λ (z : ℕ). lane < z) (sym (ap (λ q. q.writers) me.shaped)) near in
-    (c.load-seen.ensures.0 ∙ of_table g p, subst (λ (z : ℕ). lane < z) (sym me.sized.0) bound, end_call k _ _
-        (at_head g p) c.load-seen.new.seat.me lane S refl (not_all_seen inv.view.ends c.s.inside.totals k.writers lane inv.noted
-        (ap (λ v. slice_get v.totals lane) c.s.view_is ∙ c.requires.lane.1) of_key))
+    let of_key = subst (λ (z : ℕ). lane < z) (sym (ap (λ q. q.writers) me.shaped)) near in (
+      c.load-seen.ensures.0 ∙ of_table g p,
+      subst (λ (z : ℕ). lane < z) (sym me.sized.0) bound,
+      end_call k _ _
+          (at_head g p) c.load-seen.new.seat.me lane S refl (not_all_seen inv.view.ends c.s.inside.totals k.writers lane inv.noted
+          (ap (λ v. slice_get v.totals lane) c.s.view_is ∙ c.requires.lane.1) of_key),
+    )
 
 pub overflow_add-head-2 : goal.overflow_add-head-2
 overflow_add-head-2 g c = let few = small g (goal.at.overflow_add-head-2 g c).After-load-head in omega arith
@@ -206,14 +217,14 @@ invariant_of-s-then-end-head g c =
     let lane : ℕ = c.args.lane in let near : lane < me.shape.writers = c.requires.lane.0 in
     let h : ℕ = c.load-head.result in
     between (ending (at_head g p.After-load-head)) c.load-end.new.seat.me _ _ _ _ _
-        ((at_end g p.After-load-end).0 c.if-end-head.true) inv.number_is inv.writers_is inv.per_writer_is inv.empty
-        (noted_more inv.view.ends c.s.inside.totals lane h inv.noted (ap (λ v. slice_get v.totals lane) c.s.view_is ∙ c.requires.lane.1)
-        (let l = inv.long in let m = me.shape.within.1 in omega arith)) (length-set c.s.inside.totals lane (Some h) ∙ inv.long) inv.near inv.few
+    ((at_end g p.After-load-end).0 c.if-end-head.true) inv.number_is inv.writers_is inv.per_writer_is inv.empty
+    (noted_more inv.view.ends c.s.inside.totals lane h inv.noted (ap (λ v. slice_get v.totals lane) c.s.view_is ∙ c.requires.lane.1)
+    (let l = inv.long in let m = me.shape.within.1 in omega arith)) (length-set c.s.inside.totals lane (Some h) ∙ inv.long) inv.near inv.few
 
 pub invariant_of-s-else-end-head : goal.invariant_of-s-else-end-head
 invariant_of-s-else-end-head g c = let p = goal.at.invariant_of-s-else-end-head g c in let inv = c.s.invariant in
     between (at_head g p.After-load-head) c.load-end.new.seat.me _ _ _ _ _
-        ((at_end g p.After-load-end).1 c.if-end-head.false) inv.number_is inv.writers_is inv.per_writer_is inv.empty inv.noted inv.long inv.near inv.few
+    ((at_end g p.After-load-end).1 c.if-end-head.false) inv.number_is inv.writers_is inv.per_writer_is inv.empty inv.noted inv.long inv.near inv.few
 
 pub returns-then-end-head-clause-got : goal.returns-then-end-head-clause-got
 returns-then-end-head-clause-got g c =

@@ -43,7 +43,7 @@ move_in-requires g c =
     let me = c.args.self.now in let vi = c.s.view_is in let is = ap (λ v. v.per_writer) vi ∙ c.requires.1 in
     let m : ℕ = c.s.inside.count in let n : ℕ = c.s.inside.number in
     let held = held_after c.s.inside.seat.me c.load-found.new.seat.me n c.s.inside.per_writer m c.s.invariant c.load-found.result
-        (n * c.s.inside.per_writer + m % c.s.inside.per_writer) c.load-found.ensures.2 (c.if-found-turn.false ∙ ap (λ (z : ℕ). 2 * (m / z)) (sym is)) refl in
+    (n * c.s.inside.per_writer + m % c.s.inside.per_writer) c.load-found.ensures.2 (c.if-found-turn.false ∙ ap (λ (z : ℕ). 2 * (m / z)) (sym is)) refl in
     (c.load-found.ensures.0 ∙ ap (λ v. v.table) vi ∙ c.requires.0, ap (λ x. x.1) held ∙ (λ j. (n * is j + m % is j, None) ∷ []))
 
 pub store-requires : goal.store-requires
@@ -56,7 +56,7 @@ store-requires g c =
     let slot₀ : ℕ = n * me.shape.per_writer + i₀ in let all : ℕ = me.shape.writers * me.shape.per_writer in
     let inside : slot₀ < all = lane_within me.shape.per_writer n me.shape.writers i₀ near (mod-lt m pos) in
     let held = held_after c.s.inside.seat.me c.load-found.new.seat.me n c.s.inside.per_writer m at c.load-found.result slot c.load-found.ensures.2
-        (c.if-found-turn.false ∙ ap (λ (z : ℕ). 2 * (m / z)) (sym is)) refl in
+    (c.if-found-turn.false ∙ ap (λ (z : ℕ). 2 * (m / z)) (sym is)) refl in
     let ens = c.move_in.ensures in let s = sent_of c.s.inside.seat.me.0 in
     let now = ens.2 ∙ (λ j. ((held j).0, (n * sym is j + m % sym is j, Some c.args.part) ∷ [])) in (
       ens.0 ∙ c.load-found.ensures.0 ∙ ap (λ v. v.table) vi ∙ c.requires.0,
@@ -77,19 +77,19 @@ invariant_of-s-2 g c =
     let m : ℕ = c.s.inside.count in let n : ℕ = c.s.inside.number in
     let at = c.s.invariant in let slot : ℕ = n * c.s.inside.per_writer + m % c.s.inside.per_writer in
     let held = held_after c.s.inside.seat.me c.load-found.new.seat.me n c.s.inside.per_writer m at c.load-found.result slot c.load-found.ensures.2
-        (c.if-found-turn.false ∙ ap (λ (z : ℕ). 2 * (m / z)) (sym is)) refl in
+    (c.if-found-turn.false ∙ ap (λ (z : ℕ). 2 * (m / z)) (sym is)) refl in
     let s = sent_of c.s.inside.seat.me.0 in
     let now = c.move_in.ensures.2 ∙ (λ j. ((held j).0, (n * sym is j + m % sym is j, Some c.args.part) ∷ [])) in
     let put = sent_after c.move_in.new.seat.me c.store.new.seat.me n c.s.inside.per_writer 0 slot m s c.args.part now at.1 refl c.store.ensures.2 in
     rests c.store.new.seat.me n c.s.inside.per_writer (m + 1) (s ++ c.args.part ∷ []) put
-        (length-append s (c.args.part ∷ []) ∙ ap (λ (z : ℕ). z + 1) at.1) (let le : m ≤ 4294967295 = at.2 in omega arith)
+    (length-append s (c.args.part ∷ []) ∙ ap (λ (z : ℕ). z + 1) at.1) (let le : m ≤ 4294967295 = at.2 in omega arith)
 
 pub returns-clause-put : goal.returns-clause-put
 returns-clause-put g c = let me = c.args.self.now in let vi = c.s.view_is in let is = ap (λ v. v.per_writer) vi ∙ c.requires.1 in let m : ℕ =
     c.s.inside.count in let n : ℕ = c.s.inside.number in
     let at = c.s.invariant in let slot : ℕ = n * c.s.inside.per_writer + m % c.s.inside.per_writer in
     let held = held_after c.s.inside.seat.me c.load-found.new.seat.me n c.s.inside.per_writer m at c.load-found.result slot c.load-found.ensures.2
-        (c.if-found-turn.false ∙ ap (λ (z : ℕ). 2 * (m / z)) (sym is)) refl in
+    (c.if-found-turn.false ∙ ap (λ (z : ℕ). 2 * (m / z)) (sym is)) refl in
     let s = sent_of c.s.inside.seat.me.0 in let now = c.move_in.ensures.2 ∙ (λ j. ((held j).0, (n * sym is j + m % sym is j, Some c.args.part) ∷ [])) in
     let put = sent_after c.move_in.new.seat.me c.store.new.seat.me n c.s.inside.per_writer 0 slot m s c.args.part now at.1 refl c.store.ensures.2 in
     (sym at.1 ∙ ap length (ap (λ v. v.sent) vi), ap (λ x. sent_of x.0) put ∙ ap (λ z. z ++ c.args.part ∷ []) (ap (λ v. v.sent) vi))

@@ -11,5 +11,12 @@ invariant_of-result g c =
 pub returns : goal.returns
 returns g c =
     let k = c.args.shape.now in
-    λ j. record { table = c.args.seat.table_id; number = c.args.number; per_writer = k.per_writer; writers = k.writers; got = ap
-        (λ m. got_of m.0) c.requires j; totals = replicate 16 None }
+    λ j. record {
+      table = c.args.seat.table_id;
+      number = c.args.number;
+      per_writer = k.per_writer;
+      writers = k.writers;
+      got = ap
+          (λ m. got_of m.0) c.requires j;
+      totals = replicate 16 None;
+    }

@@ -16,16 +16,21 @@ unreachable-requires g c = let core = c.self.invariant.1 in let near = c.if-writ
 
 pub invariant_of-self : goal.invariant_of-self
 invariant_of-self g c = let core = c.self.invariant.1 in let near = c.if-writer-self.false in let is = read _ _ _ _ _ core near c.index-counters.ensures in
-    let after = core_put _ _ _ _ c.args.item _ core near is c.if-number-ge-MAX_ITEMS.false c.if-number-counters.false in let pushed = c.in-Ok.ensures.ok in
-    (ap (λ (b : Buffer (Queued g.row.T.Denot)). b.capacity) pushed ∙ c.self.invariant.0, subst (IsCore c.self.inside.shape _)
-        (sym (ap (λ (b : Buffer (Queued g.row.T.Denot)). b.items) pushed)) after)
+    let after = core_put _ _ _ _ c.args.item _ core near is c.if-number-ge-MAX_ITEMS.false c.if-number-counters.false in let pushed = c.in-Ok.ensures.ok in (
+      ap (λ (b : Buffer (Queued g.row.T.Denot)). b.capacity) pushed ∙ c.self.invariant.0,
+      subst (IsCore c.self.inside.shape _)
+          (sym (ap (λ (b : Buffer (Queued g.row.T.Denot)). b.items) pushed)) after,
+    )
 
 pub returns-clause-legal : goal.returns-clause-legal
 returns-clause-legal g c = let core = c.self.invariant.1 in let near = c.if-writer-self.false in let is = read _ _ _ _ _ core near c.index-counters.ensures in
     let was = c.index-counters.result.now in
-    subst (λ s. MovesOn s (event.Put c.args.writer c.args.item, reply.Put (Ok was.accepted_count)) record { shape = c.self.inside.shape;
-        writers = set c.self.inside.writers.items c.args.writer (record was { accepted_count = was.accepted_count + 1 }); queue =
-        c.try_push_back.new.self.items }) c.self.view_is
+    subst (λ s. MovesOn s (event.Put c.args.writer c.args.item, reply.Put (Ok was.accepted_count)) record {
+      shape = c.self.inside.shape;
+      writers = set c.self.inside.writers.items c.args.writer (record was { accepted_count = was.accepted_count + 1 });
+      queue =
+          c.try_push_back.new.self.items;
+    }) c.self.view_is
     (put_legal _ _ _ core c.args.writer c.args.item was _ near is
-        (not_false _ c.if-not-counters.false) c.if-counters.false c.if-number-ge-MAX_ITEMS.false c.if-number-counters.false
-        (ap (λ (b : Buffer (Queued g.row.T.Denot)). b.items) c.in-Ok.ensures.ok))
+    (not_false _ c.if-not-counters.false) c.if-counters.false c.if-number-ge-MAX_ITEMS.false c.if-number-counters.false
+    (ap (λ (b : Buffer (Queued g.row.T.Denot)). b.items) c.in-Ok.ensures.ok))

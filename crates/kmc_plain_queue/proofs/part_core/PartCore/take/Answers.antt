@@ -25,46 +25,76 @@ invariant_of-self g c = (
 
 pub returns-in-Some-clause-state : goal.returns-in-Some-clause-state
 returns-in-Some-clause-state g c = let was = c.index-counters.result.now in let first = c.in-Some.field-0 in
-    subst (λ s. Becomes s (event.Take c.args.reader, reply.Take (Ok (Got record { writer = first.writer; number = was.left_count;
-        item = first.item }))) record { shape = c.self.inside.shape; writers = set c.self.inside.writers.items first.writer
-        (record was { left_count = was.left_count + 1 }); queue = c.pop_front.new.self.items }) c.self.view_is
+    subst (λ s. Becomes s (
+      event.Take c.args.reader,
+      reply.Take (Ok (Got record {
+        writer = first.writer;
+        number = was.left_count;
+        item = first.item;
+      })),
+    ) record {
+      shape = c.self.inside.shape;
+      writers = set c.self.inside.writers.items first.writer
+          (record was { left_count = was.left_count + 1 });
+      queue = c.pop_front.new.self.items;
+    }) c.self.view_is
     (take_becomes _ _ _ c.self.invariant.1 c.args.reader first was _ c.if-reader-self.false (sym c.in-Some.ensures.value)
-        (ap (λ (b : Buffer (Queued g.row.T.Denot)). b.items) c.in-Some.ensures.items) c.index-counters.ensures)
+    (ap (λ (b : Buffer (Queued g.row.T.Denot)). b.items) c.in-Some.ensures.items) c.index-counters.ensures)
 
 pub returns-in-Some-clause-legal : goal.returns-in-Some-clause-legal
 returns-in-Some-clause-legal g c = let was = c.index-counters.result.now in let first = c.in-Some.field-0 in
-    subst (λ s. MovesOn s (event.Take c.args.reader, reply.Take (Ok (Got record { writer = first.writer; number = was.left_count;
-        item = first.item }))) record { shape = c.self.inside.shape; writers = set c.self.inside.writers.items first.writer
-        (record was { left_count = was.left_count + 1 }); queue = c.pop_front.new.self.items }) c.self.view_is
+    subst (λ s. MovesOn s (
+      event.Take c.args.reader,
+      reply.Take (Ok (Got record {
+        writer = first.writer;
+        number = was.left_count;
+        item = first.item;
+      })),
+    ) record {
+      shape = c.self.inside.shape;
+      writers = set c.self.inside.writers.items first.writer
+          (record was { left_count = was.left_count + 1 });
+      queue = c.pop_front.new.self.items;
+    }) c.self.view_is
     (take_legal _ _ _ c.self.invariant.1 c.args.reader first was _ c.if-reader-self.false (sym c.in-Some.ensures.value)
-        (ap (λ (b : Buffer (Queued g.row.T.Denot)). b.items) c.in-Some.ensures.items) c.index-counters.ensures)
+    (ap (λ (b : Buffer (Queued g.row.T.Denot)). b.items) c.in-Some.ensures.items) c.index-counters.ensures)
 
 pub returns-then-all_completed-clause-answer : goal.returns-then-all_completed-clause-answer
 returns-then-all_completed-clause-answer g c = subst (λ (s : CoreState g.row.T.Denot). FitsTake s.shape (live_in s) c.args.reader
     (Ok (Finished c.totals_of.result))) c.self.view_is
     (finished_fits _ _ _ c.self.invariant.1 c.args.reader _ c.if-reader-self.false (sym c.in-None.ensures.value)
-        (ap (λ (b : Buffer (Queued g.row.T.Denot)). b.items) c.in-None.ensures.items) _
+    (ap (λ (b : Buffer (Queued g.row.T.Denot)). b.items) c.in-None.ensures.items) _
     (subst (All (λ (z : Counters). z.completed ≡ true)) c.deref.ensures.value (c.if-all_completed.ensures.0 refl))
-        (c.totals_of.ensures ∙ ap (map (λ (z : Counters). z.accepted_count)) c.deref-then-all_completed.ensures.value))
+    (c.totals_of.ensures ∙ ap (map (λ (z : Counters). z.accepted_count)) c.deref-then-all_completed.ensures.value))
 
 pub returns-then-all_completed-clause-legal : goal.returns-then-all_completed-clause-legal
-returns-then-all_completed-clause-legal g c = subst (λ s. MovesOn s (event.Take c.args.reader, reply.Take
-    (Ok (Finished c.totals_of.result))) record { shape = c.self.inside.shape; writers = c.self.inside.writers.items; queue =
-    c.pop_front.new.self.items }) c.self.view_is
+returns-then-all_completed-clause-legal g c = subst (λ s. MovesOn s (
+  event.Take c.args.reader,
+  reply.Take
+      (Ok (Finished c.totals_of.result)),
+) record {
+  shape = c.self.inside.shape;
+  writers = c.self.inside.writers.items;
+  queue =
+      c.pop_front.new.self.items;
+}) c.self.view_is
     (finished_legal _ _ _ c.self.invariant.1 c.args.reader _ c.if-reader-self.false (sym c.in-None.ensures.value)
-        (ap (λ (b : Buffer (Queued g.row.T.Denot)). b.items) c.in-None.ensures.items) _
+    (ap (λ (b : Buffer (Queued g.row.T.Denot)). b.items) c.in-None.ensures.items) _
     (subst (All (λ (z : Counters). z.completed ≡ true)) c.deref.ensures.value (c.if-all_completed.ensures.0 refl))
-        (c.totals_of.ensures ∙ ap (map (λ (z : Counters). z.accepted_count)) c.deref-then-all_completed.ensures.value))
+    (c.totals_of.ensures ∙ ap (map (λ (z : Counters). z.accepted_count)) c.deref-then-all_completed.ensures.value))
 
 pub returns-clause-answer : goal.returns-clause-answer
 returns-clause-answer g c = subst (λ (s : CoreState g.row.T.Denot). FitsTake s.shape (live_in s) c.args.reader (Ok Empty)) c.self.view_is
     (empty_fits _ _ _ c.self.invariant.1 c.args.reader _ c.if-reader-self.false (sym c.in-None.ensures.value)
-        (ap (λ (b : Buffer (Queued g.row.T.Denot)). b.items) c.in-None.ensures.items)
+    (ap (λ (b : Buffer (Queued g.row.T.Denot)). b.items) c.in-None.ensures.items)
     (λ all. let yes = c.if-all_completed.ensures.1 (subst (All (λ (z : Counters). z.completed ≡ true)) (sym c.deref.ensures.value) all) in cc))
 
 pub returns-clause-legal : goal.returns-clause-legal
-returns-clause-legal g c = subst (λ s. MovesOn s (event.Take c.args.reader, reply.Take (Ok Empty)) record { shape = c.self.inside.shape;
-    writers = c.self.inside.writers.items; queue = c.pop_front.new.self.items }) c.self.view_is
+returns-clause-legal g c = subst (λ s. MovesOn s (event.Take c.args.reader, reply.Take (Ok Empty)) record {
+  shape = c.self.inside.shape;
+  writers = c.self.inside.writers.items;
+  queue = c.pop_front.new.self.items;
+}) c.self.view_is
     (empty_legal _ _ _ c.self.invariant.1 c.args.reader _ c.if-reader-self.false (sym c.in-None.ensures.value)
-        (ap (λ (b : Buffer (Queued g.row.T.Denot)). b.items) c.in-None.ensures.items)
+    (ap (λ (b : Buffer (Queued g.row.T.Denot)). b.items) c.in-None.ensures.items)
     (λ all. let yes = c.if-all_completed.ensures.1 (subst (All (λ (z : Counters). z.completed ≡ true)) (sym c.deref.ensures.value) all) in cc))

@@ -8,6 +8,6 @@ use Rattle.kmc_split.proofs.super_kmers.SuperKmer.in_bin.Goals as goal
 pub returns : goal.returns
 returns c =
     let same : windows c.self.inside.k c.deref.result.now ≡ piece_words c.args.self.now = ap (windows c.self.inside.k) c.deref.ensures.value
-        ∙ ap piece_words c.self.view_is in
+    ∙ ap piece_words c.self.view_is in
     subst (λ (ws : List (List ℕ)). IsTrue c.words_in_bin.result ↔ All
-        (λ (w : List ℕ). signature_of c.args.m w % c.args.n ≡ c.args.bin) ws) same c.words_in_bin.ensures
+    (λ (w : List ℕ). signature_of c.args.m w % c.args.n ≡ c.args.bin) ws) same c.words_in_bin.ensures

@@ -7,7 +7,7 @@ pub returns-clause-is : goal.returns-clause-is
 returns-clause-is c =
     let count = length_windows c.self.inside.k c.self.inside.codes.items in
     let same : length (piece_words (record { k = c.self.inside.k; codes = c.self.inside.codes.items })) ≡ length (piece_words c.args.self.now) = ap
-        (λ (s : Piece). length (piece_words s)) c.self.view_is in
+    (λ (s : Piece). length (piece_words s)) c.self.view_is in
     let here : (c.len.result - c.self.inside.k) + 1 ≡ length (piece_words (record { k = c.self.inside.k; codes = c.self.inside.codes.items })) =
-        omega (arith, count) in
+    omega (arith, count) in
     here ∙ same

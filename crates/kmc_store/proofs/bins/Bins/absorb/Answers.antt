@@ -32,7 +32,7 @@ taken_in c =
     let within = bin_within c.args.self.now c.self.inside.shape vs words p b c.self.view_is c.requires c.self.invariant c.bin-bin.ensures.kept c.bin-bin.ensures.is in
     let grown = c.in-Ok.ensures.items ∙ ap (λ t. c.index_mut-body.result.now.items ++ t) c.body.ensures.are in
     let sum : c.saturating_add.result ≡ capped (slice_index words b + p.words) = omega
-        (arith, c.saturating_add.ensures, c.words.ensures.is, get_or_read words b c.index.result.now within.1 c.index.ensures 0) in (
+    (arith, c.saturating_add.ensures, c.words.ensures.is, get_or_read words b c.index.result.now within.1 c.index.ensures 0) in (
       bins_absorbed c.args.self.now c.self.inside.shape vs words p b c.index_mut-body.result.now c.extend_from_slice.new.self c.saturating_add.result
           c.self.view_is c.requires c.self.invariant c.bin-bin.ensures.kept c.bin-bin.ensures.is within.0 c.index_mut-body.ensures.value grown sum,
       absorbed_is c.args.self.now c.self.inside.shape vs words p b c.index_mut-body.result.now c.extend_from_slice.new.self c.saturating_add.result

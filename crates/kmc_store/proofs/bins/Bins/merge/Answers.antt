@@ -15,7 +15,7 @@ invariant_of-self-2 c =
     let new = c.append_bodies.new.own.items in
     let grown = grown_with_room vs c.make_room.new.own.items ws new c.make_room.ensures.kept c.append_bodies.ensures.wide c.append_bodies.ensures.each in
     bins_merge c.self.inside.shape c.other.inside.shape (map bytes_of vs) (map bytes_of ws)
-        (map bytes_of new) c.self.inside.words.items c.other.inside.words.items c.add_words.new.own.items
+    (map bytes_of new) c.self.inside.words.items c.other.inside.words.items c.add_words.new.own.items
     (ap (λ (b : BinList). b.shape) c.other.view_is ∙ c.requires ∙ sym (ap (λ (b : BinList). b.shape) c.self.view_is)) c.self.invariant c.other.invariant
     (length-map new bytes_of ∙ grown.0 ∙ sym (length-map vs bytes_of)) c.add_words.ensures.wide (λ i l. grown.1 i (omega (arith, length-map vs bytes_of)))
     (λ i l. c.add_words.ensures.each i l ∙ ap (λ us. capped (slice_index c.self.inside.words.items i + slice_index us i)) c.deref-2.ensures.value)
