@@ -97,18 +97,22 @@ impl Feeder {
 
     /// How many reads have ended and were not taken yet.
     pub fn waiting(&self) -> usize
-        ensures { (format : Format) (text : List ℕ) (taken : List (List ℕ))
+        ensures are { (format : Format) (text : List ℕ) (taken : List (List ℕ))
             → StandsAt format text taken self.now
             → length (ended format text) ≡ length taken + result }
+        ensures cut { (overlap : ℕ) (format : Format) (text : List ℕ) (taken : List (List ℕ))
+            (s : StandsCut overlap format text taken self.now) → result ≡ length s.rows }
     {
         self.scan.count()
     }
 
     /// How many symbols these reads have in all.
     pub fn waiting_symbols(&self) -> usize
-        ensures { (format : Format) (text : List ℕ) (taken : List (List ℕ))
+        ensures are { (format : Format) (text : List ℕ) (taken : List (List ℕ))
             → StandsAt format text taken self.now
             → length (concat (ended format text)) ≡ length (concat taken) + result }
+        ensures cut { (overlap : ℕ) (format : Format) (text : List ℕ) (taken : List (List ℕ))
+            (s : StandsCut overlap format text taken self.now) → result ≡ length (concat s.rows) }
     {
         self.scan.symbols()
     }
@@ -124,6 +128,12 @@ impl Feeder {
             → IfOk result (λ reads. StandsAt format text (taken ++ reads) self.new) }
         ensures memory { OnErr result (self.new ≡ self.old) }
         ensures refused { (e : ReadsError) → Refuses e self.old → Refuses e self.new }
+
+        // The same where open reads were handed out in pieces.
+        ensures cut { (overlap : ℕ) (format : Format) (text : List ℕ) (taken : List (List ℕ))
+            (s : StandsCut overlap format text taken self.old)
+            → IfOk result (λ reads. (reads ≡ s.rows)
+            × StandsCut overlap format text (taken ++ reads) self.new) }
     {
         self.scan.take(alloc)
     }
@@ -178,6 +188,9 @@ impl Feeder {
             (taken : List (List ℕ)) → StandsCut overlap format text taken self
             → IfErr result
             (λ p. p.0 ≢ ReadsError.Memory → (reads_of format text ≡ Err p.0) × Refuses p.0 p.1) }
+        ensures cut_memory { (overlap : ℕ) (format : Format) (text : List ℕ)
+            (taken : List (List ℕ)) → StandsCut overlap format text taken self
+            → IfErr result (λ p. p.0 ≡ ReadsError.Memory → StandsCut overlap format text taken p.1) }
     {
         let mut feeder = self;
         if let Some(e) = feeder.refusal {

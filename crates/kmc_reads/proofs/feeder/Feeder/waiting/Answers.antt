@@ -3,8 +3,13 @@ use Rattle.kmc_reads.specs.Standing.{At}
 use Rattle.kmc_reads.proofs.Stands.{ended_are}
 use Rattle.kmc_reads.proofs.feeder.Feeder.waiting.Goals as goal
 
-pub returns : goal.returns
-returns c = λ format text taken s.
+pub returns-clause-are : goal.returns-clause-are
+returns-clause-are c = λ format text taken s.
     let at = subst (λ t. At s.rows s.spot s.front t) (sym (ap (λ v. v.scan) c.self.view_is)) s.stands in
     ap length (ended_are format text taken c.args.self.now s) ∙ length-append taken s.rows ∙ ap (λ n. length taken + n)
     (sym (c.count.ensures s.rows s.spot s.front at))
+
+pub returns-clause-cut : goal.returns-clause-cut
+returns-clause-cut c = λ overlap format text taken s.
+    let at = subst (λ t. At s.rows s.spot s.front t) (sym (ap (λ v. v.scan) c.self.view_is)) s.stands in
+    c.count.ensures s.rows s.spot s.front at

@@ -5,9 +5,14 @@ use Rattle.kmc_reads.proofs.Rows.{concat_append}
 use Rattle.kmc_reads.proofs.Stands.{ended_are}
 use Rattle.kmc_reads.proofs.feeder.Feeder.waiting_symbols.Goals as goal
 
-pub returns : goal.returns
-returns c = λ format text taken s.
+pub returns-clause-are : goal.returns-clause-are
+returns-clause-are c = λ format text taken s.
     let at = subst (λ t. At s.rows s.spot s.front t) (sym (ap (λ v. v.scan) c.self.view_is)) s.stands in
     ap (λ t. length (concat t)) (ended_are format text taken c.args.self.now s) ∙ ap length (concat_append taken s.rows) ∙ length-append
     (concat taken) (concat s.rows)
     ∙ ap (λ n. length (concat taken) + n) (sym (c.symbols.ensures s.rows s.spot s.front at))
+
+pub returns-clause-cut : goal.returns-clause-cut
+returns-clause-cut c = λ overlap format text taken s.
+    let at = subst (λ t. At s.rows s.spot s.front t) (sym (ap (λ v. v.scan) c.self.view_is)) s.stands in
+    c.symbols.ensures s.rows s.spot s.front at
