@@ -3,6 +3,7 @@ mod failing;
 mod queues;
 mod random_rows;
 mod random_texts;
+mod rounds;
 mod rows;
 
 use super::settings::{BILLION, settings};
