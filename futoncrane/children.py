@@ -31,6 +31,12 @@ def catch_signals():
             signal.signal(it, end)
 
 
+def too_late():
+    """Has the signals do nothing from now on: the answer is there."""
+    for it in ENDING:
+        signal.signal(it, signal.SIG_IGN)
+
+
 @contextlib.contextmanager
 def held_signals():
     """Holds the signals back, so that what is made is also noted. Gives the mask that was before."""

@@ -147,15 +147,16 @@ class Feed:
         self.now = None
         if status == -signal.SIGPIPE:
             raise GaveUp
-        if status != 0:
-            raise Fault(not_unpacked(it.shown, it.packing, child))
+        said = told(child)
+        if status != 0 or "trailing" in said:  # pigz takes what stands behind the data for no fault
+            raise Fault(not_unpacked(it.shown, it.packing, child, said))
         self.children.forget(child)
 
 
-def not_unpacked(name, kind, child):
+def not_unpacked(name, kind, child, said=None):
     """The text of the fault that an unpacker did not come to a good end."""
-    status = child.returncode
-    said = told(child) or "%s %s" % (os.path.basename(child.args[0]), signal_of(status) or "ended with status %d" % status)
+    status, said = child.returncode, told(child) if said is None else said
+    said = said or "%s %s" % (os.path.basename(child.args[0]), signal_of(status) or "ended with status %d" % status)
     return "%s: the %s data ends early, is damaged or cannot be read (%s)" % (name, kind, said)
 
 

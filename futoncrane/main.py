@@ -4,7 +4,7 @@ import os
 import sys
 
 from futoncrane import options, places
-from futoncrane.children import catch_signals
+from futoncrane.children import catch_signals, too_late
 from futoncrane.faults import Ended, Fault, Misuse, Quiet, reason
 
 COMMANDS = {
@@ -67,7 +67,9 @@ def main(words, beside):
     places.BESIDE.insert(0, beside)
     catch_signals()
     try:
-        return obey(words)
+        status = obey(words)
+        too_late()
+        return status
     except Misuse as fault:
         name = words[0] + " " if words and words[0] in COMMANDS else ""
         tell("%s (see futoncrane %s--help)" % (fault, name))

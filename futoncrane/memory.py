@@ -33,7 +33,7 @@ def bytes_of_a_line(k, cap):
 def wanted(symbols, listed, k, cap, threads):
     """The bytes of memory that one run takes: the greater of what it takes while it cuts, and while it lists."""
     records = BYTES_OF_A_SYMBOL * symbols
-    cutting = records + min(ROUNDS[0] + symbols, ROUNDS[1])
+    cutting = records + min(ROUNDS[0] + 3 * symbols, ROUNDS[1])
     listing = records + bytes_of_a_line(k, cap) * listed + BYTES_OF_A_COUNTER * threads
     return int(max(cutting, listing))
 

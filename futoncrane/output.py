@@ -6,7 +6,7 @@ import sys
 import tempfile
 
 from futoncrane import packing
-from futoncrane.children import held_signals, signal_of, told
+from futoncrane.children import held_signals, signal_of, told, too_late
 from futoncrane.faults import Fault, Misuse, Quiet, reason, shown
 
 OTHERS = {end: kind for kind, (_, ends, _, _) in packing.KINDS.items() for end in ends if kind != "gzip"}
@@ -36,8 +36,8 @@ def is_replaced(name):
 class Output:
     """The answer's file. `descriptor` is what a program writes to; `finish` gives the file its name. Left before, it leaves nothing."""
 
-    def __init__(self, name, children):
-        self.name, self.children = name, children
+    def __init__(self, name, children, is_last=True):
+        self.name, self.children, self.is_last = name, children, is_last
         self.shown = "standard output" if name is None else shown(name)
         self.work = self.packer = None
         self.descriptor = self.file = 1
@@ -96,6 +96,8 @@ class Output:
             return
         try:
             os.fsync(self.file)
+            if self.is_last:
+                too_late()
             os.replace(self.work, self.name)
             self.work = None
             folder = os.open(os.path.dirname(self.name), os.O_RDONLY)

@@ -42,7 +42,7 @@ def counted(names, out, **others):
     asked = options.parse(words, [shared.k_option(25), *shared.LIMITS, shared.CAP, *shared.ABOUT_RUNS])
     setting = shared.settings(asked)
     vars(setting).update(others)
-    with Children() as children, Output(out, children) as output:
+    with Children() as children, Output(out, children, is_last=False) as output:
         run(open_inputs(asked.files), setting, children, output)
         output.finish()
     with open(out, "rb") as dump:

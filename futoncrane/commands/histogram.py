@@ -31,7 +31,7 @@ def main(asked):
     with Children() as children:
         numbers = numbers_of(asked, children)
         if asked.png:
-            with Output(asked.png, children) as output:
+            with Output(asked.png, children, is_last=False) as output:
                 picture.draw(numbers, children, output)
         with text_output(asked.out, children) as lines:
             lines.writelines(b"%d\t%d\n" % it for it in numbers.items())

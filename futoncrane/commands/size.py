@@ -39,7 +39,7 @@ def main(asked):
         numbers = read_histogram(asked.histogram) if asked.histogram else numbers_of(asked, children)
         found = sizes.size_of(numbers, asked.peak)
         if asked.png:
-            with Output(asked.png, children) as output:
+            with Output(asked.png, children, is_last=False) as output:
                 picture.draw(numbers, children, output, found.peak)
         with text_output(asked.out, children) as lines:
             for name, value in zip(("valley", "peak", "k-mers read", "k-mers taken for errors", "size"), found):
