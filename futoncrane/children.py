@@ -62,17 +62,14 @@ def in_child(mask, space):
     return act
 
 
-class Children:
-    """The processes of a run, all started by the main thread. Whatever still runs when this is left is killed."""
+# what is to be gone when the command ends, whichever moment a signal comes at: children, and files under names of the meantime
+RUNNING, TEMPORARY = [], set()
 
-    def __init__(self):
-        self.all = []
 
-    def __enter__(self):
-        return self
-
-    def __exit__(self, *fault):
-        for it in self.all:
+def sweep():
+    """Ends all children and removes all files of the meantime."""
+    with held_signals():
+        for it in RUNNING:
             if it.poll() is None:
                 it.kill()
             it.wait()
@@ -80,6 +77,21 @@ class Children:
                 if pipe:
                     with contextlib.suppress(OSError):
                         pipe.close()
+        RUNNING.clear()
+        for it in TEMPORARY:
+            with contextlib.suppress(OSError):
+                os.unlink(it)
+        TEMPORARY.clear()
+
+
+class Children:
+    """The processes of a run, all started by the main thread. Whatever still runs when this is left is killed."""
+
+    def __enter__(self):
+        return self
+
+    def __exit__(self, *fault):
+        sweep()
 
     def start(self, command, space=None, **pipes):
         """Starts a program. Its faults are kept, for `told`."""
@@ -89,13 +101,13 @@ class Children:
             except (OSError, subprocess.SubprocessError) as fault:
                 why = reason(fault) if isinstance(fault, OSError) else "it cannot be started"
                 raise Fault("%s: %s" % (shown(command[0]), why)) from None
-            self.all.append(child)
+            RUNNING.append(child)
         return child
 
     def forget(self, child):
         """Lets go of a child that has ended."""
         child.stderr.close()
-        self.all.remove(child)
+        RUNNING.remove(child)
 
 
 def told(child):

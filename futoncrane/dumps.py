@@ -7,7 +7,7 @@ import subprocess
 
 from futoncrane import packing
 from futoncrane.faults import Fault, reason, shown
-from futoncrane.feeding import not_unpacked
+from futoncrane.feeding import judge_unpacker, not_unpacked
 
 BLOCK = 1 << 20
 LETTERS = b"ACGT"
@@ -58,8 +58,8 @@ class Dump:
         except OSError as fault:
             raise Fault("%s: %s" % (self.name, reason(fault))) from None
         if not block:
-            if self.child and self.child.wait():
-                raise Fault(not_unpacked(self.name, self.kind, self.child))
+            if self.child:
+                judge_unpacker(self.name, self.kind, self.child)
             return [], []
         lines = block.split(b"\n")
         if lines.pop():

@@ -143,19 +143,24 @@ class Feed:
         else:
             child = self.children.start(command, stdin=descriptor, stdout=self.sink)
             self.now = child
-        status = child.wait()
+        child.wait()
         self.now = None
-        if status == -signal.SIGPIPE:
+        if child.returncode == -signal.SIGPIPE:
             raise GaveUp
-        said = told(child)
-        if status != 0 or "trailing" in said:  # pigz takes what stands behind the data for no fault
-            raise Fault(not_unpacked(it.shown, it.packing, child, said))
+        judge_unpacker(it.shown, it.packing, child)
         self.children.forget(child)
+
+
+def judge_unpacker(name, kind, child):
+    """The fault that an unpacker did not unpack the whole file, if so."""
+    status, said = child.wait(), packing.cleaned(told(child))
+    if status != 0 or "trailing" in said:
+        raise Fault(not_unpacked(name, kind, child, said))
 
 
 def not_unpacked(name, kind, child, said=None):
     """The text of the fault that an unpacker did not come to a good end."""
-    status, said = child.returncode, told(child) if said is None else said
+    status, said = child.returncode, packing.cleaned(told(child)) if said is None else said
     said = said or "%s %s" % (os.path.basename(child.args[0]), signal_of(status) or "ended with status %d" % status)
     return "%s: the %s data ends early, is damaged or cannot be read (%s)" % (name, kind, said)
 

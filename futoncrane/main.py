@@ -4,7 +4,7 @@ import os
 import sys
 
 from futoncrane import options, places
-from futoncrane.children import catch_signals, too_late
+from futoncrane.children import catch_signals, sweep, too_late
 from futoncrane.faults import Ended, Fault, Misuse, Quiet, reason
 
 COMMANDS = {
@@ -84,4 +84,6 @@ def main(words, beside):
         tell("%s%s" % (fault.filename + ": " if isinstance(fault.filename, str) else "", reason(fault)))
     except MemoryError:
         tell("out of memory")
+    finally:
+        sweep()
     return 1

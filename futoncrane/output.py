@@ -6,7 +6,7 @@ import sys
 import tempfile
 
 from futoncrane import packing
-from futoncrane.children import held_signals, signal_of, told, too_late
+from futoncrane.children import TEMPORARY, held_signals, signal_of, told, too_late
 from futoncrane.faults import Fault, Misuse, Quiet, reason, shown
 
 OTHERS = {end: kind for kind, (_, ends, _, _) in packing.KINDS.items() for end in ends if kind != "gzip"}
@@ -63,8 +63,9 @@ class Output:
         for descriptor in {self.descriptor, self.file} - {1, None}:
             with contextlib.suppress(OSError):
                 os.close(descriptor)
-        if self.work:
-            with contextlib.suppress(OSError):
+        with held_signals(), contextlib.suppress(OSError):
+            if self.work:
+                TEMPORARY.discard(self.work)
                 os.unlink(self.work)
 
     def _make(self):
@@ -75,6 +76,7 @@ class Output:
         mode = stat.S_IMODE(os.stat(final).st_mode) if os.path.exists(final) else 0o666 & ~mask
         with held_signals():
             self.file, self.work = tempfile.mkstemp(prefix=".futoncrane-", dir=os.path.dirname(final))
+            TEMPORARY.add(self.work)
         self.descriptor = self.file
         os.fchmod(self.file, mode)
 
@@ -98,8 +100,10 @@ class Output:
             os.fsync(self.file)
             if self.is_last:
                 too_late()
-            os.replace(self.work, self.name)
-            self.work = None
+            with held_signals():
+                os.replace(self.work, self.name)
+                TEMPORARY.discard(self.work)
+                self.work = None
             folder = os.open(os.path.dirname(self.name), os.O_RDONLY)
             with contextlib.suppress(OSError):
                 os.fsync(folder)

@@ -47,10 +47,16 @@ def unpacker(kind, name):
     for program in KINDS[kind][2]:
         found = shutil.which(program)
         if found:
-            return [found, "-dc"]
+            # pigz passes over what stands behind the data, and tells of it only by -v
+            return [found, "-dcv" if program == "pigz" else "-dc"]
     if kind in BY_PYTHON:
         return [sys.executable, os.path.join(HERE, "unpack.py"), kind]
     raise Fault("%s: %s is not installed (Debian's package %s)" % (name, kind, KINDS[kind][3]))
+
+
+def cleaned(said):
+    """What an unpacker said, without what pigz says in any case."""
+    return said.replace("<stdin> to <stdout>", "").strip()
 
 
 def packer():

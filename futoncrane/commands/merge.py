@@ -6,7 +6,7 @@ import subprocess
 from futoncrane import packing, places, shared
 from futoncrane.children import Children, signal_of
 from futoncrane.faults import Fault, Misuse, Quiet, reason, shown
-from futoncrane.feeding import not_unpacked
+from futoncrane.feeding import judge_unpacker
 from futoncrane.output import Output
 from futoncrane.progress import Watch, read_by
 from futoncrane.inputs import is_same_file
@@ -65,8 +65,8 @@ class Parts:
     def judge(self):
         """The fault of a dump that was not unpacked whole."""
         for name, kind, child in self.unpackers:
-            if child.wait() not in (0, -signal.SIGPIPE):
-                raise Fault(not_unpacked(name, kind, child))
+            if child.wait() != -signal.SIGPIPE:
+                judge_unpacker(name, kind, child)
 
     def named(self, text):
         """A line of kmc_merge with the files' names as the user knows them."""
