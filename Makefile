@@ -13,7 +13,7 @@ MERGE_NAME := futoncrane-kmc-merge
 BIN = $(DESTDIR)$(PREFIX)/bin
 MAN = $(DESTDIR)$(PREFIX)/share/man/man1
 
-.PHONY: all count check recipes install uninstall fuzz hostile damaged devices limits threads bench results merges clean
+.PHONY: all count check recipes install uninstall dist fuzz hostile damaged devices limits threads bench results merges clean
 
 all: count
 
@@ -50,8 +50,9 @@ CHECKS = $(shell awk -v n=$$(nproc) '/^MemAvailable/ { m = int($$2 / 5000000); m
 check:
 	RT_JOBS=$(CHECKS) MIMALLOC_PURGE_DELAY=-1 rt ci
 
+# the tests of users: the command futoncrane, and the two programs, as people call them
 recipes: $(KMC) $(KMC_MERGE)
-	KMC="$(abspath $(KMC))" recipes/test.sh
+	@tests_user/run.py
 
 install: $(KMC) $(KMC_MERGE)
 	install -d "$(BIN)" "$(MAN)"
@@ -60,9 +61,15 @@ install: $(KMC) $(KMC_MERGE)
 	install -m 755 $(KMC_MERGE) "$(BIN)/$(MERGE_NAME)"
 	sed 's/^\.Nm kmc_merge$$/.Nm $(MERGE_NAME)/; s/^\.Dt KMC_MERGE /.Dt $(MERGE_NAME) /; s/^\.Xr kmc 1/.Xr $(NAME) 1/' docs/kmc_merge.1 > "$(MAN)/$(MERGE_NAME).1"
 	chmod 644 "$(MAN)/$(NAME).1" "$(MAN)/$(MERGE_NAME).1"
+	build/lay_out.sh "$(DESTDIR)$(PREFIX)" "$(NAME)" "$(MERGE_NAME)"
 
 uninstall:
 	rm -f "$(BIN)/$(NAME)" "$(MAN)/$(NAME).1" "$(BIN)/$(MERGE_NAME)" "$(MAN)/$(MERGE_NAME).1"
+	build/lay_out.sh --remove "$(DESTDIR)$(PREFIX)"
+
+# an archive and a Debian package that need neither the kit nor a compiler; build/try_dist.sh tries both in an empty root
+dist: $(KMC) $(KMC_MERGE)
+	build/dist.sh
 
 # docs/HOSTILE.md tells what these six try; each takes some minutes. `make fuzz SEED=2` tries other texts
 SEED := 1

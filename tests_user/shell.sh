@@ -1,16 +1,19 @@
 #!/usr/bin/env bash
-# Tests the recipes on examples/reads.fastq. What they write is compared with what plain programs make of the same reads.
+# Tests the programs kmc and kmc_merge, the old names in recipes/ and `futoncrane cluster` on examples/reads.fastq. What they write is compared
+# with what plain programs make of the same reads.
 #
-# usage: make recipes    (or recipes/test.sh, with the program in $KMC)
+# usage: tests_user/shell.sh, which tests_user/run.py calls; the programs are at the top, or in the folder FUTONCRANE_BIN
 #
 # A test whose tools are not installed is skipped, and their Debian packages are named. The last line is
 # 'N passed, M failed, L skipped', and the status is 1 where a test failed.
 set -u
-here=$(cd "$(dirname "$0")" && pwd)
-top=$(dirname "$here")
-KMC=$(realpath "${KMC:-$top/kmc}")
-export KMC
-merger=$(dirname "$KMC")/kmc_merge
+tests=$(cd "$(dirname "$0")" && pwd)
+top=$(dirname "$tests")
+here=$top/recipes
+FUTONCRANE_BIN=$(realpath "${FUTONCRANE_BIN:-$top}")
+KMC=$FUTONCRANE_BIN/kmc
+export FUTONCRANE_BIN KMC
+merger=$FUTONCRANE_BIN/kmc_merge
 reads=$top/examples/reads.fastq
 whole=$top/examples/reads.dump
 greatest=9223372036854775808
@@ -92,10 +95,10 @@ ends() {
 }
 
 each_shows_its_help() {
-    for recipe in histogram genome-size solid many-files compare genomescope-histogram; do
+    local recipe
+    for recipe in histogram genome-size solid many-files compare genomescope-histogram cluster; do
         "$here/$recipe" --help | grep -q '^usage: '
     done
-    python3 "$here/cluster" --help | grep -q '^usage: '
 }
 
 histogram_is_that_of_the_plain_dump() {
@@ -261,7 +264,7 @@ many_files_refuses_a_broken_file() {
 many_files_shows_progress() {
     gzip < "$reads" > packed.fastq.gz
     script -qec "'$here/many-files' packed.fastq.gz > given" /dev/null < /dev/null > shown
-    grep -q 'packed.fastq.gz.*100%' shown
+    grep -q 'read, done in' shown
     cmp "$whole" given
 }
 
@@ -320,7 +323,7 @@ genomescope_histogram_is_what_jellyfish_writes() {
 }
 
 cluster() {
-    timeout 300 "$dask_python" "$here/cluster" "$@"
+    timeout 300 "$dask_python" "$top/futoncrane/cluster.py" "$@"
 }
 
 cluster_gives_the_dump_of_one_run_though_a_worker_dies() {
@@ -475,8 +478,7 @@ merge_names_the_first_fault() {
 }
 
 manual_pages_have_no_fault() {
-    mandoc -Tlint "$top/docs/kmc.1"
-    mandoc -Tlint "$top/docs/kmc_merge.1"
+    mandoc -Tlint "$top/docs/kmc.1" "$top/docs/kmc_merge.1" "$top/docs/futoncrane.1"
 }
 
 installs_and_uninstalls() {
@@ -487,12 +489,16 @@ installs_and_uninstalls() {
     cmp given again
     grep -qx '\.Nm counter' root/opt/k/share/man/man1/counter.1
     grep -qx '\.Nm summer' root/opt/k/share/man/man1/summer.1
+    (unset FUTONCRANE_BIN && PATH=/usr/bin:/bin root/opt/k/bin/futoncrane count -k25 "$reads") > given
+    cmp "$whole" given
+    (unset FUTONCRANE_BIN && PATH=/usr/bin:/bin root/opt/k/bin/futoncrane doctor) > told
+    grep -qx 'all is well' told
     make -s -C "$top" uninstall DESTDIR="$work/root" PREFIX=/opt/k NAME=counter MERGE_NAME=summer
-    [ -z "$(find root -type f)" ]
+    [ -z "$(find root -type f -o -type l)" ]
 }
 
 scripts_have_no_fault() {
-    shellcheck -S warning -x "$here"/{common.sh,test.sh,histogram,solid,compare,genomescope-histogram} "$top"/bench/*.sh
+    shellcheck -S warning -x "$here"/* "$tests"/*.sh "$top"/bench/*.sh "$top"/build/*.sh "$top"/futoncrane/completions/futoncrane.bash
 }
 
 nothing_is_left_behind() {
@@ -502,7 +508,7 @@ nothing_is_left_behind() {
 try each_shows_its_help
 try histogram_is_that_of_the_plain_dump
 try histogram_draws_a_picture gnuplot
-try histogram_draws_with_characters gnuplot
+try histogram_draws_with_characters
 try a_pipe_that_closes_early_is_passed_over
 try limits_of_a_recipe_are_not_taken
 try the_program_has_its_defaults
@@ -519,7 +525,7 @@ try many_files_unpacks_zstd zstd
 try many_files_of_fasta
 try many_files_refuses_a_mixture
 try many_files_refuses_a_broken_file gzip
-try many_files_shows_progress pv script
+try many_files_shows_progress script
 try compare_counts_what_is_in_common
 try compare_refuses_what_it_cannot_compare
 try genomescope_histogram_has_each_count

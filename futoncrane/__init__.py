@@ -1,0 +1,2 @@
+"""futoncrane: the command for people around the proved programs kmc and kmc_merge. It moves bytes to them and from them, and
+counts nothing by itself."""

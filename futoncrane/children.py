@@ -1,0 +1,125 @@
+"""Children: started so that none outlives the command, and ended together."""
+import contextlib
+import ctypes
+import os
+import resource
+import signal
+import subprocess
+
+from futoncrane.faults import Ended, Fault, reason, shown
+
+ENDING = (signal.SIGINT, signal.SIGTERM, signal.SIGHUP)
+PR_SET_PDEATHSIG = 1
+
+try:
+    PRCTL = ctypes.CDLL(None).prctl
+except (OSError, AttributeError):
+    PRCTL = None  # no Linux: then a killed command can leave its children
+
+
+def end(number, frame):
+    """Ends the command by an exception, once: what cleans up is not interrupted."""
+    for it in ENDING:
+        signal.signal(it, signal.SIG_IGN)
+    raise Ended(number)
+
+
+def catch_signals():
+    """Has the signals that end a command raise Ended, but for those that the caller has it ignore."""
+    for it in ENDING:
+        if signal.getsignal(it) != signal.SIG_IGN:
+            signal.signal(it, end)
+
+
+def too_late():
+    """Has the signals do nothing from now on: the answer is there."""
+    for it in ENDING:
+        signal.signal(it, signal.SIG_IGN)
+
+
+@contextlib.contextmanager
+def held_signals():
+    """Holds the signals back, so that what is made is also noted. Gives the mask that was before."""
+    before = signal.pthread_sigmask(signal.SIG_BLOCK, ENDING)
+    try:
+        yield before
+    finally:
+        signal.pthread_sigmask(signal.SIG_SETMASK, before)
+
+
+def in_child(mask, space):
+    """What a child does before its program begins: it ends with its parent, and takes at most `space` bytes of addresses."""
+    parent = os.getpid()
+
+    def act():
+        if PRCTL:
+            PRCTL(PR_SET_PDEATHSIG, signal.SIGKILL)
+            if os.getppid() != parent:
+                os._exit(1)
+        signal.pthread_sigmask(signal.SIG_SETMASK, mask)
+        if space:
+            resource.setrlimit(resource.RLIMIT_AS, (space, space))
+    return act
+
+
+# what is to be gone when the command ends, whichever moment a signal comes at: children, and files under names of the meantime
+RUNNING, TEMPORARY = [], set()
+
+
+def sweep():
+    """Ends all children and removes all files of the meantime."""
+    with held_signals():
+        for it in RUNNING:
+            if it.poll() is None:
+                it.kill()
+            it.wait()
+            for pipe in (it.stdin, it.stdout, it.stderr):
+                if pipe:
+                    with contextlib.suppress(OSError):
+                        pipe.close()
+        RUNNING.clear()
+        for it in TEMPORARY:
+            with contextlib.suppress(OSError):
+                os.unlink(it)
+        TEMPORARY.clear()
+
+
+class Children:
+    """The processes of a run, all started by the main thread. Whatever still runs when this is left is killed."""
+
+    def __enter__(self):
+        return self
+
+    def __exit__(self, *fault):
+        sweep()
+
+    def start(self, command, space=None, **pipes):
+        """Starts a program. Its faults are kept, for `told`."""
+        with held_signals() as mask:
+            try:
+                child = subprocess.Popen(command, stderr=subprocess.PIPE, preexec_fn=in_child(mask, space), **pipes)
+            except (OSError, subprocess.SubprocessError) as fault:
+                why = reason(fault) if isinstance(fault, OSError) else "it cannot be started"
+                raise Fault("%s: %s" % (shown(command[0]), why)) from None
+            RUNNING.append(child)
+        return child
+
+    def forget(self, child):
+        """Lets go of a child that has ended."""
+        child.stderr.close()
+        RUNNING.remove(child)
+
+
+def told(child):
+    """What a program that ended said on standard error, in one line."""
+    return " ".join(child.stderr.read().decode(errors="replace").split())
+
+
+def signal_of(status):
+    """How a signal ended a program: 'was ended by SIGKILL'; nothing where none did."""
+    if status >= 0:
+        return ""
+    try:
+        return "was ended by " + signal.Signals(-status).name
+    except ValueError:
+        return "was ended by signal %d" % -status

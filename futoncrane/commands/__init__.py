@@ -1,0 +1,1 @@
+"""The commands, a module each: USAGE, TEXT, OPTIONS and EXAMPLES are its help, `run` does it."""

@@ -1,0 +1,40 @@
+"""futoncrane histogram: how many k-mers have which count."""
+import sys
+
+from futoncrane import dumps, picture, shared
+from futoncrane.children import Children
+from futoncrane.options import Option
+from futoncrane.output import Output, text_output
+from futoncrane.run import open_inputs, run
+
+USAGE = "[option ..] [FILE ..]"
+TEXT = """Writes one line for each count that occurs: the count, a tab, and the number of k-mers that occur so often. Every k-mer is counted, and no count is cut off; no dump is kept.
+The picture ends at the count that 995 of 1000 repeated k-mers do not pass. That of --png has a logarithmic axis of k-mers."""
+OPTIONS = [
+    shared.k_option(21),
+    Option(["--png"], "png", "FILE", text="draws the histogram into this file (needs gnuplot)"),
+    Option(["--text"], "text", default=False, text="draws it with characters on standard error"),
+    *shared.ABOUT_RUNS, shared.OUT,
+]
+EXAMPLES = ["futoncrane histogram -k 21 --png histogram.png reads_1.fastq.gz reads_2.fastq.gz > histogram.txt"]
+
+
+def numbers_of(asked, children):
+    """The number of k-mers of each count in the reads of the files."""
+    found = {}
+    setting = shared.settings(asked)
+    run(open_inputs(asked.files, asked.out), setting, children, None, lambda stream: found.update(dumps.histogram_of(stream, setting.k)))
+    return found
+
+
+def main(asked):
+    with Children() as children:
+        numbers = numbers_of(asked, children)
+        if asked.png:
+            with Output(asked.png, children, is_last=False) as output:
+                picture.draw(numbers, children, output)
+        with text_output(asked.out, children) as lines:
+            lines.writelines(b"%d\t%d\n" % it for it in numbers.items())
+        if asked.text:
+            print(picture.in_characters(numbers), file=sys.stderr)
+    return 0

@@ -1,0 +1,175 @@
+"""The files of reads: how each is compressed, whether it is FASTQ or FASTA, and about how many symbols it has."""
+import contextlib
+import errno
+import lzma
+import os
+import stat
+import subprocess
+import zlib
+
+from futoncrane import packing
+from futoncrane.faults import Fault, reason, shown
+
+BLOCK = 1 << 16
+SAMPLE = 1 << 20
+# of a compressed file that cannot be sampled: bytes of text for each of its bytes
+USUAL_RATIO = 4.0
+FORMATS = {b">": "FASTA", b"@": "FASTQ"}
+
+
+class Input:
+    """One input. A regular file is opened when it is read; anything else, as a pipe, is opened once, and what was read of it to see
+    what it is stands in `head`."""
+
+    def __init__(self, name):
+        self.name, self.shown = name, shown(name)
+        self.is_stream, self.head, self.descriptor = False, b"", None
+        self.packing = self.format = None
+        self.start = self.bytes = 0
+        self.ratio, self.share = 1.0, 0.5
+        try:
+            self._look()
+        except OSError as fault:
+            raise Fault("%s: %s" % (self.shown, reason(fault))) from None
+
+    def _look(self):
+        descriptor = self.open()
+        kind = os.fstat(descriptor)
+        if stat.S_ISDIR(kind.st_mode):
+            raise Fault("%s: it is a folder; name its files" % self.shown)
+        self.is_stream = not stat.S_ISREG(kind.st_mode)
+        if self.is_stream or self.name == "-":
+            self.descriptor = descriptor
+        if not self.is_stream:
+            self.start = os.lseek(descriptor, 0, os.SEEK_CUR)
+            self.bytes = kind.st_size - self.start
+        try:
+            self._see(descriptor)
+        finally:
+            if self.descriptor is None:
+                os.close(descriptor)
+
+    def open(self):
+        """A descriptor at the input's beginning, or behind its head. A regular file's is the caller's to close."""
+        if self.descriptor is not None:
+            return self.descriptor
+        return 0 if self.name == "-" else os.open(self.name, os.O_RDONLY | os.O_CLOEXEC)
+
+    def close(self, descriptor):
+        """Closes what `open` gave, unless it is kept."""
+        if descriptor != self.descriptor:
+            os.close(descriptor)
+
+    def _blocks(self, descriptor):
+        """The first blocks of the file; of a stream they are kept in its head."""
+        place = self.start
+        while True:
+            block = os.read(descriptor, BLOCK) if self.is_stream else os.pread(descriptor, BLOCK, place)
+            place += len(block)
+            if self.is_stream:
+                self.head += block
+            if not block:
+                return
+            yield block
+
+    def _see(self, descriptor):
+        """Sees the compression and the format."""
+        blocks = self._blocks(descriptor)
+        first = b""
+        for block in blocks:
+            first += block
+            if len(first) >= packing.LONGEST_MAGIC:
+                break
+        self.packing = packing.kind_of(first)
+        if self.packing is None:
+            if packing.is_cut_before_text(self.name, first):
+                raise Fault("%s: the compressed file ends early" % self.shown)
+            text = first
+            while not text.strip(b"\r\n"):
+                block = next(blocks, b"")
+                if not block:
+                    break
+                text = block
+        else:
+            text = self._unpacked(first, blocks)
+        self._judge(text.lstrip(b"\r\n"))
+
+    def _unpacked(self, first, blocks):
+        """Some text of a compressed file."""
+        if self.packing == "zstd":
+            return self._by_child(first)
+        make = packing.maker(self.packing)
+        unpack, text, read, block = make(), b"", 0, first
+        try:
+            while block:
+                read += len(block)
+                text += unpack.decompress(block, SAMPLE)
+                if len(text.lstrip(b"\r\n")) > 0:
+                    break
+                rest = getattr(unpack, "unused_data", b"") if unpack.eof else getattr(unpack, "unconsumed_tail", b"")
+                if unpack.eof:
+                    unpack = make()
+                read -= len(rest)
+                block = rest or next(blocks, b"")
+        except (zlib.error, OSError, ValueError, EOFError, lzma.LZMAError):
+            raise Fault("%s: the %s data is damaged" % (self.shown, self.packing)) from None
+        self.ratio = len(text) / max(1, read - len(getattr(unpack, "unconsumed_tail", b""))) if text else 1.0
+        return text
+
+    def _by_child(self, first):
+        """Some text of a compressed file that Python cannot unpack: its first block, as far as a program unpacks it."""
+        self.ratio = USUAL_RATIO
+        with subprocess.Popen(packing.unpacker(self.packing, self.shown), stdin=subprocess.PIPE, stdout=subprocess.PIPE,
+                              stderr=subprocess.DEVNULL) as child:
+            with contextlib.suppress(BrokenPipeError):
+                child.stdin.write(first)
+                child.stdin.flush()
+            with contextlib.suppress(BrokenPipeError):
+                child.stdin.close()
+            text = child.stdout.read(BLOCK)
+            child.kill()
+        return text
+
+    def _judge(self, text):
+        """Takes the format from the first byte of the text, and the share of symbols from its lines."""
+        if not text:
+            return
+        if text.startswith(b"BAM\x01"):
+            raise Fault("%s: it is a BAM file; count it by 'samtools fastq FILE | futoncrane count -'" % self.shown)
+        self.format = FORMATS.get(text[:1])
+        if self.format is None:
+            raise Fault("%s: it is neither FASTA nor FASTQ: its text begins with %r" % (self.shown, chr(text[0])))
+        lines = text.split(b"\n")
+        if self.format == "FASTQ":
+            symbols = sum(map(len, lines[1::4]))
+        else:
+            symbols = sum(len(line) for line in lines if not line.startswith(b">"))
+        self.share = symbols / len(text)
+
+    def symbols(self):
+        """About how many symbols the input has; of a stream nothing is known."""
+        return int(self.bytes * self.ratio * self.share)
+
+
+def format_of_all(inputs, wanted=None):
+    """The one format of all inputs, FASTQ where none has any text. A mixture is a fault that names both files."""
+    first = None
+    for it in inputs:
+        if it.format is None:
+            continue
+        first = first or it
+        if it.format != first.format:
+            raise Fault("%s is %s, and %s is %s: count them apart" % (first.shown, first.format, it.shown, it.format))
+    if first and wanted and first.format != wanted:
+        raise Fault("%s is %s, and the option says %s" % (first.shown, first.format, wanted))
+    return first.format if first else wanted or "FASTQ"
+
+
+def is_same_file(name, other):
+    """Whether two names are of one file that is there."""
+    try:
+        return os.path.samefile(name, other)
+    except OSError as fault:
+        if fault.errno in (errno.ENOENT, errno.ENOTDIR, errno.EACCES):
+            return False
+        raise

@@ -1,0 +1,82 @@
+"""How much memory a run takes, and whether it fits: the figures are README's, 'Limits', which were measured."""
+import collections
+import os
+
+from futoncrane.faults import Fault
+
+MEGA = 10**6
+ROUNDS = (20 * MEGA, 150 * MEGA)
+BYTES_OF_A_SYMBOL = 1.2
+BYTES_OF_A_COUNTER = 7 * MEGA
+# addresses are asked for that are not used: so many for each byte that is, and for each thread
+ADDRESSES_OF_A_BYTE = 2
+ADDRESSES_OF_A_THREAD = 10 * MEGA
+# how many k-mers are listed for each symbol, of which this is a guess: with errors of reading, and without
+LISTED_WITH_ERRORS = 0.5
+LISTED_WITHOUT = 0.1
+MOST_SLICES = 1024
+
+Plan = collections.namedtuple("Plan", "slices wanted")
+
+
+def listed_of(symbols, format_name, k, least):
+    """A guess at how many k-mers are listed: never more than there are words, or places for them."""
+    guess = symbols * (1.0 if format_name == "FASTA" else LISTED_WITH_ERRORS) if least <= 1 else symbols * LISTED_WITHOUT
+    return int(min(guess, symbols / max(1, least), 4.0**k))
+
+
+def bytes_of_a_line(k, cap):
+    """The bytes that a listed k-mer takes."""
+    return (17 if k > 32 else 10) + (7 if cap > 2**32 - 1 else 3 if cap > 255 else 0)
+
+
+def wanted(symbols, listed, k, cap, threads):
+    """The bytes of memory that one run takes: the greater of what it takes while it cuts, and while it lists."""
+    records = BYTES_OF_A_SYMBOL * symbols
+    cutting = records + min(ROUNDS[0] + 3 * symbols, ROUNDS[1])
+    listing = records + bytes_of_a_line(k, cap) * listed + BYTES_OF_A_COUNTER * threads
+    return int(max(cutting, listing))
+
+
+def plan(symbols, listed, k, cap, threads, room):
+    """One run where that fits the room, else the least power of two of slices that do; the slices are none where no number does."""
+    slices = 1
+    whole = wanted(symbols, listed, k, cap, threads)
+    while slices <= MOST_SLICES:
+        if wanted(symbols // slices, listed // slices, k, cap, threads) <= room:
+            return Plan(slices, whole)
+        slices *= 2
+    return Plan(None, whole)
+
+
+def addresses(room, threads):
+    """The greatest address space for a run that is to take so much room: two threads beside the splitters and counters."""
+    return ADDRESSES_OF_A_BYTE * room + ADDRESSES_OF_A_THREAD * (2 * threads + 2)
+
+
+def of_machine():
+    """The bytes of memory that the machine has, or its container gives."""
+    found = os.sysconf("SC_PAGE_SIZE") * os.sysconf("SC_PHYS_PAGES")
+    for path in ("/sys/fs/cgroup/memory.max", "/sys/fs/cgroup/memory/memory.limit_in_bytes"):
+        try:
+            with open(path, encoding="ascii") as text:
+                found = min(found, int(text.read()))
+        except (OSError, ValueError):
+            pass
+    return found
+
+
+def human(count):
+    """Bytes as people write them: 1.2 GB; 1 GB is 2^30 bytes."""
+    for unit in ("bytes", "kB", "MB", "GB", "TB"):
+        if count < 1000 or unit == "TB":
+            return "%d bytes" % count if unit == "bytes" else "%.3g %s" % (count, unit)
+        count /= 1024
+    return ""
+
+
+def refuse(found, room, is_asked):
+    """The fault that a run is estimated not to fit."""
+    cap = "--memory allows %s" % human(room) if is_asked else "the machine has %s" % human(room)
+    raise Fault("this run is estimated to take %s of memory, and %s: give a higher --memory, or count the files in parts with "
+                "'--min 1 --cap none -o PART' and join these by 'futoncrane merge'" % (human(found.wanted), cap))

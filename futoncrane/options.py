@@ -1,0 +1,120 @@
+"""The words of a command: its options, their values and ranges, and the help that tells them."""
+import difflib
+import re
+import textwrap
+import types
+
+from futoncrane.faults import Misuse
+
+MOST = 1 << 63
+UNITS = {"": 1, "K": 1 << 10, "M": 1 << 20, "G": 1 << 30, "T": 1 << 40}
+
+
+class Option:
+    """One option: its names, the key that its value has, the value's word in the help (none for a flag), and how the value is read.
+
+    Names of one '-' take their value glued or as the next word, names of two '-' as the next word or behind '='. A hidden option is KMC's
+    spelling of another one, and is taken without being told of. An option that is repeated gathers its values in a list."""
+
+    def __init__(self, names, key, value=None, read=None, default=None, text="", hidden=(), constant=True):
+        self.names, self.key, self.value, self.read = names, key, value, read or (lambda name, word: word)
+        self.default, self.text, self.hidden, self.constant = default, text, hidden, constant
+
+    def all_names(self):
+        """The names that are told and those that are not."""
+        return [*self.names, *self.hidden]
+
+
+def number(least, most, none=None):
+    """Reads a whole number of a range; where `none` is given, the word 'none' means it."""
+    def read(name, word):
+        if none is not None and word == "none":
+            return none
+        if not re.fullmatch("[0-9]{1,20}", word) or not least <= int(word) <= most:
+            also = " or none" if none is not None else ""
+            raise Misuse("value of %s is out of range: %s; it takes %d to %d%s" % (name, word or "''", least, most, also))
+        return int(word)
+    return read
+
+
+def size(least):
+    """Reads a number of bytes, as 8G, 500M or 1.5G; G is 2^30."""
+    def read(name, word):
+        found = re.fullmatch(r"([0-9]{1,12}(?:\.[0-9]{1,6})?) ?([KMGT]?)(?:i?B)?", word, re.IGNORECASE)
+        if not found or float(found[1]) * UNITS[found[2].upper()] < least:
+            raise Misuse("value of %s is out of range: %s; it takes a size as 8G or 500M, from %dM" % (name, word or "''", least >> 20))
+        return int(float(found[1]) * UNITS[found[2].upper()])
+    return read
+
+
+def nearest(word, words):
+    """'; did you mean X?' with the nearest of the words, or nothing where none is near."""
+    found = difflib.get_close_matches(word, words, 1, 0.5)
+    return "; did you mean %s?" % found[0] if found else ""
+
+
+def split(word, names):
+    """The option's name in a word and the value that is glued to it, or none."""
+    if word.startswith("--"):
+        name, equals, value = word.partition("=")
+        return name, value if equals else None
+    found = [name for name in names if not name.startswith("--") and word.startswith(name)]
+    if not found:
+        return word, None
+    name = max(found, key=len)
+    return name, word[len(name):] or None
+
+
+def take(option, name, glued, rest):
+    """The value of an option whose name is read; `rest` are the words behind, of which it may take one."""
+    if option.value is None:
+        if glued is not None:
+            raise Misuse("%s takes no value" % name if name.startswith("--") else "no option %s" % (name + glued))
+        return option.constant
+    if glued is None:
+        if not rest:
+            raise Misuse("%s wants a value, %s" % (name, option.value))
+        glued = rest.pop(0)
+    return option.read(name, glued)
+
+
+def parse(words, options):
+    """What the words ask for: a value for each key, and `files`, the words that are no options."""
+    by_name = {name: option for option in options for name in option.all_names()}
+    asked = types.SimpleNamespace(files=[], help=False, **{option.key: option.default for option in options})
+    seen, rest = set(), list(words)
+    while rest:
+        word = rest.pop(0)
+        if word == "--":
+            asked.files += rest
+            break
+        if word in ("--help", "-h"):
+            asked.help = True
+            return asked
+        if not word.startswith("-") or word == "-":
+            asked.files.append(word)
+            continue
+        name, glued = split(word, by_name)
+        if name not in by_name:
+            told = [it for option in options for it in option.names] + ["--help"]
+            raise Misuse("no option %s%s" % (name, nearest(name, told)))
+        option = by_name[name]
+        if option.key in seen:
+            raise Misuse("%s stands twice, or two options say the same" % name)
+        seen.add(option.key)
+        setattr(asked, option.key, take(option, name, glued, rest))
+    return asked
+
+
+def help_of(name, command):
+    """The help of one command, by its module."""
+    lines = ["usage: futoncrane %s %s" % (name, command.USAGE), ""]
+    lines += [textwrap.fill(text, 100) for text in command.TEXT.strip().split("\n")] + [""]
+    for option in command.OPTIONS:
+        if option.names:
+            head = ", ".join(option.names) + (" " + option.value if option.value else "")
+            text = textwrap.wrap(option.text, 74)
+            lines.append("  %-22s  %s" % (head, text[0]) if len(head) <= 22 else "  %s\n%26s%s" % (head, "", text[0]))
+            lines += ["%26s%s" % ("", it) for it in text[1:]]
+    lines += ["  %-22s  %s" % ("--help", "shows this text"), ""]
+    return "\n".join([*lines, "examples:", *["  " + it for it in command.EXAMPLES], ""])

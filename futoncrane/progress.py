@@ -1,0 +1,119 @@
+"""What a terminal is shown while a run works, and the watch over its memory."""
+import contextlib
+import os
+import resource
+import sys
+import threading
+import time
+
+from futoncrane.children import held_signals
+from futoncrane.memory import human
+
+EVERY = 0.2
+
+
+def number_of(path, name):
+    """A number that a file of /proc has behind a name."""
+    try:
+        with open(path, encoding="ascii") as lines:
+            for line in lines:
+                if line.startswith(name):
+                    return int(line.split()[1])
+    except (OSError, ValueError, IndexError):
+        pass
+    return 0
+
+
+def written_by(program):
+    return number_of("/proc/%d/io" % program.pid, "wchar:")
+
+
+def read_by(program):
+    return number_of("/proc/%d/io" % program.pid, "rchar:")
+
+
+def resident(program):
+    """The bytes of memory that a program holds now."""
+    return 1024 * number_of("/proc/%d/status" % program.pid, "VmRSS:")
+
+
+def clock(seconds):
+    seconds = int(seconds)
+    hours, seconds = divmod(seconds, 3600)
+    return "%d:%02d:%02d" % (hours, *divmod(seconds, 60)) if hours else "%d:%02d" % divmod(seconds, 60)
+
+
+def step_of(place, total, seconds, written):
+    """The step that a run is at and how far it is, in words."""
+    if written:
+        return "writing: %s" % human(written)
+    if total is None:
+        return "reading: %s, %s/s" % (human(place), human(place / max(seconds, 0.001)))
+    if place < total:
+        rate = place / max(seconds, 0.001)
+        left = ", %s left" % clock((total - place) / rate) if place and seconds > 1 else ""
+        return "reading: %s of %s (%d %%), %s/s%s" % (human(place), human(total), 100 * place // max(1, total), human(rate), left)
+    return "counting: all %s read" % human(total)
+
+
+class Watch:
+    """Looks at a run while it works. On a terminal it shows the step; where a cap is set, a program that takes more is ended, and
+    `is_over` tells so."""
+
+    def __init__(self, feed, program, is_shown, cap=None):
+        self.feed, self.program, self.cap = feed, program, cap
+        self.is_shown = is_shown and sys.stderr.isatty()
+        self.is_over, self.begun = False, time.monotonic()
+        self.stop = threading.Event()
+        self.thread = threading.Thread(target=self._watch, daemon=True)
+
+    def __enter__(self):
+        if self.is_shown or self.cap:
+            self._show()
+            with held_signals():  # the thread holds them back for good: they are the main thread's
+                self.thread.start()
+        return self
+
+    def __exit__(self, *fault):
+        self.stop.set()
+        if self.thread.ident:
+            self.thread.join()
+        if self.is_shown:
+            self._line("")
+
+    def _watch(self):
+        while not self.stop.wait(EVERY):
+            if self.cap and resident(self.program) > self.cap:
+                self.is_over = True
+                with contextlib.suppress(OSError):
+                    self.program.kill()
+            self._show()
+
+    def _show(self):
+        if not self.is_shown:
+            return
+        seconds = time.monotonic() - self.begun
+        total = self.feed.total()
+        place = self.feed.place(self.program) or (read_by(self.program) if total is None else 0)
+        self._line("%s  %s" % (clock(seconds), step_of(place, total, seconds, written_by(self.program))))
+
+    def _line(self, text):
+        try:
+            width = os.get_terminal_size(2).columns or 80
+        except OSError:
+            width = 80
+        with contextlib.suppress(OSError):
+            os.write(2, ("\r\x1b[K" + text[:width - 1]).encode())
+
+    def say(self, text):
+        """A line that stays."""
+        if self.is_shown:
+            self._line("futoncrane: %s\n" % text)
+
+    def last(self, status):
+        """How much was read, how long it took and the most memory of one program, where all went well."""
+        if self.is_shown and status == 0:
+            read, seconds = self.feed.total(), time.monotonic() - self.begun
+            peak = 1024 * resource.getrusage(resource.RUSAGE_CHILDREN).ru_maxrss
+            self.say("%sdone in %s, at most %s of memory in one program" % (
+                "%s read, " % human(read) if read is not None else "", clock(seconds), human(peak)))

@@ -1,0 +1,152 @@
+"""What the tests of users share: a folder of its own for each, the command, and plain programs to compare with."""
+import os
+import shutil
+import signal
+import subprocess
+import sys
+import tempfile
+
+TOP = os.path.dirname(os.path.dirname(os.path.abspath(__file__)))
+BIN = os.path.abspath(os.environ.get("FUTONCRANE_BIN") or TOP)
+COMMAND = [sys.executable, os.path.join(TOP, "futoncrane", "futoncrane")]
+READS = os.path.join(TOP, "examples", "reads.fastq")
+DUMP = os.path.join(TOP, "examples", "reads.dump")
+MOST = 1 << 63
+LONG = 240
+
+
+class Skipped(Exception):
+    """Why a test cannot be made here."""
+
+
+def need(*programs):
+    """Skips the test where a program is not installed."""
+    for it in programs:
+        if shutil.which(it) is None:
+            raise Skipped("%s is not installed" % it)
+
+
+def content(path):
+    with open(path, "rb") as file:
+        return file.read()
+
+
+def wanted_dump():
+    """The example's dump with kmc's defaults, which bench/count_plainly.py made."""
+    return content(DUMP)
+
+
+def plainly(text, k, least=2, greatest=MOST, cap=255, *apart):
+    """The dump of a FASTQ text by the plain program."""
+    words = [sys.executable, os.path.join(TOP, "bench", "count_plainly.py"), *map(str, (k, least, greatest, cap)), *apart]
+    return subprocess.run(words, input=text, stdout=subprocess.PIPE, check=True).stdout
+
+
+def program(name):
+    """The path of a proved program."""
+    for it in (name, "futoncrane-" + name.replace("_", "-")):
+        if os.access(os.path.join(BIN, it), os.X_OK):
+            return os.path.join(BIN, it)
+    raise Skipped("%s is not built" % name)
+
+
+class Told:
+    """How a command ended."""
+
+    def __init__(self, status, out, err):
+        self.status, self.out, self.err = status, out, err
+
+    def __repr__(self):
+        return "status %d, %d bytes written%s, told: %s" % (self.status, len(self.out), ": %r" % self.out[:200] if self.out else "", self.err)
+
+
+class Room:
+    """A folder for one test, which is the working folder of what it runs."""
+
+    def __init__(self, base):
+        self.folder = tempfile.mkdtemp(dir=base)
+        self.temporary = os.path.join(self.folder, "tmp")
+        os.mkdir(self.temporary)
+        self.environment = dict(os.environ, TMPDIR=self.temporary, FUTONCRANE_BIN=BIN)
+
+    def path(self, name):
+        return os.path.join(self.folder, name)
+
+    def write(self, name, text):
+        with open(self.path(name), "wb") as file:
+            file.write(text if isinstance(text, bytes) else text.encode())
+        return name
+
+    def stand_in(self, text, name="kmc"):
+        """A program of our own in the place of kmc."""
+        os.makedirs(self.path("bin"), exist_ok=True)
+        self.write("bin/" + name, text)
+        os.chmod(self.path("bin/" + name), 0o755)
+        self.environment["FUTONCRANE_BIN"] = self.path("bin")
+
+    def run(self, *words, text=None, source=None, **others):
+        """Runs futoncrane with these words; its input is `text`, the open file `source`, or empty."""
+        given = {"stdin": source or subprocess.DEVNULL} if text is None else {"input": text}
+        ran = subprocess.run([*COMMAND, *words], cwd=self.folder, env=self.environment, stdout=subprocess.PIPE, stderr=subprocess.PIPE,
+                             timeout=LONG, **given, **others)
+        return Told(ran.returncode, ran.stdout, ran.stderr.decode(errors="replace"))
+
+    def counts(self, wanted, *words, **others):
+        """That a run writes this dump and tells nothing."""
+        ran = self.run(*words, **others)
+        assert (ran.status, ran.err) == (0, ""), ran
+        assert ran.out == wanted, "another dump: %r" % ran
+
+    def refuses(self, status, *parts, words, **others):
+        """That a run ends with this status, writes nothing, tells one line with these parts and leaves no file."""
+        before = self.files()
+        ran = self.run(*words, **others)
+        assert ran.status == status and ran.out == b"", ran
+        assert ran.err.startswith("futoncrane: ") and ran.err.count("\n") == 1 and ran.err.endswith("\n"), ran
+        for part in parts:
+            assert part in ran.err, "not told: %s\n%r" % (part, ran)
+        assert self.files() == before, "files are left: %s" % (self.files() - before)
+        return ran
+
+    def files(self):
+        """All files below the folder."""
+        return {os.path.join(folder, name) for folder, _, names in os.walk(self.folder) for name in names}
+
+    def gone(self):
+        shutil.rmtree(self.folder, ignore_errors=True)
+
+
+def descendants(root):
+    """The processes that descend from this one and are no zombies."""
+    found, parents = set(), {}
+    for name in filter(str.isdigit, os.listdir("/proc")):
+        try:
+            with open("/proc/%s/stat" % name) as file:
+                state, parent = file.read().rpartition(")")[2].split()[:2]
+        except (OSError, IndexError):
+            continue
+        if state != "Z":
+            parents[int(name)] = int(parent)
+    grown = {root}
+    while grown:
+        grown = {child for child, parent in parents.items() if parent in grown} - found
+        found |= grown
+    return found
+
+
+def alive(processes):
+    """Those of the processes that still run."""
+    found = set()
+    for it in processes:
+        try:
+            with open("/proc/%d/stat" % it) as file:
+                if file.read().rpartition(")")[2].split()[0] != "Z":
+                    found.add(it)
+        except OSError:
+            pass
+    return found
+
+
+def ended_by(child, number=signal.SIGKILL):
+    child.send_signal(number)
+    child.wait()

@@ -1,0 +1,201 @@
+"""The commands beside `count`: what each writes, against plain programs."""
+import collections
+import gzip
+import os
+
+from room import BIN, MOST, READS, TOP, content, need, plainly, program, wanted_dump
+
+
+def histogram_of(dump):
+    found = collections.Counter(int(line.split()[1]) for line in dump.splitlines())
+    return sorted(found.items())
+
+
+def test_histogram_is_that_of_the_plain_dump(room):
+    rows = histogram_of(plainly(content(READS), 21, 1, MOST, MOST))
+    wanted = b"".join(b"%d\t%d\n" % it for it in rows)
+    room.counts(wanted, "histogram", READS)
+    room.counts(wanted, "histogram", "-k", "21", room.write("reads.gz", gzip.compress(content(READS))))
+    room.counts(b"", "histogram", "-o", "histogram.gz", READS)
+    assert gzip.decompress(content(room.path("histogram.gz"))) == wanted
+    room.refuses(1, "no such".capitalize(), words=["histogram", "missing", "-o", "out"])
+    room.counts(b"", "histogram", text=b"")
+
+
+def test_histogram_is_drawn_with_characters(room):
+    ran = room.run("histogram", "--text", READS)
+    lines = ran.err.splitlines()
+    assert ran.status == 0 and lines[0].split() == ["count", "k-mers"], ran
+    assert len(lines) == 1 + 16 and lines[1].split()[:2] == ["1", "2,669"] and set(lines[9].split()[2]) == {"*"}, ran
+
+
+def test_histogram_is_drawn_by_gnuplot(room):
+    need("gnuplot")
+    room.run("histogram", "--png", "a picture.png", READS)
+    assert content(room.path("a picture.png"))[:8] == b"\x89PNG\r\n\x1a\n"
+    ran = room.run("size", "--png", "size.png", READS)
+    assert ran.status == 0 and content(room.path("size.png"))[:8] == b"\x89PNG\r\n\x1a\n", ran
+    room.refuses(1, "none/a.png", words=["histogram", "--png", "none/a.png", READS])
+
+
+def test_gnuplot_that_is_missing_is_told(room):
+    room.environment["PATH"] = room.temporary
+    ran = room.run("histogram", "--png", "a.png", READS)
+    assert ran.status == 1 and "gnuplot-nox" in ran.err and "a.png" not in os.listdir(room.folder), ran
+
+
+def test_size_is_worked_out(room):
+    # by hand: the valley is 3 and the peak 5, so the words are 3*2 + 4*6 + 5*20 + 10*2 = 150
+    room.write("peaked", b"1\t90\n2\t5\n3\t2\n4\t6\n5\t20\n10\t2\n")
+    wanted = b"valley\t3\npeak\t%d\nk-mers read\t250\nk-mers taken for errors\t100\nsize\t%d\n"
+    room.counts(wanted % (5, 30), "size", "--histogram", "peaked")
+    room.counts(wanted % (10, 15), "size", "--peak", "10", "--histogram", "-", text=content(room.path("peaked")))
+    ran = room.run("size", "--text", "--histogram", "peaked")
+    assert "<- valley" in ran.err.splitlines()[3] and "<- peak" in ran.err.splitlines()[5], ran
+    room.refuses(1, "only fall", words=["size", "--histogram", room.write("falling", b"1\t90\n2\t20\n3\t4\n")])
+    room.refuses(1, "line 2", words=["size", "--histogram", room.write("wrong", b"1\t90\ntwo\n")])
+    room.refuses(1, "missing", words=["size", "--histogram", "missing"])
+    room.refuses(2, "takes the place", words=["size", "--histogram", "peaked", READS])
+
+
+def test_size_is_near_the_genomes(room):
+    import subprocess
+    import sys
+    text = subprocess.run([sys.executable, os.path.join(TOP, "bench", "simulate_reads.py"), "9000", "100", "20000", "5", "0.005"], stdout=subprocess.PIPE).stdout
+    ran = room.run("size", room.write("reads", text))
+    found = dict(line.split("\t") for line in ran.out.decode().splitlines())
+    assert 19000 < int(found["size"]) < 21000, ran
+
+
+def test_genomescope_has_each_count(room):
+    rows = dict(histogram_of(plainly(content(READS), 21, 1, MOST, 12)))
+    room.counts(b"".join(b"%d %d\n" % (count, rows.get(count, 0)) for count in range(1, 13)), "genomescope", "--top", "12", READS)
+    ran = room.run("genomescope", READS)
+    assert ran.out.count(b"\n") == 10000 and ran.out.endswith(b"\n10000 0\n")
+
+
+def test_solid_has_the_kmers_within_the_limits(room):
+    lines = [line.split(b"\t") for line in plainly(content(READS), 31, 3, 9, MOST).splitlines()]
+    room.counts(b"".join(b">%d count=%b\n%b\n" % (number, count, word) for number, (word, count) in enumerate(lines, 1)),
+                "solid", "--min", "3", "--max", "9", READS)
+    room.counts(b"".join(b">%b\n%b\n" % (count, word) for word, count in lines), "solid", "--jellyfish", "-ci3", "-cx9", READS)
+    room.refuses(1, "missing", words=["solid", "missing", "-o", "out"])
+
+
+def compared(one, other):
+    """What `compare` is to write of two dumps, for each of its options."""
+    first, second = (dict(line.split(b"\t") for line in it.splitlines()) for it in (one, other))
+    both = sorted(set(first) & set(second))
+    return {
+        None: b"in both\t%d\nin the first alone\t%d\nin the second alone\t%d\nJaccard index\t%.6f\n" % (
+            len(both), len(set(first) - set(second)), len(set(second) - set(first)), len(both) / len(set(first) | set(second))),
+        "common": b"".join(b"%b\t%b\t%b\n" % (word, first[word], second[word]) for word in both),
+        "first": b"".join(b"%b\t%b\n" % (word, first[word]) for word in sorted(set(first) - set(second))),
+        "second": b"".join(b"%b\t%b\n" % (word, second[word]) for word in sorted(set(second) - set(first))),
+        "same": b"".join(b"%b\t%b\n" % (word, first[word]) for word in both if first[word] == second[word])}
+
+
+def test_compare_counts_what_is_in_common(room):
+    text = content(READS)
+    middle = text.index(b"\n@read90\n") + 1 if b"\n@read90\n" in text else len(b"".join(text.splitlines(keepends=True)[:320]))
+    one, other = plainly(text[:middle + 0], 21, 1), plainly(text[middle:], 21, 1)
+    room.write("one.dump", one)
+    room.write("other one.dump.gz", gzip.compress(other))
+    for what, wanted in compared(one, other).items():
+        assert wanted, what
+        room.counts(wanted, "compare", *(["--" + what] if what else []), "one.dump", "other one.dump.gz")
+    room.counts(compared(other, one)[None], "compare", "-", "one.dump", text=other)
+    room.write("empty", b"")
+    room.counts(b"in both\t0\nin the first alone\t0\nin the second alone\t0\nJaccard index\t1.000000\n", "compare", "empty", "empty")
+
+
+def test_compare_in_many_blocks(room):
+    import random
+    words = sorted({"".join(random.Random(number).choices("ACGT", k=20)) for number in range(60000)})
+    one = "".join("%s\t%d\n" % (word, 1 + number % 300) for number, word in enumerate(words) if number % 3).encode()
+    other = "".join("%s\t%d\n" % (word, 1 + number % 200) for number, word in enumerate(words) if number < 30000 or number % 2).encode()
+    room.write("one", one)
+    room.write("other", other)
+    for what, wanted in compared(one, other).items():
+        room.counts(wanted, "compare", *(["--" + what] if what else []), "one", "other")
+
+
+def test_compare_names_what_is_wrong(room):
+    whole = wanted_dump()
+    room.write("whole", whole)
+    room.refuses(1, "25 symbols in whole and 20 in shorter", words=["compare", "whole", room.write("shorter", plainly(content(READS), 20))])
+    room.refuses(1, "unsorted: line 2", words=["compare", "whole", room.write("unsorted", b"".join(reversed(whole.splitlines(keepends=True))))])
+    room.refuses(1, "absent", words=["compare", "whole", "absent"])
+    lines = whole.splitlines(keepends=True)
+    for name, wrong in (("space", lines[2].replace(b"\t", b" ")), ("lower", lines[2].lower()), ("twice", lines[1]), ("blank", b"\n"), ("word", lines[2][:25] + b"\tx\n")):
+        room.write(name, b"".join(lines[:2] + [wrong] + lines[3:]))
+        room.refuses(1, name + ": line 3", words=["compare", name, "whole", "-o", "out"])
+    room.write("unended", whole[:-1])
+    room.refuses(1, "unended: line %d" % len(lines), words=["compare", "whole", "unended"])
+    room.write("cut.gz", gzip.compress(whole)[:-30])
+    ran = room.run("compare", "--first", "cut.gz", "whole", "-o", "out")
+    assert ran.status == 1 and "cut.gz" in ran.err and not os.path.exists(room.path("out")), ran
+
+
+def parts(room, number, **others):
+    """The dumps of the example's reads dealt to parts, each k-mer with its count."""
+    lines = content(READS).splitlines(keepends=True)
+    records = [b"".join(lines[place:place + 4]) for place in range(0, len(lines), 4)]
+    names = []
+    for part in range(number):
+        room.write("reads %d" % part, b"".join(records[part::number]))
+        names.append("part %d.dump%s" % (part, ".gz" if part % 2 else ""))
+        room.counts(b"", "count", "-k25", "--min", "1", "--cap", "none", "-o", names[-1], "reads %d" % part)
+    return names
+
+
+def test_merged_parts_are_the_whole(room):
+    program("kmc_merge")
+    names = parts(room, 5)
+    room.counts(wanted_dump(), "merge", *names)
+    room.counts(plainly(content(READS), 25, 4, 9, 6), "merge", "--min", "4", "--max", "9", "--cap", "6", *names, room.write("-empty", b"") and "./-empty")
+    room.counts(b"", "merge", "-o", "whole.gz", "--", *names, "-empty")
+    assert gzip.decompress(content(room.path("whole.gz"))) == wanted_dump()
+    with open(room.path(names[0]), "rb") as source:
+        room.counts(wanted_dump(), "merge", "-", *names[1:], source=source)
+
+
+def test_merge_names_what_is_wrong(room):
+    program("kmc_merge")
+    good = room.write("good", b"AC\t2\nCA\t5\n")
+    for name, text in (("twice", b"AC\t2\nAC\t5\n"), ("longer", b"AC\t2\nCAA\t5\n"), ("line\nfeed", b"AC\t2\nCA\t0\n"), ("unended", b"AC\t2\nCA\t5")):
+        room.write(name, text)
+        shown = name if name.isprintable() else repr(name)
+        room.refuses(1, shown + ": line 2 ", words=["merge", good, name, "-o", "out"])
+        room.write("packed.gz", gzip.compress(text))
+        room.refuses(1, "packed.gz: line 2 ", words=["merge", good, "packed.gz", "-o", "out"])
+    room.refuses(1, "missing: No such file", words=["merge", good, "missing", "-o", "out"])
+    room.refuses(2, "good: it is read", words=["merge", "good", "-o", "good"])
+    whole = gzip.compress(plainly(content(READS), 25, 1))
+    for place in range(2, len(whole), len(whole) // 10):
+        room.write("cut.gz", whole[:place])
+        ran = room.run("merge", good if place < 20 else "cut.gz", "cut.gz" if place < 20 else room.write("none", b""), "-o", "out")
+        assert ran.status == 1 and ran.err.startswith("futoncrane: cut.gz: ") and ran.err.count("\n") == 1, ran
+        assert not os.path.exists(room.path("out"))
+
+
+def test_doctor_finds_all_well(room):
+    program("kmc_merge")
+    ran = room.run("doctor")
+    assert ran.status == 0 and ran.out.endswith(b"\nall is well\n") and ran.err == "", ran
+    room.environment["PATH"] = room.temporary
+    ran = room.run("doctor")
+    assert ran.status == 0 and b"gzip, by this Python" in ran.out, ran
+
+
+def test_doctor_finds_what_is_wrong(room):
+    room.stand_in("#!/bin/sh\ncat > /dev/null\nprintf 'ACGT\\t1\\n'\n")
+    ran = room.run("doctor")
+    assert ran.status == 1 and b"FAILED  kmc counts the example: the dump is another one" in ran.out and b"kmc_merge    MISSING" in ran.out, ran
+    room.stand_in("#!/bin/sh\nexit 1\n", "kmc_merge")
+    assert room.run("doctor").status == 1
+
+
+def test_cluster_tells_its_words(room):
+    ran = room.run("cluster", "--help")
+    assert ran.status == 0 and b"usage: futoncrane cluster" in ran.out and os.path.isdir(BIN), ran

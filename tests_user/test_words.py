@@ -1,0 +1,108 @@
+"""The words of the command line, the help, and what the documents say of them."""
+import importlib
+import os
+import re
+import subprocess
+
+from room import TOP, content, need
+
+COMMANDS = ("count", "merge", "histogram", "size", "compare", "solid", "genomescope", "cluster", "doctor")
+
+
+def text_of(*path):
+    return content(os.path.join(TOP, *path)).decode()
+
+
+def told_options():
+    """Pairs of a command and a name of an option that its help tells."""
+    for name in COMMANDS[:-2] + ("doctor",):
+        for option in importlib.import_module("futoncrane.commands." + name).OPTIONS:
+            for it in option.names:
+                yield name, it
+
+
+def test_each_command_has_help_with_examples(room):
+    for name in COMMANDS:
+        ran = room.run(name, "--help")
+        assert ran.status == 0 and ran.err == "", ran
+        assert "usage: futoncrane %s" % name in ran.out.decode(), ran
+        assert "futoncrane %s" % name in ran.out.decode().split("example", 1)[-1] or name == "cluster", ran
+    ran = room.run("--help")
+    assert ran.status == 0 and all(name in ran.out.decode() for name in COMMANDS), ran
+
+
+def test_the_file_itself_is_the_command(room):
+    ran = subprocess.run([os.path.join(TOP, "futoncrane", "futoncrane"), "--version"], stdout=subprocess.PIPE)
+    assert ran.stdout == b"futoncrane %s\n" % content(os.path.join(TOP, "VERSION")).strip()
+
+
+def test_wrong_words_are_told_with_the_nearest(room):
+    for words, part in ((["cuont", "a"], "did you mean count?"), (["histgram"], "did you mean histogram?"), (["--vesion"], "did you mean --version?"),
+                        (["count", "--mim", "3", "a"], "did you mean --min?"), (["count", "--thread=3", "a"], "did you mean --threads?"),
+                        (["compare", "--comon", "a", "b"], "did you mean --common?"), (["solid", "--cap", "3", "a"], "no option --cap"),
+                        (["histogram", "-ci3", "a"], "no option -ci3"), ([], "no command")):
+        room.refuses(2, part, words=words)
+
+
+def test_ranges_are_told_with_their_bounds(room):
+    for words, part in ((["-k", "65"], "1 to 64"), (["-k0"], "1 to 64"), (["-k", "x"], "1 to 64"), (["--min", "-1"], "0 to 9223372036854775808"),
+                        (["--max=9223372036854775809"], "0 to 9223372036854775808 or none"), (["--cap", "0"], "1 to 9223372036854775808"),
+                        (["--threads", "17"], "1 to 16"), (["--memory", "8X"], "as 8G"), (["--memory", "1M"], "64M"), (["--min"], "wants a value"),
+                        (["--forward=3"], "takes no value"), (["-bx"], "no option -bx")):
+        room.refuses(2, part, words=["count", *words] if words == ["--min"] else ["count", *words, "a.fastq"])
+
+
+def test_an_option_stands_once(room):
+    room.refuses(2, "twice", words=["count", "-k", "3", "-k", "4", "a"])
+    room.refuses(2, "twice", words=["count", "--forward", "--both-strands", "a"])
+    room.refuses(2, "twice", words=["count", "-", "-"])
+
+
+def test_numbers_of_files_are_told(room):
+    room.refuses(2, "two dumps", words=["compare", "a"])
+    room.refuses(2, "1 to 1000", words=["merge"])
+    room.refuses(2, "1 to 1000", words=["merge", *map(str, range(1001))])
+    room.refuses(2, "no file", words=["doctor", "a"])
+
+
+def test_completions_and_page_have_each_option(room):
+    page = text_of("docs", "futoncrane.1")
+    shells = {name: text_of("futoncrane", "completions", name) for name in ("futoncrane.bash", "_futoncrane")}
+    for command, option in told_options():
+        assert re.search(r"\bFl (?:\S+ , )*%s\b" % re.escape(option[1:]), page), "the page lacks %s" % option
+        for name, text in shells.items():
+            assert re.search(r"(?<![-\w])%s(?![-\w])" % re.escape(option), text.replace("{", " ").replace(",", " ")), "%s lacks %s" % (name, option)
+    for name in COMMANDS:
+        assert ".Cm " + name in page and all(name in text for text in shells.values()), name
+
+
+def test_bash_completes(room):
+    script = """source "$1"; complete_it() { COMP_WORDS=("$@"); COMP_CWORD=$(($# - 1)); _futoncrane; echo "${COMPREPLY[*]}"; }
+        complete_it futoncrane hi; complete_it futoncrane count --m; complete_it futoncrane compare --s"""
+    ran = subprocess.run(["bash", "-c", script, "bash", os.path.join(TOP, "futoncrane", "completions", "futoncrane.bash")], stdout=subprocess.PIPE)
+    assert ran.stdout.decode().split("\n") == ["histogram", "--min --max --memory", "--second --same", ""], ran
+
+
+def test_zsh_reads_its_completion(room):
+    need("zsh")
+    assert subprocess.run(["zsh", "-n", os.path.join(TOP, "futoncrane", "completions", "_futoncrane")]).returncode == 0
+
+
+def test_pages_have_no_fault(room):
+    need("mandoc")
+    for name in ("futoncrane.1", "kmc.1", "kmc_merge.1"):
+        ran = subprocess.run(["mandoc", "-Tlint", os.path.join(TOP, "docs", name)], stdout=subprocess.PIPE)
+        assert ran.returncode == 0, ran.stdout.decode()
+
+
+def test_one_version_stands_everywhere(room):
+    version = text_of("VERSION").strip()
+    assert re.fullmatch(r"[0-9]+\.[0-9]+\.[0-9]+", version)
+    places = {("CITATION.cff",): r"^version: (\S+)$", ("CHANGELOG.md",): r"\A# v?([0-9.]+)", ("docs", "futoncrane.1"): r"describes version (\S+)\.$",
+              ("docs", "kmc.1"): r"describes version (\S+)\.$"}
+    for path, pattern in places.items():
+        found = re.search(pattern, text_of(*path), re.MULTILINE)
+        assert found and found[1] == version, "%s says %s, and VERSION %s" % ("/".join(path), found and found[1], version)
+    assert version in text_of("README.md"), "README.md does not name version %s" % version
+
+
