@@ -5,3 +5,4 @@ pub mod Packs
 pub mod Powers
 pub mod Rolling
 pub mod Keys
+pub mod Weights

@@ -14,4 +14,5 @@ pub mod segment;
 pub mod strands;
 pub mod stretch;
 pub mod turned;
+pub mod weight;
 pub mod word;

@@ -3,12 +3,11 @@ ghost use Rattle.std.specs.Prelude.{◌<◌};
 
 use kmc_base::kmer::Kmer;
 use kmc_base::strands::Strands;
-use kmc_count::bin::CountError;
 use kmc_count::limits::Limits;
 use kmc_device::counted::Counted;
 use kmc_plain_count::bin::count_bin;
 use kmc_plain_count::dump::write_dump;
-use kmc_record::fault::{PartError, RecordFault};
+use kmc_record::fault::{BodyError, PartError, RecordFault};
 use kmc_record::part::Part;
 use kmc_record::shape::Shape;
 use std::alloc::Global;
@@ -34,12 +33,12 @@ fn tell_pairs(rt: &impl Print, pairs: &[(Kmer, u64)]) -> io::Result<()> {
 }
 
 /// Tells why the count was given up.
-fn tell_no_count(rt: &impl Print, error: CountError) -> io::Result<()> {
+fn tell_no_count(rt: &impl Print, error: BodyError) -> io::Result<()> {
     match error {
-        CountError::Damaged(fault, offset) => {
+        BodyError::Damaged(fault, offset) => {
             println!(rt; "count: {} at {offset}", name_of(fault))
         }
-        CountError::Memory => rt.println("count: out of memory"),
+        BodyError::Memory => rt.println("count: out of memory"),
     }
 }
 

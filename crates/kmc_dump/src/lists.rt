@@ -20,9 +20,9 @@ use kmc_base::key_rule::KeyRule;
 use kmc_base::kmer::MAX_K;
 use kmc_base::strands::Strands;
 use kmc_base::word::Word;
-use kmc_count::bin::CountError;
 use kmc_count::limits::Limits;
 use kmc_device::counted::Counted;
+use kmc_record::fault::BodyError;
 use std::alloc::Global;
 use std::io::Write;
 use std::thread::Threads;
@@ -53,13 +53,13 @@ fn list_sized<R: Threads + Sync, W: Word + Drop + Send>(
     rule: KeyRule,
     limits: &Limits,
     threads: usize,
-) -> Result<SizedLists<W>, CountError>
+) -> Result<SizedLists<W>, BodyError>
     requires most { rule.k ≤ W.most }
     requires threads { 1 ≤ threads }
     ensures ok { IfOk result (λ lists. AreListsOfBodies rule.strands rule.k limits.now
         (map (λ b. b.items) bodies.items) (sized_lists lists)) }
     ensures damaged { (fault : RecordFault) (offset : ℕ)
-        → IsErrOf result (CountError.Damaged fault offset)
+        → IsErrOf result (BodyError.Damaged fault offset)
         → IsFirstDamaged rule.k fault offset (map (λ b. b.items) bodies.items) }
 {
     Ok(if limits.cs <= u64::from(u8::MAX) {
@@ -82,14 +82,14 @@ pub fn list_bins<R: Threads + Sync>(
     strands: Strands,
     limits: &Limits,
     threads: usize,
-) -> Result<BinLists, CountError>
+) -> Result<BinLists, BodyError>
     requires some { 1 ≤ k }
     requires most { k ≤ MAX_K }
     requires threads { 1 ≤ threads }
     ensures ok { IfOk result (λ lists. AreListsOfBodies strands k limits.now
         (map (λ b. b.items) bodies.items) (lists_of lists)) }
     ensures damaged { (fault : RecordFault) (offset : ℕ)
-        → IsErrOf result (CountError.Damaged fault offset)
+        → IsErrOf result (BodyError.Damaged fault offset)
         → IsFirstDamaged k fault offset (map (λ b. b.items) bodies.items) }
 {
     let rule = KeyRule { k, strands };

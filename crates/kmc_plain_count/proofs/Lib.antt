@@ -1,3 +1,4 @@
 pub mod DumpText
 pub mod GatheredKeys
 pub mod Merging
+pub mod Counting

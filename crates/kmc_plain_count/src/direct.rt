@@ -6,12 +6,12 @@ ghost use Rattle.kmc_base.specs.Strands.{placed_key};
 ghost use Rattle.kmc_count.specs.Occurrences.{count_of};
 ghost use Rattle.kmc_count.specs.Dump.{IsDump};
 
+use crate::words::tally_words;
 use kmc_base::key_rule::KeyRule;
 use kmc_base::kmer::{Kmer, MAX_K};
 use kmc_base::strands::Strands;
 use kmc_base::word::Word;
 use kmc_count::limits::Limits;
-use kmc_count::tally::tally;
 use kmc_segments::keys::push_keys;
 use kmc_segments::stretch::segments;
 use std::alloc::{AllocError, Global};
@@ -55,7 +55,7 @@ fn count_at<W: Word + Drop>(
     }
     W::sort(&mut words);
     let mut pairs = Vec::new(alloc);
-    tally(&mut pairs, &words, rule, limits)?;
+    tally_words(&mut pairs, &words, rule, limits)?;
     Ok(pairs)
 }
 

@@ -10,3 +10,4 @@ pub mod bin;
 pub mod direct;
 pub mod dump;
 pub mod merge;
+mod words;

@@ -12,7 +12,11 @@ use crate::record::{first_symbols, push_record};
 use kmc_base::key_rule::KeyRule;
 use kmc_base::kmer::MAX_K;
 use kmc_base::strands::Strands;
+use kmc_base::weight::Weight;
 use kmc_base::word::Word;
+
+/// A word that is counted once, with no bits for that.
+const ONCE: Weight = Weight { bits: 0, times: 1 };
 
 /// Appends the packed keys of all words of a body, record by record, in the order of their places. The walk
 /// makes no super-k-mer: it rolls a window along the symbols where they lie.
@@ -41,7 +45,7 @@ pub fn push_body<W: Word + Drop>(
         };
         let size = (symbols + 3) / 4;
         let rule = KeyRule { k, strands };
-        push_record(words, rule, &rest[1..1 + size], symbols)?;
+        push_record(words, rule, &rest[1..1 + size], symbols, ONCE)?;
         offset += 1 + size;
     }
     Ok(())

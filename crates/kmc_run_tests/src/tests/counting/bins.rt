@@ -4,13 +4,12 @@ ghost use Rattle.std.specs.Prelude.{◌≡◌, ◌≤◌, [], ◌∷◌, map, If
 use crate::tests::texts::{assert_bytes, line_of_a, text_of, vectors_of};
 use kmc_base::kmer::Kmer;
 use kmc_base::strands::Strands;
-use kmc_count::bin::CountError;
 use kmc_count::limits::Limits;
 use kmc_dump::counts::Counts;
 use kmc_dump::lists::{BinLists, SizedLists, list_bins};
 use kmc_plain_count::bin::count_bin;
 use kmc_plain_count::merge::merge_bins;
-use kmc_record::fault::RecordFault;
+use kmc_record::fault::{BodyError, RecordFault};
 use std::alloc::{AllocError, Global};
 use std::process::Abort;
 use std::test::Fail;
@@ -73,7 +72,7 @@ fn assert_damaged(
     requires most { k ≤ 64 }
 {
     let counted = count_bin(alloc, body, k, Strands::Joined, &LIMITS);
-    assert_eq!(rt; counted.err(), Some(CountError::Damaged(fault, place)));
+    assert_eq!(rt; counted.err(), Some(BodyError::Damaged(fault, place)));
 }
 
 #[test]
@@ -123,7 +122,7 @@ fn lists_of<R: Abort + Threads + Sync + Alloc<A = Global>>(
     rt: &R,
     bodies: &[&[u8]],
     threads: usize,
-) -> Result<BinLists, CountError>
+) -> Result<BinLists, BodyError>
     requires { 1 ≤ threads }
 {
     let alloc = rt.alloc();
@@ -179,7 +178,7 @@ fn assert_damaged_bin<R: Abort + Threads + Sync + Alloc<A = Global>>(rt: &R, thr
 {
     let bodies: [&[u8]; 4] = [&[0x00, 0x1b], &[0x00, 0x1b, 0x00], &[0x05], &[0x00, 0x1b]];
     let error = lists_of(rt, &bodies, threads).err();
-    assert_eq!(rt; error, Some(CountError::Damaged(RecordFault::Short, 2)));
+    assert_eq!(rt; error, Some(BodyError::Damaged(RecordFault::Short, 2)));
 }
 
 #[test]
