@@ -10,3 +10,4 @@ pub mod Counted
 pub mod Ranges
 pub mod Orders
 pub mod Windows
+pub mod Weights

@@ -1,5 +1,6 @@
 pub mod Words
 pub mod Packed
+pub mod Weights
 pub mod Strands
 pub mod Stretches
 pub mod Segments

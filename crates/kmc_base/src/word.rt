@@ -3,8 +3,13 @@ ghost use Rattle.std.specs.Prelude.{◌≡◌, ℕ, ◌+◌, ◌-◌, ◌*◌, �
 ghost use Rattle.std.specs.List.Sorted.{IsSorted, IsPermutation};
 ghost use Rattle.std.specs.Ordering.{nat_cmp};
 ghost use Rattle.kmc_base.specs.Bytes.{ahead_byte, behind_byte};
+ghost use Rattle.kmc_base.specs.Weights.{weighted, item_weight};
 
-use crate::turned::turned;
+use crate::other_strand::turned;
+use crate::weight::Weight;
+
+/// The most bits that are used for how often a word is counted.
+pub const MOST_WEIGHT_BITS: usize = 20;
 
 /// An unsigned number in which k codes lie, two bits each, the last one lowest.
 pub trait Word: Copy {
@@ -61,6 +66,27 @@ pub trait Word: Copy {
     fn widen(self) -> u128
         ensures { result ≡ number self };
 
+    /// How many bits beside a word of k codes hold how often it is counted.
+    fn weight_bits(k: usize) -> u32
+        requires some { 1 ≤ k }
+        requires most { k ≤ most }
+        ensures { result ≡ min (2 * most - 2 * k) MOST_WEIGHT_BITS };
+
+    /// The word with how often it is counted: an item.
+    fn weighted(self, weight: Weight) -> Self
+        requires { (k : ℕ) × (1 ≤ k) × (2 * k + weight.bits ≤ 2 * most) × (number self < 4 ^ k) }
+        ensures { number result ≡ weighted weight.bits weight.times (number self) };
+
+    /// The word of an item.
+    fn without_weight(self, bits: u32) -> Self
+        requires { bits ≤ MOST_WEIGHT_BITS }
+        ensures { number result ≡ number self / 2 ^ bits };
+
+    /// How often the word of an item is counted.
+    fn times(self, bits: u32) -> u64
+        requires { bits ≤ MOST_WEIGHT_BITS }
+        ensures { result ≡ item_weight bits (number self) };
+
     /// Sorts in place, rising.
     fn sort(words: &mut Vec<Self>)
         ensures moved { IsPermutation (map number words.old.items) (map number words.new.items) }
@@ -112,6 +138,22 @@ impl Word for u64 {
         u128::from(self)
     }
 
+    fn weight_bits(k: usize) -> u32 {
+        (64 - 2 * k).min(MOST_WEIGHT_BITS) as u32
+    }
+
+    fn weighted(self, weight: Weight) -> u64 {
+        (self << weight.bits) + (weight.times - 1)
+    }
+
+    fn without_weight(self, bits: u32) -> u64 {
+        self >> bits
+    }
+
+    fn times(self, bits: u32) -> u64 {
+        (self & ((1 << bits) - 1)) + 1
+    }
+
     fn sort(words: &mut Vec<u64>) {
         words.sort_unstable();
     }
@@ -160,6 +202,22 @@ impl Word for u128 {
 
     fn widen(self) -> u128 {
         self
+    }
+
+    fn weight_bits(k: usize) -> u32 {
+        (128 - 2 * k).min(MOST_WEIGHT_BITS) as u32
+    }
+
+    fn weighted(self, weight: Weight) -> u128 {
+        (self << weight.bits) + u128::from(weight.times - 1)
+    }
+
+    fn without_weight(self, bits: u32) -> u128 {
+        self >> bits
+    }
+
+    fn times(self, bits: u32) -> u64 {
+        (self & ((1 << bits) - 1)) as u64 + 1
     }
 
     fn sort(words: &mut Vec<u128>) {

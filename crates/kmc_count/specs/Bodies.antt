@@ -1,9 +1,9 @@
 -- What is counted in bodies of records.
-use Rattle.std.specs.Prelude.{ℕ, ◌<◌, ◌⊎◌, List, [], length, map, take, slice_index_or}
-use Rattle.std.specs.List.{All, AllZip}
-use Rattle.std.specs.List.Sorted.{IsPermutation, IsSorted}
+use Rattle.std.specs.Prelude.{◌≡◌, ℕ, ◌<◌, ◌⊎◌, List, [], length, take, slice_index_or}
+use Rattle.std.specs.List.{All, AllZip, sum_by}
+use Rattle.std.specs.List.Sorted.{IsSorted}
 use Rattle.std.specs.Ordering.{nat_cmp}
-use Rattle.kmc_base.specs.Packed.{pack}
+use Rattle.kmc_base.specs.Weights.{items, worth, AreItems}
 use Rattle.kmc_base.specs.declared.strands.Strands.{Strands}
 use Rattle.kmc_record.specs.declared.fault.RecordFault.{RecordFault}
 use Rattle.kmc_record.specs.Record.{IsBodyOf}
@@ -14,11 +14,12 @@ use Rattle.kmc_count.specs.declared.limits.Limits.{Limits}
 use Rattle.kmc_count.specs.Occurrences.{occurrences}
 use Rattle.kmc_count.specs.Dump.{IsDump}
 
--- the body is whole records, and the numbers are the packed keys of their words, rising
-pub record AreSortedKeys (strands : Strands) (k : ℕ) (body numbers : List ℕ) : Type 0 where
+-- the body is whole records, and the items, rising, come to the keys of all their words
+pub record AreSortedItems (strands : Strands) (k f : ℕ) (body numbers : List ℕ) : Type 0 where
   pub super_kmers : List (List ℕ)
   pub records : IsBodyOf k super_kmers body
-  pub moved : IsPermutation (map pack (record_keys strands k super_kmers)) numbers
+  pub each : (g : List ℕ → ℕ) → worth g (items k f numbers) ≡ sum_by g (record_keys strands k super_kmers)
+  pub fit : AreItems k f numbers
   pub sorted : IsSorted nat_cmp numbers
 
 -- the body is whole records, and the pairs are the dump of the keys of their words

@@ -1,5 +1,5 @@
 -- How often a word stands in reads, counted place by place.
-use Rattle.std.specs.Prelude.{ℕ, Bool, nat_eq, List, length, Option, None, Some, false}
+use Rattle.std.specs.Prelude.{ℕ, if◌then◌else◌, Bool, nat_eq, List, length, Option, None, Some, false}
 use Rattle.std.specs.List.{count_by, sum_by, range_with_len}
 use Rattle.std.specs.Cmp.Lexicographic.{pointwise}
 use Rattle.kmc_base.specs.declared.strands.Strands.{Strands}
@@ -13,6 +13,10 @@ same_word = pointwise nat_eq
 -- in how many words of the list x stands
 abbrev pub occurrences : List (List ℕ) → List ℕ → ℕ
 occurrences ws x = count_by (λ w. same_word w x) ws
+
+-- the weights of x in a list of words with weights, added up: of (ACG, 2), (CGT, 1), (ACG, 3) and ACG, 5
+abbrev pub weight_of : List (List ℕ × ℕ) → List ℕ → ℕ
+weight_of ps x = sum_by (λ p. if same_word p.0 x then p.1 else 0) ps
 
 -- whether x is the key of the word at a place
 abbrev pub is_key_of : Strands → List ℕ → Option (List ℕ) → Bool

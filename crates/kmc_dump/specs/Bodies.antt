@@ -4,8 +4,8 @@ use Rattle.std.specs.Global.{Global}
 use Rattle.std.specs.List.{All}
 use Rattle.kmc_base.specs.declared.strands.Strands.{Strands}
 use Rattle.kmc_record.specs.declared.fault.RecordFault.{RecordFault}
-use Rattle.kmc_count.specs.declared.bin.CountError.{CountError}
-use Rattle.kmc_count.specs.declared.bin.CountError.TheVariants.{Damaged}
+use Rattle.kmc_record.specs.declared.fault.BodyError.{BodyError}
+use Rattle.kmc_record.specs.declared.fault.BodyError.TheVariants.{Damaged}
 use Rattle.kmc_count.specs.declared.limits.Limits.{Limits}
 use Rattle.kmc_count.specs.Bodies.{AreDumpsOfBodies, IsFirstDamaged}
 use Rattle.kmc_dump.specs.Listed.{Listed, pairs_of, IsListOf}
@@ -16,6 +16,6 @@ pub record AreListsOfBodies (strands : Strands) (k : ℕ) (l : Limits) (bodies :
   pub dumps : AreDumpsOfBodies strands k l bodies (map pairs_of lists)
 
 -- what a count of bodies answers: their lists, or the first fault of the first that is damaged; a refused growth says nothing of them
-pub record IsListingOfBodies (strands : Strands) (k : ℕ) (l : Limits) (bodies : List (Vec ℕ Global)) (answer : Result (Vec Listed Global) CountError) : Type 0 where
+pub record IsListingOfBodies (strands : Strands) (k : ℕ) (l : Limits) (bodies : List (Vec ℕ Global)) (answer : Result (Vec Listed Global) BodyError) : Type 0 where
   pub ok : IfOk answer (λ lists. AreListsOfBodies strands k l (map (λ b. b.items) bodies) lists.items)
   pub damaged : (fault : RecordFault) (offset : ℕ) → IsErrOf answer (Damaged fault offset) → IsFirstDamaged k fault offset (map (λ b. b.items) bodies)

@@ -1,4 +1,4 @@
-//! The count of a bin: the packed words of its body in one list, sorted, and their counts in packed form.
+//! The count of a bin: the words of its body and their counts in packed form.
 ghost use Rattle.std.specs.Prelude.{ℕ, ◌<◌, ◌≤◌, IfOk, IsErrOf};
 ghost use Rattle.kmc_record.specs.Faults.{IsFirstFault};
 ghost use Rattle.kmc_record.specs.declared.fault.RecordFault.{RecordFault};
@@ -8,32 +8,31 @@ ghost use Rattle.kmc_dump.specs.Listed.{IsListOf, pairs_of};
 use crate::counts::Counts;
 use crate::shown::Shown;
 use kmc_base::{KeyRule, Word};
-use kmc_count::{CountError, Limits, count_into};
+use kmc_count::{Limits, count_into};
+use kmc_record::BodyError;
 use std::alloc::Global;
 
-/// The dump of a body in packed form. The vector for its packed words may be used again for the next body. The list keeps no
-/// more memory than its pairs need.
+/// The dump of a body in packed form. The vectors for its records and its words may be used again for the next body. The list
+/// keeps no more memory than its pairs need.
 pub fn list_body<W: Word + Drop, C: Shown + Drop>(
-    words: &mut Vec<W>,
+    numbers: &mut Vec<u128>,
+    items: &mut Vec<W>,
     alloc: Global,
     body: &[u8],
     rule: KeyRule,
     limits: &Limits,
-) -> Result<Counts<W, C>, CountError>
+) -> Result<Counts<W, C>, BodyError>
     requires most { rule.k ≤ W.most }
     requires wide { limits.now.cs ≤ C.greatest }
     ensures list { IfOk result (λ c. IsListOf rule.k c) }
     ensures ok { IfOk result (λ c. IsDumpOfBody rule.strands rule.k limits.now body.now
         (pairs_of c)) }
     ensures damaged { (fault : RecordFault) (offset : ℕ)
-        → IsErrOf result (CountError.Damaged fault offset)
+        → IsErrOf result (BodyError.Damaged fault offset)
         → IsFirstFault rule.k fault offset body.now }
 {
-    // The records of a usual bin have about one word a byte, whatever k is.
-    words.clear();
-    words.reserve(body.len())?;
     let mut pairs = Counts::new(alloc, rule.k);
-    count_into(words, &mut pairs, body, rule, limits)?;
+    count_into(numbers, items, &mut pairs, body, rule, limits)?;
     pairs.shrink();
     Ok(pairs)
 }

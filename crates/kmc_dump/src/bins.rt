@@ -10,30 +10,32 @@ use crate::bin::list_body;
 use crate::counts::Counts;
 use crate::shown::Shown;
 use kmc_base::{KeyRule, Word};
-use kmc_count::{CountError, Limits};
+use kmc_count::Limits;
+use kmc_record::BodyError;
 use std::alloc::Global;
 use std::thread;
 use std::thread::Threads;
 
-/// The lists of bodies, one after the other, with their words in one vector. Room for all lists is had first.
+/// The lists of bodies, one after the other, with their records and words in two vectors. Room for all lists is had first.
 fn list_row<W: Word + Drop, C: Shown + Drop>(
     alloc: Global,
     bodies: Vec<Vec<u8>>,
     rule: KeyRule,
     limits: &Limits,
-) -> Result<Vec<Counts<W, C>>, CountError>
+) -> Result<Vec<Counts<W, C>>, BodyError>
     requires most { rule.k ≤ W.most }
     requires wide { limits.now.cs ≤ C.greatest }
     ensures ok { IfOk result (λ lists. AreListsOfBodies rule.strands rule.k limits.now
         (map (λ b. b.items) bodies.items) lists.items) }
     ensures damaged { (fault : RecordFault) (offset : ℕ)
-        → IsErrOf result (CountError.Damaged fault offset)
+        → IsErrOf result (BodyError.Damaged fault offset)
         → IsFirstDamaged rule.k fault offset (map (λ b. b.items) bodies.items) }
 {
     let mut lists = Vec::with_capacity(alloc, bodies.len())?;
-    let mut words: Vec<W> = Vec::new(alloc);
+    let mut numbers: Vec<u128> = Vec::new(alloc);
+    let mut items: Vec<W> = Vec::new(alloc);
     for body in bodies {
-        let list = list_body(&mut words, alloc, &body, rule, limits)?;
+        let list = list_body(&mut numbers, &mut items, alloc, &body, rule, limits)?;
         lists.push_reserved(list);
     }
     Ok(lists)
@@ -74,14 +76,14 @@ pub fn list_bodies<R: Threads + Sync, W: Word + Drop + Send, C: Shown + Drop + S
     rule: KeyRule,
     limits: Limits,
     threads: usize,
-) -> Result<Vec<Counts<W, C>>, CountError>
+) -> Result<Vec<Counts<W, C>>, BodyError>
     requires most { rule.k ≤ W.most }
     requires wide { limits.cs ≤ C.greatest }
     requires threads { 1 ≤ threads }
     ensures ok { IfOk result (λ lists. AreListsOfBodies rule.strands rule.k limits
         (map (λ b. b.items) bodies.items) lists.items) }
     ensures damaged { (fault : RecordFault) (offset : ℕ)
-        → IsErrOf result (CountError.Damaged fault offset)
+        → IsErrOf result (BodyError.Damaged fault offset)
         → IsFirstDamaged rule.k fault offset (map (λ b. b.items) bodies.items) }
 {
     if threads == 1 {
@@ -92,11 +94,11 @@ pub fn list_bodies<R: Threads + Sync, W: Word + Drop + Send, C: Shown + Drop + S
     let at = share(&bodies, few, threads);
     let mut low = bodies;
     let high = low.split_off(at)?;
-    let front = move || -> Result<Vec<Counts<W, C>>, CountError>
+    let front = move || -> Result<Vec<Counts<W, C>>, BodyError>
         requires { IsSync R.row × (rule.k ≤ W.most) × (limits.cs ≤ C.greatest) × (1 ≤ few) }
         ensures { IsListingOfBodies rule.strands rule.k limits low.items result }
     { list_bodies(rt, alloc, low, rule, limits, few) };
-    let back = move || -> Result<Vec<Counts<W, C>>, CountError>
+    let back = move || -> Result<Vec<Counts<W, C>>, BodyError>
         requires { IsSync R.row × (rule.k ≤ W.most) × (limits.cs ≤ C.greatest) × (1 ≤ others) }
         ensures { IsListingOfBodies rule.strands rule.k limits high.items result }
     { list_bodies(rt, alloc, high, rule, limits, others) };

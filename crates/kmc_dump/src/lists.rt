@@ -17,8 +17,9 @@ use crate::counts::Counts;
 use crate::word_size::WordSize;
 use crate::write::{DumpError, write_lists};
 use kmc_base::{KeyRule, MAX_K, Strands, Word};
-use kmc_count::{CountError, Limits};
+use kmc_count::Limits;
 use kmc_device::Counted;
+use kmc_record::BodyError;
 use std::alloc::Global;
 use std::io::Write;
 use std::thread::Threads;
@@ -49,13 +50,13 @@ fn list_sized<R: Threads + Sync, W: Word + Drop + Send>(
     rule: KeyRule,
     limits: &Limits,
     threads: usize,
-) -> Result<SizedLists<W>, CountError>
+) -> Result<SizedLists<W>, BodyError>
     requires most { rule.k ≤ W.most }
     requires threads { 1 ≤ threads }
     ensures ok { IfOk result (λ lists. AreListsOfBodies rule.strands rule.k limits.now
         (map (λ b. b.items) bodies.items) (sized_lists lists)) }
     ensures damaged { (fault : RecordFault) (offset : ℕ)
-        → IsErrOf result (CountError.Damaged fault offset)
+        → IsErrOf result (BodyError.Damaged fault offset)
         → IsFirstDamaged rule.k fault offset (map (λ b. b.items) bodies.items) }
 {
     Ok(if limits.cs <= u64::from(u8::MAX) {
@@ -78,14 +79,14 @@ pub fn list_bins<R: Threads + Sync>(
     strands: Strands,
     limits: &Limits,
     threads: usize,
-) -> Result<BinLists, CountError>
+) -> Result<BinLists, BodyError>
     requires some { 1 ≤ k }
     requires most { k ≤ MAX_K }
     requires threads { 1 ≤ threads }
     ensures ok { IfOk result (λ lists. AreListsOfBodies strands k limits.now
         (map (λ b. b.items) bodies.items) (lists_of lists)) }
     ensures damaged { (fault : RecordFault) (offset : ℕ)
-        → IsErrOf result (CountError.Damaged fault offset)
+        → IsErrOf result (BodyError.Damaged fault offset)
         → IsFirstDamaged k fault offset (map (λ b. b.items) bodies.items) }
 {
     let rule = KeyRule { k, strands };

@@ -1,3 +1,4 @@
+pub mod Counting
 pub mod DumpText
 pub mod GatheredKeys
 pub mod Merging

@@ -14,6 +14,7 @@ mod keys;
 mod merge;
 mod stretch;
 mod super_kmer;
+mod words;
 
 pub use base::code;
 pub use bin_count::count_bin;

@@ -9,10 +9,10 @@ use Rattle.kmc_record.specs.Record.{spelling, IsSpelled}
 use Rattle.kmc_record.specs.Shapes.{Sizes}
 use Rattle.kmc_record.specs.Parts.{Parcel, IsPart, capped}
 use Rattle.kmc_record.specs.Bodies.{AreRecordsOfBin, Belong, IsFirstError}
-use Rattle.kmc_record.specs.Faults.{IsShort, IsPadded}
-use Rattle.kmc_record.specs.Refusals.{BeginsRecord, IsRefused, part_error}
-use Rattle.kmc_record.specs.declared.fault.RecordError.{RecordError}
-use Rattle.kmc_record.specs.declared.fault.RecordError.TheVariants.{Short, Padding, Memory}
+use Rattle.kmc_record.specs.Faults.{HasFault}
+use Rattle.kmc_record.specs.Refusals.{BeginsRecord}
+use Rattle.kmc_record.specs.declared.fault.RecordFault.{RecordFault}
+use Rattle.kmc_record.specs.declared.fault.PartError.TheVariants.{Damaged, Memory}
 use Rattle.kmc_record.proofs.Parcels.{part_grown}
 
 pub part_none : (bin : ℕ) (shape : Sizes) → bin < shape.n → IsPart bin shape [] 0
@@ -27,12 +27,13 @@ part_none bin shape h = record {
 pub records_of_part : (bin : ℕ) (shape : Sizes) (body : List ℕ) (words : ℕ) → IsPart bin shape body words → AreRecordsOfBin bin shape body
 records_of_part bin shape body words h = record { super_kmers = h.super_kmers; records = h.records; belong = h.belong }
 
--- a refusal to read the record at the offset, behind records of the bin
-pub refused_at : (bin : ℕ) (shape : Sizes) (k offset : ℕ) (e : RecordError) (body : List ℕ) → k ≡ shape.k → offset < length body → AreRecordsOfBin bin shape (take offset body)
-    → IsRefused k e (drop offset body) → IsFirstError bin shape (part_error e offset) body
-refused_at bin shape k offset Short body same inside front h = (inside, front, subst (λ j. IsShort j (drop offset body)) same h)
-refused_at bin shape k offset Padding body same inside front h = (inside, front, subst (λ j. IsPadded j (drop offset body)) same h)
-refused_at bin shape k offset Memory body same inside front h = (offset, inside, front, subst (λ j. BeginsRecord j (drop offset body)) same h)
+-- no record was read at the offset, behind records of the bin
+module _ (bin : ℕ) (shape : Sizes) (k offset : ℕ) (body : List ℕ) (same : k ≡ shape.k) (inside : offset < length body) (front : AreRecordsOfBin bin shape (take offset body)) where
+  pub damaged_at : (fault : RecordFault) → HasFault k fault (drop offset body) → IsFirstError bin shape (Damaged fault offset) body
+  damaged_at fault h = (inside, front, subst (λ j. HasFault j fault (drop offset body)) same h)
+
+  pub memory_at : BeginsRecord k (drop offset body) → IsFirstError bin shape Memory body
+  memory_at h = (offset, inside, front, subst (λ j. BeginsRecord j (drop offset body)) same h)
 
 front_joined : (body w rest : List ℕ) (offset next : ℕ) → offset ≤ length body → drop offset body ≡ w ++ rest → next ≡ length body - length rest → take next body ≡ take offset body ++ w
 front_joined body w rest offset next inside is at =

@@ -96,3 +96,7 @@ lowest_some b p hp =
     (λ h. last_or b 1 (λ z. third_or b 0 (λ y. absurd (h (omega (arith, z, y))))))
     (λ h. last_or b 2 (λ z. third_or b 1 (λ y. (1, omega arith, omega arith, λ x. h (omega (arith, z, y, x))))))
     p hp
+
+pub codes_join : (xs ys : List ℕ) → codes_in (xs ++ ys) ≡ codes_in xs ++ codes_in ys
+codes_join [] ys = refl
+codes_join (x ∷ xs) ys = ap (λ (t : List ℕ). quarters x ++ t) (codes_join xs ys)

@@ -8,3 +8,9 @@ pub mod Parcels
 pub mod Chunks
 pub mod Belonging
 pub mod Filling
+pub mod Turned
+pub mod KeyBytes
+pub mod Laying
+pub mod Gaining
+pub mod Taken
+pub mod PackedBytes

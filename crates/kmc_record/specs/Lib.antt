@@ -1,6 +1,7 @@
 pub mod Record
 pub mod Faults
 pub mod RecordWords
+pub mod RecordKeys
 pub mod Refusals
 pub mod Laws
 pub mod Shapes

@@ -4,7 +4,7 @@ ghost use Rattle.kmc_record.specs.Parts.{IsPart};
 ghost use Rattle.kmc_record.specs.Bodies.{IsFirstError};
 
 use crate::decoding::decode;
-use crate::fault::PartError;
+use crate::fault::{PartError, RecordError};
 use crate::shape::Shape;
 use std::alloc::Global;
 
@@ -27,7 +27,8 @@ pub(crate) fn count_words(
     while offset < body.len() {
         let (s, rest) = match decode(alloc, &body[offset..], k) {
             Ok(found) => found,
-            Err(e) => return Err(e.at(offset)),
+            Err(RecordError::Damaged(fault)) => return Err(PartError::Damaged(fault, offset)),
+            Err(RecordError::Memory) => return Err(PartError::Memory),
         };
         if !s.in_bin(m, n, bin) {
             return Err(PartError::WrongBin(offset));

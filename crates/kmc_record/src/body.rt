@@ -9,7 +9,10 @@ ghost use Rattle.kmc_record.specs.declared.fault.RecordFault.{RecordFault};
 
 use crate::fault::BodyError;
 use crate::record::{first_symbols, push_record};
-use kmc_base::{KeyRule, MAX_K, Strands, Word};
+use kmc_base::{KeyRule, MAX_K, Strands, Weight, Word};
+
+/// A word that is counted once, with no bits for that.
+const ONCE: Weight = Weight { bits: 0, times: 1 };
 
 /// Appends the packed keys of all words of a body, record by record, in the order of their places. The walk
 /// makes no super-k-mer: it rolls a window along the symbols where they lie.
@@ -38,7 +41,7 @@ pub fn push_body<W: Word + Drop>(
         };
         let size = (symbols + 3) / 4;
         let rule = KeyRule { k, strands };
-        push_record(words, rule, &rest[1..1 + size], symbols)?;
+        push_record(words, rule, &rest[1..1 + size], symbols, ONCE)?;
         offset += 1 + size;
     }
     Ok(())

@@ -3,7 +3,7 @@ ghost use Rattle.std.specs.Prelude.{◌≡◌, ◌+◌, ◌*◌, ◌≤◌, ◌<
 ghost use Rattle.kmc_record.specs.Record.{spelling, IsSpelled, codes_in};
 ghost use Rattle.kmc_record.specs.Refusals.{IsRefused};
 
-use crate::fault::RecordError;
+use crate::fault::{RecordError, RecordFault};
 use crate::record::{code_at, first_symbols};
 use kmc_base::MAX_K;
 use kmc_split::SuperKmer;
@@ -35,7 +35,7 @@ pub fn decode<'a>(
     ensures refused { IfErr result (λ e. IsRefused k e bytes.now) }
 {
     if bytes.is_empty() {
-        return Err(RecordError::Short);
+        return Err(RecordError::Damaged(RecordFault::Short));
     }
     let symbols = first_symbols(bytes, k)?;
     let size = (symbols + 3) / 4;

@@ -1,6 +1,5 @@
 //! What is wrong with bytes that should be records.
 ghost use Rattle.std.specs.Prelude.{◌≡◌};
-ghost use Rattle.kmc_record.specs.Refusals.{refusal, part_error};
 
 use std::alloc::AllocError;
 
@@ -13,7 +12,7 @@ pub enum RecordFault {
     Padding,
 }
 
-/// Why a body was given up.
+/// Why a body was not unpacked, or not counted.
 #[derive(Clone, Copy, Debug, PartialEq, Eq)]
 pub enum BodyError {
     /// The first record that is damaged: its fault and where it begins.
@@ -25,10 +24,8 @@ pub enum BodyError {
 /// Why a record was not read, in the order of the tests.
 #[derive(Clone, Copy, Debug, PartialEq, Eq)]
 pub enum RecordError {
-    /// There is no first byte, or fewer follow than it asks for.
-    Short,
-    /// A bit behind the last symbol is one.
-    Padding,
+    /// The bytes begin with no record: what is wrong with them.
+    Damaged(RecordFault),
     /// A growth was refused; the bytes begin with a record.
     Memory,
 }
@@ -45,13 +42,12 @@ pub enum PartError {
 }
 
 impl From<RecordFault> for RecordError {
-    ghost from_gives = { λ fault e. e ≡ refusal fault };
+    ghost use Rattle.kmc_record.specs.declared.fault.RecordError.TheVariants.{Damaged};
+
+    ghost from_gives = { λ fault e. e ≡ Damaged fault };
 
     fn from(fault: RecordFault) -> RecordError {
-        match fault {
-            RecordFault::Short => RecordError::Short,
-            RecordFault::Padding => RecordError::Padding,
-        }
+        RecordError::Damaged(fault)
     }
 }
 
@@ -72,18 +68,5 @@ impl From<AllocError> for BodyError {
 
     fn from(_: AllocError) -> BodyError {
         BodyError::Memory
-    }
-}
-
-impl RecordError {
-    /// The same of the body in which the record begins at this offset.
-    pub(crate) fn at(self, offset: usize) -> PartError
-        ensures { result ≡ part_error self offset }
-    {
-        match self {
-            RecordError::Short => PartError::Damaged(RecordFault::Short, offset),
-            RecordError::Padding => PartError::Damaged(RecordFault::Padding, offset),
-            RecordError::Memory => PartError::Memory,
-        }
     }
 }

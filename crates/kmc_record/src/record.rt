@@ -2,12 +2,13 @@
 ghost use Rattle.std.specs.Prelude.{◌≡◌, ◌≢◌, ℕ, ◌+◌, ◌-◌, ◌*◌, ◌/◌, ◌%◌, ◌^◌, ◌<◌, ◌≤◌, ◌++◌, ◌∷◌, [], length, map, take, drop, slice_index, vec_len, vec_capacity, OnOk, IfOk, IfErr, All, IsTrue};
 ghost use Rattle.kmc_base.specs.Packed.{pack};
 ghost use Rattle.kmc_base.specs.Strands.{keys, packed_key};
+ghost use Rattle.kmc_base.specs.Weights.{weighted};
 ghost use Rattle.kmc_record.specs.Record.{codes_in, size_of};
 ghost use Rattle.kmc_base.specs.Lemmas.Rolling.{ahead, ahead_quarters, behind, behind_quarters};
 ghost use Rattle.kmc_record.specs.Faults.{HasFault};
 
 use crate::fault::RecordFault;
-use kmc_base::{KeyRule, MAX_K, Strands, Word, packed_key};
+use kmc_base::{KeyRule, MAX_K, Strands, Weight, Word, packed_key};
 use std::alloc::AllocError;
 
 /// The code at a place of the bytes.
@@ -66,7 +67,7 @@ fn slide_byte<W: Word + Drop>(forward: W, back: W, byte: u8, top: W) -> (W, W)
     (forward.ahead_byte(byte, top), back.behind_byte(byte, top))
 }
 
-/// A window and its reverse complement with one code more, whose key is appended.
+/// A window and its reverse complement with one code more, whose key is appended with its weight.
 fn push_code<W: Word + Drop>(
     words: &mut Vec<W>,
     forward: W,
@@ -74,40 +75,47 @@ fn push_code<W: Word + Drop>(
     code: u8,
     top: W,
     strands: Strands,
+    weight: Weight,
 ) -> (W, W)
     requires code { code < 4 }
     requires top { (j : ℕ) × (j < W.most) × (W.number top ≡ 4 ^ j) }
     requires back { W.number back / 4 < W.number top }
+    requires beside { (k : ℕ) × (1 ≤ k) × (2 * k + weight.bits ≤ 2 * W.most)
+        × (4 * W.number top ≤ 4 ^ k) }
     requires room { vec_len words.old < vec_capacity words.old }
     ensures ahead { W.number result.0 ≡ ahead (W.number top) (W.number forward) code }
     ensures behind { W.number result.1 ≡ behind (W.number top) (W.number back) code }
     ensures pushed { map W.number words.new.items
         ≡ map W.number words.old.items
-        ++ packed_key strands (W.number result.0) (W.number result.1) ∷ [] }
+        ++ weighted weight.bits weight.times
+        (packed_key strands (W.number result.0) (W.number result.1)) ∷ [] }
     ensures len { vec_len words.new ≡ vec_len words.old + 1 }
     ensures capacity { vec_capacity words.new ≡ vec_capacity words.old }
 {
     let next = forward.ahead(code, top);
     let other = back.behind(code, top);
-    words.push_reserved(packed_key(strands, next, other));
+    words.push_reserved(packed_key(strands, next, other).weighted(weight));
     (next, other)
 }
 
-/// Appends the packed keys of the words of a record's symbols, in the order of their places. Room for all of them is had
-/// first; the symbols in front of the first word's last one enter the window a byte at a time.
+/// Appends the packed keys of the words of a record's symbols, each with its weight, in the order of their places. Room for
+/// all of them is had first; the symbols in front of the first word's last one enter the window a byte at a time.
 pub fn push_record<W: Word + Drop>(
     words: &mut Vec<W>,
     rule: KeyRule,
     bytes: &[u8],
     symbols: usize,
+    weight: Weight,
 ) -> Result<(), AllocError>
     requires most { rule.k ≤ W.most }
+    requires beside { 2 * rule.k + weight.bits ≤ 2 * W.most }
     requires long { rule.k ≤ symbols }
     requires inside { symbols ≤ 4 * length bytes.now }
     requires few { length bytes.now < 1000 }
     ensures { OnOk result (map W.number words.new.items
         ≡ map W.number words.old.items
-        ++ map pack (keys rule.strands rule.k (take symbols (codes_in bytes.now)))) }
+        ++ map (weighted weight.bits weight.times)
+        (map pack (keys rule.strands rule.k (take symbols (codes_in bytes.now))))) }
 {
     let k = rule.k;
     words.reserve(symbols + 1 - k)?;
@@ -128,18 +136,18 @@ pub fn push_record<W: Word + Drop>(
     }
     'near: for i in k - 1..near {
         let code = code_at(bytes, i);
-        (forward, back) = push_code(words, forward, back, code, top, rule.strands);
+        (forward, back) = push_code(words, forward, back, code, top, rule.strands, weight);
     }
     'bytes: for j in begun..symbols / 4 {
         let byte = bytes[j];
         'codes: for r in 0..4_usize {
             let code = (byte >> (6 - 2 * r)) % 4;
-            (forward, back) = push_code(words, forward, back, code, top, rule.strands);
+            (forward, back) = push_code(words, forward, back, code, top, rule.strands, weight);
         }
     }
     'rest: for i in last..symbols {
         let code = code_at(bytes, i);
-        (forward, back) = push_code(words, forward, back, code, top, rule.strands);
+        (forward, back) = push_code(words, forward, back, code, top, rule.strands, weight);
     }
     Ok(())
 }

@@ -8,10 +8,10 @@ ghost use Rattle.kmc_settings.specs.Shape.{shape_of};
 ghost use Rattle.kmc_tool.specs.Stages.{IsDumpOfBins};
 
 use crate::laws::bins_share_no_key;
-use kmc_count::CountError;
 use kmc_count::laws::dumps_of_bodies_are_of_keys;
 use kmc_dump::laws::packed_dumps_are_one;
 use kmc_dump::{BinLists, list_bins};
+use kmc_record::BodyError;
 use kmc_record::laws::whole_body_has_no_fault;
 use kmc_settings::Params;
 use kmc_store::Bins;
@@ -47,7 +47,7 @@ pub fn stage_two<R: Threads + Sync>(
         params.sr,
     ) {
         Ok(lists) => Ok(lists),
-        Err(CountError::Memory) => Err(AllocError),
-        Err(CountError::Damaged(_, _)) => unreachable!(),
+        Err(BodyError::Memory) => Err(AllocError),
+        Err(BodyError::Damaged(_, _)) => unreachable!(),
     }
 }

@@ -2,10 +2,10 @@
 ghost use Rattle.std.specs.Prelude.{◌<◌};
 
 use kmc_base::{Kmer, Strands};
-use kmc_count::{CountError, Limits};
+use kmc_count::Limits;
 use kmc_device::Counted;
 use kmc_plain::{count_bin, write_dump};
-use kmc_record::{Part, PartError, RecordFault, Shape};
+use kmc_record::{BodyError, Part, PartError, RecordFault, Shape};
 use std::alloc::Global;
 use std::io;
 use std::io::ErrorKind;
@@ -29,12 +29,12 @@ fn tell_pairs(rt: &impl Print, pairs: &[(Kmer, u64)]) -> io::Result<()> {
 }
 
 /// Tells why the count was given up.
-fn tell_no_count(rt: &impl Print, error: CountError) -> io::Result<()> {
+fn tell_no_count(rt: &impl Print, error: BodyError) -> io::Result<()> {
     match error {
-        CountError::Damaged(fault, offset) => {
+        BodyError::Damaged(fault, offset) => {
             println!(rt; "count: {} at {offset}", name_of(fault))
         }
-        CountError::Memory => rt.println("count: out of memory"),
+        BodyError::Memory => rt.println("count: out of memory"),
     }
 }
 

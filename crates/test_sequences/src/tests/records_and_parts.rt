@@ -89,9 +89,15 @@ fn reads_one_record_and_leaves_the_rest(rt: HostRuntime) -> Result<(), Fail> {
 fn refuses_damaged_records(rt: HostRuntime) -> Result<(), Fail> {
     let alloc = rt.alloc();
     for (bytes, refusal) in [
-        ([0x01, 0x1B, 0x11].as_slice(), RecordError::Padding),
-        ([0x01, 0x1B].as_slice(), RecordError::Short),
-        ([].as_slice(), RecordError::Short),
+        (
+            [0x01, 0x1B, 0x11].as_slice(),
+            RecordError::Damaged(RecordFault::Padding),
+        ),
+        (
+            [0x01, 0x1B].as_slice(),
+            RecordError::Damaged(RecordFault::Short),
+        ),
+        ([].as_slice(), RecordError::Damaged(RecordFault::Short)),
     ] {
         assert_eq!(rt; decode(alloc, bytes, 5).err(), Some(refusal));
     }

@@ -20,4 +20,4 @@ returns-clause-ok g c =
 
 pub returns-in_err-count_into-clause-damaged : goal.returns-in_err-count_into-clause-damaged
 returns-in_err-count_into-clause-damaged g c = λ fault offset is.
-    c.count_into.ensures.damaged fault offset (passed_on c.count_into.result c.from_residual-in_err-count_into.result _ _ c.in_err-count_into.was c.from_residual-in_err-count_into.ensures.1 is)
+    c.count_into.ensures.damaged fault offset (passed_on c.count_into.result c.from_residual.result _ _ c.in_err-count_into.was c.from_residual.ensures.1 is)

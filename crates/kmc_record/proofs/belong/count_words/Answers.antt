@@ -1,20 +1,29 @@
-use Rattle.std.proofs.Common.{rules, ◌≡◌, IsTrue, ◌++◌, take, refl, sym, subst, ◌∙◌, arith}
+use Rattle.std.proofs.Common.{rules, ◌≡◌, IsTrue, ◌++◌, take, drop, refl, sym, subst, ◌∙◌, arith}
 use Rattle.std.proofs.lemmas.List.{take_rest}
 use Rattle.std.proofs.lemmas.Grind.{common_steps}
 use Rattle.kmc_record.specs.Record.{spelling, IsSpelled}
 use Rattle.kmc_record.specs.Refusals.{IsRefused}
 use Rattle.kmc_record.specs.Bodies.{IsFirstError}
-use Rattle.kmc_record.proofs.Belonging.{records_of_part, refused_at, part_more, belongs_here, asked_here, counted_here}
+use Rattle.kmc_record.specs.declared.fault.PartError.TheVariants.{Damaged}
+use Rattle.kmc_record.proofs.Belonging.{records_of_part, damaged_at, memory_at, part_more, belongs_here, asked_here, counted_here}
 use Rattle.kmc_record.proofs.belong.count_words.Goals as goal
 
-pub returns-in-Err-clause-first : goal.returns-in-Err-clause-first
-returns-in-Err-clause-first c =
+pub returns-in-Err-Damaged-clause-first : goal.returns-in-Err-Damaged-clause-first
+returns-in-Err-Damaged-clause-first c =
     let shape = c.args.shape in
     let body = c.args.body.now in
     let offset = c.loop-offset.offset in
-    subst (λ e. IsFirstError c.args.bin shape e body) (sym c.at.ensures)
-    (refused_at c.args.bin shape c.k-k.result offset c.in-Err.e body c.k-k.ensures.is c.loop-offset-test.true (records_of_part c.args.bin shape (take offset body) c.loop-offset.words c.loop-offset.invariant.part)
-    (subst (IsRefused c.k-k.result c.in-Err.e) (take_rest body offset) c.in-Err.ensures.refused))
+    subst (λ f. IsFirstError c.args.bin shape (Damaged f offset) body) (sym c.in-Err-Damaged.fault-is)
+    (damaged_at c.args.bin shape c.k-k.result offset body c.k-k.ensures.is c.loop-offset-test.true (records_of_part c.args.bin shape (take offset body) c.loop-offset.words c.loop-offset.invariant.part)
+    c.in-Err-Damaged.fault (subst (λ e. IsRefused c.k-k.result e (drop offset body)) c.in-Err-Damaged.field-0-is (subst (IsRefused c.k-k.result c.in-Err-Damaged.field-0) (take_rest body offset) c.in-Err-Damaged.ensures.refused)))
+
+pub returns-in-Err-Memory-clause-first : goal.returns-in-Err-Memory-clause-first
+returns-in-Err-Memory-clause-first c =
+    let shape = c.args.shape in
+    let body = c.args.body.now in
+    let offset = c.loop-offset.offset in
+    memory_at c.args.bin shape c.k-k.result offset body c.k-k.ensures.is c.loop-offset-test.true (records_of_part c.args.bin shape (take offset body) c.loop-offset.words c.loop-offset.invariant.part)
+    (subst (λ e. IsRefused c.k-k.result e (drop offset body)) c.in-Err-Memory.field-0-is (subst (IsRefused c.k-k.result c.in-Err-Memory.field-0) (take_rest body offset) c.in-Err-Memory.ensures.refused))
 
 pub returns-then-not-in_bin-clause-first : goal.returns-then-not-in_bin-clause-first
 returns-then-not-in_bin-clause-first c =

@@ -4,7 +4,7 @@ use Rattle.kmc_base.specs.Lemmas.Packs.{AreCodes}
 use Rattle.kmc_base.specs.Lemmas.Rolling.{codes_front, roll_start, step_at, byte_step, fits_at}
 use Rattle.kmc_record.specs.Record.{codes_in}
 use Rattle.kmc_record.proofs.Codes.{are_codes, length_codes, byte_codes, at}
-use Rattle.kmc_record.proofs.Filling.{fits, held_first, held_more, held_all, behind_bytes}
+use Rattle.kmc_record.proofs.Filling.{fits, top_room, held_first, held_more, held_all, behind_bytes}
 use Rattle.kmc_record.proofs.record.push_record.Goals as goal
 
 long : (bs : List ℕ) (n : ℕ) → n ≤ 4 * length bs → length (take n (codes_in bs)) ≡ n
@@ -53,7 +53,7 @@ pub behind-back-requires-clause-back : goal.behind-back-requires-clause-back
 behind-back-requires-clause-back g c =
     let num = g.W.Word.number in
     let bs = c.args.bytes.now in
-    fits c.args.rule.strands c.args.rule.k c.args.symbols c.args.rule.within.0 (codes_in bs) (are_codes bs) (within bs c.args.symbols c.requires.inside) (num c.top-top.result) c.top-top.ensures
+    fits c.args.rule.strands c.args.rule.k c.args.symbols c.args.weight.bits c.args.weight.times c.args.rule.within.0 (codes_in bs) (are_codes bs) (within bs c.args.symbols c.requires.inside) (num c.top-top.result) c.top-top.ensures
     c.head.i (num c.head.forward) (num c.head.back) (omega arith) c.head.invariant
 
 pub head-preserved : goal.head-preserved
@@ -72,10 +72,11 @@ near-init g c =
     let n = c.args.symbols in
     let old = map num c.args.words.now.items in
     let end : c.head.i ≡ c.args.rule.k - 1 = omega arith in
-    let r = held_first c.args.rule.strands c.args.rule.k n c.args.rule.within.0 (codes_in bs) (are_codes bs) (within bs n c.requires.inside) (num c.top-top.result) c.top-top.ensures (c.args.rule.k - 1) (num c.head.forward) (num c.head.back) old (vec_len c.reserve.new.self) (vec_capacity c.reserve.new.self) (omega arith)
+    let r = held_first c.args.rule.strands c.args.rule.k n c.args.weight.bits c.args.weight.times c.args.rule.within.0 (codes_in bs) (are_codes bs) (within bs n c.requires.inside) (num c.top-top.result) c.top-top.ensures (c.args.rule.k - 1) (num c.head.forward) (num c.head.back) old (vec_len c.reserve.new.self) (vec_capacity c.reserve.new.self) (omega arith)
     (omega (arith, c.in_ok-reserve.ensures.ok)) (rw end at c.head.invariant) in
     record {
-      filled = record { rolling = r.filled.rolling; pushed = ap (map num) c.reserve.ensures.items ∙ r.filled.pushed };
+      rolling = r.rolling;
+      pushed = ap (map num) c.reserve.ensures.items ∙ r.pushed;
       room = r.room;
     }
 
@@ -84,14 +85,14 @@ push_code-requires-clause-back g c =
     let num = g.W.Word.number in
     let bs = c.args.bytes.now in
     let n = c.args.symbols in
-    fits c.args.rule.strands c.args.rule.k n c.args.rule.within.0 (codes_in bs) (are_codes bs) (within bs n c.requires.inside) (num c.top-top.result) c.top-top.ensures c.near.i (num c.near.forward) (num c.near.back) (omega (arith, c.min-near.ensures)) c.near.invariant.filled.rolling
+    fits c.args.rule.strands c.args.rule.k n c.args.weight.bits c.args.weight.times c.args.rule.within.0 (codes_in bs) (are_codes bs) (within bs n c.requires.inside) (num c.top-top.result) c.top-top.ensures c.near.i (num c.near.forward) (num c.near.back) (omega (arith, c.min-near.ensures)) c.near.invariant.rolling
 
 pub near-preserved : goal.near-preserved
 near-preserved g c =
     let num = g.W.Word.number in
     let bs = c.args.bytes.now in
     let n = c.args.symbols in
-    held_more c.args.rule.strands c.args.rule.k n c.args.rule.within.0 (codes_in bs) (are_codes bs) (within bs n c.requires.inside) (num c.top-top.result) c.top-top.ensures c.near.i _ (num c.near.forward) (num c.near.back) (num c.push_code.result.0) (num c.push_code.result.1)
+    held_more c.args.rule.strands c.args.rule.k n c.args.weight.bits c.args.weight.times c.args.rule.within.0 (codes_in bs) (are_codes bs) (within bs n c.requires.inside) (num c.top-top.result) c.top-top.ensures c.near.i _ (num c.near.forward) (num c.near.back) (num c.push_code.result.0) (num c.push_code.result.1)
     (map num c.args.words.now.items) (map num c.near.words.items) (map num c.push_code.new.words.items) (vec_len c.near.words) (vec_capacity c.near.words) (vec_len c.push_code.new.words) (vec_capacity c.push_code.new.words)
     (omega (arith, c.min-near.ensures)) (omega arith) c.code_at-code-in-near.ensures.is c.push_code.ensures.ahead c.push_code.ensures.behind c.push_code.ensures.pushed c.push_code.ensures.len c.push_code.ensures.capacity c.near.invariant
 
@@ -116,7 +117,7 @@ push_code-requires-in-codes-clause-back g c =
     let num = g.W.Word.number in
     let bs = c.args.bytes.now in
     let n = c.args.symbols in
-    fits c.args.rule.strands c.args.rule.k n c.args.rule.within.0 (codes_in bs) (are_codes bs) (within bs n c.requires.inside) (num c.top-top.result) c.top-top.ensures (4 * c.bytes.j + c.codes.r) (num c.codes.forward) (num c.codes.back) (omega arith) c.codes.invariant.filled.rolling
+    fits c.args.rule.strands c.args.rule.k n c.args.weight.bits c.args.weight.times c.args.rule.within.0 (codes_in bs) (are_codes bs) (within bs n c.requires.inside) (num c.top-top.result) c.top-top.ensures (4 * c.bytes.j + c.codes.r) (num c.codes.forward) (num c.codes.back) (omega arith) c.codes.invariant.rolling
 
 pub codes-preserved : goal.codes-preserved
 codes-preserved g c =
@@ -124,7 +125,7 @@ codes-preserved g c =
     let bs = c.args.bytes.now in
     let n = c.args.symbols in
     let up : 4 * c.bytes.j + c.codes.r + 1 ≡ 4 * c.bytes.j + (c.codes.r + 1) = omega arith in
-    let r = held_more c.args.rule.strands c.args.rule.k n c.args.rule.within.0 (codes_in bs) (are_codes bs) (within bs n c.requires.inside) (num c.top-top.result) c.top-top.ensures (4 * c.bytes.j + c.codes.r) _ (num c.codes.forward) (num c.codes.back) (num c.push_code-in-codes.result.0) (num c.push_code-in-codes.result.1)
+    let r = held_more c.args.rule.strands c.args.rule.k n c.args.weight.bits c.args.weight.times c.args.rule.within.0 (codes_in bs) (are_codes bs) (within bs n c.requires.inside) (num c.top-top.result) c.top-top.ensures (4 * c.bytes.j + c.codes.r) _ (num c.codes.forward) (num c.codes.back) (num c.push_code-in-codes.result.0) (num c.push_code-in-codes.result.1)
     (map num c.args.words.now.items) (map num c.codes.words.items) (map num c.push_code-in-codes.new.words.items) (vec_len c.codes.words) (vec_capacity c.codes.words) (vec_len c.push_code-in-codes.new.words) (vec_capacity c.push_code-in-codes.new.words)
     (omega arith) (omega arith) (sym (at bs c.bytes.j c.codes.r (omega arith) c.codes-test.true)) c.push_code-in-codes.ensures.ahead c.push_code-in-codes.ensures.behind c.push_code-in-codes.ensures.pushed c.push_code-in-codes.ensures.len c.push_code-in-codes.ensures.capacity c.codes.invariant in
     rw up at r
@@ -150,14 +151,14 @@ push_code-requires-in-rest-clause-back g c =
     let num = g.W.Word.number in
     let bs = c.args.bytes.now in
     let n = c.args.symbols in
-    fits c.args.rule.strands c.args.rule.k n c.args.rule.within.0 (codes_in bs) (are_codes bs) (within bs n c.requires.inside) (num c.top-top.result) c.top-top.ensures c.rest.i (num c.rest.forward) (num c.rest.back) c.rest-test.true c.rest.invariant.filled.rolling
+    fits c.args.rule.strands c.args.rule.k n c.args.weight.bits c.args.weight.times c.args.rule.within.0 (codes_in bs) (are_codes bs) (within bs n c.requires.inside) (num c.top-top.result) c.top-top.ensures c.rest.i (num c.rest.forward) (num c.rest.back) c.rest-test.true c.rest.invariant.rolling
 
 pub rest-preserved : goal.rest-preserved
 rest-preserved g c =
     let num = g.W.Word.number in
     let bs = c.args.bytes.now in
     let n = c.args.symbols in
-    held_more c.args.rule.strands c.args.rule.k n c.args.rule.within.0 (codes_in bs) (are_codes bs) (within bs n c.requires.inside) (num c.top-top.result) c.top-top.ensures c.rest.i _ (num c.rest.forward) (num c.rest.back) (num c.push_code-in-rest.result.0) (num c.push_code-in-rest.result.1)
+    held_more c.args.rule.strands c.args.rule.k n c.args.weight.bits c.args.weight.times c.args.rule.within.0 (codes_in bs) (are_codes bs) (within bs n c.requires.inside) (num c.top-top.result) c.top-top.ensures c.rest.i _ (num c.rest.forward) (num c.rest.back) (num c.push_code-in-rest.result.0) (num c.push_code-in-rest.result.1)
     (map num c.args.words.now.items) (map num c.rest.words.items) (map num c.push_code-in-rest.new.words.items) (vec_len c.rest.words) (vec_capacity c.rest.words) (vec_len c.push_code-in-rest.new.words) (vec_capacity c.push_code-in-rest.new.words)
     c.rest-test.true (omega (arith, c.min-near.ensures, c.max-last.ensures)) c.code_at-code-in-rest.ensures.is c.push_code-in-rest.ensures.ahead c.push_code-in-rest.ensures.behind c.push_code-in-rest.ensures.pushed c.push_code-in-rest.ensures.len c.push_code-in-rest.ensures.capacity c.rest.invariant
 
@@ -168,5 +169,14 @@ returns g c =
     let n = c.args.symbols in
     let least : c.max-last.result ≤ n = omega (arith, c.min-near.ensures, c.max-last.ensures) in
     let most : c.rest.i ≤ n = c.rest.auto.i-end least in
-    held_all c.args.rule.strands c.args.rule.k n c.args.rule.within.0 (codes_in bs) (are_codes bs) (within bs n c.requires.inside) (num c.top-top.result) c.top-top.ensures c.rest.i (num c.rest.forward) (num c.rest.back) (map num c.args.words.now.items) (map num c.rest.words.items) (vec_len c.rest.words) (vec_capacity c.rest.words)
+    held_all c.args.rule.strands c.args.rule.k n c.args.weight.bits c.args.weight.times c.args.rule.within.0 (codes_in bs) (are_codes bs) (within bs n c.requires.inside) (num c.top-top.result) c.top-top.ensures c.rest.i (num c.rest.forward) (num c.rest.back) (map num c.args.words.now.items) (map num c.rest.words.items) (vec_len c.rest.words) (vec_capacity c.rest.words)
     (omega arith) c.rest.invariant
+
+pub push_code-requires-clause-beside : goal.push_code-requires-clause-beside
+push_code-requires-clause-beside g c = (c.args.rule.k, c.args.rule.within.0, c.requires.beside, top_room c.args.rule.k (g.W.Word.number c.top-top.result) c.args.rule.within.0 c.top-top.ensures)
+
+pub push_code-requires-in-codes-clause-beside : goal.push_code-requires-in-codes-clause-beside
+push_code-requires-in-codes-clause-beside g c = (c.args.rule.k, c.args.rule.within.0, c.requires.beside, top_room c.args.rule.k (g.W.Word.number c.top-top.result) c.args.rule.within.0 c.top-top.ensures)
+
+pub push_code-requires-in-rest-clause-beside : goal.push_code-requires-in-rest-clause-beside
+push_code-requires-in-rest-clause-beside g c = (c.args.rule.k, c.args.rule.within.0, c.requires.beside, top_room c.args.rule.k (g.W.Word.number c.top-top.result) c.args.rule.within.0 c.top-top.ensures)

@@ -3,10 +3,10 @@ ghost use Rattle.std.specs.Prelude.{◌≡◌, ◌≤◌, [], ◌∷◌, map, If
 
 use crate::tests::texts::{assert_bytes, line_of_a, text_of, vectors_of};
 use kmc_base::{Kmer, Strands};
-use kmc_count::{CountError, Limits};
+use kmc_count::Limits;
 use kmc_dump::{BinLists, Counts, SizedLists, list_bins};
 use kmc_plain::{count_bin, merge_bins};
-use kmc_record::RecordFault;
+use kmc_record::{BodyError, RecordFault};
 use std::alloc::{AllocError, Global};
 use std::process::Abort;
 use std::test::Fail;
@@ -69,7 +69,7 @@ fn assert_damaged(
     requires most { k ≤ 64 }
 {
     let counted = count_bin(alloc, body, k, Strands::Joined, &LIMITS);
-    assert_eq!(rt; counted.err(), Some(CountError::Damaged(fault, place)));
+    assert_eq!(rt; counted.err(), Some(BodyError::Damaged(fault, place)));
 }
 
 #[test]
@@ -119,7 +119,7 @@ fn lists_of<R: Abort + Threads + Sync + Alloc<A = Global>>(
     rt: &R,
     bodies: &[&[u8]],
     threads: usize,
-) -> Result<BinLists, CountError>
+) -> Result<BinLists, BodyError>
     requires { 1 ≤ threads }
 {
     let alloc = rt.alloc();
@@ -175,7 +175,7 @@ fn assert_damaged_bin<R: Abort + Threads + Sync + Alloc<A = Global>>(rt: &R, thr
 {
     let bodies: [&[u8]; 4] = [&[0x00, 0x1b], &[0x00, 0x1b, 0x00], &[0x05], &[0x00, 0x1b]];
     let error = lists_of(rt, &bodies, threads).err();
-    assert_eq!(rt; error, Some(CountError::Damaged(RecordFault::Short, 2)));
+    assert_eq!(rt; error, Some(BodyError::Damaged(RecordFault::Short, 2)));
 }
 
 #[test]

@@ -10,7 +10,8 @@ use Rattle.kmc_record.specs.RecordWords.{record_keys}
 use Rattle.kmc_count.specs.declared.limits.Limits.{Limits}
 use Rattle.kmc_count.specs.Occurrences.{occurrences}
 use Rattle.kmc_count.specs.Dump.{IsDump}
-use Rattle.kmc_count.specs.Bodies.{AreSortedKeys, IsDumpOfBody}
+use Rattle.kmc_count.specs.Bodies.{IsDumpOfBody}
+use Rattle.kmc_plain.specs.SortedKeys.{AreSortedKeys}
 use Rattle.kmc_count.proofs.KeysOfReads.{sorted_fit, sorted_occurrences}
 
 record_keys_are_words : (strands : Strands) (k : ℕ) (ss : List (List ℕ)) → AllByRecursion (IsSpelled k) ss → AreWords k (record_keys strands k ss)

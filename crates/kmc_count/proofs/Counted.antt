@@ -1,0 +1,74 @@
+-- From records that were taken in to the dump of their words.
+use Rattle.std.proofs.Common.{◌≡◌, ℕ, ◌+◌, ◌*◌, ◌/◌, ◌^◌, ◌<◌, true, false, Bool, cond, List, [], ◌∷◌, map, refl, sym, ap, subst, ◌∙◌, arith}
+use Rattle.std.proofs.lemmas.List.{map-id}
+use Rattle.std.proofs.lemmas.List.Sorted.{sum_by-IsPermutation, All-permutation}
+use Rattle.std.proofs.lemmas.List.Sums.{sum_by-cons}
+use Rattle.std.specs.List.{sum_by, All}
+use Rattle.std.specs.List.Sorted.{IsPermutation, IsSorted}
+use Rattle.std.specs.Ordering.{nat_cmp}
+use Rattle.kmc_base.specs.declared.strands.Strands.{Strands}
+use Rattle.kmc_base.specs.Packed.{unpack}
+use Rattle.kmc_base.specs.Weights.{item, items, item_weight, worth, AreItems}
+use Rattle.kmc_record.specs.Record.{IsBodyOf}
+use Rattle.kmc_record.specs.RecordWords.{record_keys}
+use Rattle.kmc_record.specs.RecordKeys.{key_words, Gains, IsRecordKey, IsTaken}
+use Rattle.kmc_record.proofs.Taken.{moved_keys}
+use Rattle.kmc_count.specs.declared.limits.Limits.{Limits}
+use Rattle.kmc_count.specs.Occurrences.{same_word, occurrences, weight_of}
+use Rattle.kmc_count.specs.Dump.{IsDump}
+use Rattle.kmc_count.specs.Bodies.{AreSortedItems, IsDumpOfBody}
+use Rattle.kmc_count.proofs.Runs.{weight_of_cons}
+
+-- ---- what items are worth
+
+worth_is : (k f : ℕ) (g : List ℕ → ℕ) (ns : List ℕ) → worth g (items k f ns) ≡ sum_by (λ n. item_weight f n * g (unpack k (n / 2 ^ f))) ns
+worth_is k f g [] = refl
+worth_is k f g (n ∷ ns) =
+    sum_by-cons (λ (p : List ℕ × ℕ). p.1 * g p.0) (item k f n) (items k f ns)
+    ∙ ap (λ m. item_weight f n * g (unpack k (n / 2 ^ f)) + m) (worth_is k f g ns)
+    ∙ sym (sum_by-cons (λ n. item_weight f n * g (unpack k (n / 2 ^ f))) n ns)
+
+-- with 1 for x: the weight of x
+weight_is : (x : List ℕ) (ps : List (List ℕ × ℕ)) → weight_of ps x ≡ worth (λ w. cond (same_word w x) 1 0) ps
+weight_is x [] = refl
+weight_is x (p ∷ ps) =
+    weight_of_cons x p ps ∙ (λ i. one (same_word p.0 x) p.1 i + weight_is x ps i)
+    ∙ sym (sum_by-cons (λ (p : List ℕ × ℕ). p.1 * cond (same_word p.0 x) 1 0) p ps)
+  where
+    one : (b : Bool) (n : ℕ) → cond b n 0 ≡ n * cond b 1 0
+    one true n = omega arith
+    one false n = omega arith
+
+-- u128's own sort speaks of its numbers as they are
+pub moved_as_numbers : (xs ys : List ℕ) → IsPermutation (map (λ n. n) xs) (map (λ n. n) ys) → IsPermutation xs ys
+moved_as_numbers xs ys h = subst (λ t. IsPermutation t ys) (map-id xs) (subst (IsPermutation (map (λ n. n) xs)) (map-id ys) h)
+
+pub sorted_long : (k : ℕ) (ks sorted : List ℕ) → IsPermutation ks sorted → All (IsRecordKey k) ks → All (IsRecordKey k) sorted
+sorted_long k ks sorted moved h = All-permutation (IsRecordKey k) ks sorted moved h
+
+-- ---- all of it
+
+module _ (strands : Strands) (k f : ℕ) where
+  -- records were taken in, their numbers moved and unpacked, and the items moved
+  pub items_sorted : (body ks sorted now all rising : List ℕ) (ss : List (List ℕ)) → IsBodyOf k ss body → IsTaken strands k f ks now ss → IsPermutation ks sorted
+      → Gains k f now all (key_words strands k sorted) 1 → IsPermutation all rising → IsSorted nat_cmp rising → AreSortedItems strands k f body rising
+  items_sorted body ks sorted now all rising ss records taken keys_moved gains moved up = record {
+    super_kmers = ss;
+    records = records;
+    each = λ g.
+        let same : worth g (items k f rising) ≡ worth g (items k f all) =
+        worth_is k f g rising ∙ sum_by-IsPermutation (λ n. item_weight f n * g (unpack k (n / 2 ^ f))) all rising moved ∙ sym (worth_is k f g all) in
+        omega (arith, same, gains.each g, moved_keys strands k g ks sorted keys_moved, taken.each g);
+    fit = All-permutation (λ n. n / 2 ^ f < 4 ^ k) all rising moved (gains.fit taken.fit);
+    sorted = up;
+  }
+
+  pub body_dump : (body ns : List ℕ) (l : Limits) (pairs : List (List ℕ × ℕ)) → AreSortedItems strands k f body ns → IsDump (weight_of (items k f ns)) l pairs → IsDumpOfBody strands k l body pairs
+  body_dump body ns l pairs are dump = record {
+    super_kmers = are.super_kmers;
+    records = are.records;
+    dump = subst (λ c. IsDump c l pairs) (λ i x. counts x i) dump;
+  }
+    where
+      counts : (x : List ℕ) → weight_of (items k f ns) x ≡ occurrences (record_keys strands k are.super_kmers) x
+      counts x = weight_is x (items k f ns) ∙ are.each (λ w. cond (same_word w x) 1 0)

@@ -1,0 +1,48 @@
+use Rattle.std.proofs.Common.{◌≡◌, ◌+◌, ◌<◌, [], length, map, drop, get_or, subst, sym, arith, drop_of_length-le}
+use Rattle.std.proofs.lemmas.List.Elements.{All-rest}
+use Rattle.kmc_record.specs.RecordKeys.{IsRecordKey}
+use Rattle.kmc_record.proofs.Gaining.{IsOpenRow, row_goes_on, row_ends, last_row}
+use Rattle.kmc_record.proofs.rows.push_rows.Goals as goal
+use Rattle.kmc_record.proofs.rows.push_rows.Goals.{then-next-key, else-next-key+in_ok-push_row}
+
+pub loop-next-preserved : goal.loop-next-preserved
+loop-next-preserved g c =
+    let k = c.args.rule.k in
+    let f = c.args.bits in
+    let strands = c.args.rule.strands in
+    let rest = c.in-Some.rest.now in
+    let all = c.args.keys.now in
+    let i = c.loop-next.next-index in
+    let old = c.loop-next in
+    let now = c.if-next-key in
+    let num = g.W.Word.number in
+    let start = map num c.args.items.now.items in
+    let inside : i < length rest = c.loop-next-test.true in
+    let longs = All-rest (IsRecordKey k) c.in-Some.first.now rest all c.in-Some.ensures.cases.0 c.requires.long in
+    elim c.if-next-key.branch [
+      | then-next-key w ↦ record {
+        some = omega (arith, w.count-is, old.invariant.some);
+        few = omega (arith, w.count-is, old.invariant.few);
+        long = subst (IsRecordKey k) (sym w.key-is) old.invariant.long;
+        open_row = subst (λ items. IsOpenRow k f strands start (map num items.items) now.key now.count (drop (i + 1) rest) all) (sym w.items-is)
+            (subst (λ key. IsOpenRow k f strands start (map num old.items.items) key now.count (drop (i + 1) rest) all) (sym w.key-is)
+            (subst (λ count. IsOpenRow k f strands start (map num old.items.items) old.key count (drop (i + 1) rest) all) (sym w.count-is)
+            (row_goes_on k f strands start (map num old.items.items) old.key old.count i rest all inside w.if-next-key.true old.invariant.open_row)));
+      }
+      | else-next-key+in_ok-push_row w ↦ record {
+        some = omega (arith, w.count-is);
+        few = omega (arith, w.count-is);
+        long = subst (IsRecordKey k) (sym w.key-is) (longs i 0 inside);
+        open_row = subst (λ items. IsOpenRow k f strands start (map num items.items) now.key now.count (drop (i + 1) rest) all) (sym w.items-is)
+            (subst (λ key. IsOpenRow k f strands start (map num w.push_row.new.items.items) key now.count (drop (i + 1) rest) all) (sym w.key-is)
+            (subst (λ count. IsOpenRow k f strands start (map num w.push_row.new.items.items) (get_or rest i 0) count (drop (i + 1) rest) all) (sym w.count-is)
+            (row_ends k f strands start (map num old.items.items) _ old.key old.count i rest all inside w.in_ok-push_row.ensures old.invariant.open_row)));
+      }
+    ]
+
+pub returns : goal.returns
+returns g c =
+    let rest = c.in-Some.rest.now in
+    let end : drop c.loop-next.next-index rest ≡ [] = drop_of_length-le rest (omega (arith, c.loop-next-test.false)) in
+    last_row c.args.rule.k c.args.bits c.args.rule.strands (map g.W.Word.number c.args.items.now.items) (map g.W.Word.number c.loop-next.items.items) _ c.loop-next.key c.loop-next.count _ c.args.keys.now end
+    c.in_ok-push_row-2.ensures c.loop-next.invariant.open_row
