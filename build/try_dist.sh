@@ -22,7 +22,7 @@ fi
 # inside WORD..: a shell's words in the root, without any network
 inside() {
     # shellcheck disable=SC2016
-    unshare --net --mount --pid --fork sh -c 'mount -t proc none "$1/proc" && exec chroot "$1" /usr/bin/env -i PATH=/usr/local/bin:/usr/bin:/bin HOME=/root sh -eu -c "$2"' sh "$root" "$1"
+    unshare --net --mount --pid --fork sh -c 'mount -t proc none "$1/proc" && exec chroot "$1" /usr/bin/env -i PATH=/usr/local/sbin:/usr/local/bin:/usr/sbin:/usr/bin:/sbin:/bin HOME=/root sh -eu -c "$2"' sh "$root" "$1"
 }
 
 # files: the root's files and links, but for what the package manager notes of itself

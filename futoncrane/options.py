@@ -109,7 +109,7 @@ def parse(words, options):
 def help_of(name, command):
     """The help of one command, by its module."""
     lines = ["usage: futoncrane %s %s" % (name, command.USAGE), ""]
-    lines += [textwrap.fill(text, 100) for text in command.TEXT.strip().split("\n")] + [""]
+    lines += [textwrap.fill(" ".join(text.split()), 100) for text in command.TEXT.strip().split("\n\n")] + [""]
     for option in command.OPTIONS:
         if option.names:
             head = ", ".join(option.names) + (" " + option.value if option.value else "")

@@ -478,7 +478,8 @@ merge_names_the_first_fault() {
 }
 
 manual_pages_have_no_fault() {
-    mandoc -Tlint "$top/docs/kmc.1" "$top/docs/kmc_merge.1" "$top/docs/futoncrane.1"
+    # that a page which is not installed is not found says nothing of this one
+    ! mandoc -Tlint "$top/docs/kmc.1" "$top/docs/kmc_merge.1" "$top/docs/futoncrane.1" | grep -v 'referenced manual not found'
 }
 
 installs_and_uninstalls() {

@@ -92,7 +92,9 @@ def test_pages_have_no_fault(room):
     need("mandoc")
     for name in ("futoncrane.1", "kmc.1", "kmc_merge.1"):
         ran = subprocess.run(["mandoc", "-Tlint", os.path.join(TOP, "docs", name)], stdout=subprocess.PIPE)
-        assert ran.returncode == 0, ran.stdout.decode()
+        # that a page which is not installed is not found says nothing of this one
+        told = [line for line in ran.stdout.decode().splitlines() if "referenced manual not found" not in line]
+        assert not told, told
 
 
 def test_one_version_stands_everywhere(room):

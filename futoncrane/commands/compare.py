@@ -9,8 +9,12 @@ from futoncrane.output import text_output
 from futoncrane import shared
 
 USAGE = "[--common | --first | --second | --same] [-o FILE] FIRST.dump SECOND.dump"
-TEXT = """Writes how many k-mers are in both dumps, in the first alone and in the second alone, and their Jaccard index: the number of k-mers in both over the number of those in one or both; of two empty dumps it is 1.
-Both dumps must have been made with the same -k, and with or without --forward alike. They may be packed, and are read once, side by side."""
+TEXT = """
+Writes how many k-mers are in both dumps, in the first alone and in the second alone, and their Jaccard index: the number of k-mers in both
+over the number of those in one or both; of two empty dumps it is 1.
+
+Both dumps must have been made with the same -k, and with or without --forward alike. They may be packed, and are read once, side by side.
+"""
 OPTIONS = [
     Option(["--common"], "what", constant="common", text="writes the k-mers of both, each with its two counts"),
     Option(["--first"], "what", constant="first", text="writes the lines of the first dump whose k-mers are not in the second"),

@@ -17,8 +17,12 @@ from futoncrane.run import open_inputs, run
 from futoncrane import options
 
 USAGE = ""
-TEXT = """Tells which programs are there, their versions, the memory and the processors, and tries them on the example that comes with them: each must give its known dump. The status is 0 where all that is needed works.
-What is packed by gzip, bzip2 or xz is unpacked by this Python where no program is installed; zstd wants its program."""
+TEXT = """
+Tells which programs are there, their versions, the memory and the processors, and tries them on the example that comes with them: each must
+give its known dump. The status is 0 where all that is needed works.
+
+What is packed by gzip, bzip2 or xz is unpacked by this Python where no program is installed; zstd wants its program.
+"""
 OPTIONS = [shared.QUIET]
 EXAMPLES = ["futoncrane doctor"]
 

@@ -6,8 +6,12 @@ from futoncrane.options import Option, number
 from futoncrane.output import text_output
 
 USAGE = "[option ..] [FILE ..]"
-TEXT = """Writes the histogram of counts in the form that GenomeScope reads: one line for each count from 1 to that of --top, also where no k-mer has it: the count, a blank, the number of k-mers. The last line has all k-mers that occur so often or more often.
-These are the lines of 'jellyfish histo -f -h 9999' after its first. GenomeScope leaves out the last line."""
+TEXT = """
+Writes the histogram of counts in the form that GenomeScope reads: one line for each count from 1 to that of --top, also where no k-mer has
+it: the count, a blank, the number of k-mers. The last line has all k-mers that occur so often or more often.
+
+These are the lines of 'jellyfish histo -f -h 9999' after its first. GenomeScope leaves out the last line.
+"""
 OPTIONS = [
     shared.k_option(21),
     Option(["--top"], "top", "COUNT", number(1, 10**7), 10000, "the last line's count, 1 to 10000000 (10000)"),

@@ -8,8 +8,12 @@ from futoncrane.output import Output, text_output
 from futoncrane.run import open_inputs, run
 
 USAGE = "[option ..] [FILE ..]"
-TEXT = """Writes one line for each count that occurs: the count, a tab, and the number of k-mers that occur so often. Every k-mer is counted, and no count is cut off; no dump is kept.
-The picture ends at the count that 995 of 1000 repeated k-mers do not pass. That of --png has a logarithmic axis of k-mers."""
+TEXT = """
+Writes one line for each count that occurs: the count, a tab, and the number of k-mers that occur so often. Every k-mer is counted, and no
+count is cut off; no dump is kept.
+
+The picture ends at the count that 995 of 1000 repeated k-mers do not pass. That of --png has a logarithmic axis of k-mers.
+"""
 OPTIONS = [
     shared.k_option(21),
     Option(["--png"], "png", "FILE", text="draws the histogram into this file (needs gnuplot)"),

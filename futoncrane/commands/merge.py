@@ -13,8 +13,13 @@ from futoncrane.inputs import is_same_file
 
 MOST_FILES = 1000
 USAGE = "[option ..] DUMP .."
-TEXT = """Writes the dump of all the reads of which the dumps are parts: the counts of equal k-mers are added, and the limits judge the sums. The work is done by kmc_merge, whose answer is proved.
-The parts must have been counted with --min 1 --max none --cap none, with the same -k, and with or without --forward alike. 1 to 1000 dumps are taken; they may be packed."""
+TEXT = """
+Writes the dump of all the reads of which the dumps are parts: the counts of equal k-mers are added, and the limits judge the sums. The work
+is done by kmc_merge, whose answer is proved.
+
+The parts must have been counted with --min 1 --max none --cap none, with the same -k, and with or without --forward alike. 1 to 1000 dumps
+are taken; they may be packed.
+"""
 OPTIONS = [*shared.LIMITS, shared.CAP, shared.QUIET, shared.OUT]
 EXAMPLES = [
     "futoncrane count --min 1 --cap none -o a.dump.gz lane_a.fastq.gz",

@@ -9,9 +9,17 @@ from futoncrane.options import MOST, Option, number
 from futoncrane.output import Output, text_output
 
 USAGE = "[option ..] [FILE ..]"
-TEXT = """Estimates a genome's size from the histogram of its reads' k-mers, and writes what it finds, one name, a tab and a value a line: size = sum of count * number from the valley on / count at the peak.
-The valley is the least count whose number is below the next one's: lesser counts are taken for errors of reading. The peak is the count with most k-mers from the valley on: each place of the genome stands in about so many reads' k-mers. Look at the picture: in a genome with two unlike copies of each chromosome the peak at half the depth can be the greater one; give the other by --peak. The estimate is of one copy.
-Source: Li and Waterman, Genome Research 13 (2003) 1916-1922, doi 10.1101/gr.1251803."""
+TEXT = """
+Estimates a genome's size from the histogram of its reads' k-mers, and writes what it finds, one name, a tab and a value a line: size = sum
+of count * number from the valley on / count at the peak.
+
+The valley is the least count whose number is below the next one's: lesser counts are taken for errors of reading. The peak is the count
+with most k-mers from the valley on: each place of the genome stands in about so many reads' k-mers. Look at the picture: in a genome with
+two unlike copies of each chromosome the peak at half the depth can be the greater one; give the other by --peak. The estimate is of one
+copy.
+
+Source: Li and Waterman, Genome Research 13 (2003) 1916-1922, doi 10.1101/gr.1251803.
+"""
 OPTIONS = [
     shared.k_option(21),
     Option(["--peak"], "peak", "COUNT", number(1, MOST), text="the count at the peak, where the one that is found is not the genome's"),

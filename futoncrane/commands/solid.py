@@ -8,7 +8,10 @@ from futoncrane.output import text_output
 from futoncrane.run import open_inputs, run
 
 USAGE = "[option ..] [FILE ..]"
-TEXT = """Writes the k-mers within limits as FASTA, for assemblers and correctors, in the order of the letters. A record is '>NUMBER count=COUNT' and a line with the k-mer. No count is cut off."""
+TEXT = """
+Writes the k-mers within limits as FASTA, for assemblers and correctors, in the order of the letters. A record is '>NUMBER count=COUNT' and
+a line with the k-mer. No count is cut off.
+"""
 OPTIONS = [
     shared.k_option(31), *shared.LIMITS,
     Option(["--jellyfish"], "bare", default=False, text="names each k-mer by its count alone, as 'jellyfish dump' does"),
