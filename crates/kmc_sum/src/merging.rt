@@ -1,5 +1,5 @@
 //! The dump of the sum of dumps.
-ghost use Rattle.std.specs.Prelude.{◌≡◌, ℕ, ◌+◌, ◌*◌, ◌-◌, ◌^◌, ◌<◌, ◌≤◌, List, length, map, IfOk, OnErr, IfErr, IsErrOf, Option, slice_index_or};
+ghost use Rattle.std.specs.Prelude.{◌≡◌, ℕ, ◌+◌, ◌*◌, ◌-◌, ◌^◌, ◌<◌, ◌≤◌, List, length, map, IfOk, OnOk, OnErr, IfErr, IsErrOf, Option, slice_index_or};
 ghost use Rattle.kmc_device.specs.Device.{RisesByOne};
 ghost use Rattle.kmc_sum.specs.Sum.{sum_of};
 ghost use Rattle.kmc_sum.specs.Listed.{IsLength};
@@ -41,6 +41,8 @@ fn drain<R: Read, W: Write>(
         → ((x : List ℕ) → sum_of lists x ≡ 0)
         → IsWritten k limits.now starts (map (λ r. R.remaining r.inner) readers.new) lines
         (W.contents writer.old.inner) (W.contents writer.new.inner)) }
+    ensures sound { OnOk result ((map (λ r. r.failures) readers.new
+        ≡ map (λ r. r.failures) readers.old) × (writer.new.failures ≡ writer.old.failures)) }
     ensures fault { (source line : ℕ) (fault : LineFault)
         → IsErrOf result (SumError.Line source line fault)
         → (starts : List (Option (List ℕ))) (lists : List (List (List ℕ × ℕ)))
@@ -120,6 +122,8 @@ fn merge_in<R: Read, W: Write>(
         (map (λ r. R.remaining r.inner) readers.old)
         (map (λ r. R.remaining r.inner) readers.new) lines
         (W.contents writer.old.inner) (W.contents writer.new.inner)) }
+    ensures sound { OnOk result ((map (λ r. r.failures) readers.new
+        ≡ map (λ r. r.failures) readers.old) × (writer.new.failures ≡ writer.old.failures)) }
     ensures fault { (source line : ℕ) (fault : LineFault)
         → IsErrOf result (SumError.Line source line fault)
         → (k : ℕ) × IsLength k
@@ -162,6 +166,8 @@ pub fn merge<R: Read, W: Write>(
         (map (λ r. R.remaining r.inner) readers.old)
         (map (λ r. R.remaining r.inner) readers.new) lines
         (W.contents writer.old.inner) (W.contents writer.new.inner)) }
+    ensures sound { OnOk result ((map (λ r. r.failures) readers.new
+        ≡ map (λ r. r.failures) readers.old) × (writer.new.failures ≡ writer.old.failures)) }
     ensures fault { (source line : ℕ) (fault : LineFault)
         → IsErrOf result (SumError.Line source line fault)
         → (k : ℕ) × IsLength k

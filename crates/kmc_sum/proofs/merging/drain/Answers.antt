@@ -166,3 +166,6 @@ returns-then-heads-offset48-clause-long g c = λ _ starts lists are.
       | then-loop-step-test+then-not-heads w ↦ absurd (cc (w.if-not-heads.true, c.if-heads-offset48.true))
     ] in
     too_many c.args.k starts _ c.loop-step.rooms c.loop-step.heads c.loop-step._step long most taken
+
+pub returns-in-Ok-close-clause-sound : goal.returns-in-Ok-close-clause-sound
+returns-in-Ok-close-clause-sound g c = (c.loop-step.invariant.same, c.in-Ok-close.ensures.kept ∙ c.in-Ok-put_pair.ensures.ok.3 ∙ c.loop-step.invariant.kept)

@@ -5,7 +5,7 @@ use Rattle.kmc_device.specs.Device.{Watched}
 use Rattle.kmc_device.specs.Lemmas.Devices.{on_err, on_err_then}
 use Rattle.kmc_sum.proofs.Openings.{none_sum}
 use Rattle.kmc_sum.proofs.Advances.{failed_after}
-use Rattle.kmc_sum.proofs.Merges.{begun_none, sum_written, sources_built, if_ok_then}
+use Rattle.kmc_sum.proofs.Merges.{begun_none, sum_written, sources_built, if_ok_then, on_ok_then}
 use Rattle.kmc_sum.proofs.merging.merge_in.Goals as goal
 
 pub returns-in_err-k-clause-begun : goal.returns-in_err-k-clause-begun
@@ -54,3 +54,6 @@ returns-in_err-k-clause-fault g c = grind (arith, common_steps)
 
 pub drain-requires-clause-ready : goal.drain-requires-clause-ready
 drain-requires-clause-ready g c = grind (arith, common_steps)
+
+pub returns-clause-sound : goal.returns-clause-sound
+returns-clause-sound g c = on_ok_then c.drain.result _ _ (λ h. (h.0 ∙ c.in_ok-k.ensures.kept, h.1)) c.drain.ensures.sound
