@@ -22,6 +22,7 @@ SECTIONS = [
     ("skew", "One letter throughout", ["bench/compare.sh", "-t", "4", "-r", "2", "alla"], False),
     ("memory", "Memory", ["bench/memory.sh"], False),
     ("feeding", "What futoncrane takes beside the program", ["bench/feeding.sh"], False),
+    ("feeding", "Files handed to kmc by the command", ["bench/feeding.sh"], False),
     ("merge", "Merging two dumps of 5.6 million lines", ["bench/merge_time.sh"], True),
     ("fuzz", "Hostile texts and options (make fuzz)", ["bench/fuzz.py", "--seed", "7"], True),
     ("hostile", "Refused memory (make hostile)", ["bench/hostile.py"], True),

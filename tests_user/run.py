@@ -23,7 +23,7 @@ sys.path[:0] = [HERE, os.path.dirname(HERE)]
 
 import room  # noqa: E402
 
-FILES = ("words", "reading", "packed", "writing", "commands", "limits", "terminal", "signals", "real_reads")
+FILES = ("programs", "words", "reading", "packed", "writing", "commands", "limits", "terminal", "signals", "real_reads")
 AT_ONCE = 2
 
 
