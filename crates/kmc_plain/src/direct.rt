@@ -6,11 +6,11 @@ ghost use Rattle.kmc_base.specs.Strands.{placed_key};
 ghost use Rattle.kmc_count.specs.Occurrences.{count_of};
 ghost use Rattle.kmc_count.specs.Dump.{IsDump};
 
+use crate::keys::push_keys;
+use crate::stretch::segments;
 use crate::words::tally_words;
 use kmc_base::{KeyRule, Kmer, MAX_K, Strands, Word};
 use kmc_count::Limits;
-use kmc_segments::keys::push_keys;
-use kmc_segments::stretch::segments;
 use std::alloc::{AllocError, Global};
 
 /// The most symbols of a k-mer that 64 bits hold.
