@@ -57,6 +57,9 @@ Description: counts the k-mers of sequencing reads
  futoncrane counts the k-mers of FASTQ and FASTA files, plain or packed, by
  programs whose answer is proved: the dump is exactly the count of the reads.
 CONTROL
+printf '#!/bin/sh\npy3compile -p futoncrane || true\n' > "$root/DEBIAN/postinst"
+printf '#!/bin/sh\npy3clean -p futoncrane || true\n' > "$root/DEBIAN/prerm"
+chmod 755 "$root/DEBIAN/postinst" "$root/DEBIAN/prerm"
 find "$root" -newermt "@$when" -exec touch -h -d "@$when" {} +
 SOURCE_DATE_EPOCH=$when dpkg-deb --root-owner-group --build "$root" "dist/futoncrane_${version}_amd64.deb" > /dev/null
 (cd dist && sha256sum "$name.tar.gz" "futoncrane_${version}_amd64.deb" > SHA256SUMS)

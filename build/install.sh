@@ -16,6 +16,7 @@ noted=$prefix/share/futoncrane/folders
 if [ "$action" = remove ]; then
     [ -f "$noted" ] || { echo "install.sh: futoncrane is not installed in $prefix" >&2; exit 1; }
     folders=$(cat "$noted")
+    rm -rf "$prefix/share/futoncrane/futoncrane/__pycache__" "$prefix/share/futoncrane/futoncrane/commands/__pycache__"
     rm -f "$noted"
     find bin share \( -type f -o -type l \) -exec sh -c 'prefix=$1; shift; for it; do rm -f "$prefix/$it"; done' sh "$prefix" {} +
     # the folders that the installation made, the deepest first
@@ -38,4 +39,6 @@ $folder"
 done
 find bin share \( -type f -o -type l \) -exec sh -c 'prefix=$1; shift; for it; do rm -f "$prefix/$it"; cp -P -p "$it" "$prefix/$it"; done' sh "$prefix" {} +
 printf '%s\n' "$made" > "$noted"
+# so that a run begins the sooner; without it all is the same
+python3 -m compileall -q "$prefix/share/futoncrane/futoncrane" > /dev/null 2>&1 || true
 echo "futoncrane is installed in $prefix; try: $prefix/bin/futoncrane doctor"

@@ -1,11 +1,9 @@
 """The files of reads: how each is compressed, whether it is FASTQ or FASTA, and about how many symbols it has."""
 import contextlib
 import errno
-import lzma
 import os
 import stat
 import subprocess
-import zlib
 
 from futoncrane import packing
 from futoncrane.faults import Fault, reason, shown
@@ -98,6 +96,8 @@ class Input:
         """Some text of a compressed file."""
         if self.packing == "zstd":
             return self._by_child(first)
+        import lzma
+        import zlib
         make = packing.maker(self.packing)
         unpack, text, read, block = make(), b"", 0, first
         try:

@@ -78,5 +78,5 @@ def human(count):
 def refuse(found, room, is_asked):
     """The fault that a run is estimated not to fit."""
     cap = "--memory allows %s" % human(room) if is_asked else "the machine has %s" % human(room)
-    raise Fault("this run is estimated to take %s of memory, and %s: give a higher --memory, or count the files in parts with "
+    raise Fault("this run is estimated to take %s of memory, and %s: give a higher --memory or fewer --threads, or count the files in parts with "
                 "'--min 1 --cap none -o PART' and join these by 'futoncrane merge'" % (human(found.wanted), cap))

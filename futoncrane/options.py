@@ -1,7 +1,5 @@
 """The words of a command: its options, their values and ranges, and the help that tells them."""
-import difflib
 import re
-import textwrap
 import types
 
 from futoncrane.faults import Misuse
@@ -49,6 +47,7 @@ def size(least):
 
 def nearest(word, words):
     """'; did you mean X?' with the nearest of the words, or nothing where none is near."""
+    import difflib  # what a run does not want is read only where it is wanted: a run begins the sooner
     found = difflib.get_close_matches(word, words, 1, 0.5)
     return "; did you mean %s?" % found[0] if found else ""
 
@@ -108,6 +107,7 @@ def parse(words, options):
 
 def help_of(name, command):
     """The help of one command, by its module."""
+    import textwrap
     lines = ["usage: futoncrane %s %s" % (name, command.USAGE), ""]
     lines += [textwrap.fill(" ".join(text.split()), 100) for text in command.TEXT.strip().split("\n\n")] + [""]
     for option in command.OPTIONS:

@@ -1,10 +1,7 @@
 """How files are compressed, and the programs that unpack them and pack the dump."""
-import bz2
-import lzma
 import os
 import shutil
 import sys
-import zlib
 
 from futoncrane.faults import Fault
 
@@ -70,4 +67,7 @@ def packer():
 
 def maker(kind):
     """What makes an object that unpacks one stream of this kind."""
+    import bz2  # these are read only where a file is packed
+    import lzma
+    import zlib
     return {"gzip": lambda: zlib.decompressobj(31), "bzip2": bz2.BZ2Decompressor, "xz": lzma.LZMADecompressor}[kind]

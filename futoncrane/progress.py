@@ -115,5 +115,5 @@ class Watch:
         if self.is_shown and status == 0:
             read, seconds = self.feed.total(), time.monotonic() - self.begun
             peak = 1024 * resource.getrusage(resource.RUSAGE_CHILDREN).ru_maxrss
-            self.say("%sdone in %s, at most %s of memory in one program" % (
+            self.say("%sdone in %s, at most %s of memory" % (
                 "%s read, " % human(read) if read is not None else "", clock(seconds), human(peak)))

@@ -104,7 +104,7 @@ def where(line, found):
         count = line - before if number + 1 == len(found) else lines_of(it)
         if line - before <= count:
             earlier = found[number - 1].shown
-            cut = " (or %s ends within a record)" % earlier if number and line - before <= 2 and it.format == "FASTQ" else ""
+            cut = " (or %s ends within a record)" % earlier if number and line - before <= 2 and it.format != "FASTA" else ""
             return "%s: line %d%s: " % (it.shown, line - before, cut)
         before += count
     return "line %d: " % line

@@ -1,5 +1,6 @@
 """Memory: how a run is judged before it begins, and how a cap is held."""
 import os
+import sys
 
 from room import READS, content, plainly
 
@@ -69,7 +70,7 @@ def test_a_cap_is_told_to_the_system(room):
 
 
 def test_a_program_that_takes_more_is_ended(room):
-    room.stand_in("#!/usr/bin/env python3\nimport time\nheld = bytearray(150 << 20)\ntime.sleep(60)\n")
+    room.stand_in("#!" + sys.executable + "\nimport time\nheld = bytearray(150 << 20)\ntime.sleep(60)\n")
     room.refuses(1, "out of memory: kmc took more than --memory 100 MB", words=["count", "--memory", "100M", READS, "-o", "out"])
 
 

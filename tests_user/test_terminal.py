@@ -3,6 +3,7 @@ import os
 import pty
 import select
 import subprocess
+import sys
 
 from room import COMMAND, READS, content, wanted_dump
 
@@ -32,7 +33,7 @@ def on_terminal(room, *words, stdin=subprocess.DEVNULL, stdout=subprocess.PIPE):
 
 def slow(room):
     """A kmc that takes its time over reading, counting and writing."""
-    room.stand_in("#!/usr/bin/env python3\nimport os, time\nos.read(0, 20000)\ntime.sleep(2)\n"
+    room.stand_in("#!" + sys.executable + "\nimport os, time\nos.read(0, 20000)\ntime.sleep(2)\n"
                   "while os.read(0, 20000):\n    pass\ntime.sleep(0.7)\nos.write(1, b'ACGT\\t2\\n')\ntime.sleep(0.7)\n")
 
 
