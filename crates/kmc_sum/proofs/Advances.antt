@@ -3,7 +3,7 @@ use Rattle.std.proofs.Common.{◌≡◌, ◌≢◌, ℕ, ◌+◌, ◌*◌, ◌-�
 use Rattle.std.proofs.lemmas.Bool.{cases_eq}
 use Rattle.std.proofs.lemmas.List.{get_or-set_other, get_or-set_same, length-set, length-map, get_or-map, map-set}
 use Rattle.std.proofs.Math.Seq.{map-set_same}
-use Rattle.kmc_sum.specs.Refusals.{HasFailed, IsFirstFault}
+use Rattle.kmc_sum.specs.Refusals.{BeginsWith, HasFailed, IsFirstFault, IsReadBefore}
 use Rattle.kmc_sum.specs.declared.heads.Head.{Head}
 use Rattle.kmc_sum.specs.declared.source.Room.{Room}
 use Rattle.kmc_sum.specs.Heads.{rank, no_head, head_at, pending, IsWinner, IsTree}
@@ -12,8 +12,9 @@ use Rattle.kmc_device.specs.Line.{text_of}
 use Rattle.kmc_device.specs.Device.{Watched, RisesByOne}
 use Rattle.kmc_sum.specs.Faults.{GaveFront, IsFaultAt}
 use Rattle.kmc_sum.specs.declared.error.LineFault.{LineFault}
+use Rattle.kmc_sum.specs.declared.error.LineFault.TheVariants.{OtherLength}
 use Rattle.kmc_sum.specs.Sources.{IsSource, AreReady, AreSources, GaveFronts, left_at, list_at, with_first}
-use Rattle.kmc_sum.proofs.Gave.{gave_fewer}
+use Rattle.kmc_sum.proofs.Gave.{gave_fewer, begins_other}
 use Rattle.kmc_sum.proofs.Trees.{same_winner, least, leaf}
 
 pub source_like : (k : ℕ) (start a b : Option (List ℕ)) (r s : Room) (h g : Head) (t u : List (List ℕ × ℕ)) → a ≡ b → r ≡ s → h ≡ g → t ≡ u → IsSource k start a r h t → IsSource k start b s g u
@@ -158,15 +159,21 @@ lost_after k n s starts nows rooms heads lists now are inside lost room = record
           subst (λ x. GaveFront k (left_at starts i) x (list_at lists i) (text_of (pending k head) ++ unread (get_or rooms i (room i within)))) (sym (get_or-set_other nows s i now None differ)) fewer,
         )
 
+-- what the reader that went on has left
+pub left_now : {T : Type 0} (left : T → Option (List ℕ)) (readers : List T) (s : ℕ) (reader : T) → s < length readers → left_at (map left (set readers s reader)) s ≡ left reader
+left_now left readers s reader inside =
+    get_or-map left (set readers s reader) s reader None (omega (arith, inside, length-set readers s reader)) ∙ ap left (get_or-set_same readers s reader reader inside)
+
 -- one of the readers went on, and its source is at fault
 pub fault_after : {T : Type 0} (left : T → Option (List ℕ)) (readers : List T) (s : ℕ) (reader : T) (k : ℕ) (starts : List (Option (List ℕ))) (source line : ℕ) (fault : LineFault) → s < length readers → s < length starts → source ≡ s
-    → IsFaultAt k (left_at starts s) (left reader) line fault → IsFirstFault k starts (map left (set readers s reader)) source line fault
-fault_after left readers s reader k starts source line fault inside within e h =
+    → (fault ≡ OtherLength → IsReadBefore k starts (map left (set readers s reader)) s line) → IsFaultAt k (left_at starts s) (left reader) line fault → IsFirstFault k starts (map left (set readers s reader)) source line fault
+fault_after left readers s reader k starts source line fault inside within e before h =
     let nows = map left (set readers s reader) in
-    let now : left_at nows s ≡ left reader = get_or-map left (set readers s reader) s reader None (omega (arith, inside, length-set readers s reader)) ∙ ap left (get_or-set_same readers s reader reader inside) in
+    let now : left_at nows s ≡ left reader = left_now left readers s reader inside in
     record {
       inside = omega (arith, e, within);
       first = subst (λ i. IsFaultAt k (left_at starts i) (left_at nows i) line fault) (sym e) (subst (λ x. IsFaultAt k (left_at starts s) x line fault) (sym now) h);
+      length_read = λ other. subst (λ i. IsReadBefore k starts nows i line) (sym e) (before other);
     }
 
 -- the reader of the first head went on
@@ -195,8 +202,16 @@ module _ {T : Type 0} (left : T → Option (List ℕ)) (readers : List T) (reade
       subst (λ nows. AreSources k starts nows (set rooms s found) mended (with_first k heads lists)) (sym (map-set left readers s next))
       (sources_after k (length readers) rooms heads ready tree some head mended long leaves starts (map left readers) lists (left next) found count are is)
 
-  pub source_at_fault : (source line : ℕ) (fault : LineFault) → source ≡ s → IsFaultAt k (left_at starts s) (left next) line fault → IsFirstFault k starts (map left (set readers s next)) source line fault
-  source_at_fault source line fault is h = fault_after left readers s next k starts source line fault inside within is h
+  pub source_at_fault : (source line : ℕ) (fault : LineFault) → source ≡ s → 2 ≤ line → IsFaultAt k (left_at starts s) (left next) line fault → IsFirstFault k starts (map left (set readers s next)) source line fault
+  source_at_fault source line fault is two h =
+      fault_after left readers s next k starts source line fault inside within is
+      (λ other. record {
+        first = s;
+        before = inr (refl, two);
+        begins = subst (λ x. BeginsWith k (left_at starts s) x) (sym (left_now left readers s next inside))
+            (begins_other k (left_at starts s) (left next) line two (subst (λ (f : LineFault). IsFaultAt k (left_at starts s) (left next) line f) other h));
+      })
+      h
 
   pub source_lost : ((rest : List ℕ) × GaveFront k (left_at starts s) (left next) (list_at lists s) rest) → GaveFronts k starts (map left (set readers s next)) lists
   source_lost lost =

@@ -1,8 +1,8 @@
 -- What a source gave so far.
-use Rattle.std.proofs.Common.{◌≡◌, ◌≢◌, ℕ, zero, suc, ◌/◌, ◌%◌, ◌<◌, ◌≤◌, ◌^◌, cond, true, List, [], ◌∷◌, ◌++◌, drop, Option, refl, sym, ap, subst, ◌∙◌, arith, append_assoc, append-nil}
+use Rattle.std.proofs.Common.{◌≡◌, ◌≢◌, ℕ, zero, suc, ◌/◌, ◌%◌, ◌<◌, ◌≤◌, ◌^◌, cond, true, List, [], ◌∷◌, ◌++◌, drop, length, Option, refl, sym, ap, subst, ◌∙◌, arith, append_assoc, append-nil}
 use Rattle.std.proofs.KnownBytes.{Consumes-trans}
 use Rattle.std.proofs.lemmas.Grind.{flat_map-append}
-use Rattle.std.proofs.lemmas.List.{take-append-drop, map-append}
+use Rattle.std.proofs.lemmas.List.{take-append-drop, map-append, length-append}
 use Rattle.std.specs.Io.KnownBytes.{Consumes}
 use Rattle.std.specs.List.{AllByRecursion}
 use Rattle.std.specs.List.Sorted.{IsStrictlySortedBy}
@@ -21,6 +21,7 @@ use Rattle.kmc_sum.specs.Listed.{IsPair, AreListed}
 use Rattle.kmc_sum.specs.Line.{IsLineOf}
 use Rattle.kmc_sum.specs.Pairs.{EndsIn}
 use Rattle.kmc_sum.specs.Faults.{GaveFront, line_after, IsOfOtherLength, IsNotRising}
+use Rattle.kmc_sum.specs.Refusals.{BeginsWith}
 use Rattle.kmc_sum.specs.Source.{unread, GoesOn}
 use Rattle.kmc_sum.specs.Heads.{pending}
 use Rattle.kmc_sum.specs.Sources.{IsSource}
@@ -152,6 +153,9 @@ source_ends k packed start now room head taken live is source = record {
   fits = subst (λ p. p < 4 ^ k) is (source.fits live);
 }
 
+pub ends_some : (k last : ℕ) (pairs : List (List ℕ × ℕ)) → EndsIn k last pairs → 1 ≤ length pairs
+ends_some k last pairs ends = omega (arith, ap length ends.are, length-append ends.front ((unpack k last, ends.count) ∷ []))
+
 all_front : (P : List ℕ × ℕ → Type 0) (ps qs : List (List ℕ × ℕ)) → AllByRecursion P (ps ++ qs) → AllByRecursion P ps
 all_front P [] qs h = tt
 all_front P (p ∷ ps) qs h = (h.0, all_front P ps qs h.1)
@@ -177,6 +181,14 @@ gave_fewer k a b ps qs rest h = record {
   listed = listed_front k ps qs h.listed;
   bytes = subst (Consumes a b) (ap (λ (t : List ℕ). t ++ rest) (flat_map-append line_of ps qs) ∙ append_assoc (text_of ps) (text_of qs) rest) h.bytes;
 }
+
+-- lines that were given have a first one
+pub begins_other : (k : ℕ) (a b : Option (List ℕ)) (line : ℕ) → 2 ≤ line → IsOfOtherLength k a b line → BeginsWith k a b
+begins_other k a b line two o = begins o.pairs o.number o.gave
+  where
+    begins : (pairs : List (List ℕ × ℕ)) → line ≡ line_after pairs → GaveFront k a b pairs o.rest → BeginsWith k a b
+    begins [] number gave = absurd (omega (arith, number, two))
+    begins (p ∷ ps) number gave = record { pair = p; rest = text_of ps ++ o.rest; gave = gave_fewer k a b (p ∷ []) ps o.rest gave }
 
 pub lost_front : (k : ℕ) (a b c : Option (List ℕ)) (room : Room) (head : Head) (taken : List (List ℕ × ℕ)) (rest : List ℕ) → GoesOn b c (unread room) rest → IsSource k a b room head taken
     → (more : List ℕ) × GaveFront k a c taken more

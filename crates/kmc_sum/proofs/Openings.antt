@@ -14,13 +14,14 @@ use Rattle.kmc_sum.specs.Heads.{no_head, head_at, pending}
 use Rattle.kmc_sum.specs.Source.{unread, IsRoom, GoesOn, IsEnough}
 use Rattle.kmc_sum.specs.Sources.{IsSource, IsFresh, Agrees, AreReady, AreSources, AreOpened, GaveFronts, left_at, list_at, no_lists}
 use Rattle.kmc_sum.specs.Sum.{sum_of, listed_count}
-use Rattle.kmc_sum.specs.Refusals.{IsFirstFault}
+use Rattle.kmc_sum.specs.Refusals.{BeginsWith, IsFirstFault, IsReadBefore}
 use Rattle.kmc_sum.specs.declared.error.LineFault.{LineFault}
+use Rattle.kmc_sum.specs.declared.error.LineFault.TheVariants.{OtherLength}
 use Rattle.kmc_sum.specs.declared.line.Line.{Line}
 use Rattle.kmc_sum.specs.declared.heads.Head.{Head}
 use Rattle.kmc_sum.specs.declared.source.Room.{Room}
 use Rattle.kmc_sum.proofs.Rooms.{goes_nowhere}
-use Rattle.kmc_sum.proofs.Advances.{source_like, fault_after}
+use Rattle.kmc_sum.proofs.Advances.{source_like, fault_after, left_now}
 use Rattle.kmc_sum.proofs.Gave.{line_pair, line_splits, listed_first, front_taken, gave_fewer, of_other_length}
 
 rising_none : IsStrictlySortedBy kmer_cmp []
@@ -39,7 +40,7 @@ module _ (a b : Option (List ℕ)) (before rest : List ℕ) (none : before ≡ [
     pub other_first : (m : ℕ) → l.k ≢ m → IsOfOtherLength m a b 1
     other_first m differ = of_other_length m a b [] rest l (gave_none m a b before rest none goes) is differ
 
-    gave_first : (m : ℕ) → l.k ≡ m → GaveFront m a b ((unpack m l.packed, l.count) ∷ []) (drop l.end rest)
+    pub gave_first : (m : ℕ) → l.k ≡ m → GaveFront m a b ((unpack m l.packed, l.count) ∷ []) (drop l.end rest)
     gave_first m same =
         subst (λ n. GaveFront n a b ((unpack n l.packed, l.count) ∷ []) (drop l.end rest)) same
         (front_taken l.k a b [] (unpack l.k l.packed, l.count) rest (drop l.end rest) (gave_none l.k a b before rest none goes).bytes (line_splits l rest is)
@@ -199,6 +200,12 @@ opened_lost k m n i starts nows rooms heads now room are inside lost = record {
               (gave_none m (left_at starts j) (left_at starts j) [] [] refl (goes_nowhere (left_at starts j) [] [] refl)),
         )
 
+-- one of the sources before this one begins with a word of k letters
+pub record HasBegun (k i : ℕ) (starts nows : List (Option (List ℕ))) : Type 0 where
+  pub first : ℕ
+  pub before : first < i
+  pub begins : BeginsWith k (left_at starts first) (left_at nows first)
+
 -- one of the readers is at its first line
 module _ {T : Type 0} (left : T → Option (List ℕ)) (readers : List T) (reader next : T) (k n i : ℕ) (starts : List (Option (List ℕ))) (rooms : List Room) (heads : List Head) (before : AreOpened k n i starts (map left readers) rooms heads)
     (room : Room) (inside : i < n) where
@@ -216,9 +223,33 @@ module _ {T : Type 0} (left : T → Option (List ℕ)) (readers : List T) (reade
       (opened_next k found n i starts (map left readers) rooms heads before inside kept (left next) now head is own fits
       (λ m agrees. subst (λ a. IsSource m a (left next) now head []) start (first m agrees)))
 
-  pub reader_at_fault : (m source line : ℕ) (fault : LineFault) → source ≡ i → IsFaultAt m (left (get_or readers i reader)) (left next) line fault → IsFirstFault m starts (map left (set readers i next)) source line fault
-  reader_at_fault m source line fault is h =
-      fault_after left readers i next m starts source line fault here (omega (arith, inside, before.starts_long)) is (subst (λ a. IsFaultAt m a (left next) line fault) start h)
+  begins_still : (m j : ℕ) → j < i → BeginsWith m (left_at starts j) (left_at (map left readers) j) → BeginsWith m (left_at starts j) (left_at (map left (set readers i next)) j)
+  begins_still m j below h =
+      let differ : j ≢ i = λ e. omega (arith, e, below) in
+      subst (λ x. BeginsWith m (left_at starts j) x) (sym (ap (λ l. left_at l j) (map-set left readers i next) ∙ get_or-set_other (map left readers) i j (left next) None differ)) h
+
+  -- the sources before this one and this one begin so
+  pub begun_next : (found : ℕ) → (found ≡ k) ⊎ BeginsWith found (left (get_or readers i reader)) (left next) → (1 ≤ k → HasBegun k i starts (map left readers)) → 1 ≤ found
+      → HasBegun found (i + 1) starts (map left (set readers i next))
+  begun_next found (inl same) old some =
+      let w = old (omega (arith, same, some)) in
+      subst (λ n. HasBegun n (i + 1) starts (map left (set readers i next))) (sym same)
+      (record { first = w.first; before = omega (arith, w.before); begins = begins_still k w.first w.before w.begins })
+  begun_next found (inr new) old some = record {
+    first = i;
+    before = omega arith;
+    begins = subst (λ x. BeginsWith found (left_at starts i) x) (sym (left_now left readers i next here)) (subst (λ a. BeginsWith found a (left next)) start new);
+  }
+
+  pub read_before : (m line : ℕ) → m ≡ k → 1 ≤ m → (1 ≤ k → HasBegun k i starts (map left readers)) → IsReadBefore m starts (map left (set readers i next)) i line
+  read_before m line same some old =
+      let w = old (omega (arith, same, some)) in
+      subst (λ n. IsReadBefore n starts (map left (set readers i next)) i line) (sym same)
+      (record { first = w.first; before = inl w.before; begins = begins_still k w.first w.before w.begins })
+
+  pub reader_at_fault : (m source line : ℕ) (fault : LineFault) → source ≡ i → (fault ≡ OtherLength → IsReadBefore m starts (map left (set readers i next)) i line) → IsFaultAt m (left (get_or readers i reader)) (left next) line fault → IsFirstFault m starts (map left (set readers i next)) source line fault
+  reader_at_fault m source line fault is read h =
+      fault_after left readers i next m starts source line fault here (omega (arith, inside, before.starts_long)) is read (subst (λ a. IsFaultAt m a (left next) line fault) start h)
 
   pub reader_lost : (m : ℕ) → ((rest : List ℕ) × GaveFront m (left (get_or readers i reader)) (left next) [] rest) → GaveFronts m starts (map left (set readers i next)) (no_lists starts)
   reader_lost m lost =

@@ -1,17 +1,32 @@
 -- The causes of refusals.
-use Rattle.std.specs.Prelude.{◌≤◌, ◌-◌, ◌^◌, ℕ, ◌<◌, ⊤, List, length, slice_index_or, Option}
+use Rattle.std.specs.Prelude.{◌≡◌, ◌≤◌, ◌-◌, ◌^◌, ℕ, ◌<◌, ◌⊎◌, ⊤, List, [], ◌∷◌, length, slice_index_or, Option}
 use Rattle.std.specs.List.{sum_by}
 use Rattle.kmc_device.specs.Device.{RisesByOne}
 use Rattle.kmc_sum.specs.Sources.{left_at, GaveFronts}
-use Rattle.kmc_sum.specs.Faults.{IsFaultAt}
+use Rattle.kmc_sum.specs.Faults.{GaveFront, IsFaultAt}
 use Rattle.kmc_sum.specs.declared.error.LineFault.{LineFault}
+use Rattle.kmc_sum.specs.declared.error.LineFault.TheVariants.{OtherLength}
 use Rattle.kmc_sum.specs.declared.error.SumError.{SumError}
 use Rattle.kmc_sum.specs.declared.error.SumError.TheVariants.{Line, Read, Write, Memory, TooLong}
 
--- in this source the lines before this one list pairs whose words have k letters and rise, and this line is at fault, and so
+-- the first line that the reader gave has a word of k letters
+pub record BeginsWith (k : ℕ) (old new : Option (List ℕ)) : Type 0 where
+  pub pair : List ℕ × ℕ
+  pub rest : List ℕ
+  pub gave : GaveFront k old new (pair ∷ []) rest
+
+-- a line that was read before this one has a word of k letters: the first line of a source before this one, or of this source
+pub record IsReadBefore (k : ℕ) (starts nows : List (Option (List ℕ))) (source line : ℕ) : Type 0 where
+  pub first : ℕ
+  pub before : (first < source) ⊎ ((first ≡ source) × (2 ≤ line))
+  pub begins : BeginsWith k (left_at starts first) (left_at nows first)
+
+-- in this source the lines before this one list pairs whose words have k letters and rise, and this line is at fault, and so;
+-- where its word has another length, k is that of a line read before
 pub record IsFirstFault (k : ℕ) (starts nows : List (Option (List ℕ))) (source line : ℕ) (fault : LineFault) : Type 0 where
   pub inside : source < length starts
   pub first : IsFaultAt k (left_at starts source) (left_at nows source) line fault
+  pub length_read : fault ≡ OtherLength → IsReadBefore k starts nows source line
 
 -- of the readers' numbers of failures that of this source rises by one
 pub record HasFailed (source : ℕ) (olds news : List ℕ) : Type 0 where

@@ -6,7 +6,7 @@ ghost use Rattle.kmc_sum.specs.Faults.{GaveFront, IsFaultAt};
 ghost use Rattle.kmc_sum.specs.Heads.{head_at};
 ghost use Rattle.kmc_sum.specs.Source.{IsRoom};
 ghost use Rattle.kmc_sum.specs.Sources.{IsSource, IsFresh, Agrees, AreReady, AreSources, AreOpened, GaveFronts, no_lists};
-ghost use Rattle.kmc_sum.specs.Refusals.{IsFirstFault, HasFailed, IsOfSource};
+ghost use Rattle.kmc_sum.specs.Refusals.{BeginsWith, IsFirstFault, HasFailed, IsOfSource};
 ghost use Rattle.kmc_sum.specs.declared.error.LineFault.{LineFault};
 
 use crate::error::{LineFault, SumError};
@@ -64,7 +64,10 @@ fn first_head<R: Read>(
     ensures fault { (s line : ℕ) (fault : LineFault) → IsErrOf result (SumError.Line s line fault)
         → (s ≡ source)
         × ((m : ℕ) × IsLength m
-        × IsFaultAt m (R.remaining reader.old.inner) (R.remaining reader.new.inner) line fault) }
+        × IsFaultAt m (R.remaining reader.old.inner) (R.remaining reader.new.inner) line fault
+        × (fault ≡ LineFault.OtherLength → m ≡ k)) }
+    ensures begins { IfOk result (λ r. (r.1 ≡ k)
+        ⊎ BeginsWith r.1 (R.remaining reader.old.inner) (R.remaining reader.new.inner)) }
     ensures kept { OnOk result (reader.new.failures ≡ reader.old.failures) }
     ensures read { (s : ℕ) → IsErrOf result (SumError.Read s) → (s ≡ source)
         × RisesByOne reader.old.failures reader.new.failures }

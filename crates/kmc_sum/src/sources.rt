@@ -35,7 +35,7 @@ fn next_head<R: Read>(
         × ((start : Option (List ℕ)) (head : Head) (taken : List (List ℕ × ℕ)) → head.live ≡ true
         → head.packed ≡ packed
         → IsSource k start (R.remaining reader.old.inner) room.old head taken
-        → IsFaultAt k start (R.remaining reader.new.inner) line fault) }
+        → IsFaultAt k start (R.remaining reader.new.inner) line fault × (2 ≤ line)) }
     ensures kept { OnOk result (reader.new.failures ≡ reader.old.failures) }
     ensures read { (s : ℕ) → IsErrOf result (SumError.Read s) → (s ≡ source) × RisesByOne reader.old.failures reader.new.failures }
     ensures other { IfErr result IsOfSource }

@@ -1,9 +1,10 @@
-use Rattle.std.proofs.Common.{◌≡◌, Err, ap, subst, arith}
+use Rattle.std.proofs.Common.{◌≡◌, Err, inl, inr, drop, refl, ap, subst, arith}
 use Rattle.kmc_base.specs.Lemmas.Powers.{pow_some}
+use Rattle.kmc_base.specs.Packed.{unpack}
 use Rattle.kmc_sum.specs.Faults.{IsFaultAt}
 use Rattle.kmc_sum.specs.declared.error.LineFault.{LineFault}
 use Rattle.kmc_sum.specs.declared.error.LineFault.TheVariants.{OtherLength, Malformed}
-use Rattle.kmc_sum.proofs.Openings.{gave_none, other_first, first_live, malformed_first, first_ended}
+use Rattle.kmc_sum.proofs.Openings.{gave_none, gave_first, other_first, first_live, malformed_first, first_ended}
 use Rattle.kmc_sum.proofs.opening.first_head.Goals as goal
 
 pub returns-then-line-k-clause-fault : goal.returns-then-line-k-clause-fault
@@ -19,6 +20,7 @@ returns-then-line-k-clause-fault g c = λ s line fault is.
         subst (λ (f : LineFault). IsFaultAt c.args.k (g.R.Read.remaining c.args.reader.now.inner) (g.R.Read.remaining c.next_line.new.reader.inner) line f) d
             (subst (λ n. IsFaultAt c.args.k (g.R.Read.remaining c.args.reader.now.inner) (g.R.Read.remaining c.next_line.new.reader.inner) n OtherLength) b
             (other_first _ _ _ o.0 c.requires.fresh.none o.1 c.in-Ok-Some.line o.2.0 c.args.k c.if-line-k.true)),
+        λ _. refl,
       ),
     )
 
@@ -57,5 +59,15 @@ returns-in-Err-Malformed-clause-fault g c = λ s line fault is.
         subst (λ (f : LineFault). IsFaultAt 1 (g.R.Read.remaining c.args.reader.now.inner) (g.R.Read.remaining c.next_line.new.reader.inner) line f) d
             (subst (λ n. IsFaultAt 1 (g.R.Read.remaining c.args.reader.now.inner) (g.R.Read.remaining c.next_line.new.reader.inner) n Malformed) b
             (malformed_first _ _ _ h.0 c.requires.fresh.none h.1 1 h.2 h.3 h.4)),
+        λ other. absurd (cc (d, other)),
       ),
     )
+
+pub returns-else-k-ne0-clause-begins : goal.returns-else-k-ne0-clause-begins
+returns-else-k-ne0-clause-begins g c =
+    let o = rw c.in-Ok-Some.field-0-is at c.in-Ok-Some.ensures.ok in
+    let l = c.in-Ok-Some.line in
+    inr (record { pair = (unpack l.k l.packed, l.count); rest = drop l.end o.0; gave = gave_first _ _ _ o.0 c.requires.fresh.none o.1 l o.2.0 l.k refl })
+
+pub returns-in-Ok-None-clause-begins : goal.returns-in-Ok-None-clause-begins
+returns-in-Ok-None-clause-begins g c = inl refl

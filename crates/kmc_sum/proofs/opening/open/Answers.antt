@@ -6,7 +6,7 @@ use Rattle.kmc_device.specs.Device.{Watched}
 use Rattle.kmc_device.specs.Lemmas.Devices.{on_err}
 use Rattle.kmc_sum.specs.Sources.{AreReady}
 use Rattle.kmc_sum.proofs.Advances.{failed_at, failed_after, kept_at}
-use Rattle.kmc_sum.proofs.Openings.{all_ready, all_sources, reader_opened, reader_at_fault, reader_lost}
+use Rattle.kmc_sum.proofs.Openings.{all_ready, all_sources, begun_next, read_before, reader_opened, reader_at_fault, reader_lost}
 use Rattle.kmc_sum.proofs.opening.open.Goals as goal
 
 pub loop-i-preserved : goal.loop-i-preserved
@@ -19,6 +19,8 @@ loop-i-preserved g c =
       same = kept_at readers i c.index-readers-i.result c.first_head.new.reader (omega (arith, inv.many, c.loop-i-test.true))
           c.in_ok-head.ensures.kept ∙ inv.same;
       most = c.in_ok-head.ensures.length.1;
+      begun = begun_next (λ (r : Watched g.row.R.Denot). g.R.Read.remaining r.inner) readers c.index-readers-i.result c.first_head.new.reader _ _ i _ _ _ inv.opened c.index-rooms-i.result c.loop-i-test.true
+          c.in_ok-head.found c.in_ok-head.ensures.begins inv.begun;
       opened = reader_opened (λ (r : Watched g.row.R.Denot). g.R.Read.remaining r.inner) readers c.index-readers-i.result c.first_head.new.reader _ _ i _ _ _ inv.opened c.index-rooms-i.result c.loop-i-test.true
           c.in_ok-head.found c.first_head.new.room c.in_ok-head.head c.in_ok-head.ensures.length.2 c.in_ok-head.ensures.room
           c.in_ok-head.ensures.length.0 c.in_ok-head.ensures.fits c.in_ok-head.ensures.ok;
@@ -31,7 +33,10 @@ returns-in_err-head-clause-fault g c = λ source line fault is.
       h.1.0,
       h.1.1,
       reader_at_fault (λ (r : Watched g.row.R.Denot). g.R.Read.remaining r.inner) c.loop-i.readers c.index-readers-i.result c.first_head.new.reader _ _ _ _ _ _ c.loop-i.invariant.opened c.index-rooms-i.result c.loop-i-test.true
-          h.1.0 source line fault h.0 h.1.2,
+          h.1.0 source line fault h.0
+          (λ other. read_before (λ (r : Watched g.row.R.Denot). g.R.Read.remaining r.inner) c.loop-i.readers c.index-readers-i.result c.first_head.new.reader _ _ _ _ _ _ c.loop-i.invariant.opened c.index-rooms-i.result c.loop-i-test.true
+          h.1.0 line (h.1.3 other) h.1.1.0 c.loop-i.invariant.begun)
+          h.1.2,
     )
 
 pub returns-in_err-head-clause-read : goal.returns-in_err-head-clause-read

@@ -50,7 +50,8 @@ returns-in_err-head-clause-fault g c = λ source line fault is starts lists are.
     let old = source_was left c.args.readers.now c.index-readers-source.result c.next_head.new.reader _ _ _ c.requires.ready c.requires.tree c.requires.some c.index-rooms-source.result starts lists are in
     let here = c.next_head.ensures.fault source line fault
     (passed_on c.next_head.result c.from_residual.result _ _ c.in_err-head.was c.from_residual.ensures.1 is) in
-    source_at_fault left c.args.readers.now c.index-readers-source.result c.next_head.new.reader _ _ _ c.requires.ready c.requires.tree c.requires.some c.index-rooms-source.result starts lists are source line fault here.0 (here.1 _ _ _ c.requires.live refl old)
+    let at_fault = here.1 _ _ _ c.requires.live refl old in
+    source_at_fault left c.args.readers.now c.index-readers-source.result c.next_head.new.reader _ _ _ c.requires.ready c.requires.tree c.requires.some c.index-rooms-source.result starts lists are source line fault here.0 at_fault.1 at_fault.0
 
 pub returns-in_err-head-clause-read : goal.returns-in_err-head-clause-read
 returns-in_err-head-clause-read g c = λ source is.

@@ -1,7 +1,7 @@
 use Rattle.std.proofs.Common.{◌≡◌, ◌++◌, Err, refl, ap, subst, arith, rules}
 use Rattle.std.proofs.lemmas.Grind.{common_steps}
 use Rattle.kmc_base.specs.Lemmas.Powers.{pow_some}
-use Rattle.kmc_sum.proofs.Gave.{source_ends, lost_front}
+use Rattle.kmc_sum.proofs.Gave.{source_ends, ends_some, lost_front}
 use Rattle.kmc_sum.specs.declared.error.LineFault.{LineFault}
 use Rattle.kmc_sum.specs.Heads.{pending}
 use Rattle.kmc_sum.specs.Faults.{IsFaultAt, line_after}
@@ -22,9 +22,12 @@ returns-in-Err-Line-clause-fault g c = λ s line fault is.
       λ start head taken live packed source.
           let pairs = taken ++ pending c.args.k head in
           let number : line_after pairs ≡ line = omega (arith, second, c.saturating_add-line.ensures, source.lines) in
-          let here = c.in-Err-Line.ensures.fault c.in-Err-Line.fault (ap Err c.in-Err-Line.field-0-is) start pairs (source_ends c.args.k c.args.packed start _ c.args.room.now head taken live packed source) source.gave in
-          subst (λ (f : LineFault). IsFaultAt c.args.k start (g.R.Read.remaining c.next_pair.new.reader.inner) line f) third
-          (subst (λ n. IsFaultAt c.args.k start (g.R.Read.remaining c.next_pair.new.reader.inner) n c.in-Err-Line.fault) number here),
+          let ends = source_ends c.args.k c.args.packed start _ c.args.room.now head taken live packed source in
+          let here = c.in-Err-Line.ensures.fault c.in-Err-Line.fault (ap Err c.in-Err-Line.field-0-is) start pairs ends source.gave in (
+            subst (λ (f : LineFault). IsFaultAt c.args.k start (g.R.Read.remaining c.next_pair.new.reader.inner) line f) third
+                (subst (λ n. IsFaultAt c.args.k start (g.R.Read.remaining c.next_pair.new.reader.inner) n c.in-Err-Line.fault) number here),
+            omega (arith, number, ends_some c.args.k c.args.packed pairs ends),
+          ),
     )
 
 pub returns-in-Ok-None-clause-behind : goal.returns-in-Ok-None-clause-behind
