@@ -25,18 +25,8 @@ module _ (x : List ℕ) where
           let none : occurrences (w ∷ ws) x ≡ 0 + occurrences ws x = occurrences_more w ws ∙ ap (λ b. cond b 1 0 + occurrences ws x) e in
           inr (more (omega (arith, some, none)))
 
-  has_occurs : (ws : List (List ℕ)) → Has x ws → 1 ≤ occurrences ws x
-  has_occurs [] m = absurd m
-  has_occurs (w ∷ ws) (inl e) =
-      let one : occurrences (w ∷ ws) x ≡ 1 + occurrences ws x = occurrences_more w ws ∙ ap (λ (v : List ℕ). cond (same_word v x) 1 0 + occurrences ws x) e ∙ ap (λ b. cond b 1 0 + occurrences ws x) (same_itself x) in
-      omega (arith, one)
-  has_occurs (w ∷ ws) (inr m) = omega (arith, occurrences_more w ws, has_occurs ws m)
-
   pub occurs_contains : (ws : List (List ℕ)) → 1 ≤ occurrences ws x → Contains ws x
   occurs_contains ws some = contains_has x ws (occurs_has ws some)
-
-  pub contains_occurs : (ws : List (List ℕ)) → Contains ws x → 1 ≤ occurrences ws x
-  contains_occurs ws m = has_occurs ws (has_contains x ws m)
 
   in_one : (wss : List (List (List ℕ))) → Contains (joined wss) x → (j : ℕ) × (j < length wss) × Contains (get_or wss j []) x
   in_one [] h = absurd (omega (arith, h.1))

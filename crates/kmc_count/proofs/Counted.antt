@@ -50,7 +50,8 @@ sorted_long k ks sorted moved h = All-permutation (IsRecordKey k) ks sorted move
 
 module _ (strands : Strands) (k f : ℕ) where
   -- records were taken in, their numbers moved and unpacked, and the items moved
-  pub items_sorted : (body ks sorted now all rising : List ℕ) (ss : List (List ℕ)) → IsBodyOf k ss body → IsTaken strands k f ks now ss → IsPermutation ks sorted
+  pub items_sorted : (body ks sorted now all rising : List ℕ) (ss : List (List ℕ)) → IsBodyOf k ss body → IsTaken strands k f ks now ss
+      → IsPermutation ks sorted
       → Gains k f now all (key_words strands k sorted) 1 → IsPermutation all rising → IsSorted nat_cmp rising → AreSortedItems strands k f body rising
   items_sorted body ks sorted now all rising ss records taken keys_moved gains moved up = record {
     super_kmers = ss;
@@ -63,7 +64,8 @@ module _ (strands : Strands) (k f : ℕ) where
     sorted = up;
   }
 
-  pub body_dump : (body ns : List ℕ) (l : Limits) (pairs : List (List ℕ × ℕ)) → AreSortedItems strands k f body ns → IsDump (weight_of (items k f ns)) l pairs → IsDumpOfBody strands k l body pairs
+  pub body_dump : (body ns : List ℕ) (l : Limits) (pairs : List (List ℕ × ℕ)) → AreSortedItems strands k f body ns → IsDump
+      (weight_of (items k f ns)) l pairs → IsDumpOfBody strands k l body pairs
   body_dump body ns l pairs are dump = record {
     super_kmers = are.super_kmers;
     records = are.records;

@@ -19,12 +19,14 @@ keys_of_reads strands k reads = flat_map (λ read. map (placed_key strands) (cou
 
 module _ (strands : Strands) (k : ℕ) (x : List ℕ) where
   one_place : (i : ℕ) (o : Option (List ℕ)) (ps : List (ℕ × List ℕ))
-      → occurrences (map (placed_key strands) (cons_option (option_map (λ w. (i, w)) o) ps)) x ≡ cond (is_key_of strands x o) 1 0 + occurrences (map (placed_key strands) ps) x
+      → occurrences (map (placed_key strands) (cons_option (option_map (λ w. (i, w)) o) ps)) x ≡ cond (is_key_of strands x o) 1 0 + occurrences
+      (map (placed_key strands) ps) x
   one_place i None ps = sym (zero-add (occurrences (map (placed_key strands) ps) x))
   one_place i (Some w) ps = sum_by-cons (λ (v : List ℕ). cond (same_word v x) 1 0) (key strands w) (map (placed_key strands) ps)
 
   of_places : (read : List ℕ) (is : List ℕ)
-      → occurrences (map (placed_key strands) (filter_map (λ i. option_map (λ w. (i, w)) (word_at k read i)) is)) x ≡ count_by (λ i. is_key_of strands x (word_at k read i)) is
+      → occurrences (map (placed_key strands) (filter_map (λ i. option_map (λ w. (i, w)) (word_at k read i)) is)) x ≡ count_by
+      (λ i. is_key_of strands x (word_at k read i)) is
   of_places read [] = refl
   of_places read (i ∷ is) =
       one_place i (word_at k read i) _ ∙ ap (λ n. cond (is_key_of strands x (word_at k read i)) 1 0 + n) (of_places read is)

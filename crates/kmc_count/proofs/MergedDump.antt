@@ -27,7 +27,8 @@ module _ (l : Limits) where
   same_where_listed : (c d : List ℕ → ℕ) (ps : List (List ℕ × ℕ)) → ((x : List ℕ) → IsListed l (c x) → d x ≡ c x) → All (Right c) ps → All (Right d) ps
   same_where_listed c d ps same = All-weaker (Right c) (Right d) (λ p h. subst (λ n. IsListed l n × (p.1 ≡ shown l n)) (sym (same p.0 h.0)) h) ps
 
-  each_right : (wss : List (List (List ℕ))) (lists : List (List (List ℕ × ℕ))) → AreDumps l wss lists → AreApart wss → All (Right (occurrences (joined wss))) (joined lists)
+  each_right : (wss : List (List (List ℕ))) (lists : List (List (List ℕ × ℕ))) → AreDumps l wss lists → AreApart wss → All
+      (Right (occurrences (joined wss))) (joined lists)
   each_right [] [] dumps apart = All-nil (Right (occurrences []))
   each_right [] (ps ∷ lists) dumps apart = absurd dumps
   each_right (ws ∷ wss) [] dumps apart = absurd dumps
@@ -41,13 +42,16 @@ module _ (l : Limits) where
       (each_right wss lists dumps.1 (tail_apart ws wss apart)) in
       All-append (Right all) ps (joined lists) first rest
 
-  all_there : (x : List ℕ) (wss : List (List (List ℕ))) (lists : List (List (List ℕ × ℕ))) → AreDumps l wss lists → AreApart wss → IsListed l (occurrences (joined wss) x) → Contains (words_of (joined lists)) x
+  all_there : (x : List ℕ) (wss : List (List (List ℕ))) (lists : List (List (List ℕ × ℕ))) → AreDumps l wss lists → AreApart wss → IsListed l
+      (occurrences (joined wss) x) → Contains (words_of (joined lists)) x
   all_there x [] lists dumps apart listed = absurd (omega (arith, listed.0))
   all_there x (ws ∷ wss) [] dumps apart listed = absurd dumps
   all_there x (ws ∷ wss) (ps ∷ lists) dumps apart listed =
-      subst (λ (t : List (List ℕ)). Contains t x) (sym (map-append (λ (p : List ℕ × ℕ). p.0) ps (joined lists))) (go (occurrences ws x) refl (all_there x wss lists dumps.1 (tail_apart ws wss apart)))
+      subst (λ (t : List (List ℕ)). Contains t x) (sym (map-append (λ (p : List ℕ × ℕ). p.0) ps (joined lists)))
+      (go (occurrences ws x) refl (all_there x wss lists dumps.1 (tail_apart ws wss apart)))
     where
-      go : (n : ℕ) → occurrences ws x ≡ n → (IsListed l (occurrences (joined wss) x) → Contains (words_of (joined lists)) x) → Contains (words_of ps ++ words_of (joined lists)) x
+      go : (n : ℕ) → occurrences ws x ≡ n → (IsListed l (occurrences (joined wss) x) → Contains (words_of (joined lists)) x) → Contains
+          (words_of ps ++ words_of (joined lists)) x
       go zero e more =
           let same : occurrences (joined (ws ∷ wss)) x ≡ occurrences (joined wss) x = omega (arith, occurrences_both x ws (joined wss), e) in
           Contains-append_right (words_of ps) (words_of (joined lists)) x (more (subst (IsListed l) same listed))
@@ -57,7 +61,8 @@ module _ (l : Limits) where
           let same : occurrences (joined (ws ∷ wss)) x ≡ occurrences ws x = omega (arith, occurrences_both x ws (joined wss), none) in
           Contains-append_left (words_of ps) (words_of (joined lists)) x (dumps.0.all x (subst (IsListed l) same listed))
 
-  pub merged_dump : (wss : List (List (List ℕ))) (lists : List (List (List ℕ × ℕ))) (pairs : List (List ℕ × ℕ)) → AreDumps l wss lists → AreApart wss → IsMerged lists pairs
+  pub merged_dump : (wss : List (List (List ℕ))) (lists : List (List (List ℕ × ℕ))) (pairs : List (List ℕ × ℕ)) → AreDumps l wss lists → AreApart wss
+      → IsMerged lists pairs
       → IsDump (occurrences (joined wss)) l pairs
   merged_dump wss lists pairs dumps apart merged = record {
     rising = merged.rising;
@@ -65,7 +70,8 @@ module _ (l : Limits) where
         let P = Right (occurrences (joined wss)) in
         recursion_from_All P pairs (All-permutation P (joined lists) pairs merged.all (each_right wss lists dumps apart));
     all = λ x listed.
-        Contains-permutation (words_of (joined lists)) (words_of pairs) x (IsPermutation-map (λ (p : List ℕ × ℕ). p.0) (joined lists) pairs merged.all) (all_there x wss lists dumps apart listed);
+        Contains-permutation (words_of (joined lists)) (words_of pairs) x
+        (IsPermutation-map (λ (p : List ℕ × ℕ). p.0) (joined lists) pairs merged.all) (all_there x wss lists dumps apart listed);
   }
 
   dumped_occurs : (x : List ℕ) (ws : List (List ℕ)) (ps : List (List ℕ × ℕ)) → IsDump (occurrences ws) l ps → Contains (words_of ps) x → Contains ws x
@@ -92,7 +98,8 @@ module _ (l : Limits) where
     dumps_rise = λ i d inside. (dump_at i (omega (arith, inside, long)) [] d).rising
 
 -- the dumps of bodies are those of the keys of their super-k-mers
-pub dumps_of_keys : (one : BodyHasOneList) (strands : Strands) (k : ℕ) (l : Limits) (bodies : List (List ℕ)) (sss : List (List (List ℕ))) (lists : List (List (List ℕ × ℕ)))
+pub dumps_of_keys : (one : BodyHasOneList) (strands : Strands) (k : ℕ) (l : Limits) (bodies : List (List ℕ)) (sss : List (List (List ℕ)))
+    (lists : List (List (List ℕ × ℕ)))
     → AreDumpsOfBodies strands k l bodies lists → AllZip (IsBodyOf k) sss bodies → AreDumps l (map (record_keys strands k) sss) lists
 dumps_of_keys one strands k l [] [] [] dumps are = tt
 dumps_of_keys one strands k l [] [] (ps ∷ lists) dumps are = absurd dumps
@@ -100,5 +107,7 @@ dumps_of_keys one strands k l [] (ss ∷ sss) lists dumps are = absurd are
 dumps_of_keys one strands k l (body ∷ bodies) [] lists dumps are = absurd are
 dumps_of_keys one strands k l (body ∷ bodies) (ss ∷ sss) [] dumps are = absurd dumps
 dumps_of_keys one strands k l (body ∷ bodies) (ss ∷ sss) (ps ∷ lists) dumps are =
-    let same : dumps.0.super_kmers ≡ ss = one k dumps.0.super_kmers ss body dumps.0.records are.0 in
-    (subst (λ (t : List (List ℕ)). IsDump (occurrences (record_keys strands k t)) l ps) same dumps.0.dump, dumps_of_keys one strands k l bodies sss lists dumps.1 are.1)
+    let same : dumps.0.super_kmers ≡ ss = one k dumps.0.super_kmers ss body dumps.0.records are.0 in (
+      subst (λ (t : List (List ℕ)). IsDump (occurrences (record_keys strands k t)) l ps) same dumps.0.dump,
+      dumps_of_keys one strands k l bodies sss lists dumps.1 are.1,
+    )

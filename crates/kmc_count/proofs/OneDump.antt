@@ -27,7 +27,8 @@ by_words : (count : List ℕ → ℕ) (l : Limits) (pairs : List (List ℕ × �
 by_words count l [] h = refl
 by_words count l (p ∷ ps) h = λ i. (p.0, h.0.1 i) ∷ by_words count l ps h.1 i
 
-pub listed_has : (count : List ℕ → ℕ) (l : Limits) (pairs : List (List ℕ × ℕ)) (x : List ℕ) → AllByRecursion (λ p. IsListed l (count p.0) × (p.1 ≡ shown l (count p.0))) pairs → Has x (words_of pairs)
+pub listed_has : (count : List ℕ → ℕ) (l : Limits) (pairs : List (List ℕ × ℕ)) (x : List ℕ) → AllByRecursion
+    (λ p. IsListed l (count p.0) × (p.1 ≡ shown l (count p.0))) pairs → Has x (words_of pairs)
     → IsListed l (count x)
 listed_has count l [] x h m = absurd m
 listed_has count l (p ∷ ps) x h (inl e) = subst (λ w. IsListed l (count w)) e h.0.0
@@ -35,7 +36,8 @@ listed_has count l (p ∷ ps) x h (inr m) = listed_has count l ps x h.1 m
 
 pub one_dump : (count : List ℕ → ℕ) (l : Limits) (pairs other : List (List ℕ × ℕ)) → IsDump count l pairs → IsDump count l other → pairs ≡ other
 one_dump count l pairs other a b =
-    let words : words_of pairs ≡ words_of other = same_members Below kmer_total.trans not_below_itself (words_of pairs) (words_of other) (rises_by (words_of pairs) a.rising) (rises_by (words_of other) b.rising)
+    let words : words_of pairs ≡ words_of other = same_members Below kmer_total.trans not_below_itself (words_of pairs) (words_of other)
+    (rises_by (words_of pairs) a.rising) (rises_by (words_of other) b.rising)
     (λ x m. has_contains x (words_of other) (b.all x (listed_has count l pairs x a.each m)))
     (λ x m. has_contains x (words_of pairs) (a.all x (listed_has count l other x b.each m))) in
     by_words count l pairs a.each ∙ ap (map (λ w. (w, shown l (count w)))) words ∙ sym (by_words count l other b.each)

@@ -31,13 +31,16 @@ module _ (strands : Strands) (k : ℕ) (l : Limits) where
       first = subst (IsFirstFault k fault offset) (sym (get_or_append_left us vs [] d.number d.inside)) d.first;
     }
 
-    pub second_damaged : (lists : List (List (List ℕ × ℕ))) (fault : RecordFault) (offset : ℕ) → AreDumpsOfBodies strands k l us lists → IsFirstDamaged k fault offset vs → IsFirstDamaged k fault offset (us ++ vs)
+    pub second_damaged : (lists : List (List (List ℕ × ℕ))) (fault : RecordFault) (offset : ℕ) → AreDumpsOfBodies strands k l us lists
+        → IsFirstDamaged k fault offset vs → IsFirstDamaged k fault offset (us ++ vs)
     second_damaged lists fault offset done d =
         let at = length us + d.number in
         let behind : at - length us ≡ d.number = omega arith in
         record {
           number = at;
           inside = omega (arith, d.inside, length-append us vs);
-          before = subst (All (IsWhole k)) (sym (take-append-add us vs d.number)) (All-append (IsWhole k) us (take d.number vs) (counted_whole us lists done) d.before);
-          first = subst (IsFirstFault k fault offset) (sym (get_or-append_right us vs (length us) at [] (λ _. length us) (omega arith) ∙ ap (λ i. get_or vs i []) behind)) d.first;
+          before = subst (All (IsWhole k)) (sym (take-append-add us vs d.number))
+              (All-append (IsWhole k) us (take d.number vs) (counted_whole us lists done) d.before);
+          first = subst (IsFirstFault k fault offset) (sym (get_or-append_right us vs (length us) at [] (λ _. length us) (omega arith) ∙ ap
+              (λ i. get_or vs i []) behind)) d.first;
         }

@@ -57,12 +57,14 @@ module _ (k : ℕ) where
   abbrev Share : List (List ℕ) → List (List ℕ) → Type 0
   Share ws vs = (x : List ℕ) → Contains ws x → Contains vs x → ⊥
 
-  differs : (p : ℕ × ℕ) (ws : List (List ℕ)) (cs : List Listed) → Contains ws (unpack k p.0) → ((i : ℕ) (d : List (List ℕ)) → i < length cs → Share ws (get_or (map words cs) i d))
+  differs : (p : ℕ × ℕ) (ws : List (List ℕ)) (cs : List Listed) → Contains ws (unpack k p.0)
+      → ((i : ℕ) (d : List (List ℕ)) → i < length cs → Share ws (get_or (map words cs) i d))
       → AllByRecursion (λ q. p.0 ≡ q.0 → ⊥) (joined (packs cs))
   differs p ws [] has apart = tt
   differs p ws (c ∷ cs) has apart =
       all_both (λ q. p.0 ≡ q.0 → ⊥) c.packed (joined (packs cs))
-      (all_has (λ q. p.0 ≡ q.0 → ⊥) c.packed (λ q m e. apart 0 [] (omega arith) (unpack k p.0) has (subst (λ n. Contains (words c) (unpack k n)) (sym e) (words_has q c.packed m))))
+      (all_has (λ q. p.0 ≡ q.0 → ⊥) c.packed (λ q m e. apart 0 [] (omega arith) (unpack k p.0) has
+      (subst (λ n. Contains (words c) (unpack k n)) (sym e) (words_has q c.packed m))))
       (differs p ws cs has (λ i d inside. apart (suc i) d (omega (arith, inside))))
 
   apart_numbers : (cs : List Listed) → AreApart (map words cs) → Apart (packs cs)
@@ -81,13 +83,15 @@ module _ (k : ℕ) where
   each_rises : (cs : List Listed) → All (IsListOf k) cs → EachRises (map (λ c. spelled k c.packed) cs) → AllByRecursion Rises (packs cs)
   each_rises [] are h = tt
   each_rises (c ∷ cs) are h = (
-    rising_numbers c.packed (recursion_from_All (λ p. p.0 < 4 ^ k) c.packed (All-head (IsListOf k) c cs are).fit) (All-head RisesAsWords (spelled k c.packed) _ h),
+    rising_numbers c.packed (recursion_from_All (λ p. p.0 < 4 ^ k) c.packed (All-head (IsListOf k) c cs are).fit)
+        (All-head RisesAsWords (spelled k c.packed) _ h),
     each_rises cs (All-tail (IsListOf k) c cs are) (All-tail RisesAsWords (spelled k c.packed) _ h),
   )
 
   all_fit : (cs : List Listed) → All (IsListOf k) cs → All (λ p. p.0 < 4 ^ k) (joined (packs cs))
   all_fit [] are = λ i d inside. absurd (omega (arith, inside))
-  all_fit (c ∷ cs) are = All-append (λ p. p.0 < 4 ^ k) c.packed (joined (packs cs)) (All-head (IsListOf k) c cs are).fit (all_fit cs (All-tail (IsListOf k) c cs are))
+  all_fit (c ∷ cs) are = All-append (λ p. p.0 < 4 ^ k) c.packed (joined (packs cs)) (All-head (IsListOf k) c cs are).fit
+      (all_fit cs (All-tail (IsListOf k) c cs are))
 
   same_pairs : (cs : List Listed) → All (IsListOf k) cs → map pairs_of cs ≡ map (λ c. spelled k c.packed) cs
   same_pairs [] are = refl
@@ -98,7 +102,8 @@ module _ (k : ℕ) where
   same_words (c ∷ cs) = ap (λ (t : List (List (List ℕ))). words c ∷ t) (same_words cs)
 
 pub packed_one : DumpsCanBeMerged → MergedDumpsAreOne → (l : Limits) (k : ℕ) (wss : List (List (List ℕ))) (lists : List Listed)
-    → All (IsListOf k) lists → AreDumps l wss (map pairs_of lists) → AreApart wss → CanBeMerged k lists × IsDump (occurrences (words_joined wss)) l (spelled k (whole lists))
+    → All (IsListOf k) lists → AreDumps l wss (map pairs_of lists) → AreApart wss → CanBeMerged k lists × IsDump (occurrences (words_joined wss)) l
+    (spelled k (whole lists))
 packed_one mergeable merged l k wss lists are dumps apart =
     let each = map (λ (c : Listed). spelled k c.packed) lists in
     let own : AreDumps l wss each = subst (AreDumps l wss) (same_pairs k lists are) dumps in

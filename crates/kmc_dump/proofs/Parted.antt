@@ -36,7 +36,8 @@ pub record ArePartedTo (w widest : ℕ) (bounds : List ℕ) (to pending : ℕ) (
   pub are : AreBounds w widest bounds lists
   pub held : pending ≡ count_within w (get_or bounds (length bounds - 1) 0) to lists
 
-pub along : (w to : ℕ) (lists : List Listed) (widest wider : ℕ) (bounds others : List ℕ) (n m : ℕ) → ArePartedTo w widest bounds to n lists → widest ≡ wider → bounds ≡ others → n ≡ m → ArePartedTo w wider others to m lists
+pub along : (w to : ℕ) (lists : List Listed) (widest wider : ℕ) (bounds others : List ℕ) (n m : ℕ) → ArePartedTo w widest bounds to n lists → widest
+    ≡ wider → bounds ≡ others → n ≡ m → ArePartedTo w wider others to m lists
 along w to lists widest wider bounds others n m h a b e = coe 0 1 (i. ArePartedTo w (a i) (b i) to (e i) lists) h
 
 none : (w a : ℕ) (ps : List (ℕ × ℕ)) → length (within w a a ps) ≡ 0
@@ -70,7 +71,8 @@ slot_more w widest bounds to pending lists size next all h step is sum =
     }
 
 -- a range is closed
-module _ (w widest : ℕ) (bounds : List ℕ) (to pending wider : ℕ) (lists : List Listed) (h : ArePartedTo w widest bounds to pending lists) (less : widest ≤ wider) (fits : pending ≤ wider) where
+module _ (w widest : ℕ) (bounds : List ℕ) (to pending wider : ℕ) (lists : List Listed) (h : ArePartedTo w widest bounds to pending lists)
+    (less : widest ≤ wider) (fits : pending ≤ wider) where
   abbrev bs : List ℕ
   bs = bounds ++ to ∷ []
 
@@ -95,15 +97,18 @@ module _ (w widest : ℕ) (bounds : List ℕ) (to pending wider : ℕ) (lists : 
           let a : get_or bs i 0 ≡ get_or bounds i 0 = get_or_append_left bounds (to ∷ []) 0 i (omega (arith, before)) in
           let b : get_or bs (i + 1) 0 ≡ get_or bounds (i + 1) 0 = get_or_append_left bounds (to ∷ []) 0 (i + 1) before in
           let old = h.are i before in
-          let same : count_within w (get_or bs i 0) (get_or bs (i + 1) 0) lists ≡ count_within w (get_or bounds i 0) (get_or bounds (i + 1) 0) lists = (λ j. count_within w (a j) (b j) lists) in
+          let same : count_within w (get_or bs i 0) (get_or bs (i + 1) 0) lists ≡ count_within w (get_or bounds i 0)
+          (get_or bounds (i + 1) 0) lists = (λ j. count_within w (a j) (b j) lists) in
           (omega (arith, a, b, old.0), omega (arith, same, old.1, less))
       go false e =
           let high : length bounds ≤ i + 1 = grind (arith, nat_tests) in
           let next : i + 1 ≡ length bounds = omega (arith, high, inside, long) in
           let place : i ≡ length bounds - 1 = omega (arith, next) in
-          let a : get_or bs i 0 ≡ get_or bounds (length bounds - 1) 0 = get_or_append_left bounds (to ∷ []) 0 i (omega (arith, next)) ∙ ap (λ n. get_or bounds n 0) place in
+          let a : get_or bs i 0 ≡ get_or bounds (length bounds - 1) 0 = get_or_append_left bounds (to ∷ []) 0 i (omega (arith, next)) ∙ ap
+          (λ n. get_or bounds n 0) place in
           let b : get_or bs (i + 1) 0 ≡ to = ap (λ n. get_or bs n 0) next ∙ last_is in
-          let same : count_within w (get_or bs i 0) (get_or bs (i + 1) 0) lists ≡ count_within w (get_or bounds (length bounds - 1) 0) to lists = (λ j. count_within w (a j) (b j) lists) in
+          let same : count_within w (get_or bs i 0) (get_or bs (i + 1) 0) lists ≡ count_within w (get_or bounds (length bounds - 1) 0) to lists =
+          (λ j. count_within w (a j) (b j) lists) in
           (omega (arith, a, b, h.low), omega (arith, same, h.held, fits))
 
   pub closed : ArePartedTo w wider bs to 0 lists

@@ -11,7 +11,8 @@ use Rattle.kmc_dump.specs.Listed.{Listed}
 use Rattle.kmc_dump.specs.Ranges.{range_text}
 use Rattle.kmc_dump.proofs.Texts.{texts_join, wave_text, climb}
 
-flat_parts : {S : Type 0} (f : S → List ℕ) (ss : List S) (i : ℕ) (s : S) → i < length ss → s ≡ get_or ss i s → (flat_map f (take i ss) ++ f s) ++ flat_map f (drop (i + 1) ss) ≡ flat_map f ss
+flat_parts : {S : Type 0} (f : S → List ℕ) (ss : List S) (i : ℕ) (s : S) → i < length ss → s ≡ get_or ss i s → (flat_map f (take i ss) ++ f s)
+    ++ flat_map f (drop (i + 1) ss) ≡ flat_map f ss
 flat_parts {S = S} f ss i s inside is =
     let more : take (i + 1) ss ≡ take i ss ++ s ∷ [] = take_more ss i s inside ∙ ap (λ (t : S). take i ss ++ t ∷ []) (sym is) in
     let now : flat_map f (take (i + 1) ss) ≡ flat_map f (take i ss) ++ f s =
@@ -20,13 +21,15 @@ flat_parts {S = S} f ss i s inside is =
     ∙ sym (flat_map-append f (take (i + 1) ss) (drop (i + 1) ss)) ∙ ap (flat_map f) (take-append-drop (i + 1) ss)
 
 -- the buffers before this one are out, and of this one a front
-pub buffer_front : {S : Type 0} (f : S → List ℕ) (ss : List S) (i : ℕ) (s : S) (a b c : Option (List ℕ)) (next : List ℕ) → i < length ss → s ≡ get_or ss i s → next ≡ f s
+pub buffer_front : {S : Type 0} (f : S → List ℕ) (ss : List S) (i : ℕ) (s : S) (a b c : Option (List ℕ)) (next : List ℕ) → i < length ss → s
+    ≡ get_or ss i s → next ≡ f s
     → Appends a b (flat_map f (take i ss)) → AppendsFront b c next → AppendsFront a c (flat_map f ss)
 buffer_front f ss i s a b c next inside is same before now =
     subst (AppendsFront a c) (ap (λ (t : List ℕ). (flat_map f (take i ss) ++ t) ++ flat_map f (drop (i + 1) ss)) same ∙ flat_parts f ss i s inside is)
     (front_of a c (flat_map f (take i ss) ++ next) (flat_map f (drop (i + 1) ss)) (front_after a b c (flat_map f (take i ss)) next before now))
 
-module _ (k w : ℕ) (pos : 0 < w) (lists : List Listed) (bounds : List ℕ) (up : (i : ℕ) → i + 1 < length bounds → get_or bounds i 0 ≤ get_or bounds (i + 1) 0) where
+module _ (k w : ℕ) (pos : 0 < w) (lists : List Listed) (bounds : List ℕ)
+    (up : (i : ℕ) → i + 1 < length bounds → get_or bounds i 0 ≤ get_or bounds (i + 1) 0) where
   -- the text from the first range on, to before this one
   abbrev pub upto : ℕ → List ℕ
   upto n = range_text k w (get_or bounds 0 0) (get_or bounds n 0) lists
@@ -39,7 +42,8 @@ module _ (k w : ℕ) (pos : 0 < w) (lists : List Listed) (bounds : List ℕ) (up
       let zero_more : 0 + first ≡ first = omega arith in
       let low : get_or bounds 0 0 ≤ get_or bounds first 0 = rw zero_more at (climb k w pos lists bounds up 0 first (omega (arith, here))) in
       ap (λ (t : List ℕ). upto first ++ t) (wave_text k w pos lists bounds up f ss first here are)
-      ∙ texts_join k w (get_or bounds 0 0) (get_or bounds first 0) (get_or bounds (first + length ss) 0) lists pos low (climb k w pos lists bounds up first (length ss) here)
+      ∙ texts_join k w (get_or bounds 0 0) (get_or bounds first 0) (get_or bounds (first + length ss) 0) lists pos low
+      (climb k w pos lists bounds up first (length ss) here)
       ∙ ap upto (sym next)
 
   pub rest_joins : (m last : ℕ) → m ≤ last → last < length bounds → upto m ++ range_text k w (get_or bounds m 0) (get_or bounds last 0) lists ≡ upto last
@@ -58,7 +62,8 @@ module _ (k w : ℕ) (pos : 0 < w) (lists : List Listed) (bounds : List ℕ) (up
       subst (Appends a c) (joins f ss first m next inside are) (Appends-trans a b c (upto first) (flat_map f ss) before now)
 
   -- of a wave a front is out
-  pub wave_front : {S : Type 0} (f : S → List ℕ) (ss : List S) (first m last : ℕ) (a b c : Option (List ℕ)) → m ≡ first + length ss → m ≤ last → last < length bounds
+  pub wave_front : {S : Type 0} (f : S → List ℕ) (ss : List S) (first m last : ℕ) (a b c : Option (List ℕ)) → m ≡ first + length ss → m ≤ last
+      → last < length bounds
       → ((i : ℕ) (d : S) → i < length ss → f (get_or ss i d) ≡ range_text k w (get_or bounds (first + i) 0) (get_or bounds (first + i + 1) 0) lists)
       → Appends a b (upto first) → AppendsFront b c (flat_map f ss) → AppendsFront a c (upto last)
   wave_front f ss first m last a b c next less inside are before now =

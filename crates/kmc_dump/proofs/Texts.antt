@@ -40,7 +40,8 @@ pub no_text : (k w a : ℕ) (lists : List Listed) → range_text k w a a lists �
 no_text k w a lists = ap (λ (ps : List (ℕ × ℕ)). text_of (spelled k ps)) (none_between w a (whole lists))
 
 -- the texts of a wave, one after the other
-module _ (k w : ℕ) (pos : 0 < w) (lists : List Listed) (bounds : List ℕ) (up : (i : ℕ) → i + 1 < length bounds → get_or bounds i 0 ≤ get_or bounds (i + 1) 0) where
+module _ (k w : ℕ) (pos : 0 < w) (lists : List Listed) (bounds : List ℕ)
+    (up : (i : ℕ) → i + 1 < length bounds → get_or bounds i 0 ≤ get_or bounds (i + 1) 0) where
   pub climb : (i n : ℕ) → i + n < length bounds → get_or bounds i 0 ≤ get_or bounds (i + n) 0
   climb i zero inside = let e : i + 0 ≡ i = omega arith in rw e (omega arith)
   climb i (suc n) inside =
@@ -64,7 +65,8 @@ module _ (k w : ℕ) (pos : 0 < w) (lists : List Listed) (bounds : List ℕ) (up
       are (suc i) d (omega (arith, small)) ∙ ap (λ n. range_text k w (get_or bounds n 0) (get_or bounds (n + 1) 0) lists) e) in
       let last : (first + 1) + length ss ≡ first + suc (length ss) = omega arith in
       (λ i. here i ++ rest i)
-      ∙ texts_join k w (get_or bounds first 0) (get_or bounds (first + 1) 0) (get_or bounds ((first + 1) + length ss) 0) lists pos (up first (omega (arith, inside))) (climb (first + 1) (length ss) (omega (arith, inside)))
+      ∙ texts_join k w (get_or bounds first 0) (get_or bounds (first + 1) 0) (get_or bounds ((first + 1) + length ss) 0) lists pos
+      (up first (omega (arith, inside))) (climb (first + 1) (length ss) (omega (arith, inside)))
       ∙ ap (λ n. range_text k w (get_or bounds first 0) (get_or bounds n 0) lists) last
 
 -- the ranges have the text of the whole
@@ -76,4 +78,5 @@ all_text r lists are =
     let top = get_or r.bounds.items (length r.bounds.items - 1) 0 in
     let P : ℕ × ℕ → Type 0 = λ p. p.0 / w < top in
     ap (λ n. range_text r.k w n top lists) are.first
-    ∙ ap (λ (ps : List (ℕ × ℕ)). text_of (spelled r.k ps)) (all_within w top (whole lists) (recursion_from_All P (whole lists) (All-permutation P all (whole lists) (in_order_moves all) are.last)))
+    ∙ ap (λ (ps : List (ℕ × ℕ)). text_of (spelled r.k ps)) (all_within w top (whole lists)
+    (recursion_from_All P (whole lists) (All-permutation P all (whole lists) (in_order_moves all) are.last)))

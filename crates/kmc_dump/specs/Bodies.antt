@@ -16,6 +16,7 @@ pub record AreListsOfBodies (strands : Strands) (k : ℕ) (l : Limits) (bodies :
   pub dumps : AreDumpsOfBodies strands k l bodies (map pairs_of lists)
 
 -- what a count of bodies answers: their lists, or the first fault of the first that is damaged; a refused growth says nothing of them
-pub record IsListingOfBodies (strands : Strands) (k : ℕ) (l : Limits) (bodies : List (Vec ℕ Global)) (answer : Result (Vec Listed Global) BodyError) : Type 0 where
+pub record IsListingOfBodies (strands : Strands) (k : ℕ) (l : Limits) (bodies : List (Vec ℕ Global))
+    (answer : Result (Vec Listed Global) BodyError) : Type 0 where
   pub ok : IfOk answer (λ lists. AreListsOfBodies strands k l (map (λ b. b.items) bodies) lists.items)
   pub damaged : (fault : RecordFault) (offset : ℕ) → IsErrOf answer (Damaged fault offset) → IsFirstDamaged k fault offset (map (λ b. b.items) bodies)

@@ -78,7 +78,8 @@ range_text k weight from to lists = text_of (spelled k (within weight from to (w
 -- the slots at which ranges begin and end do not fall, and no range has more pairs than this
 abbrev pub AreBounds : ℕ → ℕ → List ℕ → List Listed → Type 0
 AreBounds weight widest bounds lists = (i : ℕ) → i + 1 < length bounds
-    → (slice_index_or bounds i 0 ≤ slice_index_or bounds (i + 1) 0) × (count_within weight (slice_index_or bounds i 0) (slice_index_or bounds (i + 1) 0) lists ≤ widest)
+    → (slice_index_or bounds i 0 ≤ slice_index_or bounds (i + 1) 0) × (count_within weight (slice_index_or bounds i 0)
+    (slice_index_or bounds (i + 1) 0) lists ≤ widest)
 
 -- the lists can be merged, and the ranges part their words: the first begins at the first slot, and every word lies
 -- before the end of the last

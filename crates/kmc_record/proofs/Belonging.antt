@@ -15,47 +15,35 @@ use Rattle.kmc_record.specs.declared.fault.RecordFault.{RecordFault}
 use Rattle.kmc_record.specs.declared.fault.PartError.TheVariants.{Damaged, Memory}
 use Rattle.kmc_record.proofs.Parcels.{part_grown}
 
-pub part_none : (bin : ℕ) (shape : Sizes) → bin < shape.n → IsPart bin shape [] 0
-part_none bin shape h = record {
-  within = h;
-  super_kmers = [];
-  records = record { each = tt; is = refl };
-  belong = λ i d l. absurd (omega arith);
-  count = omega arith;
-}
-
 pub records_of_part : (bin : ℕ) (shape : Sizes) (body : List ℕ) (words : ℕ) → IsPart bin shape body words → AreRecordsOfBin bin shape body
 records_of_part bin shape body words h = record { super_kmers = h.super_kmers; records = h.records; belong = h.belong }
 
 -- no record was read at the offset, behind records of the bin
-module _ (bin : ℕ) (shape : Sizes) (k offset : ℕ) (body : List ℕ) (same : k ≡ shape.k) (inside : offset < length body) (front : AreRecordsOfBin bin shape (take offset body)) where
+module _ (bin : ℕ) (shape : Sizes) (k offset : ℕ) (body : List ℕ) (same : k ≡ shape.k) (inside : offset < length body)
+    (front : AreRecordsOfBin bin shape (take offset body)) where
   pub damaged_at : (fault : RecordFault) → HasFault k fault (drop offset body) → IsFirstError bin shape (Damaged fault offset) body
   damaged_at fault h = (inside, front, subst (λ j. HasFault j fault (drop offset body)) same h)
 
   pub memory_at : BeginsRecord k (drop offset body) → IsFirstError bin shape Memory body
   memory_at h = (offset, inside, front, subst (λ j. BeginsRecord j (drop offset body)) same h)
 
-front_joined : (body w rest : List ℕ) (offset next : ℕ) → offset ≤ length body → drop offset body ≡ w ++ rest → next ≡ length body - length rest → take next body ≡ take offset body ++ w
+front_joined : (body w rest : List ℕ) (offset next : ℕ) → offset ≤ length body → drop offset body ≡ w ++ rest → next ≡ length body - length rest
+    → take next body ≡ take offset body ++ w
 front_joined body w rest offset next inside is at =
     let front = take offset body in
     let whole : body ≡ (front ++ w) ++ rest = sym (take-append-drop offset body) ∙ ap (λ (t : List ℕ). front ++ t) is ∙ sym (append_assoc front w rest) in
     let long : length (front ++ w) ≡ next = omega (arith, ap length whole, length-append (front ++ w) rest, at) in
     ap (take next) whole ∙ take_at (front ++ w) rest next long
 
--- where the next record begins
-pub next_within : (body w rest : List ℕ) (offset next : ℕ) → offset ≤ length body → drop offset body ≡ w ++ rest → 0 < length w → next ≡ length body - length rest → (offset < next) × (next ≤ length body)
-next_within body w rest offset next inside is some at =
-    let front = take offset body in
-    let long = length-take-le offset body inside in
-    let whole = ap length (take-append-drop offset body) in
-    (omega (arith, long, whole, length-append front (drop offset body), ap length is, length-append w rest, at), omega (arith, at))
-
-pub part_more : (bin : ℕ) (shape : Sizes) (body rest codes : List ℕ) (k offset next words n more : ℕ) → k ≡ shape.k → IsPart bin shape (take offset body) words → offset ≤ length body
-    → IsSpelled k codes → drop offset body ≡ spelling k codes ++ rest → next ≡ length body - length rest → Belong bin shape (windows shape.k codes) → n ≡ length (windows shape.k codes)
+pub part_more : (bin : ℕ) (shape : Sizes) (body rest codes : List ℕ) (k offset next words n more : ℕ) → k ≡ shape.k → IsPart bin shape
+    (take offset body) words → offset ≤ length body
+    → IsSpelled k codes → drop offset body ≡ spelling k codes ++ rest → next ≡ length body - length rest → Belong bin shape (windows shape.k codes)
+    → n ≡ length (windows shape.k codes)
     → more ≡ capped (words + n) → IsPart bin shape (take next body) more
 part_more bin shape body rest codes k offset next words n more same h inside spelled is at belong count total =
     let v : Parcel = record { chunk = 0; bin = bin; shape = shape; body = take offset body; words = words } in
-    part_grown v v refl codes (take next body) k n more h (subst (λ j. IsSpelled j codes) same spelled) belong count same (front_joined body (spelling k codes) rest offset next inside is at) total
+    part_grown v v refl codes (take next body) k n more h (subst (λ j. IsSpelled j codes) same spelled) belong count same
+    (front_joined body (spelling k codes) rest offset next inside is at) total
 
 -- ---- what is asked of a super-k-mer, and of its codes
 

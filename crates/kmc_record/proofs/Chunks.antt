@@ -18,27 +18,36 @@ taken_append : (shape : Sizes) (ss ts : List Stretch) (a b c : List Parcel) → 
 taken_append shape ss ts a b c h g = (
   h.0 ++ g.0,
   cuts_append shape.k shape.m ss ts h.0 g.0 h.1 g.1,
-  grown_as shape.k (λ j. bin_super_kmers shape.k shape.n j ss h.0 ++ bin_super_kmers shape.k shape.n j ts g.0) (λ j. bin_super_kmers shape.k shape.n j (ss ++ ts) (h.0 ++ g.0)) a c
+  grown_as shape.k (λ j. bin_super_kmers shape.k shape.n j ss h.0 ++ bin_super_kmers shape.k shape.n j ts g.0)
+      (λ j. bin_super_kmers shape.k shape.n j (ss ++ ts) (h.0 ++ g.0)) a c
       (λ j. super_kmers_append shape.k shape.m shape.n j ss ts h.0 g.0 h.1)
       (grown_more shape.k (λ j. bin_super_kmers shape.k shape.n j ss h.0) (λ j. bin_super_kmers shape.k shape.n j ts g.0) a b c h.2 g.2),
 )
 
-taken_one : (shape : Sizes) (s : Stretch) (runs : List Run) (a b : List Parcel) → IsCut shape.k shape.m s.codes runs → HaveGrown shape.k (λ j. bin_runs shape.k shape.n j s.codes runs) a b → HaveTaken shape (s ∷ []) a b
-taken_one shape s runs a b cut h =
-    (runs ∷ [], (cut, tt), grown_as shape.k (λ j. bin_runs shape.k shape.n j s.codes runs) (λ j. bin_runs shape.k shape.n j s.codes runs ++ []) a b (λ j. sym (append-nil (bin_runs shape.k shape.n j s.codes runs))) h)
+taken_one : (shape : Sizes) (s : Stretch) (runs : List Run) (a b : List Parcel) → IsCut shape.k shape.m s.codes runs → HaveGrown shape.k
+    (λ j. bin_runs shape.k shape.n j s.codes runs) a b → HaveTaken shape (s ∷ []) a b
+taken_one shape s runs a b cut h = (
+  runs ∷ [],
+  (cut, tt),
+  grown_as shape.k (λ j. bin_runs shape.k shape.n j s.codes runs) (λ j. bin_runs shape.k shape.n j s.codes runs ++ []) a b
+      (λ j. sym (append-nil (bin_runs shape.k shape.n j s.codes runs))) h,
+)
 
-pub codes_taken : (shape : Sizes) (k m start : ℕ) (codes codes2 : List ℕ) (runs runs2 : List Run) (a b : List Parcel) → k ≡ shape.k → m ≡ shape.m → codes2 ≡ codes → runs2 ≡ runs → k ≤ length codes
+pub codes_taken : (shape : Sizes) (k m start : ℕ) (codes codes2 : List ℕ) (runs runs2 : List Run) (a b : List Parcel) → k ≡ shape.k → m ≡ shape.m
+    → codes2 ≡ codes → runs2 ≡ runs → k ≤ length codes
     → IsCut k m codes runs → HaveGrown shape.k (λ j. bin_runs shape.k shape.n j codes2 runs2) a b
     → HaveTaken shape (long_enough shape.k (record { start = start; codes = codes } ∷ [])) a b
 codes_taken shape k m start codes codes2 runs runs2 a b ek em e2 same long cut g =
     let cut2 : IsCut shape.k shape.m codes runs = subst (λ (x : Sizes). IsCut x.k x.m codes runs) (λ t. record { k = ek t; m = em t; n = 0 }) cut in
     let g2 : HaveGrown shape.k (λ j. bin_runs shape.k shape.n j codes runs) a b =
-    grown_as shape.k (λ j. bin_runs shape.k shape.n j codes2 runs2) (λ j. bin_runs shape.k shape.n j codes runs) a b (λ j t. bin_runs shape.k shape.n j (e2 t) (same t)) g in
+    grown_as shape.k (λ j. bin_runs shape.k shape.n j codes2 runs2) (λ j. bin_runs shape.k shape.n j codes runs) a b
+    (λ j t. bin_runs shape.k shape.n j (e2 t) (same t)) g in
     let test : nat_le shape.k (length codes) ≡ true = grind (arith, nat_tests) in
     rw test (taken_one shape (record { start = start; codes = codes }) runs a b cut2 g2)
 
 -- the codes from a place on, before the rest of the read
-pub stretch_more : (shape : Sizes) (read codes : List ℕ) (place n : ℕ) (whole : List Stretch) (a b c : List Parcel) → 1 ≤ shape.k → codes ≡ leading (drop place read) → n ≡ length codes
+pub stretch_more : (shape : Sizes) (read codes : List ℕ) (place n : ℕ) (whole : List Stretch) (a b c : List Parcel) → 1 ≤ shape.k → codes ≡ leading
+    (drop place read) → n ≡ length codes
     → (ss : List Stretch) × (ss ++ long_enough shape.k (stretches_from place (drop place read)) ≡ whole) × HaveTaken shape ss a b
     → HaveTaken shape (long_enough shape.k (record { start = place; codes = codes } ∷ [])) b c
     → (ss : List Stretch) × (ss ++ long_enough shape.k (stretches_from (place + (n + 1)) (drop (place + (n + 1)) read)) ≡ whole) × HaveTaken shape ss a c
@@ -49,7 +58,8 @@ stretch_more shape read codes place n whole a b c some is count h g =
     let rest = long_enough k (stretches_from (place + (n + 1)) (drop (place + (n + 1)) read)) in
     let same : one ++ rest ≡ long_enough k (stretches_from place (drop place read)) =
     (λ j. long_enough k (record { start = place; codes = is j } ∷ []) ++ long_enough k (stretches_from (place + (at j + 1)) (drop (place + (at j + 1)) read)))
-    ∙ ap (λ (t : List ℕ). long_enough k (record { start = place; codes = leading (drop place read) } ∷ []) ++ long_enough k (stretches_from (place + (length (leading (drop place read)) + 1)) t))
+    ∙ ap (λ (t : List ℕ). long_enough k (record { start = place; codes = leading (drop place read) } ∷ []) ++ long_enough k
+    (stretches_from (place + (length (leading (drop place read)) + 1)) t))
     (sym (drop-drop (length (leading (drop place read)) + 1) place read)) ∙ first_apart k place (drop place read) some in
     (h.0 ++ one, append_assoc h.0 one rest ∙ ap (λ (t : List Stretch). h.0 ++ t) same ∙ h.1, taken_append shape h.0 one a b c h.2 g)
 
@@ -80,7 +90,8 @@ empties_are number shape parts is =
       most = λ j d l. omega (arith, ap (λ (p : Parcel). p.words) (at j d l));
     })
 
-pub all_grown : (number : ℕ) (shape : Sizes) (f : ℕ → List (List ℕ)) (parts new : List Parcel) → parts ≡ map (empty_part number shape) (range_with_len 0 shape.n) → HaveGrown shape.k f parts new
+pub all_grown : (number : ℕ) (shape : Sizes) (f : ℕ → List (List ℕ)) (parts new : List Parcel) → parts ≡ map (empty_part number shape)
+    (range_with_len 0 shape.n) → HaveGrown shape.k f parts new
     → new ≡ map (λ bin. grown shape.k (f bin) (empty_part number shape bin)) (range_with_len 0 shape.n)
 all_grown number shape f parts new is h =
     let long : length parts ≡ shape.n = ap length is ∙ length-map-range_with_len (empty_part number shape) 0 shape.n in

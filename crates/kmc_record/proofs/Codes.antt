@@ -40,7 +40,8 @@ take_codes (suc n) (b ∷ bs) = let e : 4 * suc n ≡ suc (suc (suc (suc (4 * n)
 
 -- the codes of the first bytes are the first codes
 pub code_in_front : (n m : ℕ) (bs : List ℕ) (i : ℕ) → m ≡ n → i < 4 * n → get_or (codes_in (take m bs)) i 0 ≡ get_or (codes_in bs) i 0
-code_in_front n m bs i e h = ap (λ j. get_or (codes_in (take j bs)) i 0) e ∙ ap (λ (t : List ℕ). get_or t i 0) (take_codes n bs) ∙ get_or-take (4 * n) (codes_in bs) i 0 h
+code_in_front n m bs i e h = ap (λ j. get_or (codes_in (take j bs)) i 0) e ∙ ap (λ (t : List ℕ). get_or t i 0) (take_codes n bs) ∙ get_or-take
+    (4 * n) (codes_in bs) i 0 h
 
 -- the codes of a whole byte
 pub byte_codes : (bs : List ℕ) (j : ℕ) → j < length bs
@@ -65,9 +66,12 @@ pub lowest_zero : (b p r : ℕ) → p < 4 → r < 4 → 4 ≤ r + p → b % 2 ^ 
 lowest_zero b p r hp hr =
     four (λ q. 4 ≤ r + q → b % 2 ^ (2 * q) ≡ 0 → b / 2 ^ (6 - 2 * r) % 4 ≡ 0)
     (λ e h. absurd (omega arith))
-    (four (λ s. 4 ≤ s + 1 → b % 4 ≡ 0 → b / 2 ^ (6 - 2 * s) % 4 ≡ 0) (λ e h. absurd (omega arith)) (λ e h. absurd (omega arith)) (λ e h. absurd (omega arith)) (λ e h. omega arith) r hr)
-    (four (λ s. 4 ≤ s + 2 → b % 16 ≡ 0 → b / 2 ^ (6 - 2 * s) % 4 ≡ 0) (λ e h. absurd (omega arith)) (λ e h. absurd (omega arith)) (λ e h. omega arith) (λ e h. omega arith) r hr)
-    (four (λ s. 4 ≤ s + 3 → b % 64 ≡ 0 → b / 2 ^ (6 - 2 * s) % 4 ≡ 0) (λ e h. absurd (omega arith)) (λ e h. omega arith) (λ e h. omega arith) (λ e h. omega arith) r hr)
+    (four (λ s. 4 ≤ s + 1 → b % 4 ≡ 0 → b / 2 ^ (6 - 2 * s) % 4 ≡ 0) (λ e h. absurd (omega arith)) (λ e h. absurd (omega arith))
+    (λ e h. absurd (omega arith)) (λ e h. omega arith) r hr)
+    (four (λ s. 4 ≤ s + 2 → b % 16 ≡ 0 → b / 2 ^ (6 - 2 * s) % 4 ≡ 0) (λ e h. absurd (omega arith)) (λ e h. absurd (omega arith))
+    (λ e h. omega arith) (λ e h. omega arith) r hr)
+    (four (λ s. 4 ≤ s + 3 → b % 64 ≡ 0 → b / 2 ^ (6 - 2 * s) % 4 ≡ 0) (λ e h. absurd (omega arith)) (λ e h. omega arith) (λ e h. omega arith)
+    (λ e h. omega arith) r hr)
     p hp
 
 -- one of the lowest codes is not zero

@@ -20,11 +20,13 @@ pub record Holds (strands : Strands) (k symbols bits times i forward back : ℕ)
   pub room : len + (symbols - i) ≤ capacity
 
 -- one word more
-one_more_item : (strands : Strands) (k bits times : ℕ) (s : List ℕ) (n n' v : ℕ) (old new whole : List ℕ) → new ≡ old ++ weighted bits times v ∷ [] → v ≡ pack (key strands (window k s n)) → n' ≡ n + 1
+one_more_item : (strands : Strands) (k bits times : ℕ) (s : List ℕ) (n n' v : ℕ) (old new whole : List ℕ) → new ≡ old ++ weighted bits times v ∷ []
+    → v ≡ pack (key strands (window k s n)) → n' ≡ n + 1
     → old ≡ whole ++ map (weighted bits times) (keys_upto strands k s n) → new ≡ whole ++ map (weighted bits times) (keys_upto strands k s n')
 one_more_item strands k bits times s n n' v old new whole pushed is count before =
     let w : ℕ → ℕ = weighted bits times in
-    let more : keys_upto strands k s n ++ v ∷ [] ≡ keys_upto strands k s n' = one_more strands k s n n' v (keys_upto strands k s n) (keys_upto strands k s n ++ v ∷ []) [] refl is count refl in
+    let more : keys_upto strands k s n ++ v ∷ [] ≡ keys_upto strands k s n' = one_more strands k s n n' v (keys_upto strands k s n)
+    (keys_upto strands k s n ++ v ∷ []) [] refl is count refl in
     pushed ∙ ap (λ (t : List ℕ). t ++ w v ∷ []) before ∙ append_assoc whole (map w (keys_upto strands k s n)) (w v ∷ [])
     ∙ ap (λ (t : List ℕ). whole ++ t) (sym (map-append w (keys_upto strands k s n) (v ∷ [])) ∙ ap (map w) more)
 
@@ -40,7 +42,8 @@ top_room (suc k) top some t =
     let p : top ≡ 4 ^ k = t ∙ ap (λ n. 4 ^ n) less in
     omega (arith, p, pow-succ' 4 k)
 
-module _ (strands : Strands) (k symbols bits times : ℕ) (some : 1 ≤ k) (codes : List ℕ) (are : AreCodes codes) (inside : symbols ≤ length codes) (top : ℕ) (t : top ≡ 4 ^ (k - 1)) where
+module _ (strands : Strands) (k symbols bits times : ℕ) (some : 1 ≤ k) (codes : List ℕ) (are : AreCodes codes) (inside : symbols ≤ length codes)
+    (top : ℕ) (t : top ≡ 4 ^ (k - 1)) where
   long : length (take symbols codes) ≡ symbols
   long = length-take-le symbols codes inside
 
@@ -67,7 +70,8 @@ module _ (strands : Strands) (k symbols bits times : ℕ) (some : 1 ≤ k) (code
       let rolled = step_at k some s i c f b g d top small (omega (arith, long)) (is ∙ sym (get_or-take symbols codes i 0 less)) t eg ed h.rolling in
       record {
         rolling = rolled;
-        pushed = one_more_item strands k bits times s (i + 1 - k) (i + 1 + 1 - k) (packed_key strands g d) new next old more (roll_key strands k s (i + 1) g d small enough rolled) (omega arith) h.pushed;
+        pushed = one_more_item strands k bits times s (i + 1 - k) (i + 1 + 1 - k) (packed_key strands g d) new next old more
+            (roll_key strands k s (i + 1) g d small enough rolled) (omega arith) h.pushed;
         room = let r = h.room in omega (arith, r);
       }
 
@@ -78,7 +82,8 @@ module _ (strands : Strands) (k symbols bits times : ℕ) (some : 1 ≤ k) (code
       h.pushed ∙ ap (λ n. old ++ map (weighted bits times) (keys_upto strands k (take symbols codes) n)) end
 
 -- behind the whole bytes: either there were some, or all symbols were near
-pub behind_bytes : (w n near last j : ℕ) → near ≡ min n (4 * w) → last ≡ max near (4 * (n / 4)) → w ≤ j → n / 4 ≤ j → (w ≤ n / 4 → j ≤ n / 4) → min (4 * j) n ≡ last
+pub behind_bytes : (w n near last j : ℕ) → near ≡ min n (4 * w) → last ≡ max near (4 * (n / 4)) → w ≤ j → n / 4 ≤ j → (w ≤ n / 4 → j ≤ n / 4) → min
+    (4 * j) n ≡ last
 behind_bytes w n near last j en el least end most = go (nat_le w (n / 4)) refl
   where
     go : (t : Bool) → nat_le w (n / 4) ≡ t → min (4 * j) n ≡ last

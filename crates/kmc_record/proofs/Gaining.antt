@@ -25,12 +25,14 @@ module _ (k f : ℕ) where
       let low : weighted f m n % 2 ^ f ≡ m - 1 = mod-mul-add n (2 ^ f) (m - 1) (omega arith) in
       omega (arith, low)
 
-  worth_weighted : (g : List ℕ → ℕ) (m : ℕ) (ws : List (List ℕ)) → 1 ≤ m → m ≤ 2 ^ f → AreWords k ws → worth g (items k f (map (weighted f m) (map pack ws))) ≡ m * sum_by g ws
+  worth_weighted : (g : List ℕ → ℕ) (m : ℕ) (ws : List (List ℕ)) → 1 ≤ m → m ≤ 2 ^ f → AreWords k ws → worth g
+      (items k f (map (weighted f m) (map pack ws))) ≡ m * sum_by g ws
   worth_weighted g m [] once most are = omega arith
   worth_weighted g m (w ∷ ws) once most are =
       let n = weighted f m (pack w) in
       let one : List ℕ × ℕ → ℕ = λ p. p.1 * g p.0 in
-      let word : unpack k (n / 2 ^ f) ≡ w = ap (unpack k) (word_of_item m (pack w) once most) ∙ ap (λ j. unpack j (pack w)) (sym are.0.0) ∙ unpack_pack w are.0.1 in
+      let word : unpack k (n / 2 ^ f) ≡ w = ap (unpack k) (word_of_item m (pack w) once most) ∙ ap (λ j. unpack j (pack w)) (sym are.0.0)
+      ∙ unpack_pack w are.0.1 in
       let here : one (item k f n) ≡ m * g w = λ i. weight_of_item m (pack w) once most i * g (word i) in
       let rest = worth_weighted g m ws once most are.1 in
       let split : worth g (items k f (map (weighted f m) (map pack (w ∷ ws)))) ≡ one (item k f n) + worth g (items k f (map (weighted f m) (map pack ws))) =
@@ -47,16 +49,16 @@ module _ (k f : ℕ) where
   worth_append : (g : List ℕ → ℕ) (a b : List ℕ) → worth g (items k f (a ++ b)) ≡ worth g (items k f a) + worth g (items k f b)
   worth_append g a b = ap (worth g) (map-append (item k f) a b) ∙ sum_by-append (λ (p : List ℕ × ℕ). p.1 * g p.0) (items k f a) (items k f b)
 
-  pub gains_words : (old new : List ℕ) (ws : List (List ℕ)) (m : ℕ) → 1 ≤ m → m ≤ 2 ^ f → AreWords k ws → new ≡ old ++ map (weighted f m) (map pack ws) → Gains k f old new ws m
+  pub gains_words : (old new : List ℕ) (ws : List (List ℕ)) (m : ℕ) → 1 ≤ m → m ≤ 2 ^ f → AreWords k ws → new ≡ old ++ map (weighted f m)
+      (map pack ws) → Gains k f old new ws m
   gains_words old new ws m once most are is = record {
-    each = λ g. ap (λ (t : List ℕ). worth g (items k f t)) is ∙ worth_append g old (map (weighted f m) (map pack ws)) ∙ ap (λ n. worth g (items k f old) + n) (worth_weighted g m ws once most are);
-    fit = λ h. subst (AreItems k f) (sym is) (All-append (λ n. n / 2 ^ f < 4 ^ k) old (map (weighted f m) (map pack ws)) h (All-from_recursion (λ n. n / 2 ^ f < 4 ^ k) _ (fit_weighted m ws once most are)));
+    each = λ g. ap (λ (t : List ℕ). worth g (items k f t)) is ∙ worth_append g old (map (weighted f m) (map pack ws)) ∙ ap
+        (λ n. worth g (items k f old) + n) (worth_weighted g m ws once most are);
+    fit = λ h. subst (AreItems k f) (sym is) (All-append (λ n. n / 2 ^ f < 4 ^ k) old (map (weighted f m) (map pack ws)) h
+        (All-from_recursion (λ n. n / 2 ^ f < 4 ^ k) _ (fit_weighted m ws once most are)));
   }
 
   -- ---- steps
-
-  pub gains_none : (old : List ℕ) (ws : List (List ℕ)) (m : ℕ) → m ≡ 0 → Gains k f old old ws m
-  gains_none old ws m none = record { each = λ g. rw none (omega arith); fit = λ h. h }
 
   pub gains_more : (a b c : List ℕ) (ws : List (List ℕ)) (m n s : ℕ) → s ≡ m + n → Gains k f a b ws m → Gains k f b c ws n → Gains k f a c ws s
   gains_more a b c ws m n s e h h' = record {
@@ -84,13 +86,8 @@ module _ (k f : ℕ) where
       pub each : (g : List ℕ → ℕ) → worth g (items k f now) + (count * one_worth g key + keys_worth g rest) ≡ worth g (items k f start) + keys_worth g all
       pub fit : AreItems k f start → AreItems k f now
 
-    pub row_begins : (start : List ℕ) (first : ℕ) (rest all : List ℕ) → all ≡ first ∷ rest → IsOpenRow start start first 1 rest all
-    row_begins start first rest all is = record {
-      each = λ g. let e = keys_worth_cons g first rest in let t : keys_worth g all ≡ keys_worth g (first ∷ rest) = ap (keys_worth g) is in omega (arith, e, t);
-      fit = λ h. h;
-    }
-
-    drop_worth : (g : List ℕ → ℕ) (rest : List ℕ) (i : ℕ) → i < length rest → keys_worth g (drop i rest) ≡ one_worth g (get_or rest i 0) + keys_worth g (drop (i + 1) rest)
+    drop_worth : (g : List ℕ → ℕ) (rest : List ℕ) (i : ℕ) → i < length rest → keys_worth g (drop i rest) ≡ one_worth g
+        (get_or rest i 0) + keys_worth g (drop (i + 1) rest)
     drop_worth g rest i inside = ap (keys_worth g) (drop_more rest i 0 inside) ∙ keys_worth_cons g (get_or rest i 0) (drop (i + 1) rest)
 
     pub row_goes_on : (start now : List ℕ) (key count i : ℕ) (rest all : List ℕ) → i < length rest → get_or rest i 0 ≡ key

@@ -91,12 +91,14 @@ codes_of_bytes (suc k) n =
     ∙ sym (ap (λ m. unpack m n) more ∙ join (4 * k) 4 n)
 
 -- the high and the low 8 bytes have the symbols in front
-pub codes_of_halves : (key high low : ℕ) → high ≡ key / 2 ^ 64 → low ≡ key % 2 ^ 64 → take (symbols_of key) (codes_in (bytes_high_first 8 high ++ bytes_high_first 8 low)) ≡ codes_of key
+pub codes_of_halves : (key high low : ℕ) → high ≡ key / 2 ^ 64 → low ≡ key % 2 ^ 64 → take (symbols_of key)
+    (codes_in (bytes_high_first 8 high ++ bytes_high_first 8 low)) ≡ codes_of key
 codes_of_halves key high low h l =
     let top : unpack 32 high ≡ unpack 32 (key / 4 ^ 32) = ap (unpack 32) h in
     let rest : unpack 32 low ≡ unpack 32 key = ap (unpack 32) l ∙ low_part 32 key in
     let whole : codes_in (bytes_high_first 8 high ++ bytes_high_first 8 low) ≡ unpack 64 key =
-    codes_join (bytes_high_first 8 high) (bytes_high_first 8 low) ∙ (λ i. (codes_of_bytes 8 high ∙ top) i ++ (codes_of_bytes 8 low ∙ rest) i) ∙ sym (join 32 32 key) in
+    codes_join (bytes_high_first 8 high) (bytes_high_first 8 low) ∙ (λ i. (codes_of_bytes 8 high ∙ top) i ++ (codes_of_bytes 8 low ∙ rest) i) ∙ sym
+    (join 32 32 key) in
     ap (take (symbols_of key)) whole ∙ front_part (symbols_of key) key (omega arith)
 
 -- two halves of 8 bytes that were written one after the other

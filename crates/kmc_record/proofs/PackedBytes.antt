@@ -46,9 +46,6 @@ pub record AreTurned (bs : List ℕ) (j forward back : ℕ) : Type 0 where
   pub ahead : forward ≡ pack (codes_in (take j bs))
   pub behind : back ≡ pack (rev_comp (codes_in (take j bs))) * 4 ^ (64 - 4 * j)
 
-pub none_turned : (bs : List ℕ) → AreTurned bs 0 0 0
-none_turned bs = record { ahead = refl; behind = omega arith }
-
 module _ (bs : List ℕ) (few : length bs ≤ 16) where
   next_codes : (j x : ℕ) → j < length bs → x ≡ get_or bs j 0 → codes_in (take (j + 1) bs) ≡ codes_in (take j bs) ++ quarters x
   next_codes j x inside is =
@@ -142,7 +139,8 @@ module _ (bs : List ℕ) (few : length bs ≤ 16) where
         let none : r * 4 ^ e ≡ r * 4 ^ e + 0 = omega arith in
         let down : b / 2 ^ (128 - 8 * length bs) ≡ r = (λ i. (behind ∙ none) i / weight i) ∙ div-mul-add r (4 ^ e) 0 (omega arith) in
         let mask : 1 * 2 ^ (2 * n) % 2 ^ 128 ≡ 4 ^ n = one_shl (2 * n) 128 (omega arith) ∙ sym (pow_quad n) in
-        let joined : r ≡ pack (rev_comp rest) * 4 ^ length (rev_comp s) + pack (rev_comp s) = ap pack (rev_comp_join s rest) ∙ pack_parts (rev_comp rest) (rev_comp s) in
+        let joined : r ≡ pack (rev_comp rest) * 4 ^ length (rev_comp s) + pack (rev_comp s) = ap pack (rev_comp_join s rest) ∙ pack_parts
+        (rev_comp rest) (rev_comp s) in
         let count : length (rev_comp s) ≡ n = length_rev_comp s ∙ length_s in
         let fits : pack (rev_comp s) < 4 ^ n = rw count at (pack_fits (rev_comp s) (codes_rev_comp s)) in
         (λ i. down i % mask i) ∙ ap (λ t. t % 4 ^ n) (joined ∙ ap (λ t. pack (rev_comp rest) * 4 ^ t + pack (rev_comp s)) count)

@@ -23,7 +23,8 @@ pub part_grown : (v p : Parcel) → v ≡ p → (codes new : List ℕ) (k n w : 
     → All (λ u. signature_of p.shape.m u % p.shape.n ≡ p.bin) (windows p.shape.k codes) → n ≡ length (windows p.shape.k codes) → k ≡ v.shape.k
     → new ≡ v.body ++ spelling k codes → w ≡ capped (v.words + n) → IsPart v.bin v.shape new w
 part_grown v p is codes new k n w h spelled belong count same more words =
-    let fits = subst (λ (q : Parcel). IsSpelled q.shape.k codes × All (λ u. signature_of q.shape.m u % q.shape.n ≡ q.bin) (windows q.shape.k codes) × (n ≡ length (windows q.shape.k codes))) (sym is) (spelled, belong, count) in
+    let fits = subst (λ (q : Parcel). IsSpelled q.shape.k codes × All (λ u. signature_of q.shape.m u % q.shape.n ≡ q.bin) (windows q.shape.k codes)
+    × (n ≡ length (windows q.shape.k codes))) (sym is) (spelled, belong, count) in
     let ss = h.super_kmers in
     let all : all_windows v.shape.k (ss ++ codes ∷ []) ≡ all_windows v.shape.k ss ++ windows v.shape.k codes = flat_push (windows v.shape.k) ss codes in
     let body : new ≡ v.body ++ spelling v.shape.k codes = more ∙ ap (λ m. v.body ++ spelling m codes) same in
@@ -79,7 +80,8 @@ grown_for_bins shape k f a b are h = record {
 
 -- ---- one run
 
-pub run_grown : (shape : Sizes) (k n b : ℕ) (codes : List ℕ) (r : Run) (parts : List Parcel) (v : Parcel) → AreForBins shape parts → b ≡ r.signature % n → b < length parts
+pub run_grown : (shape : Sizes) (k n b : ℕ) (codes : List ℕ) (r : Run) (parts : List Parcel) (v : Parcel) → AreForBins shape parts → b
+    ≡ r.signature % n → b < length parts
     → ((d : Parcel) → v ≡ grown k (run_codes k codes r ∷ []) (get_or parts b d)) → HaveGrown k (λ j. bin_runs k n j codes (r ∷ [])) parts (set parts b v)
 run_grown shape k n b codes r parts v are at inside is = record {
   count = length-set parts b v;
@@ -96,13 +98,6 @@ run_grown shape k n b codes r parts v are at inside is = record {
         let other : r.signature % n ≢ j = grind (arith, nat_tests) in
         let ne : j ≢ b = λ s. other (sym at ∙ sym s) in
         get_or-set_other parts b j v d ne ∙ sym (grown_none k (get_or parts j d) (are.most j d (omega (arith, are.count))))
-
-pub runs_more : (k n j : ℕ) (codes : List ℕ) (rs : List Run) (i : ℕ) (r : Run) → i < length rs → r ≡ get_or rs i r
-    → bin_runs k n j codes (take i rs) ++ bin_runs k n j codes (r ∷ []) ≡ bin_runs k n j codes (take (i + 1) rs)
-runs_more k n j codes rs i r inside is =
-    let test : Run → Bool = λ x. nat_eq (x.signature % n) j in
-    sym (map-append (run_codes k codes) (filter test (take i rs)) (filter test (r ∷ [])))
-    ∙ ap (map (run_codes k codes)) (ap (λ (x : Run). filter test (take i rs) ++ cond (test x) (x ∷ []) []) is ∙ sym (filter_more test rs i r inside))
 
 -- ---- segment after segment
 
@@ -136,9 +131,11 @@ run_spelled k m codes x r some h small is =
       codes = recursion_from_All P x (subst (All P) (sym is) (All-take P (r.words + (k - 1)) (drop r.start codes) (All-drop P r.start codes small)));
     }
 
-pub run_belongs : (k m n b : ℕ) (codes x : List ℕ) (r : Run) → IsRunOf k m codes r → b ≡ r.signature % n → x ≡ run_codes k codes r → All (λ w. signature_of m w % n ≡ b) (windows k x)
+pub run_belongs : (k m n b : ℕ) (codes x : List ℕ) (r : Run) → IsRunOf k m codes r → b ≡ r.signature % n → x ≡ run_codes k codes r → All
+    (λ w. signature_of m w % n ≡ b) (windows k x)
 run_belongs k m n b codes x r h at is =
-    let one : All (λ w. signature_of m w ≡ r.signature) (windows k x) = subst (λ (t : List ℕ). All (λ w. signature_of m w ≡ r.signature) (windows k t)) (sym is) h.one in
+    let one : All (λ w. signature_of m w ≡ r.signature) (windows k x) = subst
+    (λ (t : List ℕ). All (λ w. signature_of m w ≡ r.signature) (windows k t)) (sym is) h.one in
     λ i d l. ap (λ s. s % n) (one i d l) ∙ sym at
 
 pub slice_of_run : (k kr : ℕ) (codes : List ℕ) (r : Run) → kr ≡ k → take (r.start + (r.words + (kr - 1)) - r.start) (drop r.start codes) ≡ run_codes k codes r

@@ -34,13 +34,15 @@ module _ (strands : Strands) (k : ℕ) where
 
   -- ---- one record more
 
-  pub records_push : (g : List ℕ → ℕ) (ss : List (List ℕ)) (s : List ℕ) → sum_by g (record_keys strands k (ss ++ s ∷ [])) ≡ sum_by g (record_keys strands k ss) + sum_by g (keys strands k s)
+  pub records_push : (g : List ℕ → ℕ) (ss : List (List ℕ)) (s : List ℕ) → sum_by g (record_keys strands k (ss ++ s ∷ [])) ≡ sum_by g
+      (record_keys strands k ss) + sum_by g (keys strands k s)
   records_push g [] s = sum_by-append g (keys strands k s) [] ∙ omega arith
   records_push g (r ∷ ss) s =
       sum_by-append g (keys strands k r) (record_keys strands k (ss ++ s ∷ []))
       ∙ omega (arith, records_push g ss s, sum_by-append g (keys strands k r) (record_keys strands k ss))
 
-  keys_push : (g : List ℕ → ℕ) (ns : List ℕ) (n : ℕ) → sum_by g (key_words strands k (ns ++ n ∷ [])) ≡ sum_by g (key_words strands k ns) + sum_by g (keys strands k (codes_of n))
+  keys_push : (g : List ℕ → ℕ) (ns : List ℕ) (n : ℕ) → sum_by g (key_words strands k (ns ++ n ∷ [])) ≡ sum_by g (key_words strands k ns) + sum_by g
+      (keys strands k (codes_of n))
   keys_push g [] n = sum_by-append g (keys strands k (codes_of n)) [] ∙ omega arith
   keys_push g (m ∷ ns) n =
       sum_by-append g (keys strands k (codes_of m)) (key_words strands k (ns ++ n ∷ []))
@@ -63,7 +65,8 @@ module _ (strands : Strands) (k : ℕ) where
     }
 
     -- its words are put into items
-    pub words_taken : (ks now more : List ℕ) (ss : List (List ℕ)) (s : List ℕ) → IsRecord k s → more ≡ now ++ map (weighted f 1) (map pack (keys strands k s)) → 1 ≤ 2 ^ f
+    pub words_taken : (ks now more : List ℕ) (ss : List (List ℕ)) (s : List ℕ) → IsRecord k s → more ≡ now ++ map (weighted f 1)
+        (map pack (keys strands k s)) → 1 ≤ 2 ^ f
         → IsTaken strands k f ks now ss → IsTaken strands k f ks more (ss ++ s ∷ [])
     words_taken ks now more ss s is pushed room h =
         let once : 1 ≤ 1 = omega arith in

@@ -23,7 +23,8 @@ one_spelling k s t x y h g e =
     let back : x ≡ y = sym (drop_at (spelling k s) x n refl) ∙ ap (drop n) e ∙ drop_at (spelling k t) y n long in
     (sym (codes_back s h.codes) ∙ (λ i. take (count i) (codes_in (drop 1 (front i)))) ∙ codes_back t g.codes, back)
 
-lists : (k : ℕ) (ss ts : List (List ℕ)) → AllByRecursion (IsSpelled k) ss → AllByRecursion (IsSpelled k) ts → flat_map (spelling k) ss ≡ flat_map (spelling k) ts → ss ≡ ts
+lists : (k : ℕ) (ss ts : List (List ℕ)) → AllByRecursion (IsSpelled k) ss → AllByRecursion (IsSpelled k) ts → flat_map (spelling k) ss ≡ flat_map
+    (spelling k) ts → ss ≡ ts
 lists k [] [] h g e = refl
 lists k [] (t ∷ ts) h g e = absurd (omega (arith, ap length e))
 lists k (s ∷ ss) [] h g e = absurd (omega (arith, ap length e))
@@ -46,7 +47,8 @@ no_fault k s rest Padding h f =
     let small : i < 4 * size_of (length s) = omega (arith, f.1.2, h.least) in
     let inside : i < length (codes_in (packed_codes s)) = omega (arith, length_codes (packed_codes s), length_packed s, small) in
     f.1.3 (ap (λ (t : List ℕ). get_or t i 0) (codes_append (packed_codes s) rest) ∙ get_or_append_left (codes_in (packed_codes s)) (codes_in rest) 0 i inside
-    ∙ ap (λ (t : List ℕ). get_or t i 0) (codes_packed s h.codes) ∙ get_or-append_right s (zeros_to_byte s) (length s) i 0 refl up ∙ zero_behind s (i - length s))
+    ∙ ap (λ (t : List ℕ). get_or t i 0) (codes_packed s h.codes) ∙ get_or-append_right s (zeros_to_byte s) (length s) i 0 refl up ∙ zero_behind s
+    (i - length s))
 
 -- behind records that begin a body of whole records stands a record, where anything does
 whole_rest : (k : ℕ) (ss bs : List (List ℕ)) (rest : List ℕ) (fault : RecordFault) → AllByRecursion (IsSpelled k) ss → AllByRecursion (IsSpelled k) bs
@@ -55,7 +57,8 @@ whole_rest k [] [] rest fault h g e some f = omega (arith, ap length e)
 whole_rest k [] (b ∷ bs) rest fault h g e some f = omega (arith, ap length e)
 whole_rest k (s ∷ ss) [] rest fault h g e some f = no_fault k s (flat_map (spelling k) ss) fault h.0 (subst (HasFault k fault) (sym e) f)
 whole_rest k (s ∷ ss) (b ∷ bs) rest fault h g e some f =
-    let one = one_spelling k s b (flat_map (spelling k) ss) (flat_map (spelling k) bs ++ rest) h.0 g.0 (e ∙ append_assoc (spelling k b) (flat_map (spelling k) bs) rest) in
+    let one = one_spelling k s b (flat_map (spelling k) ss) (flat_map (spelling k) bs ++ rest) h.0 g.0
+    (e ∙ append_assoc (spelling k b) (flat_map (spelling k) bs) rest) in
     whole_rest k ss bs rest fault h.1 g.1 one.1 some f
 
 pub no_first_fault : (k : ℕ) (ss : List (List ℕ)) (body : List ℕ) (fault : RecordFault) (offset : ℕ) → IsBodyOf k ss body → IsFirstFault k fault offset body → ⊥

@@ -23,7 +23,8 @@ pub flat_push : {A : Type 0} (f : List ℕ → List A) (ss : List (List ℕ)) (s
 flat_push f [] s = append-nil (f s)
 flat_push f (r ∷ ss) s = ap (λ t. f r ++ t) (flat_push f ss s) ∙ sym (append_assoc (f r) (flat_map f ss) (f s))
 
-pub body_push : (k : ℕ) (ss : List (List ℕ)) (s front b : List ℕ) → IsBodyOf k ss front → IsSpelled k s → b ≡ spelling k s → IsBodyOf k (ss ++ s ∷ []) (front ++ b)
+pub body_push : (k : ℕ) (ss : List (List ℕ)) (s front b : List ℕ) → IsBodyOf k ss front → IsSpelled k s → b ≡ spelling k s → IsBodyOf k
+    (ss ++ s ∷ []) (front ++ b)
 body_push k ss s front b h spelled is = record {
   each = all_push (IsSpelled k) ss s h.each spelled;
   is = (λ i. h.is i ++ is i) ∙ sym (flat_push (spelling k) ss s);
@@ -92,7 +93,8 @@ begins_here k n rest bytes is are count inside clean =
       is = sym is ∙ first_read k n rest bytes_of_rest count inside clean;
     }
 
-pub next_body : (k n offset next : ℕ) (ss : List (List ℕ)) (body rest : List ℕ) → AreBytes body → rest ≡ drop offset body → IsBodyOf k ss (take offset body) → next ≡ offset + (1 + size_of n)
+pub next_body : (k n offset next : ℕ) (ss : List (List ℕ)) (body rest : List ℕ) → AreBytes body → rest ≡ drop offset body → IsBodyOf k ss
+    (take offset body) → next ≡ offset + (1 + size_of n)
     → n ≡ get_or rest 0 0 + k → 1 + size_of n ≤ length rest
     → All (λ c. c ≡ 0) (drop n (codes_in (take (size_of n) (drop 1 rest)))) → IsBodyOf k (ss ++ first_codes n rest ∷ []) (take next body)
 next_body k n offset next ss body rest are is before there count inside clean =
@@ -100,11 +102,13 @@ next_body k n offset next ss body rest are is before there count inside clean =
     let split : take next body ≡ take offset body ++ take (1 + size_of n) rest =
     ap (λ m. take m body) there ∙ take-add offset (1 + size_of n) body ∙ ap (λ (t : List ℕ). take offset body ++ take (1 + size_of n) t) (sym is) in
     subst (IsBodyOf k (ss ++ first_codes n rest ∷ [])) (sym split)
-    (body_push k ss (first_codes n rest) (take offset body) (take (1 + size_of n) rest) before (first_spelled k n rest bytes count inside) (spelled_is k n rest bytes count inside clean))
+    (body_push k ss (first_codes n rest) (take offset body) (take (1 + size_of n) rest) before (first_spelled k n rest bytes count inside)
+    (spelled_is k n rest bytes count inside clean))
 
 pub next_keys : (strands : Strands) (k : ℕ) (ss : List (List ℕ)) (s : List ℕ) (old new whole : List ℕ) → old ≡ whole ++ map pack (record_keys strands k ss)
     → new ≡ old ++ map pack (keys strands k s) → new ≡ whole ++ map pack (record_keys strands k (ss ++ s ∷ []))
 next_keys strands k ss s old new whole before more =
     let joined : map pack (record_keys strands k (ss ++ s ∷ [])) ≡ map pack (record_keys strands k ss) ++ map pack (keys strands k s) =
     ap (map pack) (flat_push (keys strands k) ss s) ∙ map-append pack (record_keys strands k ss) (keys strands k s) in
-    more ∙ ap (λ (t : List ℕ). t ++ map pack (keys strands k s)) before ∙ append_assoc whole (map pack (record_keys strands k ss)) (map pack (keys strands k s)) ∙ ap (λ (t : List ℕ). whole ++ t) (sym joined)
+    more ∙ ap (λ (t : List ℕ). t ++ map pack (keys strands k s)) before ∙ append_assoc whole (map pack (record_keys strands k ss))
+    (map pack (keys strands k s)) ∙ ap (λ (t : List ℕ). whole ++ t) (sym joined)

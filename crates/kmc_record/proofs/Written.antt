@@ -13,11 +13,15 @@ code_small [] i h = omega arith
 code_small (c ∷ w) zero h = h.0
 code_small (c ∷ w) (suc i) h = code_small w i h.1
 
-pub super_kmer_spelled : (k : ℕ) (w : List ℕ) → IsSuperKmer k w → IsSpelled k w
-super_kmer_spelled k w h = record { least = h.long; most = h.most; codes = recursion_from_All (λ (c : ℕ). c < 4) w h.codes }
-
 pub spelled_super_kmer : (k : ℕ) (w : List ℕ) → 1 ≤ k → k ≤ MAX_K → IsSpelled k w → IsSuperKmer k w
-spelled_super_kmer k w some limit h = record { some = some; limit = limit; long = h.least; most = h.most; codes = All-from_recursion (λ (c : ℕ). c < 4) w h.codes }
+spelled_super_kmer k w some limit h = record {
+  some = some;
+  limit = limit;
+  long = h.least;
+  most = h.most;
+  codes = All-from_recursion
+      (λ (c : ℕ). c < 4) w h.codes;
+}
 
 head_byte : (w : List ℕ) → 0 < length w → get_or (packed_codes w) 0 0 ≡ get_or w 0 0 * 64 + get_or w 1 0 * 16 + get_or w 2 0 * 4 + get_or w 3 0
 head_byte [] h = absurd (omega arith)
@@ -35,7 +39,18 @@ pub byte_is : (w : List ℕ) (i a b c d : ℕ) → i < length w → a ≡ get_or
     → a * 64 + b * 16 + c * 4 + d ≡ get_or (packed_codes (drop i w)) 0 0
 byte_is w i a b c d h ea eb ec ed =
     let none : i + 0 ≡ i = omega arith in
-    omega (arith, head_byte (drop i w) (length_dropped i w h), ea, eb, ec, ed, get_or-drop i w 0 0 ∙ ap (λ n. get_or w n 0) none, get_or-drop i w 1 0, get_or-drop i w 2 0, get_or-drop i w 3 0)
+    omega (
+      arith,
+      head_byte (drop i w) (length_dropped i w h),
+      ea,
+      eb,
+      ec,
+      ed,
+      get_or-drop i w 0 0 ∙ ap (λ n. get_or w n 0) none,
+      get_or-drop i w 1 0,
+      get_or-drop i w 2 0,
+      get_or-drop i w 3 0,
+    )
 
 pub byte_place : (w : List ℕ) (j : ℕ) → 4 * j < length w → get_or (packed_codes w) j 0 ≡ get_or (packed_codes (drop (4 * j) w)) 0 0
 byte_place w zero h = refl
@@ -46,10 +61,6 @@ byte_place (a ∷ b ∷ c ∷ []) (suc j) h = absurd (omega arith)
 byte_place (a ∷ b ∷ c ∷ d ∷ w) (suc j) h =
     let e : 4 * suc j ≡ suc (suc (suc (suc (4 * j)))) = omega arith in
     rw e (byte_place w j (omega arith))
-
--- the bytes appended so far are those of the record
-pub pushed_first : (k v : ℕ) (w old new : List ℕ) → v ≡ length w - k → new ≡ old ++ v ∷ [] → new ≡ old ++ take (1 + 0) (spelling k w)
-pushed_first k v w old new e is = is ∙ ap (λ x. old ++ x ∷ []) e
 
 pub pushed_more : (k : ℕ) (w old before new : List ℕ) (j v : ℕ) → 4 * j < length w → v ≡ get_or (packed_codes (drop (4 * j) w)) 0 0
     → before ≡ old ++ take (1 + j) (spelling k w) → new ≡ before ++ v ∷ [] → new ≡ old ++ take (1 + (j + 1)) (spelling k w)

@@ -32,6 +32,9 @@ pub record BeginsWithOtherBin (bin : ℕ) (shape : Sizes) (bytes : List ℕ) : T
 -- the first fault: all is well before the offset, and there this is wrong; where memory is refused, all is well up to a
 -- whole record, for which it was wanted
 abbrev pub IsFirstError : ℕ → Sizes → PartError → List ℕ → Type 0
-IsFirstError bin shape (Damaged fault offset) body = (offset < length body) × AreRecordsOfBin bin shape (take offset body) × HasFault shape.k fault (drop offset body)
-IsFirstError bin shape (WrongBin offset) body = (offset < length body) × AreRecordsOfBin bin shape (take offset body) × BeginsWithOtherBin bin shape (drop offset body)
-IsFirstError bin shape Memory body = (offset : ℕ) × (offset < length body) × AreRecordsOfBin bin shape (take offset body) × BeginsRecord shape.k (drop offset body)
+IsFirstError bin shape (Damaged fault offset) body = (offset < length body) × AreRecordsOfBin bin shape (take offset body) × HasFault shape.k fault
+    (drop offset body)
+IsFirstError bin shape (WrongBin offset) body = (offset < length body) × AreRecordsOfBin bin shape (take offset body) × BeginsWithOtherBin bin shape
+    (drop offset body)
+IsFirstError bin shape Memory body = (offset : ℕ) × (offset < length body) × AreRecordsOfBin bin shape (take offset body) × BeginsRecord shape.k
+    (drop offset body)

@@ -19,4 +19,5 @@ pub record HaveGrown (k : ℕ) (more : ℕ → List (List ℕ)) (old new : List 
 
 -- each part has grown by the super-k-mers of these segments for its bin, in the order of the segments and of places
 abbrev pub HaveTaken : Sizes → List Stretch → List Parcel → List Parcel → Type 0
-HaveTaken shape ss old new = (cuts : List (List Run)) × AreCuts shape.k shape.m ss cuts × HaveGrown shape.k (λ j. bin_super_kmers shape.k shape.n j ss cuts) old new
+HaveTaken shape ss old new = (cuts : List (List Run)) × AreCuts shape.k shape.m ss cuts × HaveGrown shape.k
+    (λ j. bin_super_kmers shape.k shape.n j ss cuts) old new

@@ -36,4 +36,5 @@ SpellingHasNoFault = (k : ℕ) (s rest : List ℕ) (fault : RecordFault) → IsS
 
 -- a body that is whole records has no first fault
 abbrev pub WholeBodyHasNoFault : Type 0
-WholeBodyHasNoFault = (k : ℕ) (ss : List (List ℕ)) (body : List ℕ) (fault : RecordFault) (offset : ℕ) → IsBodyOf k ss body → ¬ (IsFirstFault k fault offset body)
+WholeBodyHasNoFault = (k : ℕ) (ss : List (List ℕ)) (body : List ℕ) (fault : RecordFault) (offset : ℕ) → IsBodyOf k ss body → ¬
+    (IsFirstFault k fault offset body)

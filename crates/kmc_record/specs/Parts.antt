@@ -66,4 +66,5 @@ pub record ArePartsOf (number : ℕ) (reads : List (List ℕ)) (shape : Sizes) (
   pub cuts : List (List Run)
   pub cut : AreCuts shape.k shape.m (all_segments shape.k reads) cuts
   pub are : parts ≡ filter (λ p. nat_lt 0 (length p.body))
-      (map (λ bin. grown shape.k (bin_super_kmers shape.k shape.n bin (all_segments shape.k reads) cuts) (empty_part number shape bin)) (range_with_len 0 shape.n))
+      (map (λ bin. grown shape.k (bin_super_kmers shape.k shape.n bin (all_segments shape.k reads) cuts) (empty_part number shape bin))
+      (range_with_len 0 shape.n))

@@ -275,15 +275,3 @@ behind_bytes top q x b e =
 pub record IsFilled (strands : Strands) (k : ℕ) (s : List ℕ) (i forward back : ℕ) (old new : List ℕ) : Type 0 where
   pub rolling : IsRolling k s i forward back
   pub pushed : new ≡ old ++ keys_upto strands k s (i + 1 - k)
-
-pub fill_one : (strands : Strands) (k : ℕ) → 1 ≤ k → (s : List ℕ) (i c f b g d top : ℕ) (old new next : List ℕ) → AreCodes s → i < length s
-    → k ≤ i + 1 → c ≡ get_or s i 0 → top ≡ 4 ^ (k - 1)
-    → g ≡ ahead top f c → d ≡ behind top b c → next ≡ new ++ packed_key strands g d ∷ [] → IsFilled strands k s i f b old new → IsFilled strands k s
-    (i + 1) g d old next
-fill_one strands k some s i c f b g d top old new next h inside enough is t eg ed more filled =
-    let rolled = step_at k some s i c f b g d top h inside is t eg ed filled.rolling in
-    record {
-      rolling = rolled;
-      pushed = one_more strands k s (i + 1 - k) (i + 1 + 1 - k) (packed_key strands g d) new next old more
-          (roll_key strands k s (i + 1) g d h enough rolled) (omega arith) filled.pushed;
-    }

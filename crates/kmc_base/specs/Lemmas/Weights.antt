@@ -39,11 +39,5 @@ module _ (b f n : ℕ) (less : f < b) where
       let below : 1 * 2 ^ f < 2 ^ b = omega (arith, pow_below f b less) in
       mod-eq_of_lt below ∙ one
 
-  pub mask_some : 1 ≤ 1 * 2 ^ f % 2 ^ b
-  mask_some = omega (arith, mask_is, pow_two_some f)
-
   pub low_bits : bit_and n (1 * 2 ^ f % 2 ^ b - 1) ≡ n % 2 ^ f
   low_bits = ap (λ t. bit_and n (t - 1)) mask_is ∙ and_mask n f
-
-  pub low_below : n % 2 ^ f < 2 ^ f
-  low_below = mod_below n (2 ^ f) (let some = pow_two_some f in omega arith)

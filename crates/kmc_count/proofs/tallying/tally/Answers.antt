@@ -50,7 +50,8 @@ loop-next-preserved g c =
     let more = drop (i + 1) (items k f rest) in
     let inside : i < length rest = omega (arith, c.loop-next-test.true, length-map c.in-Some.rest.now num) in
     let at : q ≡ get_or rest i 0 = sym (get_or-map num c.in-Some.rest.now i c.next-item.result 0 c.loop-next-test.true ∙ ap num (sym c.next-item.is)) in
-    let fit = All-rest (λ (n : ℕ). n / 2 ^ f < 4 ^ k) (num c.in-Some.first.now) rest (map num c.args.words.now) (ap (map num) c.in-Some.ensures.cases.0) c.requires.fit in
+    let fit = All-rest (λ (n : ℕ). n / 2 ^ f < 4 ^ k) (num c.in-Some.first.now) rest (map num c.args.words.now)
+    (ap (map num) c.in-Some.ensures.cases.0) c.requires.fit in
     let hq : q / 2 ^ f < 4 ^ k = subst (λ n. n / 2 ^ f < 4 ^ k) (sym at) (fit i 0 inside) in
     let other : num c.without_weight-other.result ≡ q / 2 ^ f = c.without_weight-other.ensures in
     let times : c.times-times.result ≡ item_weight f q = c.times-times.ensures in
@@ -65,12 +66,14 @@ loop-next-preserved g c =
           n + item_weight f q,
           omega (arith, w.count-is, w.saturating_add-count.ensures, times, open_run.1),
           (λ j. list (w.pairs-is j) ++ kept_pairs c.args.limits.now (runs_from (unpack k (num (w.word-is j))) (n + item_weight f q) more))
-              ∙ goes_on k f c.args.limits.now p q n i rest _ _ inside at c.loop-next.invariant.fits (sym other ∙ c.is_same.ensures.0 w.if-is_same.true) open_run.2,
+              ∙ goes_on k f c.args.limits.now p q n i rest _ _ inside at c.loop-next.invariant.fits
+              (sym other ∙ c.is_same.ensures.0 w.if-is_same.true) open_run.2,
         );
       }
       | else-is_same+in_ok-push_kept w ↦
           let differ : q / 2 ^ f ≡ p → ⊥ = λ e. let yes = c.is_same.ensures.1 (other ∙ e) in cc in
-          let kept = w.in_ok-push_kept.ensures.pairs ∙ ap (λ o. list c.loop-next.pairs ++ cons_option o []) (capped_pair c.args.limits.now (unpack k p) c.loop-next.count n open_run.1) in
+          let kept = w.in_ok-push_kept.ensures.pairs ∙ ap (λ o. list c.loop-next.pairs ++ cons_option o [])
+          (capped_pair c.args.limits.now (unpack k p) c.loop-next.count n open_run.1) in
           record {
             takes = subst (g.L.PairList.takes k) (sym w.pairs-is) w.in_ok-push_kept.ensures.takes;
             fits = omega (arith, ap num w.word-is, other, hq);
@@ -95,9 +98,12 @@ returns-clause-dump g c =
     let rest = items k f (map num c.in-Some.rest.now) in
     let first = item k f (num c.in-Some.first.now) in
     let open_run = c.loop-next.invariant.whole in
-    let kept = c.in_ok-push_kept-2.ensures.pairs ∙ ap (λ o. list c.loop-next.pairs ++ cons_option o []) (capped_pair l (unpack k (num c.loop-next.word)) c.loop-next.count open_run.0 open_run.1) in
-    let end : drop c.loop-next.next-index rest ≡ [] = drop_of_length-le rest (omega (arith, c.loop-next-test.false, length-map (map num c.in-Some.rest.now) (item k f), length-map c.in-Some.rest.now num)) in
-    let begun : list c.args.pairs.now ++ kept_pairs l (runs_from (unpack k (num c.without_weight-word.result)) c.times-count.result rest) ≡ kept_pairs l (runs_from first.0 first.1 rest) =
+    let kept = c.in_ok-push_kept-2.ensures.pairs ∙ ap (λ o. list c.loop-next.pairs ++ cons_option o [])
+    (capped_pair l (unpack k (num c.loop-next.word)) c.loop-next.count open_run.0 open_run.1) in
+    let end : drop c.loop-next.next-index rest ≡ [] = drop_of_length-le rest
+    (omega (arith, c.loop-next-test.false, length-map (map num c.in-Some.rest.now) (item k f), length-map c.in-Some.rest.now num)) in
+    let begun : list c.args.pairs.now ++ kept_pairs l (runs_from (unpack k (num c.without_weight-word.result)) c.times-count.result rest)
+    ≡ kept_pairs l (runs_from first.0 first.1 rest) =
     (λ j. c.requires.empty j ++ kept_pairs l (runs_from (unpack k (c.without_weight-word.ensures j)) (c.times-count.ensures j) rest)) in
     all_runs l (unpack k (num c.loop-next.word)) first open_run.0 c.loop-next.next-index (items k f ns) rest _ _
     end (ap (λ v. items k f (map num v)) c.in-Some.ensures.cases.0) (items_some k f ns) (sorted_items k f ns c.requires.fit c.requires.sorted) kept

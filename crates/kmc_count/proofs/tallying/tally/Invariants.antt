@@ -11,6 +11,8 @@ invariant-loop-next g l = record {
   takes : g.L.PairList.takes l.rule.k l.pairs;
   fits : g.W.Word.number l.word < 4 ^ l.rule.k;
   whole : (n : ℕ) × (l.count ≡ min n (2 ^ 64 - 1))
-      × (g.L.PairList.pairs l.pairs ++ kept_pairs l.limits (runs_from (unpack l.rule.k (g.W.Word.number l.word)) n (drop l.next-index (items l.rule.k l.bits (map g.W.Word.number l.rest))))
-      ≡ g.L.PairList.pairs l.initial.pairs ++ kept_pairs l.limits (runs_from (unpack l.rule.k (g.W.Word.number l.initial.word)) l.initial.count (items l.rule.k l.bits (map g.W.Word.number l.rest))));
+      × (g.L.PairList.pairs l.pairs ++ kept_pairs l.limits (runs_from (unpack l.rule.k (g.W.Word.number l.word)) n
+      (drop l.next-index (items l.rule.k l.bits (map g.W.Word.number l.rest))))
+      ≡ g.L.PairList.pairs l.initial.pairs ++ kept_pairs l.limits (runs_from (unpack l.rule.k (g.W.Word.number l.initial.word)) l.initial.count
+      (items l.rule.k l.bits (map g.W.Word.number l.rest))));
 }

@@ -16,7 +16,8 @@ returns-clause-list g c = subst (IsListOf c.args.rule.k) (sym c.shrink.ensures) 
 
 pub returns-clause-ok : goal.returns-clause-ok
 returns-clause-ok g c =
-    subst (λ (v : Listed). IsDumpOfBody c.args.rule.strands c.args.rule.k c.args.limits.now c.args.body.now (pairs_of v)) (sym c.shrink.ensures) c.in_ok-count_into.ensures.ok
+    subst (λ (v : Listed). IsDumpOfBody c.args.rule.strands c.args.rule.k c.args.limits.now c.args.body.now (pairs_of v))
+    (sym c.shrink.ensures) c.in_ok-count_into.ensures.ok
 
 pub returns-in_err-count_into-clause-damaged : goal.returns-in_err-count_into-clause-damaged
 returns-in_err-count_into-clause-damaged g c = λ fault offset is.

@@ -17,7 +17,9 @@ pub returns-in_err-lists-clause-damaged : goal.returns-in_err-lists-clause-damag
 returns-in_err-lists-clause-damaged g t c = λ fault offset h.
     let a = c.args in let low = c.split_off.new.self.items in let high = c.in_ok-high.high.items in
     subst (IsFirstDamaged a.rule.k fault offset) (both a.bodies.items low high c.share-at.result c.in_ok-high.ensures.items c.in_ok-high.ensures.tail)
-    (first_damaged a.rule.strands a.rule.k a.limits (texts low) (texts high) fault offset (c.join-first.ensures.first.damaged fault offset (passed_on c.join-first.result.0 c.from_residual-in_err-lists.result _ _ c.in_err-lists.was c.from_residual-in_err-lists.ensures.1 h)))
+    (first_damaged a.rule.strands a.rule.k a.limits (texts low) (texts high) fault offset
+    (c.join-first.ensures.first.damaged fault offset
+    (passed_on c.join-first.result.0 c.from_residual-in_err-lists.result _ _ c.in_err-lists.was c.from_residual-in_err-lists.ensures.1 h)))
 
 pub returns-in_err-more-clause-damaged : goal.returns-in_err-more-clause-damaged
 returns-in_err-more-clause-damaged g t c = λ fault offset h.
@@ -25,7 +27,8 @@ returns-in_err-more-clause-damaged g t c = λ fault offset h.
     let first = subst (IsListingOfBodies a.rule.strands a.rule.k a.limits low) c.in_ok-lists.was c.join-first.ensures.first in
     subst (IsFirstDamaged a.rule.k fault offset) (both a.bodies.items low high c.share-at.result c.in_ok-high.ensures.items c.in_ok-high.ensures.tail)
     (second_damaged a.rule.strands a.rule.k a.limits (texts low) (texts high) (map pairs_of c.in_ok-lists.lists.items) fault offset first.ok.dumps
-    (c.join-first.ensures.second.damaged fault offset (passed_on c.join-first.result.1 c.from_residual-in_err-more.result _ _ c.in_err-more.was c.from_residual-in_err-more.ensures.1 h)))
+    (c.join-first.ensures.second.damaged fault offset
+    (passed_on c.join-first.result.1 c.from_residual-in_err-more.result _ _ c.in_err-more.was c.from_residual-in_err-more.ensures.1 h)))
 
 pub returns-clause-ok : goal.returns-clause-ok
 returns-clause-ok g t c =
@@ -34,5 +37,6 @@ returns-clause-ok g t c =
     let second = subst (IsListingOfBodies a.rule.strands a.rule.k a.limits high) c.in_ok-more.was c.join-first.ensures.second in
     let front = c.in_ok-lists.lists.items in let back = c.in_ok-more.more.items in
     subst (AreListsOfBodies a.rule.strands a.rule.k a.limits (texts a.bodies.items)) (sym c.in_ok-append.ensures.items)
-    (subst (λ (t : List (List ℕ)). AreListsOfBodies a.rule.strands a.rule.k a.limits t (front ++ back)) (both a.bodies.items low high c.share-at.result c.in_ok-high.ensures.items c.in_ok-high.ensures.tail)
+    (subst (λ (t : List (List ℕ)). AreListsOfBodies a.rule.strands a.rule.k a.limits t (front ++ back))
+    (both a.bodies.items low high c.share-at.result c.in_ok-high.ensures.items c.in_ok-high.ensures.tail)
     (both_listed a.rule.strands a.rule.k a.limits (texts low) (texts high) front back first.ok second.ok))

@@ -8,7 +8,8 @@ use Rattle.kmc_dump.proofs.parting.join_slots.Goals.{then-pending-gt0+then-size-
 pub loop-slot-init : goal.loop-slot-init
 loop-slot-init g c =
     let w = 2 ^ c.args.shift in
-    subst (λ (l : List ℕ). ArePartedTo w 0 l 0 0 c.args.lists.now) (sym (c.in_ok-push.ensures.items ∙ ap (λ (l : List ℕ). l ++ 0 ∷ []) c.new-bounds.ensures.items)) (no_range w c.args.lists.now)
+    subst (λ (l : List ℕ). ArePartedTo w 0 l 0 0 c.args.lists.now) (sym
+    (c.in_ok-push.ensures.items ∙ ap (λ (l : List ℕ). l ++ 0 ∷ []) c.new-bounds.ensures.items)) (no_range w c.args.lists.now)
 
 pub loop-slot-preserved : goal.loop-slot-preserved
 loop-slot-preserved g c =
@@ -23,7 +24,10 @@ loop-slot-preserved g c =
     (elim c.if-pending-gt0.branch [
       | then-pending-gt0+then-size-saturating_sub+in_ok-push-2 b ↦
           let above = max_above c.loop-slot.widest c.loop-slot.pending in
-          let made = closed w c.loop-slot.widest c.loop-slot.bounds.items to c.loop-slot.pending b.max-widest.result lists c.loop-slot.invariant (omega (arith, above.0, b.max-widest.ensures)) (omega (arith, above.1, b.max-widest.ensures)) in
-          along w to lists _ _ _ _ _ _ made (sym b.widest-is) (sym (ap (λ (v : Vec ℕ Global). v.items) b.bounds-is ∙ b.in_ok-push-2.ensures.items)) (sym b.pending-is)
-      | else-pending-gt0 b ↦ along w to lists _ _ _ _ _ _ c.loop-slot.invariant (sym b.widest-is) (sym (ap (λ (v : Vec ℕ Global). v.items) b.bounds-is)) (sym b.pending-is)
+          let made = closed w c.loop-slot.widest c.loop-slot.bounds.items to c.loop-slot.pending b.max-widest.result lists c.loop-slot.invariant
+          (omega (arith, above.0, b.max-widest.ensures)) (omega (arith, above.1, b.max-widest.ensures)) in
+          along w to lists _ _ _ _ _ _ made (sym b.widest-is) (sym (ap (λ (v : Vec ℕ Global). v.items) b.bounds-is ∙ b.in_ok-push-2.ensures.items))
+          (sym b.pending-is)
+      | else-pending-gt0 b ↦ along w to lists _ _ _ _ _ _ c.loop-slot.invariant (sym b.widest-is)
+          (sym (ap (λ (v : Vec ℕ Global). v.items) b.bounds-is)) (sym b.pending-is)
     ]) refl is refl

@@ -5,7 +5,13 @@ use Rattle.kmc_dump.proofs.slots.slot_sizes.Goals as goal
 
 pub add_list-requires-clause-inside : goal.add_list-requires-clause-inside
 add_list-requires-clause-inside g c = λ k d inside.
-    omega (arith, all_there (λ p. p.0 / 2 ^ c.args.shift < c.args.slots) c.args.lists.now c.requires.inside c.loop-list.list-index c.list-item.result c.loop-list-test.true c.list-item.is k d inside, ap length c.deref_mut.ensures.value, c.loop-list.invariant.long)
+    omega (
+      arith,
+      all_there
+          (λ p. p.0 / 2 ^ c.args.shift < c.args.slots) c.args.lists.now c.requires.inside c.loop-list.list-index c.list-item.result c.loop-list-test.true c.list-item.is k d inside,
+      ap length c.deref_mut.ensures.value,
+      c.loop-list.invariant.long,
+    )
 
 pub loop-list-init : goal.loop-list-init
 loop-list-init g c = grind (arith, common_steps)

@@ -7,5 +7,6 @@ use Rattle.kmc_dump.proofs.waves.write_buffers.Given as goal
 abbrev pub invariant-loop-buffer : goal.invariant-loop-buffer
 invariant-loop-buffer g l = record {
   kept : l.writer.failures ≡ l.initial.writer.failures;
-  out : Appends (g.D.Write.contents l.initial.writer.inner) (g.D.Write.contents l.writer.inner) (flat_map (λ s. take s.filled s.text.items) (take l.buffer-index l.buffers));
+  out : Appends (g.D.Write.contents l.initial.writer.inner) (g.D.Write.contents l.writer.inner)
+      (flat_map (λ s. take s.filled s.text.items) (take l.buffer-index l.buffers));
 }

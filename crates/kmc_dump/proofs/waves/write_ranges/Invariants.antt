@@ -11,7 +11,8 @@ invariant-loop-first g l = record {
   pairs : All (λ b. l.ranges.widest ≤ vec_capacity b.pairs) l.buffers;
   text : All (λ b. l.ranges.widest * line_room l.ranges.k g.C.Shown.most_digits ≤ length b.text.items) l.buffers;
   kept : l.writer.failures ≡ l.initial.writer.failures;
-  out : Appends (g.D.Write.contents l.initial.writer.inner) (g.D.Write.contents l.writer.inner) (range_text l.ranges.k (2 ^ l.ranges.shift) (get_or l.ranges.bounds.items 0 0) (get_or l.ranges.bounds.items l.first 0) l.lists);
+  out : Appends (g.D.Write.contents l.initial.writer.inner) (g.D.Write.contents l.writer.inner)
+      (range_text l.ranges.k (2 ^ l.ranges.shift) (get_or l.ranges.bounds.items 0 0) (get_or l.ranges.bounds.items l.first 0) l.lists);
 }
 
 abbrev pub decreases-loop-first : goal.decreases-loop-first

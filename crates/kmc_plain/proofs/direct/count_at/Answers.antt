@@ -17,7 +17,8 @@ texts reads = map (λ r. r.items) reads
 pub loop-read-init : goal.loop-read-init
 loop-read-init g c = ap (map g.W.Word.number) c.new-words.ensures.items
 
-next_read : (reads : List (Vec ℕ Global)) (i : ℕ) (r : Vec ℕ Global) → i < length reads → r ≡ get_or reads i r → take (i + 1) (texts reads) ≡ take i (texts reads) ++ r.items ∷ []
+next_read : (reads : List (Vec ℕ Global)) (i : ℕ) (r : Vec ℕ Global) → i < length reads → r ≡ get_or reads i r → take (i + 1) (texts reads) ≡ take i
+    (texts reads) ++ r.items ∷ []
 next_read reads i r inside is =
     let items : Vec ℕ Global → List ℕ = λ v. v.items in
     let long : i < length (texts reads) = omega (arith, inside, length-map reads items) in
@@ -29,9 +30,11 @@ loop-read-preserved g c =
     let num = g.W.Word.number in
     let reads = c.args.reads.now in
     let i = c.loop-read.read-index in
-    read_added c.args.rule.strands c.args.rule.k c.read-item.result.items (take i (texts reads)) (take (i + 1) (texts reads)) (map num c.loop-read.words.items) _ c.loop-read.invariant
+    read_added c.args.rule.strands c.args.rule.k c.read-item.result.items (take i (texts reads)) (take (i + 1) (texts reads))
+    (map num c.loop-read.words.items) _ c.loop-read.invariant
     (next_read reads i c.read-item.result c.loop-read-test.true c.read-item.is)
-    (c.in_ok-push_read.ensures ∙ ap (λ t. map num c.loop-read.words.items ++ map pack (map (placed_key c.args.rule.strands) (counted_words c.args.rule.k t))) c.deref.ensures.value)
+    (c.in_ok-push_read.ensures ∙ ap (λ t. map num c.loop-read.words.items ++ map pack
+    (map (placed_key c.args.rule.strands) (counted_words c.args.rule.k t))) c.deref.ensures.value)
 
 all_reads : (reads : List (Vec ℕ Global)) (i : ℕ) → length reads ≤ i → take i (texts reads) ≡ texts reads
 all_reads reads i end =
@@ -43,8 +46,10 @@ tally_words-requires-clause-fit g c =
     let num = g.W.Word.number in
     let k = c.args.rule.k in
     let reads = texts c.args.reads.now in
-    let is = c.loop-read.invariant ∙ ap (λ t. map pack (keys_of_reads c.args.rule.strands k t)) (all_reads c.args.reads.now c.loop-read.read-index c.loop-read-test.false) in
-    let fit = sorted_fit k (keys_of_reads c.args.rule.strands k reads) (keys_of_reads_are_words c.args.rule.strands k reads) (map num c.loop-read.words.items) (map num c.sort.new.words.items) is c.sort.ensures.moved in
+    let is = c.loop-read.invariant ∙ ap (λ t. map pack (keys_of_reads c.args.rule.strands k t))
+    (all_reads c.args.reads.now c.loop-read.read-index c.loop-read-test.false) in
+    let fit = sorted_fit k (keys_of_reads c.args.rule.strands k reads) (keys_of_reads_are_words c.args.rule.strands k reads)
+    (map num c.loop-read.words.items) (map num c.sort.new.words.items) is c.sort.ensures.moved in
     subst (λ ns. All (λ n. n < 4 ^ k) (map num ns)) (sym c.deref-2.ensures.value) fit
 
 pub tally_words-requires-clause-sorted : goal.tally_words-requires-clause-sorted
@@ -56,7 +61,9 @@ returns g c =
     let k = c.args.rule.k in
     let reads = texts c.args.reads.now in
     let pairs = c.tally_words.new.pairs.items in
-    let is = c.loop-read.invariant ∙ ap (λ t. map pack (keys_of_reads c.args.rule.strands k t)) (all_reads c.args.reads.now c.loop-read.read-index c.loop-read-test.false) in
+    let is = c.loop-read.invariant ∙ ap (λ t. map pack (keys_of_reads c.args.rule.strands k t))
+    (all_reads c.args.reads.now c.loop-read.read-index c.loop-read-test.false) in
     let dump = subst (λ ns. IsDump (occurrences (map (unpack k) (map num ns))) c.args.limits.now pairs) c.deref-2.ensures.value c.in_ok-tally_words.ensures in
-    let same = sorted_occurrences k (keys_of_reads c.args.rule.strands k reads) (keys_of_reads_are_words c.args.rule.strands k reads) (map num c.loop-read.words.items) (map num c.sort.new.words.items) is c.sort.ensures.moved in
+    let same = sorted_occurrences k (keys_of_reads c.args.rule.strands k reads) (keys_of_reads_are_words c.args.rule.strands k reads)
+    (map num c.loop-read.words.items) (map num c.sort.new.words.items) is c.sort.ensures.moved in
     subst (λ n. IsDump n c.args.limits.now pairs) (λ i x. (same x ∙ of_reads c.args.rule.strands k x reads) i) dump

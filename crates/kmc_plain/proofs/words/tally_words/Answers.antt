@@ -8,4 +8,5 @@ tally-requires-clause-fit g c = once_fit c.args.rule.k (map g.W.Word.number c.ar
 
 pub returns : goal.returns
 returns g c =
-    subst (λ n. IsDump n c.args.limits.now c.tally.new.pairs.items) (λ i x. once_each c.args.rule.k (map g.W.Word.number c.args.words.now) x i) c.in_ok-tally.ensures.dump
+    subst (λ n. IsDump n c.args.limits.now c.tally.new.pairs.items) (λ i x. once_each c.args.rule.k
+    (map g.W.Word.number c.args.words.now) x i) c.in_ok-tally.ensures.dump

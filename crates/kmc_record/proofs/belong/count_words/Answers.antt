@@ -14,16 +14,20 @@ returns-in-Err-Damaged-clause-first c =
     let body = c.args.body.now in
     let offset = c.loop-offset.offset in
     subst (λ f. IsFirstError c.args.bin shape (Damaged f offset) body) (sym c.in-Err-Damaged.fault-is)
-    (damaged_at c.args.bin shape c.k-k.result offset body c.k-k.ensures.is c.loop-offset-test.true (records_of_part c.args.bin shape (take offset body) c.loop-offset.words c.loop-offset.invariant.part)
-    c.in-Err-Damaged.fault (subst (λ e. IsRefused c.k-k.result e (drop offset body)) c.in-Err-Damaged.field-0-is (subst (IsRefused c.k-k.result c.in-Err-Damaged.field-0) (take_rest body offset) c.in-Err-Damaged.ensures.refused)))
+    (damaged_at c.args.bin shape c.k-k.result offset body c.k-k.ensures.is c.loop-offset-test.true
+    (records_of_part c.args.bin shape (take offset body) c.loop-offset.words c.loop-offset.invariant.part)
+    c.in-Err-Damaged.fault (subst (λ e. IsRefused c.k-k.result e (drop offset body)) c.in-Err-Damaged.field-0-is
+    (subst (IsRefused c.k-k.result c.in-Err-Damaged.field-0) (take_rest body offset) c.in-Err-Damaged.ensures.refused)))
 
 pub returns-in-Err-Memory-clause-first : goal.returns-in-Err-Memory-clause-first
 returns-in-Err-Memory-clause-first c =
     let shape = c.args.shape in
     let body = c.args.body.now in
     let offset = c.loop-offset.offset in
-    memory_at c.args.bin shape c.k-k.result offset body c.k-k.ensures.is c.loop-offset-test.true (records_of_part c.args.bin shape (take offset body) c.loop-offset.words c.loop-offset.invariant.part)
-    (subst (λ e. IsRefused c.k-k.result e (drop offset body)) c.in-Err-Memory.field-0-is (subst (IsRefused c.k-k.result c.in-Err-Memory.field-0) (take_rest body offset) c.in-Err-Memory.ensures.refused))
+    memory_at c.args.bin shape c.k-k.result offset body c.k-k.ensures.is c.loop-offset-test.true
+    (records_of_part c.args.bin shape (take offset body) c.loop-offset.words c.loop-offset.invariant.part)
+    (subst (λ e. IsRefused c.k-k.result e (drop offset body)) c.in-Err-Memory.field-0-is
+    (subst (IsRefused c.k-k.result c.in-Err-Memory.field-0) (take_rest body offset) c.in-Err-Memory.ensures.refused))
 
 pub returns-then-not-in_bin-clause-first : goal.returns-then-not-in_bin-clause-first
 returns-then-not-in_bin-clause-first c =
@@ -41,7 +45,8 @@ returns-then-not-in_bin-clause-first c =
         spelled = subst (λ j. IsSpelled j s.codes) same c.in-Ok.ensures.spelled;
         is = sym (take_rest body offset) ∙ c.in-Ok.ensures.rest ∙ (λ i. spelling (same i) s.codes ++ c.in-Ok.found.1.now);
         other = λ h.
-            let t = c.in_bin.ensures.1 (asked_here c.args.bin shape k c.m-m.result c.n-n.result s s same c.m-m.ensures.is c.n-n.ensures.is c.in-Ok.ensures.k refl h) in
+            let t = c.in_bin.ensures.1
+            (asked_here c.args.bin shape k c.m-m.result c.n-n.result s s same c.m-m.ensures.is c.n-n.ensures.is c.in-Ok.ensures.k refl h) in
             cc;
       },
     )

@@ -48,9 +48,11 @@ loop-offset-preserved g c =
       inside = omega (arith, long, c.in-Ok.ensures.inside);
       records = (
         h.0 ++ first_codes n rest ∷ [],
-        next_body c.args.k n offset _ h.0 body rest (bytes_each body (λ i. omega (arith, c.type_inv.body i))) is h.1 (λ _. offset + (1 + size)) c.in-Ok.ensures.count c.in-Ok.ensures.inside c.in-Ok.ensures.rest,
+        next_body c.args.k n offset _ h.0 body rest (bytes_each body (λ i. omega (arith, c.type_inv.body i))) is h.1
+            (λ _. offset + (1 + size)) c.in-Ok.ensures.count c.in-Ok.ensures.inside c.in-Ok.ensures.rest,
         next_keys c.args.strands c.args.k h.0 (first_codes n rest) _ _ (map num c.args.words.now.items) h.2
-            (c.in_ok-push_record.ensures ∙ ap (λ m. map num c.loop-offset.words.items ++ map (weighted 0 1) (map pack (keys c.args.strands c.args.k (take n (codes_in (take m (drop 1 rest))))))) same
+            (c.in_ok-push_record.ensures ∙ ap (λ m. map num c.loop-offset.words.items ++ map (weighted 0 1)
+            (map pack (keys c.args.strands c.args.k (take n (codes_in (take m (drop 1 rest))))))) same
             ∙ ap (λ (t : List ℕ). map num c.loop-offset.words.items ++ t) (once_each _)),
       );
     }

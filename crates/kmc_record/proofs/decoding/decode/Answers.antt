@@ -16,7 +16,8 @@ same_codes : (n : ℕ) (bs : List ℕ) → take n (codes_in (take (1 + (n + 3) /
 same_codes n bs = let same : 1 + (n + 3) / 4 - 1 ≡ (n + 3) / 4 = omega arith in ap (λ m. take n (codes_in (take m (drop 1 bs)))) same
 
 -- memory was refused where a record stands
-no_memory : {A : Type 0} (k : ℕ) (bytes : List ℕ) (r : Result A RecordError) → IsErrAnd r (λ e. e ≡ Memory) → BeginsRecord k bytes → IfErr r (λ e. IsRefused k e bytes)
+no_memory : {A : Type 0} (k : ℕ) (bytes : List ℕ) (r : Result A RecordError) → IsErrAnd r (λ e. e ≡ Memory) → BeginsRecord k bytes → IfErr r
+    (λ e. IsRefused k e bytes)
 no_memory k bytes (Ok x) h b = absurd h
 no_memory k bytes (Err e) h b = subst (λ e. IsRefused k e bytes) (sym h) b
 
@@ -40,7 +41,8 @@ unreachable-requires c =
     let is = c.in_ok-codes.ensures ∙ same_codes n bs in
     c.in-None.ensures
     (subst (IsSuperKmer c.args.k) (sym is)
-    (spelled_super_kmer c.args.k (first_codes n bs) c.requires.some c.requires.most (first_spelled c.args.k n bs are c.in_ok-symbols.ensures.count c.in_ok-symbols.ensures.inside)))
+    (spelled_super_kmer c.args.k (first_codes n bs) c.requires.some c.requires.most
+    (first_spelled c.args.k n bs are c.in_ok-symbols.ensures.count c.in_ok-symbols.ensures.inside)))
 
 pub returns-clause-spelled : goal.returns-clause-spelled
 returns-clause-spelled c =
@@ -57,4 +59,5 @@ returns-clause-rest c =
     let are = bytes_each bs (λ i. omega (arith, c.type_inv.bytes i)) in
     let is = sym (c.in-Some.ensures.1 ∙ c.in_ok-codes.ensures ∙ same_codes n bs) in
     let rest = sym (take_rest bs (1 + (n + 3) / 4)) in
-    first_read c.args.k n bs are c.in_ok-symbols.ensures.count c.in_ok-symbols.ensures.inside c.in_ok-symbols.ensures.rest ∙ (λ i. spelling c.args.k (is i) ++ rest i)
+    first_read c.args.k n bs are c.in_ok-symbols.ensures.count c.in_ok-symbols.ensures.inside c.in_ok-symbols.ensures.rest
+    ∙ (λ i. spelling c.args.k (is i) ++ rest i)

@@ -26,4 +26,5 @@ returns c =
     let front = front_is bs c.requires.few n f b c.requires.inside c.requires.most all in
     let other = other_is bs c.requires.few n f b c.requires.inside c.requires.most all in
     c.packed_key.ensures ∙ (λ i. packed_key c.args.strands (front i) (other i))
-    ∙ key_of_both c.args.strands (s bs c.requires.few n f b c.requires.inside c.requires.most all) (symbols_are bs c.requires.few n f b c.requires.inside c.requires.most all)
+    ∙ key_of_both c.args.strands (s bs c.requires.few n f b c.requires.inside c.requires.most all)
+    (symbols_are bs c.requires.few n f b c.requires.inside c.requires.most all)

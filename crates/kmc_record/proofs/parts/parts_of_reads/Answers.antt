@@ -9,7 +9,12 @@ use Rattle.kmc_record.proofs.Chunks.{read_more, empties_are, all_grown}
 use Rattle.kmc_record.proofs.parts.parts_of_reads.Goals as goal
 
 pub loop-read-init : goal.loop-read-init
-loop-read-init c = ([], tt, grown_start c.args.shape c.args.shape.k c.in_ok-parts.parts.items (empties_are c.args.number c.args.shape c.in_ok-parts.parts.items c.in_ok-parts.ensures))
+loop-read-init c = (
+  [],
+  tt,
+  grown_start c.args.shape c.args.shape.k c.in_ok-parts.parts.items
+      (empties_are c.args.number c.args.shape c.in_ok-parts.parts.items c.in_ok-parts.ensures),
+)
 
 pub push_read-requires : goal.push_read-requires
 push_read-requires c =
@@ -31,6 +36,7 @@ returns c =
       cuts = taken.0;
       cut = taken.1;
       are = filter_from_retain _ test (λ p x b q t. search rules) _ _ _ c.retain.ensures.filtered
-          ∙ ap (filter test) (all_grown c.args.number shape (λ bin. bin_super_kmers shape.k shape.n bin (all_segments shape.k (map (λ r. r.now) c.args.reads.now)) taken.0)
+          ∙ ap (filter test) (all_grown c.args.number shape (λ bin. bin_super_kmers shape.k shape.n bin
+          (all_segments shape.k (map (λ r. r.now) c.args.reads.now)) taken.0)
           c.in_ok-parts.parts.items c.loop-read.parts.items c.in_ok-parts.ensures taken.2);
     }

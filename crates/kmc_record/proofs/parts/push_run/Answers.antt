@@ -12,7 +12,8 @@ use Rattle.kmc_record.proofs.parts.push_run.Goals.{After-index_mut-part}
 use Rattle.kmc_record.proofs.parts.push_run.Goals as goal
 
 -- the part of the run's bin
-of_bin : (c : After-index_mut-part) → let q = c.index_mut-part.result.now in (c.bin-bin.result < c.args.shape.n) × (q.shape ≡ c.args.shape) × (q.bin ≡ c.args.run.signature % c.args.shape.n)
+of_bin : (c : After-index_mut-part) → let q = c.index_mut-part.result.now in (c.bin-bin.result < c.args.shape.n) × (q.shape ≡ c.args.shape)
+    × (q.bin ≡ c.args.run.signature % c.args.shape.n)
 of_bin c =
     let q = c.index_mut-part.result.now in
     let below : c.bin-bin.result < c.args.shape.n = omega arith in
@@ -56,5 +57,7 @@ returns c =
     let parts = c.args.parts.now.items in
     let within = (of_bin p).0 in
     let inside : b < length parts = omega (arith, c.requires.bins.count) in
-    run_grown shape shape.k shape.n b c.args.codes.now c.args.run parts c.push.new.self c.requires.bins (c.bin-bin.ensures.is ∙ ap (λ n. c.args.run.signature % n) c.n.ensures.is) inside
-    (λ d. let here = get_or_read parts b c.index_mut-part.result.now inside c.index_mut-part.ensures.value d in c.in_ok-push.ensures.ok ∙ (λ i. grown ((of_bin p).1 i).k (are_codes p i ∷ []) (here i)))
+    run_grown shape shape.k shape.n b c.args.codes.now c.args.run parts c.push.new.self c.requires.bins
+    (c.bin-bin.ensures.is ∙ ap (λ n. c.args.run.signature % n) c.n.ensures.is) inside
+    (λ d. let here = get_or_read parts b c.index_mut-part.result.now inside c.index_mut-part.ensures.value d in c.in_ok-push.ensures.ok
+    ∙ (λ i. grown ((of_bin p).1 i).k (are_codes p i ∷ []) (here i)))

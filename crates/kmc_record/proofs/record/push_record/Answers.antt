@@ -23,7 +23,8 @@ pub slide_byte-requires-clause-back : goal.slide_byte-requires-clause-back
 slide_byte-requires-clause-back g c =
     let num = g.W.Word.number in
     let bs = c.args.bytes.now in
-    fits_at c.args.rule.k c.args.rule.within.0 (take c.args.symbols (codes_in bs)) (4 * c.front.j) (num c.front.forward) (num c.front.back) (num c.top-top.result) (small bs c.args.symbols)
+    fits_at c.args.rule.k c.args.rule.within.0 (take c.args.symbols (codes_in bs)) (4 * c.front.j) (num c.front.forward) (num c.front.back)
+    (num c.top-top.result) (small bs c.args.symbols)
     (omega (arith, long bs c.args.symbols c.requires.inside)) c.top-top.ensures c.front.invariant
 
 pub front-preserved : goal.front-preserved
@@ -35,7 +36,8 @@ front-preserved g c =
     let s = take n (codes_in bs) in
     let codes = byte_codes bs j (omega arith) in
     let up : 4 * j + 4 ≡ 4 * (j + 1) = omega arith in
-    let r = byte_step c.args.rule.k c.args.rule.within.0 s (4 * j) _ _ _ _ (num c.front.forward) (num c.front.back) (num c.top-top.result) (num c.slide_byte.result.0) (num c.slide_byte.result.1) (small bs n)
+    let r = byte_step c.args.rule.k c.args.rule.within.0 s (4 * j) _ _ _ _ (num c.front.forward) (num c.front.back) (num c.top-top.result)
+    (num c.slide_byte.result.0) (num c.slide_byte.result.1) (small bs n)
     (omega (arith, long bs n c.requires.inside))
     (codes.0 ∙ sym (get_or-take n (codes_in bs) (4 * j) 0 (omega arith)))
     (codes.1 ∙ sym (get_or-take n (codes_in bs) (4 * j + 1) 0 (omega arith)))
@@ -53,7 +55,8 @@ pub behind-back-requires-clause-back : goal.behind-back-requires-clause-back
 behind-back-requires-clause-back g c =
     let num = g.W.Word.number in
     let bs = c.args.bytes.now in
-    fits c.args.rule.strands c.args.rule.k c.args.symbols c.args.weight.bits c.args.weight.times c.args.rule.within.0 (codes_in bs) (are_codes bs) (within bs c.args.symbols c.requires.inside) (num c.top-top.result) c.top-top.ensures
+    fits c.args.rule.strands c.args.rule.k c.args.symbols c.args.weight.bits c.args.weight.times c.args.rule.within.0 (codes_in bs) (are_codes bs)
+    (within bs c.args.symbols c.requires.inside) (num c.top-top.result) c.top-top.ensures
     c.head.i (num c.head.forward) (num c.head.back) (omega arith) c.head.invariant
 
 pub head-preserved : goal.head-preserved
@@ -62,8 +65,10 @@ head-preserved g c =
     let bs = c.args.bytes.now in
     let n = c.args.symbols in
     let less : c.head.i < n = omega arith in
-    step_at c.args.rule.k c.args.rule.within.0 (take n (codes_in bs)) c.head.i c.code_at-code.result (num c.head.forward) (num c.head.back) (num c.ahead-forward.result) (num c.behind-back.result) (num c.top-top.result)
-    (small bs n) (omega (arith, long bs n c.requires.inside)) (c.code_at-code.ensures.is ∙ sym (get_or-take n (codes_in bs) c.head.i 0 less)) c.top-top.ensures c.ahead-forward.ensures c.behind-back.ensures c.head.invariant
+    step_at c.args.rule.k c.args.rule.within.0 (take n (codes_in bs)) c.head.i c.code_at-code.result (num c.head.forward) (num c.head.back)
+    (num c.ahead-forward.result) (num c.behind-back.result) (num c.top-top.result)
+    (small bs n) (omega (arith, long bs n c.requires.inside)) (c.code_at-code.ensures.is ∙ sym
+    (get_or-take n (codes_in bs) c.head.i 0 less)) c.top-top.ensures c.ahead-forward.ensures c.behind-back.ensures c.head.invariant
 
 pub near-init : goal.near-init
 near-init g c =
@@ -72,7 +77,9 @@ near-init g c =
     let n = c.args.symbols in
     let old = map num c.args.words.now.items in
     let end : c.head.i ≡ c.args.rule.k - 1 = omega arith in
-    let r = held_first c.args.rule.strands c.args.rule.k n c.args.weight.bits c.args.weight.times c.args.rule.within.0 (codes_in bs) (are_codes bs) (within bs n c.requires.inside) (num c.top-top.result) c.top-top.ensures (c.args.rule.k - 1) (num c.head.forward) (num c.head.back) old (vec_len c.reserve.new.self) (vec_capacity c.reserve.new.self) (omega arith)
+    let r = held_first c.args.rule.strands c.args.rule.k n c.args.weight.bits c.args.weight.times c.args.rule.within.0 (codes_in bs) (are_codes bs)
+    (within bs n c.requires.inside) (num c.top-top.result) c.top-top.ensures (c.args.rule.k - 1) (num c.head.forward) (num c.head.back) old
+    (vec_len c.reserve.new.self) (vec_capacity c.reserve.new.self) (omega arith)
     (omega (arith, c.in_ok-reserve.ensures.ok)) (rw end at c.head.invariant) in
     record {
       rolling = r.rolling;
@@ -85,16 +92,22 @@ push_code-requires-clause-back g c =
     let num = g.W.Word.number in
     let bs = c.args.bytes.now in
     let n = c.args.symbols in
-    fits c.args.rule.strands c.args.rule.k n c.args.weight.bits c.args.weight.times c.args.rule.within.0 (codes_in bs) (are_codes bs) (within bs n c.requires.inside) (num c.top-top.result) c.top-top.ensures c.near.i (num c.near.forward) (num c.near.back) (omega (arith, c.min-near.ensures)) c.near.invariant.rolling
+    fits c.args.rule.strands c.args.rule.k n c.args.weight.bits c.args.weight.times c.args.rule.within.0 (codes_in bs) (are_codes bs)
+    (within bs n c.requires.inside) (num c.top-top.result) c.top-top.ensures c.near.i (num c.near.forward) (num c.near.back)
+    (omega (arith, c.min-near.ensures)) c.near.invariant.rolling
 
 pub near-preserved : goal.near-preserved
 near-preserved g c =
     let num = g.W.Word.number in
     let bs = c.args.bytes.now in
     let n = c.args.symbols in
-    held_more c.args.rule.strands c.args.rule.k n c.args.weight.bits c.args.weight.times c.args.rule.within.0 (codes_in bs) (are_codes bs) (within bs n c.requires.inside) (num c.top-top.result) c.top-top.ensures c.near.i _ (num c.near.forward) (num c.near.back) (num c.push_code.result.0) (num c.push_code.result.1)
-    (map num c.args.words.now.items) (map num c.near.words.items) (map num c.push_code.new.words.items) (vec_len c.near.words) (vec_capacity c.near.words) (vec_len c.push_code.new.words) (vec_capacity c.push_code.new.words)
-    (omega (arith, c.min-near.ensures)) (omega arith) c.code_at-code-in-near.ensures.is c.push_code.ensures.ahead c.push_code.ensures.behind c.push_code.ensures.pushed c.push_code.ensures.len c.push_code.ensures.capacity c.near.invariant
+    held_more c.args.rule.strands c.args.rule.k n c.args.weight.bits c.args.weight.times c.args.rule.within.0 (codes_in bs) (are_codes bs)
+    (within bs n c.requires.inside) (num c.top-top.result) c.top-top.ensures c.near.i _ (num c.near.forward) (num c.near.back)
+    (num c.push_code.result.0) (num c.push_code.result.1)
+    (map num c.args.words.now.items) (map num c.near.words.items) (map num c.push_code.new.words.items) (vec_len c.near.words)
+    (vec_capacity c.near.words) (vec_len c.push_code.new.words) (vec_capacity c.push_code.new.words)
+    (omega (arith, c.min-near.ensures))
+    (omega arith) c.code_at-code-in-near.ensures.is c.push_code.ensures.ahead c.push_code.ensures.behind c.push_code.ensures.pushed c.push_code.ensures.len c.push_code.ensures.capacity c.near.invariant
 
 pub bytes-init : goal.bytes-init
 bytes-init g c =
@@ -117,7 +130,9 @@ push_code-requires-in-codes-clause-back g c =
     let num = g.W.Word.number in
     let bs = c.args.bytes.now in
     let n = c.args.symbols in
-    fits c.args.rule.strands c.args.rule.k n c.args.weight.bits c.args.weight.times c.args.rule.within.0 (codes_in bs) (are_codes bs) (within bs n c.requires.inside) (num c.top-top.result) c.top-top.ensures (4 * c.bytes.j + c.codes.r) (num c.codes.forward) (num c.codes.back) (omega arith) c.codes.invariant.rolling
+    fits c.args.rule.strands c.args.rule.k n c.args.weight.bits c.args.weight.times c.args.rule.within.0 (codes_in bs) (are_codes bs)
+    (within bs n c.requires.inside) (num c.top-top.result) c.top-top.ensures (4 * c.bytes.j + c.codes.r) (num c.codes.forward) (num c.codes.back)
+    (omega arith) c.codes.invariant.rolling
 
 pub codes-preserved : goal.codes-preserved
 codes-preserved g c =
@@ -125,9 +140,14 @@ codes-preserved g c =
     let bs = c.args.bytes.now in
     let n = c.args.symbols in
     let up : 4 * c.bytes.j + c.codes.r + 1 ≡ 4 * c.bytes.j + (c.codes.r + 1) = omega arith in
-    let r = held_more c.args.rule.strands c.args.rule.k n c.args.weight.bits c.args.weight.times c.args.rule.within.0 (codes_in bs) (are_codes bs) (within bs n c.requires.inside) (num c.top-top.result) c.top-top.ensures (4 * c.bytes.j + c.codes.r) _ (num c.codes.forward) (num c.codes.back) (num c.push_code-in-codes.result.0) (num c.push_code-in-codes.result.1)
-    (map num c.args.words.now.items) (map num c.codes.words.items) (map num c.push_code-in-codes.new.words.items) (vec_len c.codes.words) (vec_capacity c.codes.words) (vec_len c.push_code-in-codes.new.words) (vec_capacity c.push_code-in-codes.new.words)
-    (omega arith) (omega arith) (sym (at bs c.bytes.j c.codes.r (omega arith) c.codes-test.true)) c.push_code-in-codes.ensures.ahead c.push_code-in-codes.ensures.behind c.push_code-in-codes.ensures.pushed c.push_code-in-codes.ensures.len c.push_code-in-codes.ensures.capacity c.codes.invariant in
+    let r = held_more c.args.rule.strands c.args.rule.k n c.args.weight.bits c.args.weight.times c.args.rule.within.0 (codes_in bs) (are_codes bs)
+    (within bs n c.requires.inside) (num c.top-top.result) c.top-top.ensures (4 * c.bytes.j + c.codes.r) _ (num c.codes.forward)
+    (num c.codes.back) (num c.push_code-in-codes.result.0) (num c.push_code-in-codes.result.1)
+    (map num c.args.words.now.items) (map num c.codes.words.items) (map num c.push_code-in-codes.new.words.items) (vec_len c.codes.words)
+    (vec_capacity c.codes.words) (vec_len c.push_code-in-codes.new.words) (vec_capacity c.push_code-in-codes.new.words)
+    (omega arith) (omega arith)
+    (sym (at bs c.bytes.j c.codes.r
+    (omega arith) c.codes-test.true)) c.push_code-in-codes.ensures.ahead c.push_code-in-codes.ensures.behind c.push_code-in-codes.ensures.pushed c.push_code-in-codes.ensures.len c.push_code-in-codes.ensures.capacity c.codes.invariant in
     rw up at r
 
 pub bytes-preserved : goal.bytes-preserved
@@ -143,7 +163,8 @@ rest-init g c =
     let num = g.W.Word.number in
     let bs = c.args.bytes.now in
     let n = c.args.symbols in
-    let here = behind_bytes ((c.args.rule.k + 2) / 4) n c.min-near.result c.max-last.result c.bytes.j c.min-near.ensures c.max-last.ensures c.bytes.auto.j c.bytes-test.false c.bytes.auto.j-end in
+    let here = behind_bytes
+    ((c.args.rule.k + 2) / 4) n c.min-near.result c.max-last.result c.bytes.j c.min-near.ensures c.max-last.ensures c.bytes.auto.j c.bytes-test.false c.bytes.auto.j-end in
     rw here at c.bytes.invariant
 
 pub push_code-requires-in-rest-clause-back : goal.push_code-requires-in-rest-clause-back
@@ -151,16 +172,25 @@ push_code-requires-in-rest-clause-back g c =
     let num = g.W.Word.number in
     let bs = c.args.bytes.now in
     let n = c.args.symbols in
-    fits c.args.rule.strands c.args.rule.k n c.args.weight.bits c.args.weight.times c.args.rule.within.0 (codes_in bs) (are_codes bs) (within bs n c.requires.inside) (num c.top-top.result) c.top-top.ensures c.rest.i (num c.rest.forward) (num c.rest.back) c.rest-test.true c.rest.invariant.rolling
+    fits c.args.rule.strands c.args.rule.k n c.args.weight.bits c.args.weight.times c.args.rule.within.0 (codes_in bs) (are_codes bs)
+    (within bs n c.requires.inside) (num c.top-top.result) c.top-top.ensures c.rest.i (num c.rest.forward)
+    (num c.rest.back) c.rest-test.true c.rest.invariant.rolling
 
 pub rest-preserved : goal.rest-preserved
 rest-preserved g c =
     let num = g.W.Word.number in
     let bs = c.args.bytes.now in
     let n = c.args.symbols in
-    held_more c.args.rule.strands c.args.rule.k n c.args.weight.bits c.args.weight.times c.args.rule.within.0 (codes_in bs) (are_codes bs) (within bs n c.requires.inside) (num c.top-top.result) c.top-top.ensures c.rest.i _ (num c.rest.forward) (num c.rest.back) (num c.push_code-in-rest.result.0) (num c.push_code-in-rest.result.1)
-    (map num c.args.words.now.items) (map num c.rest.words.items) (map num c.push_code-in-rest.new.words.items) (vec_len c.rest.words) (vec_capacity c.rest.words) (vec_len c.push_code-in-rest.new.words) (vec_capacity c.push_code-in-rest.new.words)
-    c.rest-test.true (omega (arith, c.min-near.ensures, c.max-last.ensures)) c.code_at-code-in-rest.ensures.is c.push_code-in-rest.ensures.ahead c.push_code-in-rest.ensures.behind c.push_code-in-rest.ensures.pushed c.push_code-in-rest.ensures.len c.push_code-in-rest.ensures.capacity c.rest.invariant
+    held_more c.args.rule.strands c.args.rule.k n c.args.weight.bits c.args.weight.times c.args.rule.within.0 (codes_in bs) (are_codes bs)
+    (within bs n c.requires.inside) (num c.top-top.result) c.top-top.ensures c.rest.i _ (num c.rest.forward) (num c.rest.back)
+    (num c.push_code-in-rest.result.0) (num c.push_code-in-rest.result.1)
+    (map num c.args.words.now.items) (map num c.rest.words.items) (map num c.push_code-in-rest.new.words.items) (vec_len c.rest.words)
+    (vec_capacity c.rest.words) (vec_len c.push_code-in-rest.new.words) (vec_capacity c.push_code-in-rest.new.words)
+    c.rest-test.true (omega (
+      arith,
+      c.min-near.ensures,
+      c.max-last.ensures,
+    )) c.code_at-code-in-rest.ensures.is c.push_code-in-rest.ensures.ahead c.push_code-in-rest.ensures.behind c.push_code-in-rest.ensures.pushed c.push_code-in-rest.ensures.len c.push_code-in-rest.ensures.capacity c.rest.invariant
 
 pub returns : goal.returns
 returns g c =
@@ -169,14 +199,34 @@ returns g c =
     let n = c.args.symbols in
     let least : c.max-last.result ≤ n = omega (arith, c.min-near.ensures, c.max-last.ensures) in
     let most : c.rest.i ≤ n = c.rest.auto.i-end least in
-    held_all c.args.rule.strands c.args.rule.k n c.args.weight.bits c.args.weight.times c.args.rule.within.0 (codes_in bs) (are_codes bs) (within bs n c.requires.inside) (num c.top-top.result) c.top-top.ensures c.rest.i (num c.rest.forward) (num c.rest.back) (map num c.args.words.now.items) (map num c.rest.words.items) (vec_len c.rest.words) (vec_capacity c.rest.words)
+    held_all c.args.rule.strands c.args.rule.k n c.args.weight.bits c.args.weight.times c.args.rule.within.0 (codes_in bs) (are_codes bs)
+    (within bs n c.requires.inside) (num c.top-top.result) c.top-top.ensures c.rest.i (num c.rest.forward) (num c.rest.back)
+    (map num c.args.words.now.items) (map num c.rest.words.items) (vec_len c.rest.words) (vec_capacity c.rest.words)
     (omega arith) c.rest.invariant
 
 pub push_code-requires-clause-beside : goal.push_code-requires-clause-beside
-push_code-requires-clause-beside g c = (c.args.rule.k, c.args.rule.within.0, c.requires.beside, top_room c.args.rule.k (g.W.Word.number c.top-top.result) c.args.rule.within.0 c.top-top.ensures)
+push_code-requires-clause-beside g c = (
+  c.args.rule.k,
+  c.args.rule.within.0,
+  c.requires.beside,
+  top_room c.args.rule.k
+      (g.W.Word.number c.top-top.result) c.args.rule.within.0 c.top-top.ensures,
+)
 
 pub push_code-requires-in-codes-clause-beside : goal.push_code-requires-in-codes-clause-beside
-push_code-requires-in-codes-clause-beside g c = (c.args.rule.k, c.args.rule.within.0, c.requires.beside, top_room c.args.rule.k (g.W.Word.number c.top-top.result) c.args.rule.within.0 c.top-top.ensures)
+push_code-requires-in-codes-clause-beside g c = (
+  c.args.rule.k,
+  c.args.rule.within.0,
+  c.requires.beside,
+  top_room c.args.rule.k
+      (g.W.Word.number c.top-top.result) c.args.rule.within.0 c.top-top.ensures,
+)
 
 pub push_code-requires-in-rest-clause-beside : goal.push_code-requires-in-rest-clause-beside
-push_code-requires-in-rest-clause-beside g c = (c.args.rule.k, c.args.rule.within.0, c.requires.beside, top_room c.args.rule.k (g.W.Word.number c.top-top.result) c.args.rule.within.0 c.top-top.ensures)
+push_code-requires-in-rest-clause-beside g c = (
+  c.args.rule.k,
+  c.args.rule.within.0,
+  c.requires.beside,
+  top_room c.args.rule.k
+      (g.W.Word.number c.top-top.result) c.args.rule.within.0 c.top-top.ensures,
+)

@@ -43,4 +43,5 @@ returns-clause-codes c =
     let fit = subst (λ p. p < 4 ^ n) (sym c.packed_record.ensures) (fits bs n c.requires.inside c.args.strands) in
     let count = long bs n c.requires.inside in
     ap codes_of (laid_shifted n c.packed_record.result c.requires.most fit) ∙ ap (λ p. codes_of (laid n p)) c.packed_record.ensures
-    ∙ ap (λ m. codes_of (laid m (pack (key c.args.strands s)))) (sym count) ∙ codes_key c.args.strands s (small bs n c.requires.inside) (omega (arith, count, c.requires.most))
+    ∙ ap (λ m. codes_of (laid m (pack (key c.args.strands s)))) (sym count) ∙ codes_key c.args.strands s (small bs n c.requires.inside)
+    (omega (arith, count, c.requires.most))

@@ -8,4 +8,5 @@ pub returns : goal.returns
 returns g c =
     let rule = c.args.rule in
     c.in_ok-push_record.ensures
-    ∙ ap (λ s. map g.W.Word.number c.args.items.now.items ++ map (weighted c.args.weight.bits c.args.weight.times) (map pack (keys rule.strands rule.k s))) c.key_bytes.ensures
+    ∙ ap (λ s. map g.W.Word.number c.args.items.now.items ++ map (weighted c.args.weight.bits c.args.weight.times)
+    (map pack (keys rule.strands rule.k s))) c.key_bytes.ensures

@@ -28,5 +28,6 @@ returns g c =
     let key = c.args.key in
     let full : 1 * 2 ^ f % 2 ^ 64 ≡ 2 ^ f = one_shl f 64 (omega (arith, c.requires.bits)) in
     let fits : c.loop-left.left ≤ 2 ^ f = omega (arith, full, c.loop-left-test.false) in
-    gains_more k f _ _ _ _ (c.args.count - c.loop-left.left) c.loop-left.left c.args.count (omega (arith, c.loop-left.invariant.most)) c.loop-left.invariant.gains
+    gains_more k f _ _ _ _ (c.args.count - c.loop-left.left) c.loop-left.left c.args.count
+    (omega (arith, c.loop-left.invariant.most)) c.loop-left.invariant.gains
     (gains_words k f _ _ _ c.loop-left.left c.loop-left.invariant.some fits (row_words k f c.args.rule.strands key) c.in_ok-push_key-2.ensures)

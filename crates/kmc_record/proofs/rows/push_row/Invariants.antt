@@ -7,7 +7,8 @@ abbrev pub invariant-loop-left : goal.invariant-loop-left
 invariant-loop-left g l = record {
   some : 1 ≤ l.left;
   most : l.left ≤ l.count;
-  gains : Gains l.rule.k l.bits (map g.W.Word.number l.initial.items.items) (map g.W.Word.number l.items.items) (keys l.rule.strands l.rule.k (codes_of l.key)) (l.count - l.left);
+  gains : Gains l.rule.k l.bits (map g.W.Word.number l.initial.items.items) (map g.W.Word.number l.items.items)
+      (keys l.rule.strands l.rule.k (codes_of l.key)) (l.count - l.left);
 }
 
 abbrev pub decreases-loop-left : goal.decreases-loop-left

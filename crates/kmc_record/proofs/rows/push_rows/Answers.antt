@@ -44,5 +44,6 @@ pub returns : goal.returns
 returns g c =
     let rest = c.in-Some.rest.now in
     let end : drop c.loop-next.next-index rest ≡ [] = drop_of_length-le rest (omega (arith, c.loop-next-test.false)) in
-    last_row c.args.rule.k c.args.bits c.args.rule.strands (map g.W.Word.number c.args.items.now.items) (map g.W.Word.number c.loop-next.items.items) _ c.loop-next.key c.loop-next.count _ c.args.keys.now end
+    last_row c.args.rule.k c.args.bits c.args.rule.strands (map g.W.Word.number c.args.items.now.items)
+    (map g.W.Word.number c.loop-next.items.items) _ c.loop-next.key c.loop-next.count _ c.args.keys.now end
     c.in_ok-push_row-2.ensures c.loop-next.invariant.open_row

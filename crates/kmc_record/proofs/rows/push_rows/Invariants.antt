@@ -8,5 +8,6 @@ invariant-loop-next g l = record {
   some : 1 ≤ l.count;
   few : l.count ≤ l.next-index + 1;
   long : IsRecordKey l.rule.k l.key;
-  open_row : IsOpenRow l.rule.k l.bits l.rule.strands (map g.W.Word.number l.initial.items.items) (map g.W.Word.number l.items.items) l.key l.count (drop l.next-index l.rest) l.keys;
+  open_row : IsOpenRow l.rule.k l.bits l.rule.strands (map g.W.Word.number l.initial.items.items) (map g.W.Word.number l.items.items) l.key l.count
+      (drop l.next-index l.rest) l.keys;
 }

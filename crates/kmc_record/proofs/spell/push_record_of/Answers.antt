@@ -13,7 +13,8 @@ pub returns-then-whole-codes-clause-ok : goal.returns-then-whole-codes-clause-ok
 returns-then-whole-codes-clause-ok c =
     let codes = c.args.codes.now in
     let at : c.loop-j.j ≡ length codes / 4 = omega arith in
-    pushed_all c.args.k (1 + (c.loop-j.j + 1)) codes c.args.out.now.items c.push_reserved-then-whole-codes.new.self.items (omega (arith, at, c.if-whole-codes.true))
+    pushed_all c.args.k (1 + (c.loop-j.j + 1)) codes c.args.out.now.items c.push_reserved-then-whole-codes.new.self.items
+    (omega (arith, at, c.if-whole-codes.true))
     (pushed_more c.args.k codes c.args.out.now.items c.loop-j.out.items c.push_reserved-then-whole-codes.new.self.items c.loop-j.j c.byte_at.result
     (omega (arith, at, c.if-whole-codes.true)) (rw at c.byte_at.ensures) c.loop-j.invariant.0 c.push_reserved-then-whole-codes.ensures.items)
 

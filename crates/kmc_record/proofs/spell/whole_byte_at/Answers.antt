@@ -12,4 +12,5 @@ returns c =
     let d : c.from-c.result < 4 = omega (arith, c.from-c.ensures, code_small codes (i + 2) small) in
     let e : c.from-d.result < 4 = omega (arith, c.from-d.ensures, code_small codes (i + 3) small) in
     gathered c.from-a.result c.from-b.result c.from-c.result c.from-d.result a b d e
-    ∙ byte_is codes i c.from-a.result c.from-b.result c.from-c.result c.from-d.result (omega arith) c.from-a.ensures c.from-b.ensures c.from-c.ensures c.from-d.ensures
+    ∙ byte_is codes i c.from-a.result c.from-b.result c.from-c.result c.from-d.result
+    (omega arith) c.from-a.ensures c.from-b.ensures c.from-c.ensures c.from-d.ensures

@@ -55,8 +55,10 @@ loop-offset-preserved g c =
       inside = omega (arith, long, c.in-Ok.ensures.inside);
       records = (
         h.0 ++ first_codes n rest ∷ [],
-        next_body rule.k n offset _ h.0 body rest (bytes_each body (λ i. omega (arith, c.type_inv.body i))) is h.1 (λ _. offset + (1 + size)) c.in-Ok.ensures.count c.in-Ok.ensures.inside c.in-Ok.ensures.rest,
-        subst (λ m. IsTaken rule.strands rule.k c.args.bits c.take_record.new.numbers.items (map num c.take_record.new.items.items) (h.0 ++ take n (codes_in (take m (drop 1 rest))) ∷ [])) same
+        next_body rule.k n offset _ h.0 body rest (bytes_each body (λ i. omega (arith, c.type_inv.body i))) is h.1
+            (λ _. offset + (1 + size)) c.in-Ok.ensures.count c.in-Ok.ensures.inside c.in-Ok.ensures.rest,
+        subst (λ m. IsTaken rule.strands rule.k c.args.bits c.take_record.new.numbers.items (map num c.take_record.new.items.items)
+            (h.0 ++ take n (codes_in (take m (drop 1 rest))) ∷ [])) same
             (c.in_ok-take_record.ensures h.0 h.2),
       );
     }

@@ -3,7 +3,12 @@ use Rattle.kmc_base.specs.Lemmas.Weights.{weighted_fits, weighted_is}
 use Rattle.kmc_base.proofs.word.U128Word.weighted.Goals as goal
 
 pub overflow_add-result : goal.overflow_add-result
-overflow_add-result c = omega (arith, c.from.ensures, weighted_fits 128 c.args.weight.bits c.args.self c.args.weight.times c.requires c.args.weight.within.0 c.args.weight.within.1)
+overflow_add-result c = omega
+    (arith, c.from.ensures, weighted_fits 128 c.args.weight.bits c.args.self c.args.weight.times c.requires c.args.weight.within.0 c.args.weight.within.1)
 
 pub returns : goal.returns
-returns c = omega (arith, c.from.ensures, weighted_is 128 c.args.weight.bits c.args.self c.args.weight.times c.requires c.args.weight.within.0 c.args.weight.within.1)
+returns c = omega (
+  arith,
+  c.from.ensures,
+  weighted_is 128 c.args.weight.bits c.args.self c.args.weight.times c.requires c.args.weight.within.0 c.args.weight.within.1,
+)
