@@ -1,11 +1,14 @@
 -- Laws of sums of dumps.
-use Rattle.std.specs.Prelude.{◌≡◌, ℕ, ◌+◌, ◌≤◌, ◌^◌, List, ◌++◌}
+use Rattle.std.specs.Prelude.{◌≡◌, ℕ, ◌+◌, ◌≤◌, ◌^◌, List, ◌++◌, length}
 use Rattle.std.specs.List.{AllZip}
 use Rattle.kmc_base.specs.declared.strands.Strands.{Strands}
 use Rattle.kmc_count.specs.declared.limits.Limits.{Limits}
 use Rattle.kmc_count.specs.Occurrences.{count_of}
 use Rattle.kmc_count.specs.Dump.{IsDump}
 use Rattle.kmc_count.specs.Merge.{joined}
+use Rattle.kmc_device.specs.Line.{line_of}
+use Rattle.kmc_sum.specs.Listed.{IsLength, IsPair}
+use Rattle.kmc_sum.specs.Numbers.{longest_line}
 use Rattle.kmc_sum.specs.Sum.{sum_of}
 
 -- the direct count of reads and then others is, word by word, the sum of their direct counts
@@ -28,3 +31,7 @@ abbrev pub SumOfPartsIsWhole : Type 0
 SumOfPartsIsWhole = (strands : Strands) (k : ℕ) (every l : Limits) (parts : List (List (List ℕ))) (lists : List (List (List ℕ × ℕ))) (pairs : List (List ℕ × ℕ))
     → ListsEach every → AreDumpsOfParts strands k every parts lists → ((x : List ℕ) → count_of strands k (joined parts) x ≤ 2 ^ 63)
     → IsDump (sum_of lists) l pairs → IsDump (count_of strands k (joined parts)) l pairs
+
+-- each line of a dump, of a word of 1 to 64 letters and a number from 1 to 2^64 - 1, has at most the bytes that are looked at
+abbrev pub LinesFit : Type 0
+LinesFit = (k : ℕ) (p : List ℕ × ℕ) → IsLength k → IsPair k p → length (line_of p) ≤ longest_line

@@ -1,3 +1,4 @@
+pub mod Numbers
 pub mod Sum
 pub mod Listed
 pub mod Line

@@ -4,7 +4,7 @@ use Rattle.kmc_settings.specs.Words.{Word}
 use Rattle.kmc_count.specs.declared.limits.Limits.{Limits}
 use Rattle.kmc_sum.specs.Request.{IsRequest}
 use Rattle.kmc_sum.specs.State.{IsBegun, IsSumWritten}
-use Rattle.kmc_sum.specs.declared.merging.TheConstants.{MOST_SOURCES}
+use Rattle.kmc_sum.specs.Numbers.{most_sources}
 use Rattle.kmc_sum.specs.declared.request.RequestError.{RequestError}
 use Rattle.kmc_sum.specs.declared.request.RequestError.TheVariants.{Usage, OutOfRange, Memory}
 
@@ -12,7 +12,7 @@ use Rattle.kmc_sum.specs.declared.request.RequestError.TheVariants.{Usage, OutOf
 pub record AreRead (words : List Word) : Type 0 where
   pub limits : Limits
   pub files : List Word
-  pub request : IsRequest MOST_SOURCES words limits files
+  pub request : IsRequest most_sources words limits files
   pub starts : List (Option (List ℕ))
   pub nows : List (Option (List ℕ))
   pub each : length starts ≡ length files

@@ -1,6 +1,5 @@
 -- What the words of a command line ask a merge for.
-use Rattle.std.specs.Prelude.{◌≡◌, ◌≤◌, ◌||◌, ℕ, Bool, true, false, not, List, [], ◌∷◌, Option, Some, None, is_some, length, codes}
-use Rattle.std.specs.Option.{option_map_or}
+use Rattle.std.specs.Prelude.{◌≡◌, ◌≤◌, ◌||◌, ℕ, Bool, true, not, List, [], ◌∷◌, Option, Some, None, is_some, length, codes}
 use Rattle.std.specs.List.{list_all, filter, filter_map}
 use Rattle.kmc_settings.specs.Words.{Word, rest_after, number_of}
 use Rattle.kmc_count.specs.declared.limits.Limits.{Limits}

@@ -2,7 +2,7 @@
 use Rattle.std.specs.Prelude.{◌≡◌, ℕ, ◌-◌, ◌≤◌, ◌⊎◌, List, ◌++◌, length, take, drop, Option}
 use Rattle.std.specs.Io.KnownBytes.{Consumes, IsAtEnd}
 use Rattle.kmc_sum.specs.declared.source.Room.{Room}
-use Rattle.kmc_sum.specs.declared.source.TheConstants.{LONGEST_LINE}
+use Rattle.kmc_sum.specs.Numbers.{longest_line}
 
 -- the bytes of a room that are not yet judged
 abbrev pub unread : Room → List ℕ
@@ -12,11 +12,11 @@ unread r = take (r.to - r.from) (drop r.from r.bytes.items)
 pub record IsRoom (r : Room) : Type 0 where
   pub order : r.from ≤ r.to
   pub inside : r.to ≤ length r.bytes.items
-  pub place : LONGEST_LINE ≤ length r.bytes.items
+  pub place : longest_line ≤ length r.bytes.items
 
 -- enough of the bytes is here to tell a line: the longest one, or all that is left
 abbrev pub IsEnough : List ℕ → Option (List ℕ) → Type 0
-IsEnough rest now = (LONGEST_LINE ≤ length rest) ⊎ IsAtEnd now
+IsEnough rest now = (longest_line ≤ length rest) ⊎ IsAtEnd now
 
 -- the reader went on by some bytes, with which these became those
 pub record GoesOn (old new : Option (List ℕ)) (before after : List ℕ) : Type 0 where

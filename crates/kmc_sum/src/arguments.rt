@@ -3,14 +3,17 @@ ghost use Rattle.std.specs.Prelude.{◌≡◌, ℕ, ◌-◌, ◌^◌, ◌<◌, �
 ghost use Rattle.std.specs.Process.{exit_status};
 ghost use Rattle.kmc_settings.specs.Words.{Word};
 ghost use Rattle.kmc_sum.specs.Request.{AsksForNothing};
+ghost use Rattle.kmc_sum.specs.Numbers.{most_sources};
 ghost use Rattle.kmc_sum.specs.Program.{IsAnswered, IsGivenUp, status_of};
+ghost use Rattle.kmc_sum.specs.State.{IsBegun, IsSumWritten};
 
 use crate::error::{LineFault, SumError};
 use crate::merging::{MOST_SOURCES, merge};
 use crate::request::{RequestError, asked_for};
+use kmc_count::Limits;
 use kmc_device::Counted;
 use std::alloc::Global;
-use std::io::Write;
+use std::io::{Read, Write};
 use std::process::ExitCode;
 use std::rt::{Env, Files};
 use std::{env, fs};
@@ -110,6 +113,38 @@ fn opened<T: Files + Eprint + Alloc<A = Global>>(
     Ok(readers)
 }
 
+/// Reads the readers of the files to their ends, and writes the dump of the sum of what they list, within the limits. A fault
+/// is shown in one line on standard error, but for a write to a pipe whose other end is closed. The exit status is 0 where
+/// the dump was written and no device failed, and else 1; then a front of the dump is out.
+pub fn sum_readers<T: Eprint + Alloc<A = Global>, R: Read, W: Write>(
+    rt: &T,
+    files: &[String],
+    limits: &Limits,
+    readers: &mut [Counted<R>],
+    writer: &mut Counted<W>,
+) -> ExitCode
+    requires some { 1 ≤ length readers.old }
+    requires most { length readers.old ≤ most_sources }
+    requires each { length readers.old ≡ length files.now }
+    requires writer { writer.old.failures < 2 ^ 64 - 1 }
+    ensures done { exit_status result ≡ 0 → ((lines : ℕ) × IsSumWritten limits.now
+        (map (λ r. R.remaining r.inner) readers.old)
+        (map (λ r. R.remaining r.inner) readers.new) lines
+        (W.contents writer.old.inner) (W.contents writer.new.inner))
+        × (map (λ r. r.failures) readers.new ≡ map (λ r. r.failures) readers.old)
+        × (writer.new.failures ≡ writer.old.failures) }
+    ensures failed { exit_status result ≡ 1
+        → (k : ℕ) × IsBegun k limits.now (map (λ r. R.remaining r.inner) readers.old)
+        (map (λ r. R.remaining r.inner) readers.new)
+        (W.contents writer.old.inner) (W.contents writer.new.inner) }
+    ensures statuses { exit_status result ≤ 1 }
+{
+    match merge(rt.alloc(), readers, limits, writer) {
+        Ok(_) => ExitCode::from(0),
+        Err(error) => failed(rt, files, error, writer.is_pipe_closed()),
+    }
+}
+
 /// Reads the files that the words name, and writes the dump of the sum of what they list, within the limits of the words.
 /// A fault is shown in one line on standard error, but for a write to a pipe whose other end is closed. The exit status is 0
 /// where the dump was written, 2 where the words ask for nothing, and else 1.
@@ -121,9 +156,10 @@ pub fn sum_files<T: Files + Eprint + Alloc<A = Global>, W: Write>(
     requires { writer.old.failures < 2 ^ 64 - 1 }
     ensures done { exit_status result ≡ 0
         → IsAnswered (map string_bytes words.items) (W.contents writer.old.inner)
-        (W.contents writer.new.inner) }
+        (W.contents writer.new.inner)
+        × (writer.new.failures ≡ writer.old.failures) }
     ensures misused { exit_status result ≡ 2
-        → AsksForNothing MOST_SOURCES (map string_bytes words.items) × (writer.new ≡ writer.old) }
+        → AsksForNothing most_sources (map string_bytes words.items) × (writer.new ≡ writer.old) }
     ensures failed { exit_status result ≡ 1 → (writer.new ≡ writer.old)
         ⊎ IsGivenUp (map string_bytes words.items) (W.contents writer.old.inner)
         (W.contents writer.new.inner) }
@@ -137,10 +173,13 @@ pub fn sum_files<T: Files + Eprint + Alloc<A = Global>, W: Write>(
         Ok(readers) => readers,
         Err(status) => return status,
     };
-    match merge(rt.alloc(), readers.as_mut_slice(), &asked.limits, writer) {
-        Ok(_) => ExitCode::from(0),
-        Err(error) => failed(rt, &asked.files, error, writer.is_pipe_closed()),
-    }
+    sum_readers(
+        rt,
+        &asked.files,
+        &asked.limits,
+        readers.as_mut_slice(),
+        writer,
+    )
 }
 
 /// The whole program: [`sum_files`] of the words that the process was given.
@@ -150,7 +189,8 @@ pub fn program<T: Files + Env + Eprint + Alloc<A = Global>, W: Write>(
 ) -> ExitCode
     requires { writer.old.failures < 2 ^ 64 - 1 }
     ensures done { exit_status result ≡ 0 → (words : List Word)
-        × IsAnswered words (W.contents writer.old.inner) (W.contents writer.new.inner) }
+        × IsAnswered words (W.contents writer.old.inner) (W.contents writer.new.inner)
+        × (writer.new.failures ≡ writer.old.failures) }
     ensures misused { exit_status result ≡ 2 → writer.new ≡ writer.old }
     ensures failed { exit_status result ≡ 1 → (writer.new ≡ writer.old)
         ⊎ ((words : List Word)

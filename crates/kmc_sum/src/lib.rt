@@ -15,7 +15,7 @@ mod source;
 mod sources;
 mod writing;
 
-pub use arguments::{program, sum_files};
+pub use arguments::{program, sum_files, sum_readers};
 pub use error::{LineFault, SumError};
 pub use merging::{MOST_SOURCES, merge};
 pub use request::{Request, RequestError, asked_for};

@@ -5,22 +5,28 @@ use Rattle.std.proofs.lemmas.Grind.{common_steps}
 use Rattle.kmc_sum.proofs.Asked.{are_read}
 use Rattle.kmc_sum.proofs.arguments.sum_files.Goals as goal
 
-pub returns-in-Ok-merge-clause-done : goal.returns-in-Ok-merge-clause-done
-returns-in-Ok-merge-clause-done g c = λ is. record {
-  read = are_read _ _ string_bytes c.in-Ok.asked.files.items c.in-Ok.ensures.asked _ _ (length-map c.as_mut_slice.result.now _ ∙ ap length c.as_mut_slice.ensures.value ∙ c.in-Ok-opened.ensures ∙ ap length c.deref.ensures.value);
-  lines = c.in-Ok-merge.field-0;
-  written = c.in-Ok-merge.ensures.ok;
-}
+pub returns-clause-done : goal.returns-clause-done
+returns-clause-done g c = λ is. let done = c.sum_readers.ensures.done is in (
+  record {
+    read = are_read _ _ string_bytes c.in-Ok.asked.files.items c.in-Ok.ensures.asked _ _ (length-map c.as_mut_slice.result.now _ ∙ ap length c.as_mut_slice.ensures.value ∙ c.in-Ok-opened.ensures ∙ ap length c.deref.ensures.value);
+    lines = done.0.0;
+    written = done.0.1;
+  },
+  done.2,
+)
 
 pub returns-clause-failed : goal.returns-clause-failed
-returns-clause-failed g c = λ is. inr (record {
+returns-clause-failed g c = λ is. let begun = c.sum_readers.ensures.failed is in inr (record {
   read = are_read _ _ string_bytes c.in-Ok.asked.files.items c.in-Ok.ensures.asked _ _ (length-map c.as_mut_slice.result.now _ ∙ ap length c.as_mut_slice.ensures.value ∙ c.in-Ok-opened.ensures ∙ ap length c.deref.ensures.value);
-  k = c.in-Err-merge.ensures.begun.0;
-  begun = c.in-Err-merge.ensures.begun.1;
+  k = begun.0;
+  begun = begun.1;
 })
 
-pub merge-requires-clause-some : goal.merge-requires-clause-some
-merge-requires-clause-some g c = grind (arith, common_steps)
+pub sum_readers-requires-clause-some : goal.sum_readers-requires-clause-some
+sum_readers-requires-clause-some g c = grind (arith, common_steps)
 
-pub merge-requires-clause-most : goal.merge-requires-clause-most
-merge-requires-clause-most g c = grind (arith, common_steps)
+pub sum_readers-requires-clause-most : goal.sum_readers-requires-clause-most
+sum_readers-requires-clause-most g c = grind (arith, common_steps)
+
+pub sum_readers-requires-clause-each : goal.sum_readers-requires-clause-each
+sum_readers-requires-clause-each g c = grind (arith, common_steps)
