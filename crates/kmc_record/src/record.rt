@@ -93,7 +93,7 @@ fn push_code<W: Word + Drop>(
     ensures pushed { map W.number words.new.items
         ≡ map W.number words.old.items
         ++ weighted weight.bits weight.times
-            (packed_key strands (W.number result.0) (W.number result.1)) ∷ [] }
+        (packed_key strands (W.number result.0) (W.number result.1)) ∷ [] }
     ensures len { vec_len words.new ≡ vec_len words.old + 1 }
     ensures capacity { vec_capacity words.new ≡ vec_capacity words.old }
 {
@@ -120,7 +120,7 @@ pub fn push_record<W: Word + Drop>(
     ensures { OnOk result (map W.number words.new.items
         ≡ map W.number words.old.items
         ++ map (weighted weight.bits weight.times)
-            (map pack (keys rule.strands rule.k (take symbols (codes_in bytes.now))))) }
+        (map pack (keys rule.strands rule.k (take symbols (codes_in bytes.now))))) }
 {
     let k = rule.k;
     words.reserve(symbols + 1 - k)?;

@@ -25,7 +25,7 @@ fn push_key<W: Word + Drop>(
     ensures { OnOk result (map W.number items.new.items
         ≡ map W.number items.old.items
         ++ map (weighted weight.bits weight.times)
-            (map pack (keys rule.strands rule.k (codes_of key)))) }
+        (map pack (keys rule.strands rule.k (codes_of key)))) }
 {
     let symbols = (key % 64) as usize;
     push_record(items, rule, &key_bytes(key), symbols, weight)?;

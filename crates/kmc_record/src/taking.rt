@@ -31,7 +31,7 @@ fn take_record<W: Word + Drop>(
     ensures { OnOk result ((ss : List (List ℕ))
         → IsTaken rule.strands rule.k bits numbers.old.items (map W.number items.old.items) ss
         → IsTaken rule.strands rule.k bits numbers.new.items (map W.number items.new.items)
-            (ss ++ take symbols (codes_in bytes.now) ∷ [])) }
+        (ss ++ take symbols (codes_in bytes.now) ∷ [])) }
 {
     if symbols <= MOST_KEY_SYMBOLS {
         numbers.push(record_key(bytes, symbols, rule.strands))?;
