@@ -1,6 +1,5 @@
 -- From records that were taken in to the dump of their words.
-use Rattle.std.proofs.Common.{◌≡◌, ℕ, ◌+◌, ◌*◌, ◌/◌, ◌^◌, ◌<◌, true, false, Bool, cond, List, [], ◌∷◌, map, refl, sym, ap, subst, ◌∙◌, arith}
-use Rattle.std.proofs.lemmas.List.{map-id}
+use Rattle.std.proofs.Common.{◌≡◌, ℕ, ◌+◌, ◌*◌, ◌/◌, ◌^◌, ◌<◌, true, false, Bool, cond, List, [], ◌∷◌, refl, sym, ap, subst, ◌∙◌, arith}
 use Rattle.std.proofs.lemmas.List.Sorted.{sum_by-IsPermutation, All-permutation}
 use Rattle.std.proofs.lemmas.List.Sums.{sum_by-cons}
 use Rattle.std.specs.List.{sum_by, All}
@@ -8,7 +7,7 @@ use Rattle.std.specs.List.Sorted.{IsPermutation, IsSorted}
 use Rattle.std.specs.Ordering.{nat_cmp}
 use Rattle.kmc_base.specs.declared.strands.Strands.{Strands}
 use Rattle.kmc_base.specs.Packed.{unpack}
-use Rattle.kmc_base.specs.Weights.{item, items, item_weight, worth, AreItems}
+use Rattle.kmc_base.specs.Weights.{item, items, item_weight, worth}
 use Rattle.kmc_record.specs.Record.{IsBodyOf}
 use Rattle.kmc_record.specs.RecordWords.{record_keys}
 use Rattle.kmc_record.specs.RecordKeys.{key_words, Gains, IsRecordKey, IsTaken}
@@ -38,10 +37,6 @@ weight_is x (p ∷ ps) =
     one : (b : Bool) (n : ℕ) → cond b n 0 ≡ n * cond b 1 0
     one true n = omega arith
     one false n = omega arith
-
--- u128's own sort speaks of its numbers as they are
-pub moved_as_numbers : (xs ys : List ℕ) → IsPermutation (map (λ n. n) xs) (map (λ n. n) ys) → IsPermutation xs ys
-moved_as_numbers xs ys h = subst (λ t. IsPermutation t ys) (map-id xs) (subst (IsPermutation (map (λ n. n) xs)) (map-id ys) h)
 
 pub sorted_long : (k : ℕ) (ks sorted : List ℕ) → IsPermutation ks sorted → All (IsRecordKey k) ks → All (IsRecordKey k) sorted
 sorted_long k ks sorted moved h = All-permutation (IsRecordKey k) ks sorted moved h

@@ -1,5 +1,6 @@
 //! The count of a bin: equal records once, and their words with weights in one list, sorted.
 ghost use Rattle.std.specs.Prelude.{◌≡◌, ℕ, ◌+◌, ◌*◌, ◌≤◌, [], map, OnOk, IsErrOf};
+ghost use Rattle.std.specs.List.Sorted.{IsPermutation};
 ghost use Rattle.kmc_record.specs.Faults.{IsFirstFault};
 ghost use Rattle.kmc_record.specs.declared.fault.RecordFault.{RecordFault};
 ghost use Rattle.kmc_count.specs.Bodies.{AreSortedItems, IsDumpOfBody, WantsMemory};
@@ -9,6 +10,15 @@ use crate::pair_list::PairList;
 use crate::tallying::tally;
 use kmc_base::{KeyRule, MOST_WEIGHT_BITS, Word};
 use kmc_record::{BodyError, push_rows, take_body};
+
+/// Sorts the numbers of records, by the faster way for their width where there is memory for that.
+fn sort_numbers(numbers: &mut Vec<u128>)
+    ensures { IsPermutation numbers.old.items numbers.new.items }
+{
+    if numbers.sort().is_err() {
+        numbers.sort_unstable();
+    }
+}
 
 /// The words of a body as sorted items. Its records are sorted first, each as the lesser of it and its reverse complement, so
 /// that those that are equal stand side by side and their words are unpacked once.
@@ -32,7 +42,7 @@ fn sorted_items<W: Word + Drop>(
     numbers.clear();
     items.clear();
     take_body(numbers, items, body, rule, bits)?;
-    u128::sort(numbers);
+    sort_numbers(numbers);
     push_rows(items, numbers, rule, bits)?;
     W::sort(items);
     Ok(())

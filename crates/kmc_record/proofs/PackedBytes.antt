@@ -1,7 +1,7 @@
 -- The symbols of bytes as one number, and those of the other strand.
-use Rattle.std.proofs.Common.{◌≡◌, ℕ, zero, suc, ◌+◌, ◌-◌, ◌*◌, ◌/◌, ◌%◌, ◌^◌, ◌<◌, ◌≤◌, min, List, [], ◌∷◌, ◌++◌, length, map, reverse, take, drop, get_or, refl, sym, ap, ◌∙◌, arith, mod-eq_of_lt, length-append, length-drop}
+use Rattle.std.proofs.Common.{◌≡◌, ℕ, zero, suc, ◌+◌, ◌-◌, ◌*◌, ◌/◌, ◌%◌, ◌^◌, ◌<◌, ◌≤◌, List, [], ◌∷◌, ◌++◌, length, map, reverse, take, drop, get_or, refl, sym, ap, ◌∙◌, arith, mod-eq_of_lt, length-drop}
 use Rattle.std.proofs.lemmas.List.{map-append, reverse-append, take_more, take-append-drop, length-take-le}
-use Rattle.std.proofs.lemmas.Nat.{pow-add, div-mul-add, mod-mul-add, mul-le}
+use Rattle.std.proofs.lemmas.Nat.{pow-add, div-mul-add, mod-mul-add}
 use Rattle.std.proofs.lemmas.Nat.{one_shl}
 use Rattle.kmc_base.specs.declared.strands.Strands.{Strands}
 use Rattle.kmc_base.specs.declared.strands.Strands.TheVariants.{Joined, Apart}
@@ -11,7 +11,7 @@ use Rattle.kmc_base.specs.Strands.{key, packed_key}
 use Rattle.kmc_base.specs.Words.{complement, rev_comp}
 use Rattle.kmc_base.specs.Lemmas.Packs.{AreCodes, pack_after_is, pack_fits, pack_canonical, length_rev_comp, codes_rev_comp}
 use Rattle.kmc_base.specs.Lemmas.Powers.{pow_quad, pow_some, pow_up}
-use Rattle.kmc_base.specs.Lemmas.Rolling.{codes_front, codes_part}
+use Rattle.kmc_base.specs.Lemmas.Rolling.{codes_front}
 use Rattle.kmc_record.specs.Record.{quarters, codes_in}
 use Rattle.kmc_record.proofs.Codes.{are_codes, length_codes, codes_join}
 

@@ -1,5 +1,5 @@
 -- A record and its reverse complement have the same words.
-use Rattle.std.proofs.Common.{◌≡◌, ℕ, ◌+◌, ◌-◌, ◌<◌, ◌≤◌, Bool, true, false, cond, subst, List, length, map, reverse, get_or, sym, ap, ◌∙◌, arith, zero-add}
+use Rattle.std.proofs.Common.{◌≡◌, ℕ, ◌+◌, ◌-◌, ◌<◌, Bool, true, false, cond, subst, List, length, map, reverse, get_or, sym, ap, ◌∙◌, arith, zero-add}
 use Rattle.std.proofs.lemmas.List.{same_lists, get_or-reverse, length-reverse}
 use Rattle.std.proofs.lemmas.List.FromFn.{length-map-range_with_len, get_or-map-range_with_len}
 use Rattle.std.proofs.lemmas.List.Sorted.{IsPermutation-reverse, IsPermutation-refl}

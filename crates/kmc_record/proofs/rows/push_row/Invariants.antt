@@ -1,4 +1,4 @@
-use Rattle.std.proofs.Common.{◌≡◌, ◌-◌, ◌^◌, ◌≤◌, map}
+use Rattle.std.proofs.Common.{◌-◌, ◌≤◌, map}
 use Rattle.kmc_base.specs.Strands.{keys}
 use Rattle.kmc_record.specs.RecordKeys.{codes_of, Gains}
 use Rattle.kmc_record.proofs.rows.push_row.Given as goal

@@ -1,6 +1,5 @@
-use Rattle.std.proofs.Common.{◌≡◌, ℕ, ◌+◌, ◌-◌, ◌/◌, ◌++◌, List, [], ◌∷◌, length, map, take, drop, refl, ap, subst, sym, ◌∙◌, arith, length-drop, rules}
+use Rattle.std.proofs.Common.{◌≡◌, ℕ, ◌+◌, ◌-◌, ◌/◌, ◌++◌, List, [], ◌∷◌, length, map, take, drop, refl, ap, subst, sym, ◌∙◌, arith, length-drop}
 use Rattle.std.proofs.lemmas.List.{take_rest}
-use Rattle.std.proofs.lemmas.Grind.{common_steps}
 use Rattle.kmc_record.specs.Record.{codes_in}
 use Rattle.kmc_record.specs.RecordKeys.{IsTaken}
 use Rattle.kmc_record.proofs.Spelled.{AreBytes, bytes_each}
