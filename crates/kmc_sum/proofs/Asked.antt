@@ -8,7 +8,8 @@ use Rattle.kmc_sum.specs.Program.{AreRead}
 use Rattle.kmc_sum.specs.Numbers.{most_sources}
 
 -- as many readers as files
-abbrev pub are_read : {F : Type 0} (words : List Word) (limits : Limits) (name : F → Word) (files : List F) → IsRequest most_sources words limits (map name files) → (starts nows : List (Option (List ℕ))) → length starts ≡ length files → AreRead words
+abbrev pub are_read : {F : Type 0} (words : List Word) (limits : Limits) (name : F → Word) (files : List F) → IsRequest most_sources words limits
+    (map name files) → (starts nows : List (Option (List ℕ))) → length starts ≡ length files → AreRead words
 are_read words limits name files request starts nows many = record {
   limits = limits;
   files = map name files;

@@ -40,8 +40,10 @@ module _ (P : ℕ → Type 0) (xs front more : List ℕ) (t n cap : ℕ) (is : x
 abbrev AreDigits : List ℕ → Type 0
 AreDigits ds = (i : ℕ) → i < length ds → IsInRange 48 57 (get_or ds i 0)
 
-module _ (xs : List ℕ) (m value : ℕ) (within : m ≤ length xs) (is : value ≡ digits_value 10 (take m xs)) (each : (i : ℕ) → i < m → IsInRange 48 57 (get_or xs i 0)) where
-  module _ (ends : m < 20 → m < length xs → IsInRange 48 57 (get_or xs m 0) → ⊥) (n : ℕ) (more : List ℕ) (some : 1 ≤ n) (most : n < 2 ^ 64) (e : xs ≡ decimal n ++ 10 ∷ more) where
+module _ (xs : List ℕ) (m value : ℕ) (within : m ≤ length xs) (is : value ≡ digits_value 10 (take m xs))
+    (each : (i : ℕ) → i < m → IsInRange 48 57 (get_or xs i 0)) where
+  module _ (ends : m < 20 → m < length xs → IsInRange 48 57 (get_or xs m 0) → ⊥) (n : ℕ) (more : List ℕ) (some : 1 ≤ n) (most : n < 2 ^ 64)
+      (e : xs ≡ decimal n ++ 10 ∷ more) where
     pub ends_at : m ≡ length (decimal n)
     ends_at =
         let numeral = decimal_is_IsNumeral n most in
@@ -72,10 +74,12 @@ module _ (xs : List ℕ) (m value : ℕ) (within : m ≤ length xs) (is : value 
     digits_are : decimal value ≡ take m xs
     digits_are =
         let size : length (take m xs) ≡ m = length-take-le m xs within in
-        let all : AreDigits (take m xs) = λ i inside. let small : i < m = omega (arith, inside, size) in subst (IsInRange 48 57) (sym (get_or-take m xs i 0 small)) (each i small) in
+        let all : AreDigits (take m xs) = λ i inside. let small : i < m = omega (arith, inside, size) in subst (IsInRange 48 57)
+        (sym (get_or-take m xs i 0 small)) (each i small) in
         let head : get_or (take m xs) 0 0 ≡ get_or xs 0 0 = get_or-take m xs 0 0 (omega (arith, some)) in
         ap decimal is
-        ∙ decimal-digits_value (numerals_by_value AreDigits tells_by_index) (take m xs) all (omega (arith, size, some)) (λ z. absurd (first (sym head ∙ z))) (subst (λ v. v < 2 ^ 64) is fits)
+        ∙ decimal-digits_value (numerals_by_value AreDigits tells_by_index) (take m xs) all (omega (arith, size, some))
+        (λ z. absurd (first (sym head ∙ z))) (subst (λ v. v < 2 ^ 64) is fits)
 
     pub number_some : 1 ≤ value
     number_some = go value refl
@@ -115,7 +119,8 @@ module _ (xs : List ℕ) (k : ℕ) (each : (i : ℕ) → i < k → IsLetter (get
   size_is = length-map p.0 letter ∙ pair.word.0
 
   letters_end : k ≡ length (map letter p.0)
-  letters_end = run_is IsLetter xs (map letter p.0) (decimal p.1 ++ 10 ∷ more) 9 k 64 split (letters_are p.0 pair.word.1) not_tab (omega (arith, size_is, size.1)) each ends
+  letters_end = run_is IsLetter xs (map letter p.0) (decimal p.1 ++ 10 ∷ more) 9 k 64 split (letters_are p.0 pair.word.1) not_tab
+      (omega (arith, size_is, size.1)) each ends
 
   pub some_letters : k ≡ 0 → ⊥
   some_letters z = omega (arith, z, letters_end, size_is, size.0)

@@ -37,10 +37,12 @@ pub text_push : (pairs : List (List ℕ × ℕ)) (p : List ℕ × ℕ) → text_
 text_push pairs p = flat_map-append line_of pairs (p ∷ []) ∙ ap (λ (t : List ℕ). text_of pairs ++ t) (append-nil (line_of p))
 
 -- a source goes on
-pub front_goes : (k : ℕ) (a b c : Option (List ℕ)) (pairs : List (List ℕ × ℕ)) (rest more : List ℕ) → GaveFront k a b pairs rest → GoesOn b c rest more → GaveFront k a c pairs more
+pub front_goes : (k : ℕ) (a b c : Option (List ℕ)) (pairs : List (List ℕ × ℕ)) (rest more : List ℕ) → GaveFront k a b pairs rest
+    → GoesOn b c rest more → GaveFront k a c pairs more
 front_goes k a b c pairs rest more p q = record {
   listed = p.listed;
-  bytes = subst (Consumes a c) (append_assoc (text_of pairs) rest q.bytes ∙ ap (λ (l : List ℕ). text_of pairs ++ l) (sym q.are)) (Consumes-trans a b c (text_of pairs ++ rest) q.bytes p.bytes q.gave);
+  bytes = subst (Consumes a c) (append_assoc (text_of pairs) rest q.bytes ∙ ap (λ (l : List ℕ). text_of pairs ++ l) (sym q.are))
+      (Consumes-trans a b c (text_of pairs ++ rest) q.bytes p.bytes q.gave);
 }
 
 -- a line that is there
@@ -51,12 +53,14 @@ pub line_splits : (l : Line) (rest : List ℕ) → IsLineOf l rest → rest ≡ 
 line_splits l rest is = sym (take-append-drop l.end rest) ∙ ap (λ (t : List ℕ). t ++ drop l.end rest) is.is
 
 -- pairs and one more that is above the last
-rising_push : (ws : List (List ℕ)) (w v : List ℕ) → IsStrictlySortedBy kmer_cmp (ws ++ w ∷ []) → kmer_cmp w v ≡ Less → IsStrictlySortedBy kmer_cmp ((ws ++ w ∷ []) ++ v ∷ [])
+rising_push : (ws : List (List ℕ)) (w v : List ℕ) → IsStrictlySortedBy kmer_cmp (ws ++ w ∷ []) → kmer_cmp w v ≡ Less → IsStrictlySortedBy kmer_cmp
+    ((ws ++ w ∷ []) ++ v ∷ [])
 unfolding IsStrictlySortedBy
 rising_push [] w v up less = ((less, tt), (tt, tt))
 rising_push (x ∷ ws) w v up less = (below_push x ws w v up.0 less, rising_push ws w v up.1 less)
   where
-    below_push : (x : List ℕ) (ws : List (List ℕ)) (w v : List ℕ) → AllByRecursion (λ y. kmer_cmp x y ≡ Less) (ws ++ w ∷ []) → kmer_cmp w v ≡ Less → AllByRecursion (λ y. kmer_cmp x y ≡ Less) ((ws ++ w ∷ []) ++ v ∷ [])
+    below_push : (x : List ℕ) (ws : List (List ℕ)) (w v : List ℕ) → AllByRecursion (λ y. kmer_cmp x y ≡ Less) (ws ++ w ∷ []) → kmer_cmp w v ≡ Less
+        → AllByRecursion (λ y. kmer_cmp x y ≡ Less) ((ws ++ w ∷ []) ++ v ∷ [])
     below_push x [] w v h less = (h.0, (kmer_total.trans x w v h.0 less, tt))
     below_push x (y ∷ ws) w v h less = (h.0, below_push x ws w v h.1 less)
 
@@ -67,15 +71,19 @@ each_push P (q ∷ qs) p h here = (h.0, each_push P qs p h.1 here)
 pub less_packed : (k p q : ℕ) → p < 4 ^ k → q < 4 ^ k → p < q → kmer_cmp (unpack k p) (unpack k q) ≡ Less
 less_packed k p q hp hq less = let e : nat_cmp p q ≡ Less = grind (arith, nat_tests) in cmp_packed k p q hp hq ∙ e
 
-pub listed_push : (k last packed count : ℕ) (pairs : List (List ℕ × ℕ)) → AreListed k pairs → EndsIn k last pairs → last < packed → packed < 4 ^ k → IsPair k (unpack k packed, count)
+pub listed_push : (k last packed count : ℕ) (pairs : List (List ℕ × ℕ)) → AreListed k pairs → EndsIn k last pairs → last < packed → packed < 4 ^ k
+    → IsPair k (unpack k packed, count)
     → AreListed k (pairs ++ (unpack k packed, count) ∷ [])
 listed_push k last packed count pairs listed ends above fits pair = record {
   each = each_push (IsPair k) pairs (unpack k packed, count) listed.each pair;
   rising =
       let v = unpack k packed in
-      let words : words_of pairs ≡ words_of ends.front ++ unpack k last ∷ [] = ap words_of ends.are ∙ map-append (λ (p : List ℕ × ℕ). p.0) ends.front ((unpack k last, ends.count) ∷ []) in
-      let up = rising_push (words_of ends.front) (unpack k last) v (subst (IsStrictlySortedBy kmer_cmp) words listed.rising) (less_packed k last packed ends.fits fits above) in
-      subst (IsStrictlySortedBy kmer_cmp) (ap (λ (t : List (List ℕ)). t ++ v ∷ []) (sym words) ∙ sym (map-append (λ (p : List ℕ × ℕ). p.0) pairs ((v, count) ∷ []))) up;
+      let words : words_of pairs ≡ words_of ends.front ++ unpack k last ∷ [] = ap words_of ends.are ∙ map-append (λ (p : List ℕ × ℕ). p.0) ends.front
+      ((unpack k last, ends.count) ∷ []) in
+      let up = rising_push (words_of ends.front) (unpack k last) v (subst (IsStrictlySortedBy kmer_cmp) words listed.rising)
+      (less_packed k last packed ends.fits fits above) in
+      subst (IsStrictlySortedBy kmer_cmp) (ap (λ (t : List (List ℕ)). t ++ v ∷ []) (sym words) ∙ sym
+      (map-append (λ (p : List ℕ × ℕ). p.0) pairs ((v, count) ∷ []))) up;
 }
 
 rising_one : (w : List ℕ) → IsStrictlySortedBy kmer_cmp (w ∷ [])
@@ -87,15 +95,18 @@ pub listed_first : (k packed count : ℕ) → IsPair k (unpack k packed, count) 
 listed_first k packed count pair = record { each = (pair, tt); rising = rising_one (unpack k packed) }
 
 -- a line is taken from what a source gave
-pub front_taken : (k : ℕ) (a b : Option (List ℕ)) (pairs : List (List ℕ × ℕ)) (p : List ℕ × ℕ) (rest more : List ℕ) → Consumes a b (text_of pairs ++ rest) → rest ≡ line_of p ++ more
+pub front_taken : (k : ℕ) (a b : Option (List ℕ)) (pairs : List (List ℕ × ℕ)) (p : List ℕ × ℕ) (rest more : List ℕ) → Consumes a b
+    (text_of pairs ++ rest) → rest ≡ line_of p ++ more
     → AreListed k (pairs ++ p ∷ []) → GaveFront k a b (pairs ++ p ∷ []) more
 front_taken k a b pairs p rest more gave is listed = record {
   listed = listed;
-  bytes = subst (Consumes a b) (ap (λ (t : List ℕ). text_of pairs ++ t) is ∙ sym (append_assoc (text_of pairs) (line_of p) more) ∙ ap (λ (t : List ℕ). t ++ more) (sym (text_push pairs p))) gave;
+  bytes = subst (Consumes a b) (ap (λ (t : List ℕ). text_of pairs ++ t) is ∙ sym (append_assoc (text_of pairs) (line_of p) more) ∙ ap
+      (λ (t : List ℕ). t ++ more) (sym (text_push pairs p))) gave;
 }
 
 -- the line behind what a source gave has a word of another length
-pub of_other_length : (k : ℕ) (a c : Option (List ℕ)) (pairs : List (List ℕ × ℕ)) (rest : List ℕ) (l : Line) → GaveFront k a c pairs rest → IsLineOf l rest → l.k ≢ k → IsOfOtherLength k a c (line_after pairs)
+pub of_other_length : (k : ℕ) (a c : Option (List ℕ)) (pairs : List (List ℕ × ℕ)) (rest : List ℕ) (l : Line) → GaveFront k a c pairs rest
+    → IsLineOf l rest → l.k ≢ k → IsOfOtherLength k a c (line_after pairs)
 of_other_length k a c pairs rest l gave is differ = record {
   pairs = pairs;
   rest = rest;
@@ -111,7 +122,8 @@ of_other_length k a c pairs rest l gave is differ = record {
 
 -- ---- the line behind the last one
 
-module _ (k last : ℕ) (a b c : Option (List ℕ)) (pairs : List (List ℕ × ℕ)) (before rest : List ℕ) (l : Line) (ends : EndsIn k last pairs) (gave : GaveFront k a b pairs before) (goes : GoesOn b c before rest) (is : IsLineOf l rest) where
+module _ (k last : ℕ) (a b c : Option (List ℕ)) (pairs : List (List ℕ × ℕ)) (before rest : List ℕ) (l : Line) (ends : EndsIn k last pairs)
+    (gave : GaveFront k a b pairs before) (goes : GoesOn b c before rest) (is : IsLineOf l rest) where
   pub other_length : l.k ≢ k → IsOfOtherLength k a c (line_after pairs)
   other_length differ = of_other_length k a c pairs rest l (front_goes k a b c pairs before rest gave goes) is differ
 
@@ -144,7 +156,8 @@ module _ (k last : ℕ) (a b c : Option (List ℕ)) (pairs : List (List ℕ × �
 
 -- ---- a source and its head
 
-pub source_ends : (k packed : ℕ) (start now : Option (List ℕ)) (room : Room) (head : Head) (taken : List (List ℕ × ℕ)) → head.live ≡ true → head.packed ≡ packed → IsSource k start now room head taken
+pub source_ends : (k packed : ℕ) (start now : Option (List ℕ)) (room : Room) (head : Head) (taken : List (List ℕ × ℕ)) → head.live ≡ true
+    → head.packed ≡ packed → IsSource k start now room head taken
     → EndsIn k packed (taken ++ pending k head)
 source_ends k packed start now room head taken live is source = record {
   front = taken;
@@ -176,7 +189,8 @@ listed_front k ps qs h = record {
 }
 
 -- fewer of the lines
-pub gave_fewer : (k : ℕ) (a b : Option (List ℕ)) (ps qs : List (List ℕ × ℕ)) (rest : List ℕ) → GaveFront k a b (ps ++ qs) rest → GaveFront k a b ps (text_of qs ++ rest)
+pub gave_fewer : (k : ℕ) (a b : Option (List ℕ)) (ps qs : List (List ℕ × ℕ)) (rest : List ℕ) → GaveFront k a b (ps ++ qs) rest → GaveFront k a b ps
+    (text_of qs ++ rest)
 gave_fewer k a b ps qs rest h = record {
   listed = listed_front k ps qs h.listed;
   bytes = subst (Consumes a b) (ap (λ (t : List ℕ). t ++ rest) (flat_map-append line_of ps qs) ∙ append_assoc (text_of ps) (text_of qs) rest) h.bytes;
@@ -190,7 +204,11 @@ begins_other k a b line two o = begins o.pairs o.number o.gave
     begins [] number gave = absurd (omega (arith, number, two))
     begins (p ∷ ps) number gave = record { pair = p; rest = text_of ps ++ o.rest; gave = gave_fewer k a b (p ∷ []) ps o.rest gave }
 
-pub lost_front : (k : ℕ) (a b c : Option (List ℕ)) (room : Room) (head : Head) (taken : List (List ℕ × ℕ)) (rest : List ℕ) → GoesOn b c (unread room) rest → IsSource k a b room head taken
+pub lost_front : (k : ℕ) (a b c : Option (List ℕ)) (room : Room) (head : Head) (taken : List (List ℕ × ℕ)) (rest : List ℕ) → GoesOn b c
+    (unread room) rest → IsSource k a b room head taken
     → (more : List ℕ) × GaveFront k a c taken more
-lost_front k a b c room head taken rest goes source =
-    (text_of (pending k head) ++ rest, gave_fewer k a c taken (pending k head) rest (front_goes k a b c (taken ++ pending k head) (unread room) rest source.gave goes))
+lost_front k a b c room head taken rest goes source = (
+  text_of (pending k head) ++ rest,
+  gave_fewer k a c taken (pending k head) rest
+      (front_goes k a b c (taken ++ pending k head) (unread room) rest source.gave goes),
+)

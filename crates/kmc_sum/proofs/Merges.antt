@@ -18,9 +18,14 @@ use Rattle.kmc_sum.proofs.Openings.{none_sum, gave_none, list_none}
 use Rattle.kmc_sum.proofs.Rooms.{goes_nowhere}
 use Rattle.kmc_sum.proofs.Tallies.{empty_dump}
 
-texts_list : (k : ℕ) (lists : List (List (List ℕ × ℕ))) → ((i : ℕ) → i < length lists → AreListed k (list_at lists i)) → AllZip (Lists k) (map text_of lists) lists
+texts_list : (k : ℕ) (lists : List (List (List ℕ × ℕ))) → ((i : ℕ) → i < length lists → AreListed k (list_at lists i)) → AllZip (Lists k)
+    (map text_of lists) lists
 texts_list k [] each = tt
-texts_list k (list ∷ lists) each = (record { listed = each 0 (omega arith); lines = refl }, texts_list k lists (λ i inside. each (suc i) (omega (arith, inside))))
+texts_list k (list ∷ lists) each = (
+  record { listed = each 0 (omega arith); lines = refl },
+  texts_list k lists
+      (λ i inside. each (suc i) (omega (arith, inside))),
+)
 
 module _ (k : ℕ) (long : IsLength k) (l : Limits) (starts nows : List (Option (List ℕ))) (lines : ℕ) (old new : Option (List ℕ)) where
   pub sum_written : IsWritten k l starts nows lines old new → IsSumWritten l starts nows lines old new
@@ -29,7 +34,8 @@ module _ (k : ℕ) (long : IsLength k) (l : Limits) (starts nows : List (Option 
     texts_long = length-map w.lists text_of ∙ w.gave.lists_long;
     gave = λ i inside.
         let here = w.gave.each i inside in
-        let text : get_or (map text_of w.lists) i [] ≡ text_of (list_at w.lists i) = get_or-map text_of w.lists i [] [] (omega (arith, inside, w.gave.lists_long)) in
+        let text : get_or (map text_of w.lists) i [] ≡ text_of (list_at w.lists i) = get_or-map text_of w.lists i [] []
+        (omega (arith, inside, w.gave.lists_long)) in
         (subst (Consumes (left_at starts i) (left_at nows i)) (append-nil (text_of (list_at w.lists i)) ∙ sym text) here.0.bytes, here.1);
     pairs = w.pairs;
     merge = record {
@@ -44,7 +50,8 @@ module _ (k : ℕ) (long : IsLength k) (l : Limits) (starts nows : List (Option 
   }
 
 -- nothing was written
-pub begun_none : (k : ℕ) (l : Limits) (starts nows : List (Option (List ℕ))) (old : Option (List ℕ)) → GaveFronts k starts nows (no_lists starts) → IsBegun k l starts nows old old
+pub begun_none : (k : ℕ) (l : Limits) (starts nows : List (Option (List ℕ))) (old : Option (List ℕ)) → GaveFronts k starts nows (no_lists starts)
+    → IsBegun k l starts nows old old
 begun_none k l starts nows old gave = record {
   lists = no_lists starts;
   gave = gave;
@@ -63,14 +70,17 @@ gave_nothing k starts = record {
 }
 
 -- the tree is built over the heads
-pub sources_built : {T : Type 0} (left : T → Option (List ℕ)) (readers : List T) (k : ℕ) (nows : List (Option (List ℕ))) (rooms : List Room) (heads built : List Head) (lists : List (List (List ℕ × ℕ)))
-    → ((j : ℕ) → length heads ≤ 2 * j → head_at built j ≡ head_at heads j) → length heads ≡ 2 * length readers → AreSources k (map left readers) nows rooms heads lists → AreSources k (map left readers) nows rooms built lists
+pub sources_built : {T : Type 0} (left : T → Option (List ℕ)) (readers : List T) (k : ℕ) (nows : List (Option (List ℕ))) (rooms : List Room)
+    (heads built : List Head) (lists : List (List (List ℕ × ℕ)))
+    → ((j : ℕ) → length heads ≤ 2 * j → head_at built j ≡ head_at heads j) → length heads ≡ 2 * length readers → AreSources k
+    (map left readers) nows rooms heads lists → AreSources k (map left readers) nows rooms built lists
 sources_built left readers k nows rooms heads built lists leaves long are = record {
   nows_long = are.nows_long;
   lists_long = are.lists_long;
   each = λ i room inside.
       let starts = map left readers in
-      source_like k (left_at starts i) _ _ _ _ _ _ _ _ refl refl (sym (leaves (length starts + i) (omega (arith, long, length-map readers left)))) refl (are.each i room inside);
+      source_like k (left_at starts i) _ _ _ _ _ _ _ _ refl refl (sym
+      (leaves (length starts + i) (omega (arith, long, length-map readers left)))) refl (are.each i room inside);
 }
 
 pub if_ok_then : {A E : Type 0} (r : Result A E) (P Q : A → Type 0) → ((x : A) → P x → Q x) → IfOk r P → IfOk r Q

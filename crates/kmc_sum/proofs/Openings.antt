@@ -70,7 +70,8 @@ module _ (a b : Option (List ℕ)) (before rest : List ℕ) (none : before ≡ [
     none = no_line;
   }
 
-  pub first_ended : (m : ℕ) (room : Room) (source : ℕ) → rest ≡ [] → unread room ≡ [] → room.lines ≡ 0 → IsAtEnd b → IsSource m a b room (record { live = false; packed = 0; count = 0; source = source }) []
+  pub first_ended : (m : ℕ) (room : Room) (source : ℕ) → rest ≡ [] → unread room ≡ [] → room.lines ≡ 0 → IsAtEnd b → IsSource m a b room
+      (record { live = false; packed = 0; count = 0; source = source }) []
   first_ended m room source empty left lines end = record {
     gave = subst (λ (t : List ℕ). GaveFront m a b [] t) (empty ∙ sym left) (gave_none m a b before rest none goes);
     lines = lines;
@@ -85,7 +86,8 @@ agrees_before : (k found m : ℕ) → (k ≡ 0) ⊎ (found ≡ k) → Agrees fou
 agrees_before k found m (inl e) agrees = inl e
 agrees_before k found m (inr e) agrees = subst (λ n. Agrees n m) e agrees
 
-module _ (k found n i : ℕ) (starts nows : List (Option (List ℕ))) (rooms : List Room) (heads : List Head) (before : AreOpened k n i starts nows rooms heads) (inside : i < n) (kept : (k ≡ 0) ⊎ (found ≡ k))
+module _ (k found n i : ℕ) (starts nows : List (Option (List ℕ))) (rooms : List Room) (heads : List Head)
+    (before : AreOpened k n i starts nows rooms heads) (inside : i < n) (kept : (k ≡ 0) ⊎ (found ≡ k))
     (now : Option (List ℕ)) (room : Room) (head : Head) (is : IsRoom room) (own : head.source ≡ i) (fits : (m : ℕ) → Agrees found m → head.packed < 4 ^ m)
     (first : (m : ℕ) → Agrees found m → IsSource m (left_at starts i) now room head []) where
   head_new : head_at (set heads (n + i) head) (n + i) ≡ head
@@ -105,23 +107,27 @@ module _ (k found n i : ℕ) (starts nows : List (Option (List ℕ))) (rooms : L
   source_at j less (inr differ) = ap (λ (h : Head). h.source) (head_old j differ) ∙ before.source j (omega (arith, differ))
 
   fits_at : (m j : ℕ) → Agrees found m → j < i + 1 → (j ≡ i) ⊎ (j ≡ i → ⊥) → (head_at (set heads (n + i) head) (n + j)).packed < 4 ^ m
-  fits_at m j agrees less (inl e) = subst (λ (h : Head). h.packed < 4 ^ m) (sym (ap (λ x. head_at (set heads (n + i) head) (n + x)) e ∙ head_new)) (fits m agrees)
+  fits_at m j agrees less (inl e) = subst (λ (h : Head). h.packed < 4 ^ m) (sym (ap (λ x. head_at (set heads (n + i) head) (n + x)) e ∙ head_new))
+      (fits m agrees)
   fits_at m j agrees less (inr differ) =
       subst (λ (h : Head). h.packed < 4 ^ m) (sym (head_old j differ)) (before.fits m j (agrees_before k found m kept agrees) (omega (arith, differ)))
 
   opened_at : (m j : ℕ) (r : Room) → Agrees found m → j < i + 1 → (j ≡ i) ⊎ (j ≡ i → ⊥)
-      → IsRoom (get_or (set rooms i room) j r) × IsSource m (left_at starts j) (left_at (set nows i now) j) (get_or (set rooms i room) j r) (head_at (set heads (n + i) head) (n + j)) []
+      → IsRoom (get_or (set rooms i room) j r) × IsSource m (left_at starts j) (left_at (set nows i now) j) (get_or (set rooms i room) j r)
+      (head_at (set heads (n + i) head) (n + j)) []
   opened_at m j r agrees less (inl e) =
       let here : get_or (set rooms i room) j r ≡ room = ap (λ x. get_or (set rooms i room) x r) e ∙ room_new r in (
         subst IsRoom (sym here) is,
-        subst (λ x. IsSource m (left_at starts x) (left_at (set nows i now) j) (get_or (set rooms i room) j r) (head_at (set heads (n + i) head) (n + j)) []) (sym e)
+        subst (λ x. IsSource m (left_at starts x) (left_at (set nows i now) j) (get_or (set rooms i room) j r)
+            (head_at (set heads (n + i) head) (n + j)) []) (sym e)
             (source_like m (left_at starts i) now _ room _ head _ [] [] (sym (ap (λ x. left_at (set nows i now) x) e ∙ now_new)) (sym here)
             (sym (ap (λ x. head_at (set heads (n + i) head) (n + x)) e ∙ head_new)) refl (first m agrees)),
       )
   opened_at m j r agrees less (inr differ) =
       let old = before.opened m j r (agrees_before k found m kept agrees) (omega (arith, differ)) in (
         subst IsRoom (sym (get_or-set_other rooms i j room r differ)) old.0,
-        source_like m (left_at starts j) _ _ _ _ _ _ [] [] (sym (get_or-set_other nows i j now None differ)) (sym (get_or-set_other rooms i j room r differ)) (sym (head_old j differ)) refl old.1,
+        source_like m (left_at starts j) _ _ _ _ _ _ [] [] (sym (get_or-set_other nows i j now None differ))
+            (sym (get_or-set_other rooms i j room r differ)) (sym (head_old j differ)) refl old.1,
       )
 
   pub opened_next : AreOpened found n (i + 1) starts (set nows i now) (set rooms i room) (set heads (n + i) head)
@@ -144,10 +150,12 @@ list_none starts i inside = get_or-map (λ _. []) starts i None [] inside
 
 pub none_sum : (starts : List (Option (List ℕ))) (x : List ℕ) → sum_of (no_lists starts) x ≡ 0
 none_sum [] x = refl
-none_sum (a ∷ starts) x = sum_by-cons (λ (pairs : List (List ℕ × ℕ)). listed_count pairs x) [] (no_lists starts) ∙ zero-add (sum_of (no_lists starts) x) ∙ none_sum starts x
+none_sum (a ∷ starts) x = sum_by-cons (λ (pairs : List (List ℕ × ℕ)). listed_count pairs x) [] (no_lists starts) ∙ zero-add
+    (sum_of (no_lists starts) x) ∙ none_sum starts x
 
 -- all are opened
-module _ (k m n : ℕ) (starts nows : List (Option (List ℕ))) (rooms : List Room) (heads : List Head) (i : ℕ) (end : i ≡ n) (are : AreOpened k n i starts nows rooms heads) (agrees : Agrees k m) where
+module _ (k m n : ℕ) (starts nows : List (Option (List ℕ))) (rooms : List Room) (heads : List Head) (i : ℕ) (end : i ≡ n)
+    (are : AreOpened k n i starts nows rooms heads) (agrees : Agrees k m) where
   pub all_ready : AreReady m n rooms heads
   all_ready = record {
     rooms_long = are.rooms_long;
@@ -162,14 +170,16 @@ module _ (k m n : ℕ) (starts nows : List (Option (List ℕ))) (rooms : List Ro
     nows_long = are.nows_long ∙ sym are.starts_long;
     lists_long = length-map starts (λ _. []);
     each = λ j r inside.
-        source_like m (left_at starts j) _ _ _ _ _ _ [] _ refl refl (ap (λ x. head_at heads (x + j)) (sym are.starts_long)) (sym (list_none starts j inside)) (are.opened m j r agrees (omega (arith, inside, are.starts_long))).1;
+        source_like m (left_at starts j) _ _ _ _ _ _ [] _ refl refl (ap (λ x. head_at heads (x + j)) (sym are.starts_long))
+        (sym (list_none starts j inside)) (are.opened m j r agrees (omega (arith, inside, are.starts_long))).1;
   }
 
 at_any : (k m : ℕ) (a b : Option (List ℕ)) (rest : List ℕ) → GaveFront k a b [] rest → GaveFront m a b [] rest
 at_any k m a b rest h = record { listed = record { each = tt; rising = rising_none }; bytes = h.bytes }
 
 -- one of them is at fault, or its reader failed
-pub opened_lost : (k m n i : ℕ) (starts nows : List (Option (List ℕ))) (rooms : List Room) (heads : List Head) (now : Option (List ℕ)) (room : Room) → AreOpened k n i starts nows rooms heads → i < n
+pub opened_lost : (k m n i : ℕ) (starts nows : List (Option (List ℕ))) (rooms : List Room) (heads : List Head) (now : Option (List ℕ)) (room : Room)
+    → AreOpened k n i starts nows rooms heads → i < n
     → ((rest : List ℕ) × GaveFront m (left_at starts i) now [] rest) → GaveFronts m starts (set nows i now) (no_lists starts)
 opened_lost k m n i starts nows rooms heads now room are inside lost = record {
   lists_long = length-map starts (λ _. []);
@@ -182,7 +192,8 @@ opened_lost k m n i starts nows rooms heads now room are inside lost = record {
         subst (λ (t : List (List ℕ × ℕ)). GaveFront m (left_at starts j) (left_at (set nows i now) j) t rest) (sym (list_none starts j within))
         (subst (λ y. GaveFront m (left_at starts j) y [] rest) (sym e) h)
 
-    at : (j : ℕ) → j < length starts → (j ≡ i) ⊎ (j ≡ i → ⊥) → (j < i) ⊎ (i ≤ j) → (rest : List ℕ) × GaveFront m (left_at starts j) (left_at (set nows i now) j) (list_at (no_lists starts) j) rest
+    at : (j : ℕ) → j < length starts → (j ≡ i) ⊎ (j ≡ i → ⊥) → (j < i) ⊎ (i ≤ j) → (rest : List ℕ) × GaveFront m (left_at starts j)
+        (left_at (set nows i now) j) (list_at (no_lists starts) j) rest
     at j within (inl e) order = (
       lost.0,
       like j within now lost.0 (ap (λ x. left_at (set nows i now) x) e ∙ get_or-set_same nows i now None (omega (arith, are.nows_long)))
@@ -207,7 +218,8 @@ pub record HasBegun (k i : ℕ) (starts nows : List (Option (List ℕ))) : Type 
   pub begins : BeginsWith k (left_at starts first) (left_at nows first)
 
 -- one of the readers is at its first line
-module _ {T : Type 0} (left : T → Option (List ℕ)) (readers : List T) (reader next : T) (k n i : ℕ) (starts : List (Option (List ℕ))) (rooms : List Room) (heads : List Head) (before : AreOpened k n i starts (map left readers) rooms heads)
+module _ {T : Type 0} (left : T → Option (List ℕ)) (readers : List T) (reader next : T) (k n i : ℕ) (starts : List (Option (List ℕ)))
+    (rooms : List Room) (heads : List Head) (before : AreOpened k n i starts (map left readers) rooms heads)
     (room : Room) (inside : i < n) where
   here : i < length readers
   here = omega (arith, inside, before.nows_long, length-map readers left)
@@ -215,7 +227,8 @@ module _ {T : Type 0} (left : T → Option (List ℕ)) (readers : List T) (reade
   start : left (get_or readers i reader) ≡ left_at starts i
   start = sym (get_or-map left readers i reader None here) ∙ (before.fresh i room (omega arith) inside).1
 
-  pub reader_opened : (found : ℕ) (now : Room) (head : Head) → (k ≡ 0) ⊎ (found ≡ k) → IsRoom now → head.source ≡ i → ((m : ℕ) → Agrees found m → head.packed < 4 ^ m)
+  pub reader_opened : (found : ℕ) (now : Room) (head : Head) → (k ≡ 0) ⊎ (found ≡ k) → IsRoom now → head.source ≡ i
+      → ((m : ℕ) → Agrees found m → head.packed < 4 ^ m)
       → ((m : ℕ) → Agrees found m → IsSource m (left (get_or readers i reader)) (left next) now head [])
       → AreOpened found n (i + 1) starts (map left (set readers i next)) (set rooms i now) (set heads (n + i) head)
   reader_opened found now head kept is own fits first =
@@ -223,13 +236,16 @@ module _ {T : Type 0} (left : T → Option (List ℕ)) (readers : List T) (reade
       (opened_next k found n i starts (map left readers) rooms heads before inside kept (left next) now head is own fits
       (λ m agrees. subst (λ a. IsSource m a (left next) now head []) start (first m agrees)))
 
-  begins_still : (m j : ℕ) → j < i → BeginsWith m (left_at starts j) (left_at (map left readers) j) → BeginsWith m (left_at starts j) (left_at (map left (set readers i next)) j)
+  begins_still : (m j : ℕ) → j < i → BeginsWith m (left_at starts j) (left_at (map left readers) j) → BeginsWith m (left_at starts j)
+      (left_at (map left (set readers i next)) j)
   begins_still m j below h =
       let differ : j ≢ i = λ e. omega (arith, e, below) in
-      subst (λ x. BeginsWith m (left_at starts j) x) (sym (ap (λ l. left_at l j) (map-set left readers i next) ∙ get_or-set_other (map left readers) i j (left next) None differ)) h
+      subst (λ x. BeginsWith m (left_at starts j) x) (sym (ap (λ l. left_at l j) (map-set left readers i next) ∙ get_or-set_other
+      (map left readers) i j (left next) None differ)) h
 
   -- the sources before this one and this one begin so
-  pub begun_next : (found : ℕ) → (found ≡ k) ⊎ BeginsWith found (left (get_or readers i reader)) (left next) → (1 ≤ k → HasBegun k i starts (map left readers)) → 1 ≤ found
+  pub begun_next : (found : ℕ) → (found ≡ k) ⊎ BeginsWith found (left (get_or readers i reader)) (left next)
+      → (1 ≤ k → HasBegun k i starts (map left readers)) → 1 ≤ found
       → HasBegun found (i + 1) starts (map left (set readers i next))
   begun_next found (inl same) old some =
       let w = old (omega (arith, same, some)) in
@@ -238,20 +254,27 @@ module _ {T : Type 0} (left : T → Option (List ℕ)) (readers : List T) (reade
   begun_next found (inr new) old some = record {
     first = i;
     before = omega arith;
-    begins = subst (λ x. BeginsWith found (left_at starts i) x) (sym (left_now left readers i next here)) (subst (λ a. BeginsWith found a (left next)) start new);
+    begins = subst (λ x. BeginsWith found (left_at starts i) x) (sym (left_now left readers i next here))
+        (subst (λ a. BeginsWith found a (left next)) start new);
   }
 
-  pub read_before : (m line : ℕ) → m ≡ k → 1 ≤ m → (1 ≤ k → HasBegun k i starts (map left readers)) → IsReadBefore m starts (map left (set readers i next)) i line
+  pub read_before : (m line : ℕ) → m ≡ k → 1 ≤ m → (1 ≤ k → HasBegun k i starts (map left readers)) → IsReadBefore m starts
+      (map left (set readers i next)) i line
   read_before m line same some old =
       let w = old (omega (arith, same, some)) in
       subst (λ n. IsReadBefore n starts (map left (set readers i next)) i line) (sym same)
       (record { first = w.first; before = inl w.before; begins = begins_still k w.first w.before w.begins })
 
-  pub reader_at_fault : (m source line : ℕ) (fault : LineFault) → source ≡ i → (fault ≡ OtherLength → IsReadBefore m starts (map left (set readers i next)) i line) → IsFaultAt m (left (get_or readers i reader)) (left next) line fault → IsFirstFault m starts (map left (set readers i next)) source line fault
+  pub reader_at_fault : (m source line : ℕ) (fault : LineFault) → source ≡ i
+      → (fault ≡ OtherLength → IsReadBefore m starts (map left (set readers i next)) i line) → IsFaultAt m (left (get_or readers i reader))
+      (left next) line fault → IsFirstFault m starts (map left (set readers i next)) source line fault
   reader_at_fault m source line fault is read h =
-      fault_after left readers i next m starts source line fault here (omega (arith, inside, before.starts_long)) is read (subst (λ a. IsFaultAt m a (left next) line fault) start h)
+      fault_after left readers i next m starts source line fault here (omega (arith, inside, before.starts_long)) is read
+      (subst (λ a. IsFaultAt m a (left next) line fault) start h)
 
-  pub reader_lost : (m : ℕ) → ((rest : List ℕ) × GaveFront m (left (get_or readers i reader)) (left next) [] rest) → GaveFronts m starts (map left (set readers i next)) (no_lists starts)
+  pub reader_lost : (m : ℕ) → ((rest : List ℕ) × GaveFront m (left (get_or readers i reader)) (left next) [] rest) → GaveFronts m starts
+      (map left (set readers i next)) (no_lists starts)
   reader_lost m lost =
       subst (λ nows. GaveFronts m starts nows (no_lists starts)) (sym (map-set left readers i next))
-      (opened_lost k m n i starts (map left readers) rooms heads (left next) room before inside (lost.0, subst (λ a. GaveFront m a (left next) [] lost.0) start lost.1))
+      (opened_lost k m n i starts (map left readers) rooms heads (left next) room before inside
+      (lost.0, subst (λ a. GaveFront m a (left next) [] lost.0) start lost.1))

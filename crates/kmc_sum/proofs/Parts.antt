@@ -18,8 +18,10 @@ use Rattle.kmc_sum.specs.Sum.{listed_count, sum_of}
 use Rattle.kmc_sum.specs.Laws.{ListsEach, AreDumpsOfParts}
 
 module _ (strands : Strands) (k : ℕ) where
-  pub counts_add : (reads others : List (List ℕ)) (x : List ℕ) → count_of strands k (reads ++ others) x ≡ count_of strands k reads x + count_of strands k others x
-  counts_add reads others x = sum_by-append (λ (read : List ℕ). count_by (λ i. is_key_of strands x (word_at k read i)) (range_with_len 0 (length read))) reads others
+  pub counts_add : (reads others : List (List ℕ)) (x : List ℕ) → count_of strands k (reads ++ others) x
+      ≡ count_of strands k reads x + count_of strands k others x
+  counts_add reads others x = sum_by-append (λ (read : List ℕ). count_by (λ i. is_key_of strands x (word_at k read i))
+      (range_with_len 0 (length read))) reads others
 
 module _ (x : List ℕ) where
   pub listed_more : (p : List ℕ × ℕ) (ps : List (List ℕ × ℕ)) → listed_count (p ∷ ps) x ≡ cond (same_word p.0 x) p.1 0 + listed_count ps x
@@ -35,7 +37,8 @@ module _ (x : List ℕ) where
       go false e more = listed_more p ps ∙ (λ i. cond (e i) p.1 0 + more i)
 
   -- the word of a pair has its number
-  numbered : (c : List ℕ → ℕ) (ps : List (List ℕ × ℕ)) → AllByRecursion (λ p. p.1 ≡ c p.0) ps → IsStrictlySortedBy kmer_cmp (words_of ps) → Has x (words_of ps) → listed_count ps x ≡ c x
+  numbered : (c : List ℕ → ℕ) (ps : List (List ℕ × ℕ)) → AllByRecursion (λ p. p.1 ≡ c p.0) ps → IsStrictlySortedBy kmer_cmp (words_of ps) → Has x
+      (words_of ps) → listed_count ps x ≡ c x
   unfolding IsStrictlySortedBy
   numbered c [] is up m = absurd m
   numbered c (p ∷ ps) is up (inl e) =
@@ -59,10 +62,12 @@ module _ (x : List ℕ) where
 
       go : (n : ℕ) → c x ≡ n → listed_count ps x ≡ c x
       go zero e = none_listed ps (λ m. let some = listed_has c l ps x dump.each m in omega (arith, some.0, e)) ∙ sym e
-      go (suc n) e = numbered c ps (shows ps dump.each) dump.rising (has_contains x (words_of ps) (dump.all x (omega (arith, e), omega (arith, e, every.ci), omega (arith, every.cx, few))))
+      go (suc n) e = numbered c ps (shows ps dump.each) dump.rising (has_contains x (words_of ps)
+          (dump.all x (omega (arith, e), omega (arith, e, every.ci), omega (arith, every.cx, few))))
 
 module _ (strands : Strands) (k : ℕ) (every : Limits) (each : ListsEach every) (x : List ℕ) where
-  sums : (parts : List (List (List ℕ))) (lists : List (List (List ℕ × ℕ))) → AreDumpsOfParts strands k every parts lists → count_of strands k (joined parts) x ≤ 2 ^ 63
+  sums : (parts : List (List (List ℕ))) (lists : List (List (List ℕ × ℕ))) → AreDumpsOfParts strands k every parts lists → count_of strands k
+      (joined parts) x ≤ 2 ^ 63
       → sum_of lists x ≡ count_of strands k (joined parts) x
   sums [] [] dumps few = refl
   sums [] (ps ∷ lists) dumps few = absurd dumps

@@ -38,7 +38,8 @@ module _ {X : Type 0} (f : X → Word) where
       let front = given name (map f (take i xs)) in
       let back = given name (map f (drop i xs)) in
       let all : front ++ back ≡ given name (map f xs) =
-      sym (filter_map-append (rest_after name) (map f (take i xs)) (map f (drop i xs))) ∙ ap (given name) (sym (map-append f (take i xs) (drop i xs)) ∙ ap (map f) (take-append-drop i xs)) in
+      sym (filter_map-append (rest_after name) (map f (take i xs)) (map f (drop i xs))) ∙ ap (given name)
+      (sym (map-append f (take i xs) (drop i xs)) ∙ ap (map f) (take-append-drop i xs)) in
       omega (arith, ap length all, length-append front back)
 
   -- one word that is not known
@@ -51,10 +52,13 @@ module _ {X : Type 0} (f : X → Word) where
   filter_of_map p [] = refl
   filter_of_map p (x ∷ xs) = first_of (p (f x)) refl (filter_of_map p xs)
     where
-      first_of : (b : Bool) → p (f x) ≡ b → filter p (map f xs) ≡ map f (filter (λ y. p (f y)) xs) → filter p (map f (x ∷ xs)) ≡ map f (filter (λ y. p (f y)) (x ∷ xs))
+      first_of : (b : Bool) → p (f x) ≡ b → filter p (map f xs) ≡ map f (filter (λ y. p (f y)) xs) → filter p (map f (x ∷ xs)) ≡ map f
+          (filter (λ y. p (f y)) (x ∷ xs))
       first_of true is rest = rw is (ap (λ l. f x ∷ l) rest)
       first_of false is rest = rw is rest
 
   -- the words of those that were kept
-  pub kept_words : {P : Type 0} (R : P → X → Bool → P → Type 0) (test : Word → Bool) → ((p : P) (x : X) (b : Bool) (q : P) → R p x b q → b ≡ test (f x)) → (p : P) (xs kept : List X) → IsFiltered R p xs kept → map f kept ≡ filter test (map f xs)
+  pub kept_words : {P : Type 0} (R : P → X → Bool → P → Type 0) (test : Word → Bool)
+      → ((p : P) (x : X) (b : Bool) (q : P) → R p x b q → b ≡ test (f x)) → (p : P) (xs kept : List X) → IsFiltered R p xs kept → map f kept
+      ≡ filter test (map f xs)
   kept_words R test says p xs kept h = ap (map f) (filter_from_retain R (λ x. test (f x)) says p xs kept h) ∙ sym (filter_of_map test xs)

@@ -20,7 +20,8 @@ goes_trans a b c xs ys zs p q = record {
 }
 
 -- what was read stands behind what was there
-pub read_more : (a b : Option (List ℕ)) (bytes buf : List ℕ) (to n : ℕ) → to ≤ length bytes → length buf ≡ length bytes - to → n ≤ length buf → Consumes a b (take n buf)
+pub read_more : (a b : Option (List ℕ)) (bytes buf : List ℕ) (to n : ℕ) → to ≤ length bytes → length buf ≡ length bytes - to → n ≤ length buf
+    → Consumes a b (take n buf)
     → GoesOn a b (take to bytes) (take (to + n) (put_mid to (length bytes - to) bytes buf))
 read_more a b bytes buf to n inside size few gave = record {
   bytes = take n buf;
@@ -38,7 +39,8 @@ at_front from to bytes e =
 pub taken : (from to n : ℕ) (bytes : List ℕ) → from + n ≤ to → take (to - (from + n)) (drop (from + n) bytes) ≡ drop n (take (to - from) (drop from bytes))
 taken from to n bytes few =
     let rest : to - from ≡ n + (to - (from + n)) = omega arith in
-    sym (ap (λ m. drop n (take m (drop from bytes))) rest ∙ drop-take n (to - (from + n)) (drop from bytes) ∙ ap (take (to - (from + n))) (drop-drop n from bytes))
+    sym (ap (λ m. drop n (take m (drop from bytes))) rest ∙ drop-take n (to - (from + n)) (drop from bytes) ∙ ap (take (to - (from + n)))
+    (drop-drop n from bytes))
 
 -- bytes that are not there are not unread
 pub some_unread : (from to : ℕ) (bytes : List ℕ) → from ≤ to → to ≤ length bytes → from ≢ to → take (to - from) (drop from bytes) ≢ []
@@ -52,7 +54,8 @@ module _ (v : Vec ℕ Global) (old ws : List ℕ) (is : old ≡ v.items) (same :
   rewritten = let long : length ws ≡ v.len = omega (arith, same, ap length is, v.ok.0) in with_items_is v ws long
 
   -- the bytes were moved to the front
-  pub shifted : (from to : ℕ) → take (to - from) ws ≡ take (to - from) (drop from old) → take (to - from - 0) (drop 0 (with_items v ws).items) ≡ take (to - from) (drop from v.items)
+  pub shifted : (from to : ℕ) → take (to - from) ws ≡ take (to - from) (drop from old) → take (to - from - 0) (drop 0 (with_items v ws).items) ≡ take
+      (to - from) (drop from v.items)
   shifted from to moved =
       at_front 0 (to - from) (with_items v ws).items refl ∙ ap (take (to - from)) rewritten ∙ moved ∙ ap (λ (l : List ℕ). take (to - from) (drop from l)) is
 

@@ -38,7 +38,8 @@ sum_next k heads lists y inside live =
     let one = λ (q : List ℕ × ℕ). cond (same_word q.0 y) q.1 0 in
     let is : list_at lists i ++ pending k top ≡ list_at lists i ++ p ∷ [] = ap (λ b. list_at lists i ++ cond b (p ∷ []) []) live in
     let all = sum_by-set f lists i (list_at lists i ++ pending k top) [] inside in
-    let last : f (list_at lists i ++ pending k top) ≡ f (list_at lists i) + one p = ap f is ∙ sum_by-append one (list_at lists i) (p ∷ []) ∙ ap (λ m. f (list_at lists i) + m) (sum_by-cons one p [] ∙ omega arith) in
+    let last : f (list_at lists i ++ pending k top) ≡ f (list_at lists i) + one p = ap f is ∙ sum_by-append one (list_at lists i) (p ∷ []) ∙ ap
+    (λ m. f (list_at lists i) + m) (sum_by-cons one p [] ∙ omega arith) in
     omega (arith, all, last)
 
 text_both : (ps qs : List (List ℕ × ℕ)) → text_of (ps ++ qs) ≡ text_of ps ++ text_of qs
@@ -51,14 +52,18 @@ front_both : (a b : Option (List ℕ)) (ps qs : List (List ℕ × ℕ)) → Appe
 front_both a b ps qs h = subst (AppendsFront a b) (sym (text_both ps qs)) (front_of a b (text_of ps) (text_of qs) h)
 
 -- what was given so far is the front
-pub fronts_of : (k : ℕ) (starts nows : List (Option (List ℕ))) (rooms : List Room) (heads : List Head) (lists : List (List (List ℕ × ℕ))) → length rooms ≡ length starts → AreSources k starts nows rooms heads lists
+pub fronts_of : (k : ℕ) (starts nows : List (Option (List ℕ))) (rooms : List Room) (heads : List Head) (lists : List (List (List ℕ × ℕ)))
+    → length rooms ≡ length starts → AreSources k starts nows rooms heads lists
     → GaveFronts k starts nows lists
 fronts_of k starts nows [] heads lists long are = record { lists_long = are.lists_long; each = λ i inside. absurd (omega (arith, inside, long)) }
 fronts_of k starts nows (room ∷ rooms) heads lists long are = record {
   lists_long = are.lists_long;
   each = λ i inside.
-      let source = are.each i room inside in
-      (text_of (pending k (head_at heads (length starts + i))) ++ unread (get_or (room ∷ rooms) i room), gave_fewer k (left_at starts i) (left_at nows i) (list_at lists i) (pending k (head_at heads (length starts + i))) _ source.gave);
+      let source = are.each i room inside in (
+        text_of (pending k (head_at heads (length starts + i))) ++ unread (get_or (room ∷ rooms) i room),
+        gave_fewer k (left_at starts i)
+            (left_at nows i) (list_at lists i) (pending k (head_at heads (length starts + i))) _ source.gave,
+      );
 }
 
 powers : (k : ℕ) → k ≤ 64 → 4 ^ k ≤ 2 ^ 128
@@ -66,36 +71,45 @@ powers k few =
     let whole : 64 - k + k ≡ 64 = omega arith in
     subst (λ m. 4 ^ k ≤ 4 ^ m) whole (pow_up k (64 - k))
 
-gave_end : (k : ℕ) (start now : Option (List ℕ)) (taken : List (List ℕ × ℕ)) (head : Head) (rest : List ℕ) → head.live ≡ false → rest ≡ [] → GaveFront k start now (taken ++ pending k head) rest → GaveFront k start now taken []
+gave_end : (k : ℕ) (start now : Option (List ℕ)) (taken : List (List ℕ × ℕ)) (head : Head) (rest : List ℕ) → head.live ≡ false → rest ≡ []
+    → GaveFront k start now (taken ++ pending k head) rest → GaveFront k start now taken []
 gave_end k start now taken head rest end none h =
     let same : taken ++ pending k head ≡ taken = ap (λ b. taken ++ cond b ((unpack k head.packed, head.count) ∷ []) []) end ∙ append-nil taken in
     subst (λ (t : List (List ℕ × ℕ)). GaveFront k start now t []) same (subst (λ (r : List ℕ). GaveFront k start now (taken ++ pending k head) r) none h)
 
-module _ (k : ℕ) (l : Limits) (small : l.cx ≤ 2 ^ 63) (starts nows : List (Option (List ℕ))) (rooms : List Room) (heads : List Head) (x : List ℕ) (n lines : ℕ) (old new : Option (List ℕ)) (gathered : List ℕ)
+module _ (k : ℕ) (l : Limits) (small : l.cx ≤ 2 ^ 63) (starts nows : List (Option (List ℕ))) (rooms : List Room) (heads : List Head) (x : List ℕ)
+    (n lines : ℕ) (old new : Option (List ℕ)) (gathered : List ℕ)
     (so : IsSoFar k l starts nows rooms heads x n lines old new gathered) where
   -- one more pair of the open word
-  pub so_same : (nows' : List (Option (List ℕ))) (rooms' : List Room) (heads' : List Head) (m : ℕ) → (head_at heads 1).source < length starts → (head_at heads 1).live ≡ true → unpack k (head_at heads 1).packed ≡ x
-      → m ≡ min (n + (head_at heads 1).count) (2 ^ 64 - 1) → AreSources k starts nows' rooms' heads' (with_first k heads so.lists) → IsSoFar k l starts nows' rooms' heads' x m lines old new gathered
+  pub so_same : (nows' : List (Option (List ℕ))) (rooms' : List Room) (heads' : List Head) (m : ℕ) → (head_at heads 1).source < length starts
+      → (head_at heads 1).live ≡ true → unpack k (head_at heads 1).packed ≡ x
+      → m ≡ min (n + (head_at heads 1).count) (2 ^ 64 - 1) → AreSources k starts nows' rooms' heads' (with_first k heads so.lists)
+      → IsSoFar k l starts nows' rooms' heads' x m lines old new gathered
   so_same nows' rooms' heads' m inside live same total are = record {
     lists = with_first k heads so.lists;
     sources = are;
     pairs = so.pairs;
     tallied = subst (λ c. Tallied l (sum_of (with_first k heads so.lists)) x c so.pairs) (sym total)
         (tally_more l small (sum_of so.lists) x n so.pairs so.tallied (sum_of (with_first k heads so.lists)) (head_at heads 1).count
-        (λ y. sum_next k heads so.lists y (omega (arith, inside, so.sources.lists_long)) live ∙ ap (λ w. cond (same_word w y) (head_at heads 1).count 0 + sum_of so.lists y) same));
+        (λ y. sum_next k heads so.lists y (omega (arith, inside, so.sources.lists_long)) live ∙ ap
+        (λ w. cond (same_word w y) (head_at heads 1).count 0 + sum_of so.lists y) same));
     out = so.out;
     count = so.count;
   }
 
   -- a pair of a word above the open one
-  pub so_next : (nows' : List (Option (List ℕ))) (rooms' : List Room) (heads' : List Head) (lines' : ℕ) (new' : Option (List ℕ)) (gathered' : List ℕ) → (head_at heads 1).source < length starts → (head_at heads 1).live ≡ true
-      → kmer_cmp x (unpack k (head_at heads 1).packed) ≡ Less → (head_at heads 1).count < 2 ^ 64 → WritesOut old new' (text_of so.pairs ++ text_of (kept_pair l x n)) gathered' → lines' ≡ lines + length (kept_pair l x n)
-      → AreSources k starts nows' rooms' heads' (with_first k heads so.lists) → IsSoFar k l starts nows' rooms' heads' (unpack k (head_at heads 1).packed) (head_at heads 1).count lines' old new' gathered'
+  pub so_next : (nows' : List (Option (List ℕ))) (rooms' : List Room) (heads' : List Head) (lines' : ℕ) (new' : Option (List ℕ)) (gathered' : List ℕ)
+      → (head_at heads 1).source < length starts → (head_at heads 1).live ≡ true
+      → kmer_cmp x (unpack k (head_at heads 1).packed) ≡ Less → (head_at heads 1).count < 2 ^ 64 → WritesOut old new'
+      (text_of so.pairs ++ text_of (kept_pair l x n)) gathered' → lines' ≡ lines + length (kept_pair l x n)
+      → AreSources k starts nows' rooms' heads' (with_first k heads so.lists) → IsSoFar k l starts nows' rooms' heads'
+      (unpack k (head_at heads 1).packed) (head_at heads 1).count lines' old new' gathered'
   so_next nows' rooms' heads' lines' new' gathered' inside live up fits out total are = record {
     lists = with_first k heads so.lists;
     sources = are;
     pairs = so.pairs ++ kept_pair l x n;
-    tallied = tally_next l small (sum_of so.lists) x n so.pairs so.tallied (sum_of (with_first k heads so.lists)) (unpack k (head_at heads 1).packed) (head_at heads 1).count up fits
+    tallied = tally_next l small (sum_of so.lists) x n so.pairs so.tallied (sum_of (with_first k heads so.lists)) (unpack k (head_at heads 1).packed)
+        (head_at heads 1).count up fits
         (λ y. sum_next k heads so.lists y (omega (arith, inside, so.sources.lists_long)) live);
     out = subst (λ (t : List ℕ). WritesOut old new' t gathered') (sym (text_both so.pairs (kept_pair l x n))) out;
     count = omega (arith, total, so.count, length-append so.pairs (kept_pair l x n));
@@ -105,7 +119,8 @@ module _ (k : ℕ) (l : Limits) (small : l.cx ≤ 2 ^ 63) (starts nows : List (O
   dump_end = tally_end l small (sum_of so.lists) x n so.pairs so.tallied
 
   -- given up before the open pair was put, and after
-  pub begun_front : (nows' : List (Option (List ℕ))) (new' : Option (List ℕ)) → GaveFronts k starts nows' so.lists → AppendsFront old new' (text_of so.pairs) → IsBegun k l starts nows' old new'
+  pub begun_front : (nows' : List (Option (List ℕ))) (new' : Option (List ℕ)) → GaveFronts k starts nows' so.lists → AppendsFront old new'
+      (text_of so.pairs) → IsBegun k l starts nows' old new'
   begun_front nows' new' gave text = record {
     lists = so.lists;
     gave = gave;
@@ -117,7 +132,8 @@ module _ (k : ℕ) (l : Limits) (small : l.cx ≤ 2 ^ 63) (starts nows : List (O
   pub begun_before : (nows' : List (Option (List ℕ))) → GaveFronts k starts nows' so.lists → IsBegun k l starts nows' old new
   begun_before nows' gave = begun_front nows' new gave (front_gathered old new (text_of so.pairs) gathered so.out)
 
-  pub begun_after : (nows' : List (Option (List ℕ))) (new' : Option (List ℕ)) → GaveFronts k starts nows' so.lists → AppendsFront old new' (text_of so.pairs ++ text_of (kept_pair l x n)) → IsBegun k l starts nows' old new'
+  pub begun_after : (nows' : List (Option (List ℕ))) (new' : Option (List ℕ)) → GaveFronts k starts nows' so.lists → AppendsFront old new'
+      (text_of so.pairs ++ text_of (kept_pair l x n)) → IsBegun k l starts nows' old new'
   begun_after nows' new' gave text = record {
     lists = so.lists;
     gave = gave;
@@ -126,7 +142,8 @@ module _ (k : ℕ) (l : Limits) (small : l.cx ≤ 2 ^ 63) (starts nows : List (O
     text = subst (AppendsFront old new') (sym (text_both so.pairs (kept_pair l x n))) text;
   }
 
-  pub begun_put : (nows' : List (Option (List ℕ))) (new' : Option (List ℕ)) (gathered' : List ℕ) → GaveFronts k starts nows' so.lists → WritesOut old new' (text_of so.pairs ++ text_of (kept_pair l x n)) gathered' → IsBegun k l starts nows' old new'
+  pub begun_put : (nows' : List (Option (List ℕ))) (new' : Option (List ℕ)) (gathered' : List ℕ) → GaveFronts k starts nows' so.lists
+      → WritesOut old new' (text_of so.pairs ++ text_of (kept_pair l x n)) gathered' → IsBegun k l starts nows' old new'
   begun_put nows' new' gathered' gave out = begun_after nows' new' gave (front_gathered old new' _ gathered' out)
 
   -- given up at what the readers gave so far
@@ -144,7 +161,8 @@ module _ (k : ℕ) (l : Limits) (small : l.cx ≤ 2 ^ 63) (starts nows : List (O
     ends_after new' text = begun_after nows new' gave_now text
 
   -- no source has a line more
-  module _ (ready : AreReady k (length starts) rooms heads) (tree : IsTree heads) (some : 1 ≤ length starts) (few : k ≤ 64) (end : (head_at heads 1).live ≡ false) where
+  module _ (ready : AreReady k (length starts) rooms heads) (tree : IsTree heads) (some : 1 ≤ length starts) (few : k ≤ 64)
+      (end : (head_at heads 1).live ≡ false) where
     ended : (i : ℕ) → i < length starts → (head_at heads (length starts + i)).live ≡ false
     ended i inside = go (head_at heads (length starts + i)).live refl
       where
@@ -155,18 +173,30 @@ module _ (k : ℕ) (l : Limits) (small : l.cx ≤ 2 ^ 63) (starts nows : List (O
             let top : rank (head_at heads 1) ≡ 2 ^ 128 = ap (λ b. cond b (head_at heads 1).packed (2 ^ 128)) end in
             let own : rank h ≡ h.packed = ap (λ b. cond b h.packed (2 ^ 128)) e in
             let up : 4 ^ k ≤ 2 ^ 128 = powers k few in
-            absurd (omega (arith, top, own, up, ready.fits i inside, first_least k (length starts) rooms heads ready tree some (length starts + i) (omega arith) (omega (arith, inside))))
+            absurd (omega (
+              arith,
+              top,
+              own,
+              up,
+              ready.fits i inside,
+              first_least k (length starts) rooms heads ready tree some (length starts + i)
+                  (omega arith) (omega (arith, inside)),
+            ))
 
     gave_all : (room : Room) → GaveLists k starts nows so.lists
     gave_all room = record {
       lists_long = so.sources.lists_long;
       each = λ i inside.
           let source = so.sources.each i room inside in
-          let none = source.ended (ended i inside) in
-          (gave_end k (left_at starts i) (left_at nows i) (list_at so.lists i) (head_at heads (length starts + i)) (unread (get_or rooms i room)) (ended i inside) none.0 source.gave, none.1);
+          let none = source.ended (ended i inside) in (
+            gave_end k (left_at starts i) (left_at nows i) (list_at so.lists i) (head_at heads (length starts + i)) (unread (get_or rooms i room))
+                (ended i inside) none.0 source.gave,
+            none.1,
+          );
     }
 
-    pub written : (room : Room) (new' : Option (List ℕ)) (total : ℕ) → Appends old new' (text_of so.pairs ++ text_of (kept_pair l x n)) → total ≡ lines + length (kept_pair l x n) → IsWritten k l starts nows total old new'
+    pub written : (room : Room) (new' : Option (List ℕ)) (total : ℕ) → Appends old new' (text_of so.pairs ++ text_of (kept_pair l x n)) → total
+        ≡ lines + length (kept_pair l x n) → IsWritten k l starts nows total old new'
     written room new' total text is = record {
       lists = so.lists;
       gave = gave_all room;
@@ -177,7 +207,8 @@ module _ (k : ℕ) (l : Limits) (small : l.cx ≤ 2 ^ 63) (starts nows : List (O
     }
 
 -- nothing is taken
-pub so_start : (k : ℕ) (l : Limits) (starts nows : List (Option (List ℕ))) (rooms : List Room) (heads : List Head) (x : List ℕ) (old : Option (List ℕ)) (lists : List (List (List ℕ × ℕ))) → AreSources k starts nows rooms heads lists
+pub so_start : (k : ℕ) (l : Limits) (starts nows : List (Option (List ℕ))) (rooms : List Room) (heads : List Head) (x : List ℕ)
+    (old : Option (List ℕ)) (lists : List (List (List ℕ × ℕ))) → AreSources k starts nows rooms heads lists
     → ((y : List ℕ) → sum_of lists y ≡ 0) → IsSoFar k l starts nows rooms heads x 0 0 old old []
 so_start k l starts nows rooms heads x old lists are none = record {
   lists = lists;
@@ -192,8 +223,10 @@ pub room_of : (rooms : List Room) → 1 ≤ length rooms → Room
 room_of [] some = absurd (omega (arith, some))
 room_of (room ∷ rooms) some = room
 
-pub so_like : (k : ℕ) (l : Limits) (starts nows : List (Option (List ℕ))) (rooms : List Room) (heads : List Head) (x y : List ℕ) (n m lines more : ℕ) (old new other : Option (List ℕ)) (gathered held : List ℕ)
-    → y ≡ x → m ≡ n → more ≡ lines → other ≡ new → held ≡ gathered → IsSoFar k l starts nows rooms heads x n lines old new gathered → IsSoFar k l starts nows rooms heads y m more old other held
+pub so_like : (k : ℕ) (l : Limits) (starts nows : List (Option (List ℕ))) (rooms : List Room) (heads : List Head) (x y : List ℕ) (n m lines more : ℕ)
+    (old new other : Option (List ℕ)) (gathered held : List ℕ)
+    → y ≡ x → m ≡ n → more ≡ lines → other ≡ new → held ≡ gathered → IsSoFar k l starts nows rooms heads x n lines old new gathered
+    → IsSoFar k l starts nows rooms heads y m more old other held
 so_like k l starts nows rooms heads x y n m lines more old new other gathered held ex en el eo eg so =
     subst (λ w. IsSoFar k l starts nows rooms heads w m more old other held) (sym ex)
     (subst (λ w. IsSoFar k l starts nows rooms heads x w more old other held) (sym en)

@@ -20,7 +20,8 @@ abbrev Right : Limits → (List ℕ → ℕ) → List ℕ × ℕ → Type 0
 Right l c p = IsListed l (c p.0) × (p.1 ≡ shown l (c p.0))
 
 -- a count that agrees where something is listed
-right_like : (l : Limits) (c d : List ℕ → ℕ) (ps : List (List ℕ × ℕ)) → ((y : List ℕ) → 1 ≤ c y → d y ≡ c y) → AllByRecursion (Right l c) ps → AllByRecursion (Right l d) ps
+right_like : (l : Limits) (c d : List ℕ → ℕ) (ps : List (List ℕ × ℕ)) → ((y : List ℕ) → 1 ≤ c y → d y ≡ c y) → AllByRecursion (Right l c) ps
+    → AllByRecursion (Right l d) ps
 right_like l c d [] same h = tt
 right_like l c d (p ∷ ps) same h = (subst (λ n. IsListed l n × (p.1 ≡ shown l n)) (sym (same p.0 h.0.0.0)) h.0, right_like l c d ps same h.1)
 
@@ -33,17 +34,20 @@ unfolding IsStrictlySortedBy
 rising_none = tt
 
 -- words that rise, and one above them
-rising_end : (x : List ℕ) (ws : List (List ℕ)) → IsStrictlySortedBy kmer_cmp ws → ((y : List ℕ) → Has y ws → kmer_cmp y x ≡ Less) → IsStrictlySortedBy kmer_cmp (ws ++ x ∷ [])
+rising_end : (x : List ℕ) (ws : List (List ℕ)) → IsStrictlySortedBy kmer_cmp ws → ((y : List ℕ) → Has y ws → kmer_cmp y x ≡ Less)
+    → IsStrictlySortedBy kmer_cmp (ws ++ x ∷ [])
 unfolding IsStrictlySortedBy
 rising_end x [] up below = (tt, tt)
 rising_end x (w ∷ ws) up below = (all_end ws up.0 (below w (inl refl)), rising_end x ws up.1 (λ y m. below y (inr m)))
   where
-    all_end : (vs : List (List ℕ)) → AllByRecursion (λ y. kmer_cmp w y ≡ Less) vs → kmer_cmp w x ≡ Less → AllByRecursion (λ y. kmer_cmp w y ≡ Less) (vs ++ x ∷ [])
+    all_end : (vs : List (List ℕ)) → AllByRecursion (λ y. kmer_cmp w y ≡ Less) vs → kmer_cmp w x ≡ Less → AllByRecursion (λ y. kmer_cmp w y ≡ Less)
+        (vs ++ x ∷ [])
     all_end [] h less = (less, tt)
     all_end (v ∷ vs) h less = (h.0, all_end vs h.1 less)
 
 -- the dump of a count that is one more pair
-dump_push : (l : Limits) (c d : List ℕ → ℕ) (x : List ℕ) (pairs : List (List ℕ × ℕ)) → IsDump c l pairs → ((y : List ℕ) → 1 ≤ c y → (kmer_cmp y x ≡ Less) × (d y ≡ c y)) → ((y : List ℕ) → 1 ≤ d y → (1 ≤ c y) ⊎ (x ≡ y))
+dump_push : (l : Limits) (c d : List ℕ → ℕ) (x : List ℕ) (pairs : List (List ℕ × ℕ)) → IsDump c l pairs
+    → ((y : List ℕ) → 1 ≤ c y → (kmer_cmp y x ≡ Less) × (d y ≡ c y)) → ((y : List ℕ) → 1 ≤ d y → (1 ≤ c y) ⊎ (x ≡ y))
     → IsListed l (d x) → IsDump d l (pairs ++ (x, shown l (d x)) ∷ [])
 dump_push l c d x pairs dump same split listed = record {
   rising = subst (IsStrictlySortedBy kmer_cmp) (sym (map-append (λ (p : List ℕ × ℕ). p.0) pairs ((x, shown l (d x)) ∷ [])))
@@ -56,7 +60,8 @@ dump_push l c d x pairs dump same split listed = record {
       ]);
 }
 
-dump_like : (l : Limits) (c d : List ℕ → ℕ) (x : List ℕ) (pairs : List (List ℕ × ℕ)) → IsDump c l pairs → ((y : List ℕ) → 1 ≤ c y → d y ≡ c y) → ((y : List ℕ) → 1 ≤ d y → (1 ≤ c y) ⊎ (x ≡ y))
+dump_like : (l : Limits) (c d : List ℕ → ℕ) (x : List ℕ) (pairs : List (List ℕ × ℕ)) → IsDump c l pairs → ((y : List ℕ) → 1 ≤ c y → d y ≡ c y)
+    → ((y : List ℕ) → 1 ≤ d y → (1 ≤ c y) ⊎ (x ≡ y))
     → (IsListed l (d x) → ⊥) → IsDump d l pairs
 dump_like l c d x pairs dump same split none = record {
   rising = dump.rising;
@@ -92,11 +97,14 @@ module _ (l : Limits) (small : l.cx ≤ 2 ^ 63) (c : List ℕ → ℕ) (x : List
           subst (IsDump c l) (sym (append-nil pairs)) (dump_like l (without x c) c x pairs t.dump but_x or_x (λ h. omega (arith, h.0, none)))
       go (suc m) e = elim (keep_cases l (suc m)) as (λ _. IsDump c l (pairs ++ kept_pair l x (suc m))) [
         | inl h ↦ subst (IsDump c l) (sym (ap (λ (o : Option ℕ). pairs ++ cons_option (option_map (λ k. (x, k)) o) []) h.0 ∙ append-nil pairs))
-            (dump_like l (without x c) c x pairs t.dump but_x or_x (λ k. h.1 (omega arith, omega (arith, k.1, k.2, t.number, e, small), omega (arith, k.2, t.number, e, small))))
+            (dump_like l (without x c) c x pairs t.dump but_x or_x (λ k. h.1
+            (omega arith, omega (arith, k.1, k.2, t.number, e, small), omega (arith, k.2, t.number, e, small))))
         | inr h ↦
             let same : c x ≡ suc m = omega (arith, t.number, e, h.2, small) in
-            subst (IsDump c l) (ap (λ k. pairs ++ (x, shown l k) ∷ []) same ∙ sym (ap (λ (o : Option ℕ). pairs ++ cons_option (option_map (λ k. (x, k)) o) []) h.0))
-            (dump_push l (without x c) c x pairs t.dump (λ y some. (t.last y some, but_x y some)) or_x (omega (arith, same), omega (arith, same, h.1), omega (arith, same, h.2)))
+            subst (IsDump c l) (ap (λ k. pairs ++ (x, shown l k) ∷ []) same ∙ sym
+            (ap (λ (o : Option ℕ). pairs ++ cons_option (option_map (λ k. (x, k)) o) []) h.0))
+            (dump_push l (without x c) c x pairs t.dump (λ y some. (t.last y some, but_x y some)) or_x
+            (omega (arith, same), omega (arith, same, h.1), omega (arith, same, h.2)))
       ]
 
   -- more of the open word
@@ -117,7 +125,8 @@ module _ (l : Limits) (small : l.cx ≤ 2 ^ 63) (c : List ℕ → ℕ) (x : List
           go false e = omega (arith, e)
 
   -- a word above the open one
-  pub tally_next : (d : List ℕ → ℕ) (z : List ℕ) (m : ℕ) → kmer_cmp x z ≡ Less → m < 2 ^ 64 → ((y : List ℕ) → d y ≡ cond (same_word z y) m 0 + c y) → Tallied l d z m (pairs ++ kept_pair l x n)
+  pub tally_next : (d : List ℕ → ℕ) (z : List ℕ) (m : ℕ) → kmer_cmp x z ≡ Less → m < 2 ^ 64 → ((y : List ℕ) → d y ≡ cond (same_word z y) m 0 + c y)
+      → Tallied l d z m (pairs ++ kept_pair l x n)
   tally_next d z m up fits is =
       let same : c ≡ without z d = λ i y. sames y i in
       record {

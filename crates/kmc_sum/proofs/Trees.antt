@@ -5,7 +5,8 @@ use Rattle.kmc_sum.specs.declared.heads.Head.{Head}
 use Rattle.kmc_sum.specs.Heads.{rank, head_at, IsWinner, IsTree}
 
 -- a place is settled as it was, where it and those below it stayed
-pub same_winner : (old new : List Head) (j : ℕ) → head_at new j ≡ head_at old j → head_at new (2 * j) ≡ head_at old (2 * j) → head_at new (2 * j + 1) ≡ head_at old (2 * j + 1)
+pub same_winner : (old new : List Head) (j : ℕ) → head_at new j ≡ head_at old j → head_at new (2 * j) ≡ head_at old (2 * j) → head_at new (2 * j + 1)
+    ≡ head_at old (2 * j + 1)
     → IsWinner old j → IsWinner new j
 same_winner old new j a b c h = record {
   one = elim h.one [ inl e ↦ inl (a ∙ e ∙ sym b) | inr e ↦ inr (a ∙ e ∙ sym c) ];
@@ -22,7 +23,8 @@ module _ (heads : List Head) (w : ℕ) (two : length heads ≡ 2 * w) (tree : Is
       half : ℕ
       half = j / 2
 
-      go : (j < 2) ⊎ (2 ≤ j) → ((i : ℕ) → i ≤ n → 1 ≤ i → i < length heads → rank (head_at heads 1) ≤ rank (head_at heads i)) → rank (head_at heads 1) ≤ rank (head_at heads j)
+      go : (j < 2) ⊎ (2 ≤ j) → ((i : ℕ) → i ≤ n → 1 ≤ i → i < length heads → rank (head_at heads 1) ≤ rank (head_at heads i)) → rank
+          (head_at heads 1) ≤ rank (head_at heads j)
       go (inl one) above = let e : j ≡ 1 = omega arith in subst (λ i. rank (head_at heads 1) ≤ rank (head_at heads i)) (sym e) (le_refl _)
       go (inr more) above = down (cases_lt (2 * half) j) (above half (omega arith) (omega arith) (omega arith))
         where
@@ -40,12 +42,14 @@ module _ (heads : List Head) (w : ℕ) (two : length heads ≡ 2 * w) (tree : Is
   least j = least_of j j (le_refl j)
 
   -- each place repeats one that has none below it
-  leaf_of : (n j : ℕ) → length heads ≤ j + n → 1 ≤ j → j < length heads → (n ≡ 0 → ⊥) → (i : ℕ) × (length heads ≤ 2 * i + 1) × (i < length heads) × (head_at heads j ≡ head_at heads i)
+  leaf_of : (n j : ℕ) → length heads ≤ j + n → 1 ≤ j → j < length heads → (n ≡ 0 → ⊥) → (i : ℕ) × (length heads ≤ 2 * i + 1) × (i < length heads)
+      × (head_at heads j ≡ head_at heads i)
   leaf_of zero j few some inside go = absurd (go refl)
   leaf_of (suc n) j few some inside _ = go (cases_lt (2 * j + 1) (length heads)) (leaf_of n)
     where
       go : (2 * j + 1 < length heads) ⊎ (length heads ≤ 2 * j + 1)
-          → ((i : ℕ) → length heads ≤ i + n → 1 ≤ i → i < length heads → (n ≡ 0 → ⊥) → (m : ℕ) × (length heads ≤ 2 * m + 1) × (m < length heads) × (head_at heads i ≡ head_at heads m))
+          → ((i : ℕ) → length heads ≤ i + n → 1 ≤ i → i < length heads → (n ≡ 0 → ⊥) → (m : ℕ) × (length heads ≤ 2 * m + 1) × (m < length heads)
+          × (head_at heads i ≡ head_at heads m))
           → (i : ℕ) × (length heads ≤ 2 * i + 1) × (i < length heads) × (head_at heads j ≡ head_at heads i)
       go (inr leaf) below = (j, leaf, inside, refl)
       go (inl inner) below = elim (tree j some inner).one [

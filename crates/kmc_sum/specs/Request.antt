@@ -44,7 +44,8 @@ pub record IsTaken (most : ℕ) (words : List Word) : Type 0 where
 
 -- the options give no limits
 abbrev pub GivesNoLimits : List Word → Type 0
-GivesNoLimits words = (l : Limits) → IsLimit (given (codes "-ci") words) 2 l.ci → IsLimit (given (codes "-cx") words) 1000000000 l.cx → IsLimit (given (codes "-cs") words) 255 l.cs → ⊥
+GivesNoLimits words = (l : Limits) → IsLimit (given (codes "-ci") words) 2 l.ci → IsLimit (given (codes "-cx") words) 1000000000 l.cx → IsLimit
+    (given (codes "-cs") words) 255 l.cs → ⊥
 
 -- the words ask for nothing
 abbrev pub AsksForNothing : ℕ → List Word → Type 0

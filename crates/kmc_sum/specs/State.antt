@@ -13,7 +13,8 @@ use Rattle.kmc_sum.specs.declared.heads.Head.{Head}
 use Rattle.kmc_sum.specs.declared.source.Room.{Room}
 
 -- so far lists were taken from the sources, and the dump of their sum but for the open word went out or is gathered
-pub record IsSoFar (k : ℕ) (l : Limits) (starts nows : List (Option (List ℕ))) (rooms : List Room) (heads : List Head) (x : List ℕ) (n lines : ℕ) (old new : Option (List ℕ)) (gathered : List ℕ) : Type 0 where
+pub record IsSoFar (k : ℕ) (l : Limits) (starts nows : List (Option (List ℕ))) (rooms : List Room) (heads : List Head) (x : List ℕ) (n lines : ℕ)
+    (old new : Option (List ℕ)) (gathered : List ℕ) : Type 0 where
   pub lists : List (List (List ℕ × ℕ))
   pub sources : AreSources k starts nows rooms heads lists
   pub pairs : List (List ℕ × ℕ)

@@ -14,7 +14,8 @@ returns-clause-ok g c =
     let num = g.W.Word.number in
     let rule = c.args.rule in
     let taken = c.in_ok-take_body.ensures.ok in
-    let gains = subst (λ t. Gains rule.k c.args.bits (map num c.take_body.new.items.items) (map num c.push_rows.new.items.items) (key_words rule.strands rule.k t) 1) c.deref.ensures.value c.in_ok-push_rows.ensures in
+    let gains = subst (λ t. Gains rule.k c.args.bits (map num c.take_body.new.items.items) (map num c.push_rows.new.items.items)
+    (key_words rule.strands rule.k t) 1) c.deref.ensures.value c.in_ok-push_rows.ensures in
     items_sorted rule.strands rule.k c.args.bits c.args.body.now _ _ _ _ _ taken.0 taken.1 taken.2 c.sort_numbers.ensures gains c.sort.ensures.moved c.sort.ensures.sorted
 
 pub returns-in_err-take_body-clause-damaged : goal.returns-in_err-take_body-clause-damaged

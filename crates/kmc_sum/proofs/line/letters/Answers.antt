@@ -9,7 +9,11 @@ pub overflow_mul-packed : goal.overflow_mul-packed
 overflow_mul-packed c = omega (arith, room c.loop-i.i c.loop-i.packed 0 (omega (arith, c.min-most.ensures)) c.loop-i.invariant.fits (omega arith))
 
 pub overflow_add-packed : goal.overflow_add-packed
-overflow_add-packed c = omega (arith, room c.loop-i.i c.loop-i.packed c.in-Some.code (omega (arith, c.min-most.ensures)) c.loop-i.invariant.fits (omega (arith, c.in-Some.ensures.0)))
+overflow_add-packed c = omega (
+  arith,
+  room c.loop-i.i c.loop-i.packed c.in-Some.code (omega (arith, c.min-most.ensures)) c.loop-i.invariant.fits
+      (omega (arith, c.in-Some.ensures.0)),
+)
 
 pub loop-i-preserved : goal.loop-i-preserved
 loop-i-preserved c =
@@ -20,6 +24,7 @@ loop-i-preserved c =
     record {
       fits = fits_more i c.loop-i.packed c.from.result c.loop-i.invariant.fits (omega (arith, c.in-Some.ensures.0, from));
       word = take_more c.args.bytes.now i 0 (omega arith) ∙ (λ j. c.loop-i.invariant.word j ++ here j ∷ [])
-          ∙ sym (map-append letter (unpack i c.loop-i.packed) (c.from.result ∷ [])) ∙ ap (map letter) (sym (unpack_more i c.loop-i.packed c.from.result (omega (arith, c.in-Some.ensures.0, from))));
+          ∙ sym (map-append letter (unpack i c.loop-i.packed) (c.from.result ∷ [])) ∙ ap (map letter)
+          (sym (unpack_more i c.loop-i.packed c.from.result (omega (arith, c.in-Some.ensures.0, from))));
       each = below_more _ _ c.loop-i.invariant.each (code, c.in-Some.ensures.0, c.in-Some.ensures.1);
     }

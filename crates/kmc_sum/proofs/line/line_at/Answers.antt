@@ -26,6 +26,14 @@ returns-in-Some c =
       fits = d.fits;
       some = c.in-Some.ensures.0;
       most = c.in-Some.ensures.1;
-      within = omega (arith, d.within, c.if-k-bytes.false, c.in-Some.ensures.2, length-take-le (length xs - (k + 1)) (drop (k + 1) xs) (omega (arith, length-drop (k + 1) xs)));
-      is = line_is xs k c.letters-k.result.1 c.in-Some.count c.in-Some.end (omega (arith, d.within, c.if-k-bytes.false)) d.word (omega (arith, c.if-bytes-k-ne9.false)) c.in-Some.ensures.3;
+      within = omega (
+        arith,
+        d.within,
+        c.if-k-bytes.false,
+        c.in-Some.ensures.2,
+        length-take-le (length xs - (k + 1)) (drop (k + 1) xs)
+            (omega (arith, length-drop (k + 1) xs)),
+      );
+      is = line_is xs k c.letters-k.result.1 c.in-Some.count c.in-Some.end (omega (arith, d.within, c.if-k-bytes.false)) d.word
+          (omega (arith, c.if-bytes-k-ne9.false)) c.in-Some.ensures.3;
     }

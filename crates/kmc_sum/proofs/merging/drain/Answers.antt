@@ -38,7 +38,8 @@ loop-step-init g c = record {
 pub returns-in-Err-clause-begun : goal.returns-in-Err-clause-begun
 returns-in-Err-clause-begun g c = λ starts lists are none.
     let so = c.loop-step.invariant.so starts lists are none in
-    ends_in_front _ _ c.args.limits.now.in_range.1 _ _ _ _ _ _ _ _ _ _ so _ (length-map c.loop-step.readers _) c.loop-step.invariant.ready _ (c.in-Err.ensures.front _ _ so.out)
+    ends_in_front _ _ c.args.limits.now.in_range.1 _ _ _ _ _ _ _ _ _ _ so _ (length-map c.loop-step.readers _) c.loop-step.invariant.ready _
+    (c.in-Err.ensures.front _ _ so.out)
 
 pub returns-in_err-advance-clause-fault : goal.returns-in_err-advance-clause-fault
 returns-in_err-advance-clause-fault g c = λ source line fault is starts lists are none.
@@ -55,10 +56,12 @@ returns-in_err-advance-clause-begun g c = on_err c.from_residual.result _ (λ st
     let gave = c.in_err-advance.ensures.lost starts so.lists so.sources in
     elim c.if-next-packed.branch [
       | then-next-packed w ↦
-          subst (λ (v : Watched g.row.W.Denot). IsBegun c.args.k l starts nows (g.W.Write.contents c.args.writer.now.inner) (g.W.Write.contents v.inner)) (sym w.writer-is)
+          subst (λ (v : Watched g.row.W.Denot). IsBegun c.args.k l starts nows (g.W.Write.contents c.args.writer.now.inner)
+          (g.W.Write.contents v.inner)) (sym w.writer-is)
           (begun_before c.args.k l l.in_range.1 starts _ _ _ _ c.loop-step.count c.loop-step.lines _ _ _ so nows gave)
       | else-next-packed+in-Ok w ↦
-          subst (λ (v : Watched g.row.W.Denot). IsBegun c.args.k l starts nows (g.W.Write.contents c.args.writer.now.inner) (g.W.Write.contents v.inner)) (sym w.writer-is)
+          subst (λ (v : Watched g.row.W.Denot). IsBegun c.args.k l starts nows (g.W.Write.contents c.args.writer.now.inner)
+          (g.W.Write.contents v.inner)) (sym w.writer-is)
           (begun_put c.args.k l l.in_range.1 starts _ _ _ _ c.loop-step.count c.loop-step.lines _ _ _ so nows _ _ gave (w.in-Ok.ensures.text _ _ so.out))
     ])
 
@@ -74,7 +77,8 @@ loop-step-preserved g c =
     let some : 1 ≤ n = omega (arith, i.many, c.requires.some) in
     let inside = first_inside k n c.loop-step.rooms heads i.ready i.tree some in
     let live : top.live ≡ true = c.if-not-heads.false in
-    let rises : rank (head_at heads (n + top.source)) ≡ top.packed = ap rank (first_leaf k n c.loop-step.rooms heads i.ready i.tree some) ∙ ap (λ b. cond b top.packed (2 ^ 128)) live in
+    let rises : rank (head_at heads (n + top.source)) ≡ top.packed = ap rank (first_leaf k n c.loop-step.rooms heads i.ready i.tree some) ∙ ap
+    (λ b. cond b top.packed (2 ^ 128)) live in
     let above : c.loop-step.packed ≤ top.packed = omega (arith, rises, i.behind (n + top.source) (omega arith) (omega (arith, inside))) in
     let more = c.in_ok-advance.ensures.behind in
     elim c.if-next-packed.branch [
@@ -87,10 +91,16 @@ loop-step-preserved g c =
         within = omega (arith, i.within, w.filled-is, ap length w.room-is);
         kept = ap (λ (v : Watched g.row.W.Denot). v.failures) w.writer-is ∙ i.kept;
         lines = omega (arith, i.lines, w.lines-is);
-        behind = λ j low high. omega (arith, more j (omega (arith, c.advance.auto.readers)) (omega (arith, c.advance.auto.readers)), w.packed-is, w.if-next-packed.true);
+        behind = λ j low high. omega (
+          arith,
+          more j (omega (arith, c.advance.auto.readers)) (omega (arith, c.advance.auto.readers)),
+          w.packed-is,
+          w.if-next-packed.true,
+        );
         so = λ starts lists are none.
             let so = i.so starts lists are none in
-            so_like k l starts _ _ _ _ _ _ _ _ _ _ _ _ _ _ (ap (unpack k) w.packed-is) w.count-is w.lines-is (ap (λ (v : Watched g.row.W.Denot). g.W.Write.contents v.inner) w.writer-is) (λ j. take (w.filled-is j) (w.room-is j))
+            so_like k l starts _ _ _ _ _ _ _ _ _ _ _ _ _ _ (ap (unpack k) w.packed-is) w.count-is w.lines-is
+            (ap (λ (v : Watched g.row.W.Denot). g.W.Write.contents v.inner) w.writer-is) (λ j. take (w.filled-is j) (w.room-is j))
             (so_same k l l.in_range.1 starts _ c.loop-step.rooms heads _ c.loop-step.count c.loop-step.lines _ _ _ so _ c.advance.new.rooms c.advance.new.heads _ (omega (arith, inside, length-map c.loop-step.readers left, so.sources.nows_long)) live
             (ap (unpack k) w.if-next-packed.true) w.saturating_add-count.ensures
             (c.in_ok-advance.ensures.sources starts so.lists so.sources));
@@ -111,9 +121,11 @@ loop-step-preserved g c =
         behind = λ j low high. omega (arith, more j (omega (arith, c.advance.auto.readers)) (omega (arith, c.advance.auto.readers)), w.packed-is);
         so = λ starts lists are none.
             let so = i.so starts lists are none in
-            so_like k l starts _ _ _ _ _ _ _ _ _ _ _ _ _ _ (ap (unpack k) w.packed-is) w.count-is w.lines-is (ap (λ (v : Watched g.row.W.Denot). g.W.Write.contents v.inner) w.writer-is) (λ j. take (w.filled-is j) (w.room-is j))
+            so_like k l starts _ _ _ _ _ _ _ _ _ _ _ _ _ _ (ap (unpack k) w.packed-is) w.count-is w.lines-is
+            (ap (λ (v : Watched g.row.W.Denot). g.W.Write.contents v.inner) w.writer-is) (λ j. take (w.filled-is j) (w.room-is j))
             (so_next k l l.in_range.1 starts _ c.loop-step.rooms heads _ c.loop-step.count c.loop-step.lines _ _ _ so _ c.advance.new.rooms c.advance.new.heads _ _ _ (omega (arith, inside, length-map c.loop-step.readers left, so.sources.nows_long)) live
-            (less_packed k c.loop-step.packed top.packed i.fits (first_fits k n c.loop-step.rooms heads i.ready i.tree some) (omega (arith, above, w.if-next-packed.false))) (omega arith)
+            (less_packed k c.loop-step.packed top.packed i.fits (first_fits k n c.loop-step.rooms heads i.ready i.tree some)
+            (omega (arith, above, w.if-next-packed.false))) (omega arith)
             (w.in-Ok.ensures.text _ _ so.out) (omega (arith, w.in-Ok.ensures.ok.2))
             (c.in_ok-advance.ensures.sources starts so.lists so.sources));
         taken = λ starts lists are.
@@ -131,12 +143,14 @@ returns-then-heads-offset48-clause-begun g c = λ starts lists are none.
 pub returns-in-Err-close-clause-begun : goal.returns-in-Err-close-clause-begun
 returns-in-Err-close-clause-begun g c = λ starts lists are none.
     let so = c.loop-step.invariant.so starts lists are none in
-    ends_after _ _ c.args.limits.now.in_range.1 _ _ _ _ _ _ _ _ _ _ so _ (length-map c.loop-step.readers _) c.loop-step.invariant.ready _ (c.in-Err-close.ensures.front _ _ (c.in-Ok-put_pair.ensures.text _ _ so.out))
+    ends_after _ _ c.args.limits.now.in_range.1 _ _ _ _ _ _ _ _ _ _ so _ (length-map c.loop-step.readers _) c.loop-step.invariant.ready _
+    (c.in-Err-close.ensures.front _ _ (c.in-Ok-put_pair.ensures.text _ _ so.out))
 
 pub returns-in-Err-put_pair-clause-begun : goal.returns-in-Err-put_pair-clause-begun
 returns-in-Err-put_pair-clause-begun g c = λ starts lists are none.
     let so = c.loop-step.invariant.so starts lists are none in
-    ends_in_front _ _ c.args.limits.now.in_range.1 _ _ _ _ _ _ _ _ _ _ so _ (length-map c.loop-step.readers _) c.loop-step.invariant.ready _ (c.in-Err-put_pair.ensures.front _ _ so.out)
+    ends_in_front _ _ c.args.limits.now.in_range.1 _ _ _ _ _ _ _ _ _ _ so _ (length-map c.loop-step.readers _) c.loop-step.invariant.ready _
+    (c.in-Err-put_pair.ensures.front _ _ so.out)
 
 pub returns-in-Ok-close-clause-written : goal.returns-in-Ok-close-clause-written
 returns-in-Ok-close-clause-written g c = λ starts lists are none.
@@ -146,8 +160,10 @@ returns-in-Ok-close-clause-written g c = λ starts lists are none.
     let nows = map left c.loop-step.readers in
     let long : length starts ≡ length c.loop-step.readers = omega (arith, length-map c.loop-step.readers left, so.sources.nows_long) in
     written c.args.k c.args.limits.now c.args.limits.now.in_range.1 starts nows c.loop-step.rooms c.loop-step.heads _ c.loop-step.count c.loop-step.lines _ _ _ so
-    (subst (λ n. AreReady c.args.k n c.loop-step.rooms c.loop-step.heads) (sym long) i.ready) i.tree (omega (arith, long, i.many, c.requires.some)) c.requires.long.1 c.if-heads-offset48.false
-    (room_of c.loop-step.rooms (omega (arith, i.ready.rooms_long, i.many, c.requires.some))) _ _ (c.in-Ok-close.ensures.ok _ _ (c.in-Ok-put_pair.ensures.text _ _ so.out))
+    (subst (λ n. AreReady c.args.k n c.loop-step.rooms c.loop-step.heads) (sym long) i.ready) i.tree
+    (omega (arith, long, i.many, c.requires.some)) c.requires.long.1 c.if-heads-offset48.false
+    (room_of c.loop-step.rooms (omega (arith, i.ready.rooms_long, i.many, c.requires.some))) _ _
+    (c.in-Ok-close.ensures.ok _ _ (c.in-Ok-put_pair.ensures.text _ _ so.out))
     (omega (arith, c.in-Ok-put_pair.ensures.ok.2))
 
 pub returns-in_err-advance-clause-read : goal.returns-in_err-advance-clause-read

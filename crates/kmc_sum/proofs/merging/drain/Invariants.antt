@@ -19,10 +19,12 @@ invariant-loop-step g l = record {
   kept : l.writer.failures ≡ l.initial.writer.failures;
   lines : l.lines ≤ l._step;
   behind : (j : ℕ) → length l.readers ≤ j → j < 2 * length l.readers → l.packed ≤ rank (head_at l.heads j);
-  so : (starts : List (Option (List ℕ))) (lists : List (List (List ℕ × ℕ))) → AreSources l.k starts (map (λ r. g.R.Read.remaining r.inner) l.initial.readers) l.initial.rooms l.initial.heads lists
+  so : (starts : List (Option (List ℕ))) (lists : List (List (List ℕ × ℕ))) → AreSources l.k starts
+      (map (λ r. g.R.Read.remaining r.inner) l.initial.readers) l.initial.rooms l.initial.heads lists
       → ((x : List ℕ) → sum_of lists x ≡ 0)
       → IsSoFar l.k l.limits starts (map (λ r. g.R.Read.remaining r.inner) l.readers) l.rooms l.heads (unpack l.k l.packed) l.count l.lines
       (g.W.Write.contents l.initial.writer.inner) (g.W.Write.contents l.writer.inner) (take l.filled l.room);
-  taken : (starts : List (Option (List ℕ))) (lists : List (List (List ℕ × ℕ))) → AreSources l.k starts (map (λ r. g.R.Read.remaining r.inner) l.initial.readers) l.initial.rooms l.initial.heads lists
+  taken : (starts : List (Option (List ℕ))) (lists : List (List (List ℕ × ℕ))) → AreSources l.k starts
+      (map (λ r. g.R.Read.remaining r.inner) l.initial.readers) l.initial.rooms l.initial.heads lists
       → HaveTaken l.k starts (map (λ r. g.R.Read.remaining r.inner) l.readers) l.rooms l.heads l._step;
 }

@@ -25,12 +25,14 @@ returns-then-line-k-clause-fault g c = λ s line fault is.
     )
 
 pub returns-then-line-k-clause-lost : goal.returns-then-line-k-clause-lost
-returns-then-line-k-clause-lost g c = λ m. let o = rw c.in-Ok-Some.field-0-is at c.in-Ok-Some.ensures.ok in (o.0, gave_none m _ _ _ o.0 c.requires.fresh.none o.1)
+returns-then-line-k-clause-lost g c = λ m. let o = rw c.in-Ok-Some.field-0-is at c.in-Ok-Some.ensures.ok in
+    (o.0, gave_none m _ _ _ o.0 c.requires.fresh.none o.1)
 
 pub returns-else-k-ne0-clause-ok : goal.returns-else-k-ne0-clause-ok
 returns-else-k-ne0-clause-ok g c = λ m agrees.
     let o = rw c.in-Ok-Some.field-0-is at c.in-Ok-Some.ensures.ok in
-    first_live _ _ _ o.0 c.requires.fresh.none o.1 c.in-Ok-Some.line o.2.0 m c.next_line.new.room c.args.source agrees o.2.1 (omega (arith, o.2.2, c.requires.fresh.lines))
+    first_live _ _ _ o.0 c.requires.fresh.none o.1 c.in-Ok-Some.line o.2.0 m c.next_line.new.room c.args.source agrees o.2.1
+    (omega (arith, o.2.2, c.requires.fresh.lines))
 
 pub returns-in-Ok-None-clause-fits : goal.returns-in-Ok-None-clause-fits
 returns-in-Ok-None-clause-fits g c = λ m _. pow_some m

@@ -19,9 +19,11 @@ loop-i-preserved g c =
       same = kept_at readers i c.index-readers-i.result c.first_head.new.reader (omega (arith, inv.many, c.loop-i-test.true))
           c.in_ok-head.ensures.kept ∙ inv.same;
       most = c.in_ok-head.ensures.length.1;
-      begun = begun_next (λ (r : Watched g.row.R.Denot). g.R.Read.remaining r.inner) readers c.index-readers-i.result c.first_head.new.reader _ _ i _ _ _ inv.opened c.index-rooms-i.result c.loop-i-test.true
+      begun = begun_next (λ
+          (r : Watched g.row.R.Denot). g.R.Read.remaining r.inner) readers c.index-readers-i.result c.first_head.new.reader _ _ i _ _ _ inv.opened c.index-rooms-i.result c.loop-i-test.true
           c.in_ok-head.found c.in_ok-head.ensures.begins inv.begun;
-      opened = reader_opened (λ (r : Watched g.row.R.Denot). g.R.Read.remaining r.inner) readers c.index-readers-i.result c.first_head.new.reader _ _ i _ _ _ inv.opened c.index-rooms-i.result c.loop-i-test.true
+      opened = reader_opened
+          (λ (r : Watched g.row.R.Denot). g.R.Read.remaining r.inner) readers c.index-readers-i.result c.first_head.new.reader _ _ i _ _ _ inv.opened c.index-rooms-i.result c.loop-i-test.true
           c.in_ok-head.found c.first_head.new.room c.in_ok-head.head c.in_ok-head.ensures.length.2 c.in_ok-head.ensures.room
           c.in_ok-head.ensures.length.0 c.in_ok-head.ensures.fits c.in_ok-head.ensures.ok;
     }
@@ -34,7 +36,8 @@ returns-in_err-head-clause-fault g c = λ source line fault is.
       h.1.1,
       reader_at_fault (λ (r : Watched g.row.R.Denot). g.R.Read.remaining r.inner) c.loop-i.readers c.index-readers-i.result c.first_head.new.reader _ _ _ _ _ _ c.loop-i.invariant.opened c.index-rooms-i.result c.loop-i-test.true
           h.1.0 source line fault h.0
-          (λ other. read_before (λ (r : Watched g.row.R.Denot). g.R.Read.remaining r.inner) c.loop-i.readers c.index-readers-i.result c.first_head.new.reader _ _ _ _ _ _ c.loop-i.invariant.opened c.index-rooms-i.result c.loop-i-test.true
+          (λ other. read_before
+          (λ (r : Watched g.row.R.Denot). g.R.Read.remaining r.inner) c.loop-i.readers c.index-readers-i.result c.first_head.new.reader _ _ _ _ _ _ c.loop-i.invariant.opened c.index-rooms-i.result c.loop-i-test.true
           h.1.0 line (h.1.3 other) h.1.1.0 c.loop-i.invariant.begun)
           h.1.2,
     )
@@ -46,7 +49,8 @@ returns-in_err-head-clause-read g c = λ source is.
     let inside : i < length c.args.readers.now = c.loop-i-test.true in
     let here = c.first_head.ensures.read source
     (passed_on c.first_head.result c.from_residual.result _ _ c.in_err-head.was c.from_residual.ensures.1 is) in
-    failed_after source _ _ _ inv.same (failed_at c.loop-i.readers i c.index-readers-i.result c.first_head.new.reader (omega (arith, inv.many, inside)) source here.0 here.1)
+    failed_after source _ _ _ inv.same (failed_at c.loop-i.readers i c.index-readers-i.result c.first_head.new.reader
+    (omega (arith, inv.many, inside)) source here.0 here.1)
 
 pub returns-in_err-head-clause-lost : goal.returns-in_err-head-clause-lost
 returns-in_err-head-clause-lost g c = on_err c.from_residual.result _ (λ m.
@@ -57,18 +61,22 @@ returns-in_err-head-clause-lost g c = on_err c.from_residual.result _ (λ m.
 pub returns-then-k-eq0-clause-ready : goal.returns-then-k-eq0-clause-ready
 returns-then-k-eq0-clause-ready g c =
     let inv = c.loop-i.invariant in
-    subst (λ n. AreReady 1 n c.loop-i.rooms c.loop-i.heads) (sym inv.many) (all_ready _ 1 _ _ _ _ _ _ (omega (arith, c.loop-i-test.false, c.loop-i.auto.i-end)) inv.opened (inl c.if-k-eq0.true))
+    subst (λ n. AreReady 1 n c.loop-i.rooms c.loop-i.heads) (sym inv.many)
+    (all_ready _ 1 _ _ _ _ _ _ (omega (arith, c.loop-i-test.false, c.loop-i.auto.i-end)) inv.opened (inl c.if-k-eq0.true))
 
 pub returns-then-k-eq0-clause-sources : goal.returns-then-k-eq0-clause-sources
-returns-then-k-eq0-clause-sources g c = all_sources _ 1 _ _ _ _ _ _ (omega (arith, c.loop-i-test.false, c.loop-i.auto.i-end)) c.loop-i.invariant.opened (inl c.if-k-eq0.true)
+returns-then-k-eq0-clause-sources g c = all_sources _ 1 _ _ _ _ _ _ (omega
+    (arith, c.loop-i-test.false, c.loop-i.auto.i-end)) c.loop-i.invariant.opened (inl c.if-k-eq0.true)
 
 pub returns-else-k-eq0-clause-ready : goal.returns-else-k-eq0-clause-ready
 returns-else-k-eq0-clause-ready g c =
     let inv = c.loop-i.invariant in
-    subst (λ n. AreReady c.loop-i.k n c.loop-i.rooms c.loop-i.heads) (sym inv.many) (all_ready _ c.loop-i.k _ _ _ _ _ _ (omega (arith, c.loop-i-test.false, c.loop-i.auto.i-end)) inv.opened (inr refl))
+    subst (λ n. AreReady c.loop-i.k n c.loop-i.rooms c.loop-i.heads) (sym inv.many)
+    (all_ready _ c.loop-i.k _ _ _ _ _ _ (omega (arith, c.loop-i-test.false, c.loop-i.auto.i-end)) inv.opened (inr refl))
 
 pub returns-else-k-eq0-clause-sources : goal.returns-else-k-eq0-clause-sources
-returns-else-k-eq0-clause-sources g c = all_sources _ c.loop-i.k _ _ _ _ _ _ (omega (arith, c.loop-i-test.false, c.loop-i.auto.i-end)) c.loop-i.invariant.opened (inr refl)
+returns-else-k-eq0-clause-sources g c = all_sources _ c.loop-i.k _ _ _ _ _ _
+    (omega (arith, c.loop-i-test.false, c.loop-i.auto.i-end)) c.loop-i.invariant.opened (inr refl)
 
 pub returns-then-k-eq0-clause-kept : goal.returns-then-k-eq0-clause-kept
 returns-then-k-eq0-clause-kept g c = c.loop-i.invariant.same

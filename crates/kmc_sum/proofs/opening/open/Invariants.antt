@@ -11,5 +11,6 @@ invariant-loop-i g l = record {
   same : map (λ r. r.failures) l.readers ≡ map (λ r. r.failures) l.initial.readers;
   most : l.k ≤ MAX_K;
   begun : 1 ≤ l.k → HasBegun l.k l.i (map (λ r. g.R.Read.remaining r.inner) l.initial.readers) (map (λ r. g.R.Read.remaining r.inner) l.readers);
-  opened : AreOpened l.k (length l.initial.readers) l.i (map (λ r. g.R.Read.remaining r.inner) l.initial.readers) (map (λ r. g.R.Read.remaining r.inner) l.readers) l.rooms l.heads;
+  opened : AreOpened l.k (length l.initial.readers) l.i (map (λ r. g.R.Read.remaining r.inner) l.initial.readers)
+      (map (λ r. g.R.Read.remaining r.inner) l.readers) l.rooms l.heads;
 }

@@ -10,7 +10,8 @@ returns-then-not-is_option c =
     let word = string_bytes c.word-item.result in
     let no_file : is_file word ≡ false = ap is_file (sym c.deref.ensures) ∙ sym (c.if-not-is_file.ensures) in
     let no_option : is_option word ≡ false = ap is_option (sym c.deref-then-not-is_file.ensures) ∙ sym (c.if-not-is_option.ensures) in
-    one_fails string_bytes (λ w. is_file w || is_option w) c.args.words.now c.loop-word.word-index c.word-item.result c.loop-word-test.true (sym c.word-item.is) (rw (no_file, no_option) refl)
+    one_fails string_bytes (λ w. is_file w || is_option w) c.args.words.now c.loop-word.word-index c.word-item.result c.loop-word-test.true
+    (sym c.word-item.is) (rw (no_file, no_option) refl)
 
 pub loop-word-preserved : goal.loop-word-preserved
 loop-word-preserved c = grind (arith, common_steps)

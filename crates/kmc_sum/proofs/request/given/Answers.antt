@@ -15,8 +15,17 @@ returns-then-is_some-clause-twice c =
     let here : rest_after name (string_bytes c.word-item.result) ≡ Some c.in-Some.rest.now =
     ap (rest_after name) (sym c.deref.ensures) ∙ sym c.rest_after.ensures ∙ ap (option_map (λ r. r.now)) c.in-Some.is in
     let next = given_next string_bytes name words i c.word-item.result c.loop-word-test.true (sym c.word-item.is) (Some c.in-Some.rest.now) here in
-    let before : length (given name (map string_bytes (take i words))) ≡ 1 = ap length c.loop-word.invariant ∙ texts_some (λ t. t.now) c.loop-word.text (sym c.is_some.ensures ∙ c.if-is_some.true) in
-    (refl, omega (arith, before, ap length next, length-append (given name (map string_bytes (take i words))) (c.in-Some.rest.now ∷ []), given_least string_bytes name words (i + 1)))
+    let before : length (given name (map string_bytes (take i words))) ≡ 1 = ap length c.loop-word.invariant ∙ texts_some
+    (λ t. t.now) c.loop-word.text (sym c.is_some.ensures ∙ c.if-is_some.true) in (
+      refl,
+      omega (
+        arith,
+        before,
+        ap length next,
+        length-append (given name (map string_bytes (take i words))) (c.in-Some.rest.now ∷ []),
+        given_least string_bytes name words (i + 1),
+      ),
+    )
 
 pub loop-word-preserved : goal.loop-word-preserved
 loop-word-preserved c =

@@ -12,7 +12,13 @@ returns-in-Some-clause-ok g c =
     let line = subst (λ (l : List ℕ). IsLineOf c.in-Some.line (take (r.to - r.from) (drop r.from l))) c.deref.ensures.value c.in-Some.ensures in
     let room = c.in-Ok.ensures.room in
     let few : r.from + c.in-Some.line.end ≤ r.to =
-    omega (arith, line.within, length-take-le (r.to - r.from) (drop r.from r.bytes.items) (omega (arith, length-drop r.from r.bytes.items, room.inside)), room.order) in (
+    omega (
+      arith,
+      line.within,
+      length-take-le (r.to - r.from) (drop r.from r.bytes.items)
+          (omega (arith, length-drop r.from r.bytes.items, room.inside)),
+      room.order,
+    ) in (
       unread r,
       c.in-Ok.ensures.ok,
       (line, taken r.from r.to c.in-Some.line.end r.bytes.items few, omega (arith, c.saturating_add-room.ensures, c.in-Ok.ensures.lines)),

@@ -24,7 +24,8 @@ returns-then-line-last-clause-fault g c = λ f is start pairs ends gave.
 pub returns-else-line-last-clause-ok : goal.returns-else-line-last-clause-ok
 returns-else-line-last-clause-ok g c = λ start pairs ends gave.
     let o = rw c.in-Ok-Some.field-0-is at c.in-Ok-Some.ensures.ok in
-    subst (λ (t : List ℕ). GaveFront c.args.k start (g.R.Read.remaining c.next_line.new.reader.inner) (pairs ++ (unpack c.args.k c.in-Ok-Some.line.packed, c.in-Ok-Some.line.count) ∷ []) t) (sym o.2.1)
+    subst (λ (t : List ℕ). GaveFront c.args.k start (g.R.Read.remaining c.next_line.new.reader.inner)
+    (pairs ++ (unpack c.args.k c.in-Ok-Some.line.packed, c.in-Ok-Some.line.count) ∷ []) t) (sym o.2.1)
     (goes_up c.args.k c.args.last start _ _ pairs _ o.0 c.in-Ok-Some.line ends gave o.1 o.2.0 c.if-line-k.false c.if-line-last.false)
 
 pub returns-in-Err-Malformed-clause-fault : goal.returns-in-Err-Malformed-clause-fault

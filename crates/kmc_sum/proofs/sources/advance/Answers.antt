@@ -23,7 +23,8 @@ mend-requires-clause-others g c =
 
 pub returns-clause-ready : goal.returns-clause-ready
 returns-clause-ready g c =
-    subst (λ n. AreReady c.args.k n (set c.args.rooms.now (head_at c.args.heads.now 1).source c.next_head.new.room) c.mend.new.heads) (sym (length-set c.args.readers.now (head_at c.args.heads.now 1).source c.next_head.new.reader))
+    subst (λ n. AreReady c.args.k n (set c.args.rooms.now (head_at c.args.heads.now 1).source c.next_head.new.room) c.mend.new.heads)
+    (sym (length-set c.args.readers.now (head_at c.args.heads.now 1).source c.next_head.new.reader))
     (ready_after c.args.k (length c.args.readers.now) c.args.rooms.now c.args.heads.now c.requires.ready c.requires.tree c.requires.some
     c.in_ok-head.head c.mend.new.heads c.mend.auto.heads c.mend.ensures.leaves
     c.next_head.new.room c.in_ok-head.ensures.room c.in_ok-head.ensures.behind.0 c.in_ok-head.ensures.behind.2)

@@ -8,10 +8,12 @@ use Rattle.kmc_sum.specs.Faults.{IsFaultAt, line_after}
 use Rattle.kmc_sum.proofs.sources.next_head.Goals as goal
 
 pub returns-in-Err-Device-clause-lost : goal.returns-in-Err-Device-clause-lost
-returns-in-Err-Device-clause-lost g c = λ start head taken source. let lost = c.in-Err-Device.ensures.lost in lost_front c.args.k start _ _ c.args.room.now head taken lost.0 lost.1 source
+returns-in-Err-Device-clause-lost g c = λ start head taken source. let lost = c.in-Err-Device.ensures.lost in
+    lost_front c.args.k start _ _ c.args.room.now head taken lost.0 lost.1 source
 
 pub returns-in-Err-Line-clause-lost : goal.returns-in-Err-Line-clause-lost
-returns-in-Err-Line-clause-lost g c = λ start head taken source. let lost = c.in-Err-Line.ensures.lost in lost_front c.args.k start _ _ c.args.room.now head taken lost.0 lost.1 source
+returns-in-Err-Line-clause-lost g c = λ start head taken source. let lost = c.in-Err-Line.ensures.lost in
+    lost_front c.args.k start _ _ c.args.room.now head taken lost.0 lost.1 source
 
 pub returns-in-Err-Line-clause-fault : goal.returns-in-Err-Line-clause-fault
 returns-in-Err-Line-clause-fault g c = λ s line fault is.
