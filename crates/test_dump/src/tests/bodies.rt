@@ -58,7 +58,10 @@ fn packed(word: &Kmer) -> u128 {
 }
 
 /// Whether the pairs of a list are these.
-fn has_pairs<W: Word + Drop, C: Shown + Drop>(list: &Counts<W, C>, pairs: &[(Kmer, u64)]) -> bool {
+pub(crate) fn has_pairs<W: Word + Drop, C: Shown + Drop>(
+    list: &Counts<W, C>,
+    pairs: &[(Kmer, u64)],
+) -> bool {
     if list.len() != pairs.len() {
         return false;
     }
@@ -91,7 +94,7 @@ fn are_same<W: Word + Drop, C: Shown + Drop>(
 }
 
 /// The same of lists of any width.
-fn are_plain(lists: &BinLists, plain: &[Vec<(Kmer, u64)>]) -> bool {
+pub(crate) fn are_plain(lists: &BinLists, plain: &[Vec<(Kmer, u64)>]) -> bool {
     match lists {
         BinLists::Narrow(SizedLists::Byte(lists)) => are_same(lists, plain),
         BinLists::Narrow(SizedLists::Half(lists)) => are_same(lists, plain),

@@ -1,0 +1,245 @@
+//! Bodies with equal records: their packed lists against their plain counts, which unpack each record by itself.
+ghost use Rattle.std.specs.Prelude.{◌≤◌};
+
+use crate::tests::bodies::{are_plain, has_pairs};
+use kmc_base::{Kmer, Strands};
+use kmc_count::Limits;
+use kmc_dump::{BinLists, SizedLists, list_bins};
+use kmc_plain::count_bin;
+use std::alloc::{AllocError, Global};
+use std::process::Abort;
+use std::test::Fail;
+use std::thread::Threads;
+use test_support::Dice;
+
+const LIMITS: Limits = Limits {
+    ci: 1,
+    cx: 1 << 63,
+    cs: 1 << 63,
+};
+
+/// Codes that look random.
+fn thrown_codes(alloc: Global, dice: &mut Dice, symbols: usize) -> Result<Vec<u8>, AllocError> {
+    let mut codes = Vec::with_capacity(alloc, symbols)?;
+    for _ in 0..symbols {
+        codes.push(dice.roll(4) as u8)?;
+    }
+    Ok(codes)
+}
+
+/// The reverse complement.
+fn turned(alloc: Global, codes: &[u8]) -> Result<Vec<u8>, AllocError> {
+    let mut other = Vec::with_capacity(alloc, codes.len())?;
+    for code in codes.iter().rev() {
+        other.push(3u8.saturating_sub(*code))?;
+    }
+    Ok(other)
+}
+
+/// Codes and their reverse complement behind them: a record that is its own reverse complement.
+fn palindrome(alloc: Global, dice: &mut Dice, half: usize) -> Result<Vec<u8>, AllocError> {
+    let mut codes = thrown_codes(alloc, dice, half)?;
+    let other = turned(alloc, &codes)?;
+    codes.extend_from_slice(&other)?;
+    Ok(codes)
+}
+
+/// The record of k to k + 255 codes.
+fn record_of(alloc: Global, codes: &[u8], k: usize) -> Result<Vec<u8>, AllocError> {
+    let mut record = Vec::new(alloc);
+    record.push((codes.len().saturating_sub(k) % 256) as u8)?;
+    let mut byte = 0u8;
+    for (i, code) in codes.iter().enumerate() {
+        byte = byte << 2 | *code;
+        if i % 4 == 3 {
+            record.push(byte)?;
+            byte = 0;
+        }
+    }
+    let left = codes.len() % 4;
+    if left > 0 {
+        record.push(byte << (8 - 2 * left))?;
+    }
+    Ok(record)
+}
+
+/// Appends so many copies of a record, each third one turned to the other strand.
+fn push_copies(
+    alloc: Global,
+    body: &mut Vec<u8>,
+    codes: &[u8],
+    k: usize,
+    copies: usize,
+) -> Result<(), AllocError> {
+    let record = record_of(alloc, codes, k)?;
+    let other = record_of(alloc, &turned(alloc, codes)?, k)?;
+    for copy in 0..copies {
+        if copy % 3 == 2 {
+            body.extend_from_slice(&other)?;
+        } else {
+            body.extend_from_slice(&record)?;
+        }
+    }
+    Ok(())
+}
+
+/// Records of many lengths, each in several copies: short ones, some that are their own reverse complement, and those that no
+/// number of 128 bits holds.
+fn repeated_records(alloc: Global, k: usize) -> Result<Vec<u8>, AllocError> {
+    let mut dice = Dice { state: 31 };
+    let mut body = Vec::new(alloc);
+    let most = k.saturating_add(255);
+    for copies in [1, 2, 255, 256] {
+        for symbols in [k, k.saturating_add(1)] {
+            let codes = thrown_codes(alloc, &mut dice, symbols)?;
+            push_copies(alloc, &mut body, &codes, k, copies)?;
+        }
+    }
+    for symbols in [60, 61, 62, most] {
+        let codes = thrown_codes(alloc, &mut dice, symbols.max(k).min(most))?;
+        push_copies(alloc, &mut body, &codes, k, 7)?;
+    }
+    for half in [k.div_ceil(2), 30, 31] {
+        let codes = palindrome(alloc, &mut dice, half.max(k.div_ceil(2)))?;
+        push_copies(alloc, &mut body, &codes, k, 4)?;
+    }
+    Ok(body)
+}
+
+/// Asserts that the packed list of a body is its plain count.
+fn assert_plain<R: Abort + Threads + Sync>(
+    rt: &R,
+    alloc: Global,
+    body: Vec<u8>,
+    k: usize,
+    strands: Strands,
+) -> Result<(), Fail> {
+    assert!(rt; 1 <= k && k <= 64);
+    let pairs = count_bin(alloc, &body, k, strands, &LIMITS);
+    let mut plain = Vec::new(alloc);
+    plain.push(pairs.ok().ok_or("records")?)?;
+    let mut bodies = Vec::new(alloc);
+    bodies.push(body)?;
+    let lists = list_bins(rt, alloc, bodies, k, strands, &LIMITS, 1);
+    let lists = lists.ok().ok_or("records")?;
+    assert!(rt; are_plain(&lists, &plain), "k {k}, {strands:?}");
+    Ok(())
+}
+
+/// Asserts the counts of repeated records for words of many lengths.
+fn assert_all_plain<R: Abort + Threads + Sync>(
+    rt: &R,
+    alloc: Global,
+    strands: Strands,
+) -> Result<(), Fail> {
+    for k in [1, 2, 5, 9, 25, 28, 29, 31, 32, 33, 34, 35, 36, 63, 64] {
+        let body = repeated_records(alloc, k)?;
+        assert_plain(rt, alloc, body, k, strands)?;
+    }
+    Ok(())
+}
+
+#[test]
+fn equal_records_count_as_often_as_they_stand(rt: HostRuntime) -> Result<(), Fail> {
+    assert_all_plain(&rt, rt.alloc(), Strands::Joined)
+}
+
+#[test]
+fn equal_records_of_one_strand_count_as_often_as_they_stand(rt: HostRuntime) -> Result<(), Fail> {
+    assert_all_plain(&rt, rt.alloc(), Strands::Apart)
+}
+
+/// Asserts the count of a body of so many copies of one record of two words.
+fn assert_copies<R: Abort + Threads + Sync>(
+    rt: &R,
+    alloc: Global,
+    k: usize,
+    copies: usize,
+) -> Result<(), Fail> {
+    let codes = thrown_codes(alloc, &mut Dice { state: 5 }, k.saturating_add(1))?;
+    let mut body = Vec::new(alloc);
+    push_copies(alloc, &mut body, &codes, k, copies)?;
+    assert_plain(rt, alloc, body, k, Strands::Joined)
+}
+
+#[test]
+fn rows_longer_than_a_weight_are_counted_whole(rt: HostRuntime) -> Result<(), Fail> {
+    // the most that the bits beside a word of k symbols hold
+    for (k, most) in [
+        (25, 1 << 14),
+        (28, 256),
+        (29, 64),
+        (31, 4),
+        (32, 1),
+        (58, 1 << 12),
+        (63, 4),
+        (64, 1),
+    ] {
+        for copies in [most, most + 1, 2 * most + 1] {
+            assert_copies(&rt, rt.alloc(), k, copies)?;
+        }
+    }
+    Ok(())
+}
+
+/// The pairs of the words of codes, each with this count, in the order of the words.
+fn counted_words(
+    alloc: Global,
+    codes: &[u8],
+    k: usize,
+    count: u64,
+) -> Result<Vec<(Kmer, u64)>, Fail> {
+    let body = record_of(alloc, codes, k)?;
+    let mut pairs = Vec::new(alloc);
+    for (word, _) in plain_pairs(alloc, &body, k)? {
+        pairs.push((word, count))?;
+    }
+    Ok(pairs)
+}
+
+/// The plain count of a body.
+fn plain_pairs(alloc: Global, body: &[u8], k: usize) -> Result<Vec<(Kmer, u64)>, Fail> {
+    if k < 1 || k > 64 {
+        return Err("k out of range".into());
+    }
+    let pairs = count_bin(alloc, body, k, Strands::Joined, &LIMITS);
+    Ok(pairs.ok().ok_or("records")?)
+}
+
+/// Asserts the counts of the words of one record that stands so many times.
+fn assert_repeated<R: Abort + Threads + Sync>(
+    rt: &R,
+    alloc: Global,
+    k: usize,
+    copies: usize,
+) -> Result<(), Fail> {
+    assert!(rt; 1 <= k && k <= 32);
+    let codes = thrown_codes(alloc, &mut Dice { state: 77 }, k.saturating_add(9))?;
+    let mut body = Vec::new(alloc);
+    push_copies(alloc, &mut body, &codes, k, copies)?;
+    let want = counted_words(alloc, &codes, k, copies as u64)?;
+    assert_eq!(rt; want.len(), 10);
+    let mut bodies = Vec::new(alloc);
+    bodies.push(body)?;
+    let lists = list_bins(rt, alloc, bodies, k, Strands::Joined, &LIMITS, 1);
+    match lists.ok().ok_or("records")? {
+        BinLists::Narrow(SizedLists::Full(lists)) => {
+            assert_eq!(rt; lists.len(), 1);
+            for list in &lists {
+                assert!(rt; has_pairs(list, &want));
+            }
+        }
+        _ => return Err("wider or narrower than it should be".into()),
+    }
+    Ok(())
+}
+
+#[test]
+fn one_record_a_million_times(rt: HostRuntime) -> Result<(), Fail> {
+    assert_repeated(&rt, rt.alloc(), 25, 1_000_000)
+}
+
+#[test]
+fn a_row_longer_than_the_greatest_weight(rt: HostRuntime) -> Result<(), Fail> {
+    assert_repeated(&rt, rt.alloc(), 22, (1 << 20) + 1)
+}
