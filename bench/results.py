@@ -4,7 +4,8 @@
 usage: make results    (or bench/results.py [SECTION ..], to measure some sections and keep the others)
 
 The sections are those of the list below, in order. Programs run in turn, but nothing else should run beside them: the machine's load at the
-beginning and at the end of each section is written down. All of it takes some forty minutes. Wants what the scripts want.
+beginning and at the end of each section is written down. All of it takes some forty minutes; the variable ROUNDS (3) says how often the
+comparisons with KMC 3 run each program. Wants what the scripts want.
 """
 import os
 import re
@@ -14,11 +15,12 @@ import time
 
 TOP = os.path.dirname(os.path.dirname(os.path.abspath(__file__)))
 RESULTS = os.path.join(TOP, "bench", "RESULTS.md")
+ROUNDS = os.environ.get("ROUNDS", "3")  # how often the comparisons with KMC 3 run each program
 
 # name, heading, command, whether the last line alone is kept
 SECTIONS = [
-    ("kmc3", "Time and memory beside KMC 3, k 25", ["bench/compare.sh"], False),
-    ("k", "Other lengths of words, short reads", ["bench/compare.sh", "-k", "9 31 55", "-t", "4", "short"], False),
+    ("kmc3", "Time and memory beside KMC 3, k 25", ["bench/compare.sh", "-r", ROUNDS], False),
+    ("k", "Other lengths of words, short reads", ["bench/compare.sh", "-r", ROUNDS, "-k", "9 31 55", "-t", "4", "short"], False),
     ("skew", "One letter throughout", ["bench/compare.sh", "-t", "4", "-r", "2", "alla"], False),
     ("memory", "Memory", ["bench/memory.sh"], False),
     ("feeding", "What futoncrane takes beside the program", ["bench/feeding.sh"], False),

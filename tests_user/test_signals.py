@@ -46,14 +46,14 @@ def test_control_c_at_twenty_moments(room):
         which = number % len(kinds)
         status, left, told = interrupted(room, kinds[which], signal.SIGINT, source.uniform(0.1, 1.0) * times[which])
         assert left == set(), "%s still run" % left
-        assert told == "", told
+        # before Python has come to the command, a signal ends it as it ends Python
+        assert told == "" or status == -signal.SIGINT and told.endswith("KeyboardInterrupt\n"), told
         if status == 0:  # it was done before
             for name in ("dump", "dump.gz"):
                 if os.path.exists(room.path(name)):
                     os.remove(room.path(name))
         assert room.files() == before, (status, room.files() - before)
         statuses.append(status)
-    # before Python has come to the command, a signal ends it as it ends Python
     assert set(statuses) <= {0, 130, -signal.SIGINT} and statuses.count(130) >= MOMENTS // 3, statuses
 
 
