@@ -11,12 +11,12 @@ use Rattle.kmc_base.specs.Weights.{item, items, item_weight, worth}
 use Rattle.kmc_record.specs.Record.{IsBodyOf}
 use Rattle.kmc_record.specs.RecordWords.{record_keys}
 use Rattle.kmc_record.specs.RecordKeys.{key_words, Gains, IsRecordKey, IsTaken}
-use Rattle.kmc_record.proofs.Taken.{moved_keys}
+use Rattle.kmc_record.specs.Lemmas.Taken.{moved_keys}
 use Rattle.kmc_count.specs.declared.limits.Limits.{Limits}
 use Rattle.kmc_count.specs.Occurrences.{same_word, occurrences, weight_of}
 use Rattle.kmc_count.specs.Dump.{IsDump}
 use Rattle.kmc_count.specs.Bodies.{AreSortedItems, IsDumpOfBody}
-use Rattle.kmc_count.proofs.Runs.{weight_of_cons}
+use Rattle.kmc_count.specs.Lemmas.Runs.{weight_of_cons}
 
 -- ---- what items are worth
 

@@ -14,10 +14,10 @@ use Rattle.kmc_count.specs.Occurrences.{occurrences}
 use Rattle.kmc_count.specs.Dump.{IsListed, shown, words_of, IsDump}
 use Rattle.kmc_count.specs.Bodies.{AreDumpsOfBodies}
 use Rattle.kmc_count.specs.Merge.{joined, AreApart, EachRises, IsMerged, AreDumps}
-use Rattle.kmc_count.proofs.Apart.{occurrences_both, occurs_contains, tail_apart, none_behind, none_before}
-use Rattle.kmc_count.proofs.OneDump.{listed_has}
-use Rattle.kmc_count.proofs.Members.{has_contains}
-use Rattle.kmc_count.proofs.Zips.{zip_at}
+use Rattle.kmc_count.specs.Lemmas.Apart.{occurrences_both, occurs_contains, tail_apart, none_behind, none_before}
+use Rattle.kmc_count.specs.Lemmas.OneDump.{listed_has}
+use Rattle.kmc_count.specs.Lemmas.Members.{has_contains}
+use Rattle.kmc_count.specs.Lemmas.Zips.{zip_at}
 
 module _ (l : Limits) where
   -- a pair of the dump of a count

@@ -7,6 +7,7 @@ ghost use Rattle.kmc_count.specs.Bodies.{AreSortedItems, IsDumpOfBody, WantsMemo
 
 use crate::limits::Limits;
 use crate::pair_list::PairList;
+use crate::repeats::Repeats;
 use crate::tallying::tally;
 use kmc_base::{KeyRule, MOST_WEIGHT_BITS, Word};
 use kmc_record::{BodyError, push_rows, take_body};
@@ -20,14 +21,15 @@ fn sort_numbers(numbers: &mut Vec<u128>)
     }
 }
 
-/// The words of a body as sorted items. Its records are sorted first, each as the lesser of it and its reverse complement, so
-/// that those that are equal stand side by side and their words are unpacked once.
+/// The words of a body as sorted items. Where equal records are looked for, they are sorted first, each as the lesser of it and its
+/// reverse complement, so that those that are equal stand side by side and their words are unpacked once.
 fn sorted_items<W: Word + Drop>(
     numbers: &mut Vec<u128>,
     items: &mut Vec<W>,
     body: &[u8],
     rule: KeyRule,
     bits: u32,
+    repeats: &mut Repeats,
 ) -> Result<(), BodyError>
     requires most { rule.k ≤ W.most }
     requires beside { 2 * rule.k + bits ≤ 2 * W.most }
@@ -41,15 +43,16 @@ fn sorted_items<W: Word + Drop>(
 {
     numbers.clear();
     items.clear();
-    take_body(numbers, items, body, rule, bits)?;
+    take_body(numbers, items, body, rule, bits, repeats.short_records())?;
     sort_numbers(numbers);
+    repeats.learn(numbers);
     push_rows(items, numbers, rule, bits)?;
     W::sort(items);
     Ok(())
 }
 
 /// Puts the dump of a body into an empty list of pairs. The vectors for its records and its words may be used again for the
-/// next body.
+/// next body, and what was met of equal records is told to the next.
 pub fn count_into<W: Word + Drop, L: PairList<W>>(
     numbers: &mut Vec<u128>,
     items: &mut Vec<W>,
@@ -57,6 +60,7 @@ pub fn count_into<W: Word + Drop, L: PairList<W>>(
     body: &[u8],
     rule: KeyRule,
     limits: &Limits,
+    repeats: &mut Repeats,
 ) -> Result<(), BodyError>
     requires most { rule.k ≤ W.most }
     requires takes { L.takes rule.k pairs.old }
@@ -71,7 +75,7 @@ pub fn count_into<W: Word + Drop, L: PairList<W>>(
     ensures memory { IsErrOf result BodyError.Memory → WantsMemory rule.k body.now }
 {
     let bits = W::weight_bits(rule.k);
-    sorted_items(numbers, items, body, rule, bits)?;
+    sorted_items(numbers, items, body, rule, bits, repeats)?;
     tally(pairs, items, rule, bits, limits)?;
     Ok(())
 }

@@ -8,7 +8,7 @@ use Rattle.kmc_record.specs.Faults.{IsFirstFault}
 use Rattle.kmc_count.specs.declared.limits.Limits.{Limits}
 use Rattle.kmc_count.specs.Bodies.{IsDumpOfBody, AreDumpsOfBodies, IsWhole, IsFirstDamaged}
 use Rattle.kmc_dump.proofs.ManyBodies.{texts, second_damaged}
-use Rattle.kmc_count.proofs.Zips.{zip_append}
+use Rattle.kmc_count.specs.Lemmas.Zips.{zip_append}
 use Rattle.kmc_dump.specs.Listed.{Listed, pairs_of, IsListOf}
 use Rattle.kmc_dump.specs.Bodies.{AreListsOfBodies}
 

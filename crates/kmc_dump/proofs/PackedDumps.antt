@@ -14,10 +14,10 @@ use Rattle.kmc_count.specs.Occurrences.{occurrences}
 use Rattle.kmc_count.specs.Dump.{IsDump, words_of}
 use Rattle.kmc_count.specs.Laws.{DumpsCanBeMerged, MergedDumpsAreOne}
 use Rattle.kmc_count.specs.Merge.{AreApart, AreDumps, EachRises, joined as words_joined}
-use Rattle.kmc_count.proofs.PackedRuns.{cmp_packed}
+use Rattle.kmc_count.specs.Lemmas.PackedRuns.{cmp_packed}
 use Rattle.kmc_dump.specs.Listed.{Listed, spelled, pairs_of, IsListOf}
 use Rattle.kmc_dump.specs.Ranges.{Rises, joined, Apart, packs, CanBeMerged, whole}
-use Rattle.kmc_count.proofs.Members.{Has}
+use Rattle.kmc_count.specs.Lemmas.Members.{Has}
 use Rattle.kmc_dump.proofs.Whole.{whole_merged}
 
 module _ (k : ℕ) where

@@ -8,7 +8,7 @@ ghost use Rattle.kmc_dump.specs.Listed.{IsListOf, pairs_of};
 use crate::counts::Counts;
 use crate::shown::Shown;
 use kmc_base::{KeyRule, Word};
-use kmc_count::{Limits, count_into};
+use kmc_count::{Limits, Repeats, count_into};
 use kmc_record::BodyError;
 use std::alloc::Global;
 
@@ -21,6 +21,7 @@ pub fn list_body<W: Word + Drop, C: Shown + Drop>(
     body: &[u8],
     rule: KeyRule,
     limits: &Limits,
+    repeats: &mut Repeats,
 ) -> Result<Counts<W, C>, BodyError>
     requires most { rule.k ≤ W.most }
     requires wide { limits.now.cs ≤ C.greatest }
@@ -32,7 +33,7 @@ pub fn list_body<W: Word + Drop, C: Shown + Drop>(
         → IsFirstFault rule.k fault offset body.now }
 {
     let mut pairs = Counts::new(alloc, rule.k);
-    count_into(numbers, items, &mut pairs, body, rule, limits)?;
+    count_into(numbers, items, &mut pairs, body, rule, limits, repeats)?;
     pairs.shrink();
     Ok(pairs)
 }

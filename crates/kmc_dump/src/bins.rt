@@ -10,7 +10,7 @@ use crate::bin::list_body;
 use crate::counts::Counts;
 use crate::shown::Shown;
 use kmc_base::{KeyRule, Word};
-use kmc_count::Limits;
+use kmc_count::{Limits, Repeats};
 use kmc_record::BodyError;
 use std::alloc::Global;
 use std::thread;
@@ -34,8 +34,17 @@ fn list_row<W: Word + Drop, C: Shown + Drop>(
     let mut lists = Vec::with_capacity(alloc, bodies.len())?;
     let mut numbers: Vec<u128> = Vec::new(alloc);
     let mut items: Vec<W> = Vec::new(alloc);
+    let mut repeats = Repeats::new();
     for body in bodies {
-        let list = list_body(&mut numbers, &mut items, alloc, &body, rule, limits)?;
+        let list = list_body(
+            &mut numbers,
+            &mut items,
+            alloc,
+            &body,
+            rule,
+            limits,
+            &mut repeats,
+        )?;
         lists.push_reserved(list);
     }
     Ok(lists)

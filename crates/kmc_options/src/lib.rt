@@ -11,3 +11,4 @@ mod named;
 
 pub use command_line::{params, settings, words};
 pub use error::ParamsError;
+pub use named::Named;

@@ -12,7 +12,7 @@ use Rattle.kmc_count.specs.Occurrences.{occurrences}
 use Rattle.kmc_count.specs.Dump.{IsDump}
 use Rattle.kmc_count.specs.Bodies.{IsDumpOfBody}
 use Rattle.kmc_plain.specs.SortedKeys.{AreSortedKeys}
-use Rattle.kmc_count.proofs.KeysOfReads.{sorted_fit, sorted_occurrences}
+use Rattle.kmc_count.specs.Lemmas.KeysOfReads.{sorted_fit, sorted_occurrences}
 
 record_keys_are_words : (strands : Strands) (k : ℕ) (ss : List (List ℕ)) → AllByRecursion (IsSpelled k) ss → AreWords k (record_keys strands k ss)
 record_keys_are_words strands k [] h = tt

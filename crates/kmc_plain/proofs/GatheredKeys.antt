@@ -8,7 +8,7 @@ use Rattle.kmc_base.specs.Lemmas.Keys.{AreWords, words_append, counted_keys_are_
 use Rattle.kmc_base.specs.Packed.{pack}
 use Rattle.kmc_base.specs.Places.{counted_words}
 use Rattle.kmc_base.specs.Strands.{placed_key}
-use Rattle.kmc_count.proofs.KeysOfReads.{keys_of_reads}
+use Rattle.kmc_count.specs.Lemmas.KeysOfReads.{keys_of_reads}
 
 pub keys_of_reads_are_words : (strands : Strands) (k : ℕ) (reads : List (List ℕ)) → AreWords k (keys_of_reads strands k reads)
 keys_of_reads_are_words strands k [] = tt

@@ -13,10 +13,10 @@ use Rattle.kmc_base.specs.Words.{kmer_cmp}
 use Rattle.kmc_count.specs.Occurrences.{same_word, occurrences}
 use Rattle.kmc_count.specs.Dump.{words_of}
 use Rattle.kmc_count.specs.Merge.{joined, AreApart, EachRises, IsMerged}
-use Rattle.kmc_count.proofs.Apart.{occurrences_more, occurrences_both, occurs_has, tail_apart, none_behind}
-use Rattle.kmc_count.proofs.Listing.{kmer_total, same_is, same_itself}
-use Rattle.kmc_count.proofs.Members.{below_has}
-use Rattle.kmc_count.proofs.OneDump.{not_below_itself, Below}
+use Rattle.kmc_count.specs.Lemmas.Apart.{occurrences_more, occurrences_both, occurs_has, tail_apart, none_behind}
+use Rattle.kmc_count.specs.Lemmas.Listing.{kmer_total, same_is, same_itself}
+use Rattle.kmc_count.specs.Lemmas.Members.{below_has}
+use Rattle.kmc_count.specs.Lemmas.OneDump.{not_below_itself, Below}
 
 -- ---- each word once
 

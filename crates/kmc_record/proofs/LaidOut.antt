@@ -5,7 +5,7 @@ use Rattle.std.proofs.lemmas.List.Elements.{All-from_recursion}
 use Rattle.kmc_base.specs.Lemmas.Packs.{AreCodes}
 use Rattle.kmc_record.specs.Record.{packed_codes, spelling, IsSpelled, size_of}
 use Rattle.kmc_record.specs.Laws.{bits_at, IsLaidOut}
-use Rattle.kmc_record.proofs.Codes.{code_is}
+use Rattle.kmc_record.specs.Lemmas.Codes.{code_is}
 use Rattle.kmc_record.proofs.Spelled.{AreBytes, codes_packed, length_packed, zeros_to_byte, zero_behind}
 
 packed_bytes : (s : List ℕ) → AreCodes s → AreBytes (packed_codes s)

@@ -1,4 +1,3 @@
-pub mod Codes
 pub mod Spelled
 pub mod Whole
 pub mod LaidOut
@@ -8,9 +7,5 @@ pub mod Parcels
 pub mod Chunks
 pub mod Belonging
 pub mod Filling
-pub mod Turned
-pub mod KeyBytes
 pub mod Laying
-pub mod Gaining
-pub mod Taken
 pub mod PackedBytes

@@ -7,7 +7,7 @@ use Rattle.kmc_record.specs.Record.{packed_codes, spelling, IsSpelled, IsBodyOf,
 use Rattle.kmc_record.specs.Faults.{HasFault, IsFirstFault}
 use Rattle.kmc_record.specs.declared.fault.RecordFault.{RecordFault}
 use Rattle.kmc_record.specs.declared.fault.RecordFault.TheVariants.{Short, Padding}
-use Rattle.kmc_record.proofs.Codes.{length_codes}
+use Rattle.kmc_record.specs.Lemmas.Codes.{length_codes}
 use Rattle.kmc_record.proofs.Spelled.{codes_packed, length_packed, zeros_to_byte, zero_behind}
 
 codes_back : (s : List ℕ) → AreCodes s → take (length s) (codes_in (packed_codes s)) ≡ s

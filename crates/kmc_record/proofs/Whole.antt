@@ -10,7 +10,7 @@ use Rattle.kmc_base.specs.Strands.{keys}
 use Rattle.kmc_record.specs.Record.{packed_codes, spelling, IsSpelled, IsBodyOf, codes_in, size_of}
 use Rattle.kmc_record.specs.RecordWords.{record_keys}
 use Rattle.kmc_record.specs.Refusals.{BeginsRecord}
-use Rattle.kmc_record.proofs.Codes.{length_codes, are_codes}
+use Rattle.kmc_record.specs.Lemmas.Codes.{length_codes, are_codes}
 use Rattle.kmc_record.proofs.Spelled.{AreBytes, zeros_each, packed_back}
 
 -- ---- one record more

@@ -8,3 +8,4 @@ pub mod Shapes
 pub mod Parts
 pub mod Growing
 pub mod Bodies
+pub mod Lemmas

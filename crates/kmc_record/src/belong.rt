@@ -9,12 +9,7 @@ use crate::shape::Shape;
 use std::alloc::Global;
 
 /// How many words the body has, and 2^64 - 1 where they are more, if it is whole records of the bin.
-pub(crate) fn count_words(
-    alloc: Global,
-    body: &[u8],
-    bin: usize,
-    shape: Shape,
-) -> Result<u64, PartError>
+pub fn count_words(alloc: Global, body: &[u8], bin: usize, shape: Shape) -> Result<u64, PartError>
     requires { bin < shape.n }
     ensures ok { IfOk result (λ words. IsPart bin shape body.now words) }
     ensures first { IfErr result (λ e. IsFirstError bin shape e body.now) }

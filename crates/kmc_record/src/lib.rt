@@ -20,6 +20,7 @@ mod shape;
 mod spell;
 mod taking;
 
+pub use belong::count_words;
 pub use body::push_body;
 pub use decoding::decode;
 pub use fault::{BodyError, PartError, RecordError, RecordFault};

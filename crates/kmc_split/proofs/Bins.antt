@@ -7,7 +7,7 @@ use Rattle.kmc_base.specs.Lemmas.Windows.{length_windows}
 use Rattle.kmc_split.specs.Signature.{signature_of}
 use Rattle.kmc_split.specs.Offers.{offer}
 use Rattle.kmc_split.specs.Minima.{low}
-use Rattle.kmc_split.proofs.Least.{signature_at}
+use Rattle.kmc_split.specs.Lemmas.Least.{signature_at}
 
 pub word_of_windows : (k : ℕ) (codes : List ℕ) (i : ℕ) (d : List ℕ) → i < length codes + 1 - k → get_or (windows k codes) i d ≡ window k codes i
 word_of_windows k codes i d inside = get_or-map-range_with_len (window k codes) 0 (length codes + 1 - k) i i d inside (omega arith)

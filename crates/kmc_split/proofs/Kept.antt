@@ -8,7 +8,7 @@ use Rattle.kmc_split.specs.declared.runs.Run.{Run}
 use Rattle.kmc_split.specs.Signature.{signature_of}
 use Rattle.kmc_split.specs.Cut.{IsRun, AreRuns, IsCut, run_codes, run_words, IsRunOf}
 use Rattle.kmc_base.specs.Lemmas.Windows.{length_window}
-use Rattle.kmc_split.proofs.Least.{window_window}
+use Rattle.kmc_split.specs.Lemmas.Least.{window_window}
 use Rattle.kmc_split.proofs.Unique.{starts_within}
 
 -- places in a row, in two parts

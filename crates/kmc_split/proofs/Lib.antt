@@ -1,11 +1,8 @@
-pub mod Lowest
 pub mod Grouping
 pub mod RowEnds
 pub mod Pairs
 pub mod Written
 pub mod Rolled
-pub mod Least
 pub mod Unique
 pub mod Kept
-pub mod BothStrands
 pub mod Bins

@@ -6,3 +6,4 @@ pub mod Laws
 pub mod Minima
 pub mod Rows
 pub mod Offers
+pub mod Lemmas

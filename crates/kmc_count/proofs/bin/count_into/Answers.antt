@@ -4,7 +4,7 @@ use Rattle.std.specs.Ordering.{nat_cmp}
 use Rattle.kmc_base.specs.Weights.{items, AreItems}
 use Rattle.kmc_count.specs.Occurrences.{weight_of}
 use Rattle.kmc_count.specs.Dump.{IsDump}
-use Rattle.kmc_count.proofs.PassedOn.{passed_on}
+use Rattle.kmc_count.specs.Lemmas.PassedOn.{passed_on}
 use Rattle.kmc_count.proofs.Counted.{body_dump}
 use Rattle.kmc_count.proofs.bin.count_into.Goals as goal
 

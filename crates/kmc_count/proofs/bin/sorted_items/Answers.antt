@@ -1,12 +1,12 @@
 use Rattle.std.proofs.Common.{map, All, subst, sym}
 use Rattle.kmc_record.specs.RecordKeys.{IsRecordKey, Gains, key_words}
-use Rattle.kmc_count.proofs.PassedOn.{passed_on}
+use Rattle.kmc_count.specs.Lemmas.PassedOn.{passed_on}
 use Rattle.kmc_count.proofs.Counted.{items_sorted, sorted_long}
 use Rattle.kmc_count.proofs.bin.sorted_items.Goals as goal
 
 pub push_rows-requires-clause-long : goal.push_rows-requires-clause-long
 push_rows-requires-clause-long g c =
-    subst (All (IsRecordKey c.args.rule.k)) (sym c.deref.ensures.value)
+    subst (All (IsRecordKey c.args.rule.k)) (sym c.deref-2.ensures.value)
     (sorted_long c.args.rule.k _ _ c.sort_numbers.ensures c.in_ok-take_body.ensures.ok.2.long)
 
 pub returns-clause-ok : goal.returns-clause-ok
@@ -15,7 +15,7 @@ returns-clause-ok g c =
     let rule = c.args.rule in
     let taken = c.in_ok-take_body.ensures.ok in
     let gains = subst (λ t. Gains rule.k c.args.bits (map num c.take_body.new.items.items) (map num c.push_rows.new.items.items)
-    (key_words rule.strands rule.k t) 1) c.deref.ensures.value c.in_ok-push_rows.ensures in
+    (key_words rule.strands rule.k t) 1) c.deref-2.ensures.value c.in_ok-push_rows.ensures in
     items_sorted rule.strands rule.k c.args.bits c.args.body.now _ _ _ _ _ taken.0 taken.1 taken.2 c.sort_numbers.ensures gains c.sort.ensures.moved c.sort.ensures.sorted
 
 pub returns-in_err-take_body-clause-damaged : goal.returns-in_err-take_body-clause-damaged

@@ -1,4 +1,4 @@
-use Rattle.kmc_count.proofs.KeysOfReads.{of_reads}
+use Rattle.kmc_count.specs.Lemmas.KeysOfReads.{of_reads}
 use Rattle.kmc_count.proofs.laws.keys_of_reads_are_counted.Goals as goal
 
 pub returns : goal.returns

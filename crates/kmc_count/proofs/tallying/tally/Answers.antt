@@ -4,10 +4,10 @@ use Rattle.std.proofs.lemmas.List.{length-map, get_or-map}
 use Rattle.std.proofs.lemmas.List.Elements.{All-rest}
 use Rattle.kmc_base.specs.Packed.{unpack}
 use Rattle.kmc_base.specs.Weights.{item, items, item_weight}
-use Rattle.kmc_count.proofs.Listing.{kept_pairs, capped_pair}
-use Rattle.kmc_count.proofs.Runs.{runs_from}
-use Rattle.kmc_count.proofs.PackedRuns.{goes_on, ends, sorted_items, items_some, weight_small}
-use Rattle.kmc_count.proofs.SortedRuns.{all_runs, empty_dump}
+use Rattle.kmc_count.specs.Lemmas.Listing.{kept_pairs, capped_pair}
+use Rattle.kmc_count.specs.Lemmas.Runs.{runs_from}
+use Rattle.kmc_count.specs.Lemmas.PackedRuns.{goes_on, ends, sorted_items, items_some, weight_small}
+use Rattle.kmc_count.specs.Lemmas.SortedRuns.{all_runs, empty_dump}
 use Rattle.kmc_count.proofs.tallying.tally.Goals as goal
 use Rattle.kmc_count.proofs.tallying.tally.Goals.{then-is_same, else-is_same+in_ok-push_kept}
 

@@ -1,8 +1,8 @@
 use Rattle.std.proofs.Common.{◌≡◌, ℕ, ◌-◌, ◌<◌, ◌^◌, ◌++◌, min, drop, map}
 use Rattle.kmc_base.specs.Packed.{unpack}
 use Rattle.kmc_base.specs.Weights.{items}
-use Rattle.kmc_count.proofs.Runs.{runs_from}
-use Rattle.kmc_count.proofs.Listing.{kept_pairs}
+use Rattle.kmc_count.specs.Lemmas.Runs.{runs_from}
+use Rattle.kmc_count.specs.Lemmas.Listing.{kept_pairs}
 use Rattle.kmc_count.proofs.tallying.tally.Given as goal
 
 -- the dump is the pairs so far, the run that is open, and the runs of the rest; the count of the open run stops at the top

@@ -1,6 +1,6 @@
 use Rattle.std.proofs.Common.{◌≡◌, ◌++◌, ℕ, List, map, take, drop, sym, ap, subst, ◌∙◌, Vec, Global}
 use Rattle.std.proofs.lemmas.List.{map-append, take-append-drop}
-use Rattle.kmc_count.proofs.PassedOn.{passed_on}
+use Rattle.kmc_count.specs.Lemmas.PassedOn.{passed_on}
 use Rattle.kmc_count.specs.Bodies.{IsFirstDamaged}
 use Rattle.kmc_dump.proofs.ManyBodies.{texts, first_damaged, second_damaged}
 use Rattle.kmc_dump.specs.Listed.{pairs_of}

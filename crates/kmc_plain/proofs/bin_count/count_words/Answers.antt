@@ -4,7 +4,7 @@ use Rattle.std.specs.Ordering.{nat_cmp}
 use Rattle.kmc_base.specs.Packed.{unpack}
 use Rattle.kmc_count.specs.Occurrences.{occurrences}
 use Rattle.kmc_count.specs.Dump.{IsDump}
-use Rattle.kmc_count.proofs.PassedOn.{passed_on}
+use Rattle.kmc_count.specs.Lemmas.PassedOn.{passed_on}
 use Rattle.kmc_plain.proofs.Counting.{body_fits, body_dump}
 use Rattle.kmc_plain.proofs.bin_count.count_words.Goals as goal
 

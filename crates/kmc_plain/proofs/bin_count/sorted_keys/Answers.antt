@@ -2,7 +2,7 @@ use Rattle.std.proofs.Common.{◌≡◌, ◌++◌, map, subst, ap, ◌∙◌}
 use Rattle.std.specs.List.Sorted.{IsPermutation}
 use Rattle.kmc_base.specs.Packed.{pack}
 use Rattle.kmc_record.specs.RecordWords.{record_keys}
-use Rattle.kmc_count.proofs.PassedOn.{passed_on}
+use Rattle.kmc_count.specs.Lemmas.PassedOn.{passed_on}
 use Rattle.kmc_plain.proofs.bin_count.sorted_keys.Goals as goal
 
 pub returns-in_err-push_body-clause-damaged : goal.returns-in_err-push_body-clause-damaged

@@ -7,7 +7,7 @@ use Rattle.kmc_base.specs.Places.{counted_words}
 use Rattle.kmc_base.specs.Strands.{placed_key}
 use Rattle.kmc_count.specs.Occurrences.{occurrences}
 use Rattle.kmc_count.specs.Dump.{IsDump}
-use Rattle.kmc_count.proofs.KeysOfReads.{keys_of_reads, sorted_fit, sorted_occurrences, of_reads}
+use Rattle.kmc_count.specs.Lemmas.KeysOfReads.{keys_of_reads, sorted_fit, sorted_occurrences, of_reads}
 use Rattle.kmc_plain.proofs.GatheredKeys.{keys_of_reads_are_words, read_added}
 use Rattle.kmc_plain.proofs.direct.count_at.Goals as goal
 

@@ -1,6 +1,6 @@
 use Rattle.std.proofs.Common.{◌≡◌, take, map}
 use Rattle.kmc_base.specs.Packed.{pack}
-use Rattle.kmc_count.proofs.KeysOfReads.{keys_of_reads}
+use Rattle.kmc_count.specs.Lemmas.KeysOfReads.{keys_of_reads}
 use Rattle.kmc_plain.proofs.direct.count_at.Given as goal
 
 -- the keys of the reads so far

@@ -2,7 +2,7 @@ use Rattle.std.proofs.Common.{ℕ, List, rules}
 use Rattle.std.specs.Ordering.{is_lt}
 use Rattle.std.proofs.lemmas.List.Sorted.{ranks_by, answers_always}
 use Rattle.kmc_base.specs.Words.{kmer_cmp}
-use Rattle.kmc_count.proofs.Listing.{kmer_total}
+use Rattle.kmc_count.specs.Lemmas.Listing.{kmer_total}
 use Rattle.kmc_plain.proofs.merge.sort_pairs.Goals as goal
 
 pub returns-clause-sorted : goal.returns-clause-sorted

@@ -1,6 +1,6 @@
 use Rattle.std.proofs.Common.{map, subst}
 use Rattle.kmc_count.specs.Dump.{IsDump}
-use Rattle.kmc_count.proofs.PackedRuns.{once_each, once_fit}
+use Rattle.kmc_count.specs.Lemmas.PackedRuns.{once_each, once_fit}
 use Rattle.kmc_plain.proofs.words.tally_words.Goals as goal
 
 pub tally-requires-clause-fit : goal.tally-requires-clause-fit

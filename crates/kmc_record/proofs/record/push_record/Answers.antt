@@ -3,7 +3,7 @@ use Rattle.std.proofs.lemmas.List.{length-take-le, get_or-take}
 use Rattle.kmc_base.specs.Lemmas.Packs.{AreCodes}
 use Rattle.kmc_base.specs.Lemmas.Rolling.{codes_front, roll_start, step_at, byte_step, fits_at}
 use Rattle.kmc_record.specs.Record.{codes_in}
-use Rattle.kmc_record.proofs.Codes.{are_codes, length_codes, byte_codes, at}
+use Rattle.kmc_record.specs.Lemmas.Codes.{are_codes, length_codes, byte_codes, at}
 use Rattle.kmc_record.proofs.Filling.{fits, top_room, held_first, held_more, held_all, behind_bytes}
 use Rattle.kmc_record.proofs.record.push_record.Goals as goal
 

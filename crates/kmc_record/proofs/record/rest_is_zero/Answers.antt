@@ -2,7 +2,7 @@ use Rattle.std.proofs.Common.{◌≡◌, ℕ, ◌+◌, ◌*◌, ◌-◌, ◌%◌
 use Rattle.std.proofs.lemmas.Bool.Decides.{nat_tests}
 use Rattle.std.proofs.lemmas.List.{get_or-drop, get_or_default}
 use Rattle.kmc_record.specs.Record.{codes_in}
-use Rattle.kmc_record.proofs.Codes.{length_codes, at, low_mask, lowest_zero, lowest_some}
+use Rattle.kmc_record.specs.Lemmas.Codes.{length_codes, at, low_mask, lowest_zero, lowest_some}
 use Rattle.kmc_record.proofs.record.rest_is_zero.Goals as goal
 
 is_zero : (x y : ℕ) → x ≡ y → nat_eq x 0 ≡ true → y ≡ 0

@@ -2,7 +2,7 @@ use Rattle.std.proofs.Common.{◌≡◌, ℕ, ◌/◌, ◌%◌, ◌^◌, List, �
 use Rattle.std.specs.Int.{bytes_high_first}
 use Rattle.kmc_record.specs.Record.{codes_in}
 use Rattle.kmc_record.specs.RecordKeys.{symbols_of}
-use Rattle.kmc_record.proofs.KeyBytes.{codes_of_halves, halves_joined}
+use Rattle.kmc_record.specs.Lemmas.KeyBytes.{codes_of_halves, halves_joined}
 use Rattle.kmc_record.proofs.record_key.key_bytes.Goals as goal
 
 pub returns : goal.returns

@@ -7,7 +7,7 @@ use Rattle.kmc_base.specs.Lemmas.Packs.{AreCodes}
 use Rattle.kmc_base.specs.Lemmas.Rolling.{codes_front}
 use Rattle.kmc_record.specs.Record.{codes_in}
 use Rattle.kmc_record.specs.RecordKeys.{codes_of, symbols_of}
-use Rattle.kmc_record.proofs.Codes.{are_codes, length_codes}
+use Rattle.kmc_record.specs.Lemmas.Codes.{are_codes, length_codes}
 use Rattle.kmc_record.proofs.Laying.{laid, symbols_laid, laid_fits, laid_shifted, key_fits, codes_key}
 use Rattle.kmc_record.proofs.record_key.record_key.Goals as goal
 

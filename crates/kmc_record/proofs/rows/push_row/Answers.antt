@@ -1,7 +1,7 @@
 use Rattle.std.proofs.Common.{◌≡◌, ◌-◌, ◌*◌, ◌%◌, ◌^◌, ◌<◌, ◌≤◌, arith}
 use Rattle.std.proofs.lemmas.Nat.{one_shl}
 use Rattle.kmc_base.specs.Lemmas.Weights.{pow_two_some}
-use Rattle.kmc_record.proofs.Gaining.{gains_words, gains_more, row_words}
+use Rattle.kmc_record.specs.Lemmas.Gaining.{gains_words, gains_more, row_words}
 use Rattle.kmc_record.proofs.rows.push_row.Goals as goal
 
 pub loop-left-preserved : goal.loop-left-preserved

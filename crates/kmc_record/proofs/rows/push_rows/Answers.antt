@@ -1,7 +1,7 @@
 use Rattle.std.proofs.Common.{◌≡◌, ◌+◌, ◌<◌, [], length, map, drop, get_or, subst, sym, arith, drop_of_length-le}
 use Rattle.std.proofs.lemmas.List.Elements.{All-rest}
 use Rattle.kmc_record.specs.RecordKeys.{IsRecordKey}
-use Rattle.kmc_record.proofs.Gaining.{IsOpenRow, row_goes_on, row_ends, last_row}
+use Rattle.kmc_record.specs.Lemmas.Gaining.{IsOpenRow, row_goes_on, row_ends, last_row}
 use Rattle.kmc_record.proofs.rows.push_rows.Goals as goal
 use Rattle.kmc_record.proofs.rows.push_rows.Goals.{then-next-key, else-next-key+in_ok-push_row}
 

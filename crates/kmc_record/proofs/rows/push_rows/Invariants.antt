@@ -1,6 +1,6 @@
 use Rattle.std.proofs.Common.{◌+◌, ◌≤◌, drop, map}
 use Rattle.kmc_record.specs.RecordKeys.{IsRecordKey}
-use Rattle.kmc_record.proofs.Gaining.{IsOpenRow}
+use Rattle.kmc_record.specs.Lemmas.Gaining.{IsOpenRow}
 use Rattle.kmc_record.proofs.rows.push_rows.Given as goal
 
 abbrev pub invariant-loop-next : goal.invariant-loop-next

@@ -3,7 +3,7 @@ use Rattle.std.proofs.lemmas.List.{take_rest}
 use Rattle.kmc_record.specs.Record.{codes_in}
 use Rattle.kmc_record.specs.RecordKeys.{IsTaken}
 use Rattle.kmc_record.proofs.Spelled.{AreBytes, bytes_each}
-use Rattle.kmc_record.proofs.Taken.{none_taken}
+use Rattle.kmc_record.specs.Lemmas.Taken.{none_taken}
 use Rattle.kmc_record.proofs.Whole.{begins_here, bytes_drop, next_body, first_codes}
 use Rattle.kmc_record.proofs.taking.take_body.Goals as goal
 

@@ -4,8 +4,8 @@ use Rattle.kmc_base.specs.Lemmas.Rolling.{codes_front}
 use Rattle.kmc_base.specs.Lemmas.Weights.{pow_two_some}
 use Rattle.kmc_record.specs.Record.{codes_in}
 use Rattle.kmc_record.specs.RecordKeys.{IsTaken}
-use Rattle.kmc_record.proofs.Codes.{are_codes, length_codes}
-use Rattle.kmc_record.proofs.Taken.{IsRecord, key_taken, words_taken}
+use Rattle.kmc_record.specs.Lemmas.Codes.{are_codes, length_codes}
+use Rattle.kmc_record.specs.Lemmas.Taken.{IsRecord, key_taken, words_taken}
 use Rattle.kmc_record.proofs.taking.take_record.Goals as goal
 
 inside_of : (bs : List ℕ) (n : ℕ) → length bs ≡ (n + 3) / 4 → n ≤ 4 * length bs

@@ -3,8 +3,8 @@ use Rattle.std.proofs.Math.Seq.{take-append_seam}
 use Rattle.std.proofs.lemmas.Grind.{common_steps}
 use Rattle.kmc_split.specs.Cut.{AreRuns}
 use Rattle.kmc_split.specs.Minima.{low}
-use Rattle.kmc_split.proofs.Lowest.{lows_fit, fits_most}
-use Rattle.kmc_split.proofs.Least.{cut_is}
+use Rattle.kmc_split.specs.Lemmas.Lowest.{lows_fit, fits_most}
+use Rattle.kmc_split.specs.Lemmas.Least.{cut_is}
 use Rattle.kmc_split.proofs.Kept.{words_are, runs_are}
 use Rattle.kmc_split.proofs.cutting.cut.Goals as goal
 

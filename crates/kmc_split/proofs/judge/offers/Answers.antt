@@ -1,6 +1,6 @@
 use Rattle.std.proofs.Common.{◌<◌, length, slice_index, arith, ◌∙◌}
 use Rattle.kmc_base.specs.Words.{window}
-use Rattle.kmc_split.proofs.Least.{packed_offer_is}
+use Rattle.kmc_split.specs.Lemmas.Least.{packed_offer_is}
 use Rattle.kmc_split.proofs.judge.offers.Goals as goal
 
 pub returns-clause-each : goal.returns-clause-each

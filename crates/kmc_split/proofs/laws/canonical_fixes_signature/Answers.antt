@@ -1,6 +1,6 @@
 use Rattle.std.proofs.Common.{ℕ, ◌<◌}
 use Rattle.std.proofs.lemmas.List.Elements.{recursion_from_All}
-use Rattle.kmc_split.proofs.BothStrands.{canonical_fixes}
+use Rattle.kmc_split.specs.Lemmas.BothStrands.{canonical_fixes}
 use Rattle.kmc_split.proofs.laws.canonical_fixes_signature.Goals as goal
 
 pub returns : goal.returns

@@ -1,4 +1,4 @@
-use Rattle.kmc_split.proofs.Least.{signature_le}
+use Rattle.kmc_split.specs.Lemmas.Least.{signature_le}
 use Rattle.kmc_split.proofs.laws.signature_fits.Goals as goal
 
 pub returns : goal.returns

@@ -1,6 +1,6 @@
 use Rattle.std.proofs.Common.{ℕ, ◌<◌}
 use Rattle.std.proofs.lemmas.List.Elements.{recursion_from_All}
-use Rattle.kmc_split.proofs.BothStrands.{strands_share}
+use Rattle.kmc_split.specs.Lemmas.BothStrands.{strands_share}
 use Rattle.kmc_split.proofs.laws.strands_share_signature.Goals as goal
 
 pub returns : goal.returns

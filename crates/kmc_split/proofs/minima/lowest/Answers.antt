@@ -1,5 +1,5 @@
 use Rattle.std.proofs.Common.{ℕ, min, slice_index, ap, sym, ◌∙◌, arith}
-use Rattle.kmc_split.proofs.Lowest.{low_last}
+use Rattle.kmc_split.specs.Lemmas.Lowest.{low_last}
 use Rattle.kmc_split.proofs.minima.lowest.Goals as goal
 
 pub loop-i-preserved : goal.loop-i-preserved

@@ -1,6 +1,6 @@
 use Rattle.std.proofs.Common.{◌≡◌, ℕ, ◌+◌, ◌<◌, length, slice_index, min, ◌-◌, List, Vec, Global, ap, ◌∙◌, arith}
 use Rattle.std.proofs.lemmas.List.{with_items_is}
-use Rattle.kmc_split.proofs.Lowest.{low_join}
+use Rattle.kmc_split.specs.Lemmas.Lowest.{low_join}
 use Rattle.kmc_split.proofs.minima.lows.Goals as goal
 
 pub loop-width-preserved : goal.loop-width-preserved

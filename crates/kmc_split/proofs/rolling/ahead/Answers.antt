@@ -1,6 +1,6 @@
 use Rattle.std.proofs.Common.{arith}
 use Rattle.kmc_base.specs.Lemmas.Powers.{masked, low_fits, pow_some}
-use Rattle.kmc_split.proofs.Lowest.{fits_most}
+use Rattle.kmc_split.specs.Lemmas.Lowest.{fits_most}
 use Rattle.kmc_split.proofs.rolling.ahead.Goals as goal
 
 pub overflow_sub-result : goal.overflow_sub-result

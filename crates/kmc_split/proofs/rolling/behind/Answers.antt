@@ -1,6 +1,6 @@
 use Rattle.std.proofs.Common.{◌-◌, ◌*◌, ◌≤◌, arith, le_refl}
 use Rattle.std.proofs.lemmas.Nat.{mul-le}
-use Rattle.kmc_split.proofs.Lowest.{fits_most}
+use Rattle.kmc_split.specs.Lemmas.Lowest.{fits_most}
 use Rattle.kmc_split.proofs.rolling.behind.Goals as goal
 
 pub overflow_mul-result : goal.overflow_mul-result

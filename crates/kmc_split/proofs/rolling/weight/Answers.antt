@@ -1,5 +1,5 @@
 use Rattle.std.proofs.Common.{ℕ, ◌*◌, ap, ◌∙◌, arith, add-one}
-use Rattle.kmc_split.proofs.Lowest.{fits_most}
+use Rattle.kmc_split.specs.Lemmas.Lowest.{fits_most}
 use Rattle.kmc_split.proofs.rolling.weight.Goals as goal
 
 pub overflow_mul-power : goal.overflow_mul-power

@@ -2,7 +2,7 @@ use Rattle.std.proofs.Common.{◌≡◌, ℕ, ◌+◌, ◌*◌, ◌^◌, ◌<◌
 use Rattle.std.proofs.lemmas.List.{take_all, take_more}
 use Rattle.kmc_base.specs.Packed.{unpack}
 use Rattle.kmc_base.specs.Lemmas.Packing.{fits_more, unpack_more}
-use Rattle.kmc_split.proofs.Lowest.{fits_most}
+use Rattle.kmc_split.specs.Lemmas.Lowest.{fits_most}
 use Rattle.kmc_split.proofs.signatures.packed.Goals as goal
 
 -- there is room for one more code

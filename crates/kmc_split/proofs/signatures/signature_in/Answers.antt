@@ -3,8 +3,8 @@ use Rattle.kmc_base.specs.Words.{window}
 use Rattle.kmc_split.specs.Signature.{signature_of}
 use Rattle.kmc_split.specs.Offers.{offer}
 use Rattle.kmc_split.specs.Minima.{low}
-use Rattle.kmc_split.proofs.Lowest.{fits_most}
-use Rattle.kmc_split.proofs.Least.{signature_is, signature_le}
+use Rattle.kmc_split.specs.Lemmas.Lowest.{fits_most}
+use Rattle.kmc_split.specs.Lemmas.Least.{signature_is, signature_le}
 use Rattle.kmc_split.proofs.signatures.signature_in.Goals as goal
 
 -- what the m-mers of a word offer

@@ -1,7 +1,7 @@
 use Rattle.std.proofs.Common.{◌≡◌, ℕ, ◌+◌, ◌-◌, ◌%◌, ◌≤◌, List, length, take, drop, slice_index, ap, sym, ◌∙◌, arith, below_more, rules}
 use Rattle.std.proofs.lemmas.List.{length-take-le, length-drop}
 use Rattle.kmc_split.specs.Minima.{low}
-use Rattle.kmc_split.proofs.Lowest.{low_slice}
+use Rattle.kmc_split.specs.Lemmas.Lowest.{low_slice}
 use Rattle.kmc_split.proofs.super_kmers.lows_in_bin.Goals as goal
 
 -- the least of a part that was cut out

@@ -7,7 +7,7 @@ use Rattle.std.proofs.lemmas.List.Sorted.{sum_by-IsPermutation, All-permutation}
 use Rattle.std.specs.List.Sorted.{IsPermutation}
 use Rattle.kmc_base.specs.Packed.{pack, unpack}
 use Rattle.kmc_base.specs.Lemmas.Keys.{AreWords, unpack_all, packs_fit}
-use Rattle.kmc_count.proofs.PackedRuns.{occurrences_packed}
+use Rattle.kmc_count.specs.Lemmas.PackedRuns.{occurrences_packed}
 use Rattle.kmc_base.specs.declared.strands.Strands.{Strands}
 use Rattle.kmc_base.specs.Places.{word_at, counted_words}
 use Rattle.kmc_base.specs.Strands.{key, placed_key}

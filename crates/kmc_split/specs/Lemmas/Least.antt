@@ -11,7 +11,7 @@ use Rattle.kmc_split.specs.Signature.{is_allowed, least, signature_of}
 use Rattle.kmc_split.specs.Offers.{offer, packed_offer}
 use Rattle.kmc_split.specs.Minima.{low}
 use Rattle.kmc_base.specs.Lemmas.Windows.{length_window}
-use Rattle.kmc_split.proofs.Lowest.{low_shift}
+use Rattle.kmc_split.specs.Lemmas.Lowest.{low_shift}
 
 least_le : (most : ℕ) (xs : List ℕ) → least most xs ≤ most
 least_le most [] = le_refl most

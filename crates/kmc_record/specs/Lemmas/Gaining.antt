@@ -11,7 +11,7 @@ use Rattle.kmc_base.specs.Strands.{keys}
 use Rattle.kmc_base.specs.Weights.{item, items, item_weight, weighted, worth, AreItems}
 use Rattle.kmc_record.specs.RecordKeys.{codes_of, key_words, Gains}
 use Rattle.kmc_base.specs.Lemmas.Keys.{AreWords, keys_are_words}
-use Rattle.kmc_record.proofs.KeyBytes.{are_codes}
+use Rattle.kmc_record.specs.Lemmas.KeyBytes.{are_codes}
 use Rattle.kmc_base.specs.Lemmas.Packs.{pack_fits, unpack_pack}
 
 module _ (k f : ℕ) where

@@ -13,8 +13,8 @@ use Rattle.kmc_base.specs.Lemmas.Keys.{keys_are_words}
 use Rattle.kmc_base.specs.Lemmas.Packs.{AreCodes}
 use Rattle.kmc_record.specs.RecordWords.{record_keys}
 use Rattle.kmc_record.specs.RecordKeys.{codes_of, symbols_of, key_words, IsRecordKey, IsTaken}
-use Rattle.kmc_record.proofs.Gaining.{gains_words}
-use Rattle.kmc_record.proofs.Turned.{canonical_words}
+use Rattle.kmc_record.specs.Lemmas.Gaining.{gains_words}
+use Rattle.kmc_record.specs.Lemmas.Turned.{canonical_words}
 
 -- the codes of a record of at least one word
 pub record IsRecord (k : ℕ) (s : List ℕ) : Type 0 where

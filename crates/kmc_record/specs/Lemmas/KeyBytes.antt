@@ -14,7 +14,7 @@ use Rattle.kmc_base.specs.Lemmas.Packs.{AreCodes, codes_append}
 use Rattle.kmc_base.specs.Lemmas.Powers.{pow_some}
 use Rattle.kmc_record.specs.Record.{quarters, codes_in}
 use Rattle.kmc_record.specs.RecordKeys.{codes_of, symbols_of, packed_symbols}
-use Rattle.kmc_record.proofs.Codes.{codes_join}
+use Rattle.kmc_record.specs.Lemmas.Codes.{codes_join}
 
 -- ---- the symbols of a number
 

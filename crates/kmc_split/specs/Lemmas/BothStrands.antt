@@ -8,9 +8,9 @@ use Rattle.kmc_base.specs.Lemmas.Packs.{AreCodes, length_rev_comp, length_canoni
 use Rattle.kmc_base.specs.Lemmas.Rolling.{codes_part}
 use Rattle.kmc_split.specs.Signature.{is_allowed, signature_of}
 use Rattle.kmc_split.specs.Offers.{offer}
-use Rattle.kmc_split.proofs.Lowest.{low_back}
+use Rattle.kmc_split.specs.Lemmas.Lowest.{low_back}
 use Rattle.kmc_base.specs.Lemmas.Windows.{length_window}
-use Rattle.kmc_split.proofs.Least.{signature_is}
+use Rattle.kmc_split.specs.Lemmas.Least.{signature_is}
 
 -- the code at a place of the reverse complement
 code_back : (w : List ℕ) (i : ℕ) (d : ℕ) → i < length w → get_or (rev_comp w) i d ≡ complement (get_or w (length w - 1 - i) 0)

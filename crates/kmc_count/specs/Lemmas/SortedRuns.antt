@@ -7,8 +7,8 @@ use Rattle.kmc_base.specs.Words.{kmer_cmp}
 use Rattle.kmc_count.specs.declared.limits.Limits.{Limits}
 use Rattle.kmc_count.specs.Occurrences.{same_word, weight_of}
 use Rattle.kmc_count.specs.Dump.{keep_pair, words_of, IsDump}
-use Rattle.kmc_count.proofs.Runs.{AreSome, runs_from, runs}
-use Rattle.kmc_count.proofs.Listing.{kept_pairs, listing}
+use Rattle.kmc_count.specs.Lemmas.Runs.{AreSome, runs_from, runs}
+use Rattle.kmc_count.specs.Lemmas.Listing.{kept_pairs, listing}
 
 next_is : (rest : List (List ℕ × ℕ)) (i : ℕ) (p : List ℕ × ℕ) → i < length rest → p ≡ get_or rest i p → drop i rest ≡ p ∷ drop (i + 1) rest
 next_is rest i p inside is = rw add-one (drop-cons rest i p inside ∙ ap (λ (t : List ℕ × ℕ). t ∷ drop (suc i) rest) (sym is))
