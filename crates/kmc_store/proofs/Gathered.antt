@@ -19,7 +19,7 @@ use Rattle.kmc_store.proofs.Ranges.{eq_of, is_eq, only, range_one, below_same, b
 use Rattle.kmc_store.proofs.Cuts.{cut_of, are_cuts, read_records, read_records_are, read_sum, reads_sum}
 use Rattle.kmc_store.proofs.Spelled.{all_flat, all_each, all_filter, records_spelled}
 use Rattle.kmc_store.proofs.Dealt.{chunks_sum, chunk_segments, chunk_part, chunk_parts, gathered_sum}
-use Rattle.kmc_store.proofs.Filling.{body_joined}
+use Rattle.kmc_store.specs.Lemmas.Filling.{body_joined}
 use Rattle.kmc_store.proofs.Held.{sums_held, held_by_sums}
 
 -- no term, no sum

@@ -13,7 +13,7 @@ use Rattle.kmc_record.specs.Laws.{BodyHasOneList}
 use Rattle.kmc_store.specs.Bins.{BinList, body_at, empty_bins, Merged}
 use Rattle.kmc_store.specs.Holds.{HoldsReads}
 use Rattle.kmc_store.specs.Lemmas.Sums.{sum_map}
-use Rattle.kmc_store.proofs.Filling.{body_joined}
+use Rattle.kmc_store.specs.Lemmas.Filling.{body_joined}
 use Rattle.kmc_store.proofs.Cuts.{one_cuts, cut_of, are_cuts, read_records_are, read_sum, reads_sum}
 
 module _ (exists : CutExists) (unique : CutIsUnique) (shape : Sizes) where

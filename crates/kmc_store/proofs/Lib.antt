@@ -1,5 +1,3 @@
-pub mod Places
-pub mod Filling
 pub mod Ranges
 pub mod Cuts
 pub mod Spelled

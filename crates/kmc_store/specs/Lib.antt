@@ -1,5 +1,6 @@
 pub mod Bins
 pub mod Bodies
+pub mod Outside
 pub mod Holds
 pub mod Deals
 pub mod Growing

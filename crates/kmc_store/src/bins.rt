@@ -1,8 +1,10 @@
 //! Bins in memory.
-ghost use Rattle.std.specs.Prelude.{◌≡◌, ◌<◌, map, slice_index, OnOk, OnErr, IfOk, IfErr};
+ghost use Rattle.std.specs.Prelude.{◌≡◌, ◌<◌, length, map, slice_index, OnOk, OnErr, IfOk, IfErr};
 ghost use Rattle.kmc_store.specs.Bins.{BinList, AreBins, body_at, empty_bins, Absorbed, Merged};
+ghost use Rattle.kmc_store.specs.Outside.{IsBinFault};
 
 use crate::growth::{add_words, append_bodies, make_room};
+use crate::judging::{BinFault, count_bins};
 use kmc_record::{Part, Shape};
 use std::alloc::{AllocError, Global};
 use std::marker::Model;
@@ -37,6 +39,21 @@ impl Bins {
             bodies.push(Vec::new(alloc))?;
             words.push(0)?;
         }
+        Ok(Bins {
+            shape,
+            bodies,
+            words,
+        })
+    }
+
+    /// Bins of a shape with these bodies, where each is whole records whose words belong to its bin; else the first fault.
+    pub fn from_bodies(alloc: Global, shape: Shape, bodies: Vec<Vec<u8>>) -> Result<Bins, BinFault>
+        requires { length bodies.items ≡ shape.n }
+        ensures shape { IfOk result (λ b. b.shape ≡ shape) }
+        ensures bodies { IfOk result (λ b. b.bodies ≡ map (λ v. v.items) bodies.items) }
+        ensures first { IfErr result (IsBinFault shape (map (λ v. v.items) bodies.items)) }
+    {
+        let words = count_bins(alloc, shape, &bodies)?;
         Ok(Bins {
             shape,
             bodies,

@@ -6,6 +6,8 @@
 
 mod bins;
 mod growth;
+mod judging;
 pub mod laws;
 
 pub use bins::Bins;
+pub use judging::BinFault;

@@ -18,7 +18,7 @@ use Rattle.kmc_record.specs.Parts.{all_windows}
 use Rattle.kmc_record.specs.Laws.{BodyHasOneList}
 use Rattle.kmc_store.specs.Bins.{AreBins, body_at}
 use Rattle.kmc_count.specs.Merge.{AreApart}
-use Rattle.kmc_count.proofs.Zips.{zip_at}
+use Rattle.kmc_count.specs.Lemmas.Zips.{zip_at}
 use Rattle.kmc_tool.proofs.Counting.{keys_windows}
 
 -- the words of records are words

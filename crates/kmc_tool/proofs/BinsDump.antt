@@ -51,33 +51,25 @@ pub record AreCounted (strands : Strands) (k : ℕ) (l : Limits) (bodies : List 
   pub dumps : AreDumps l (map (record_keys strands k) super_kmers) lists
   pub apart : AreApart (map (record_keys strands k) super_kmers)
 
-some_least : (p k : ℕ) → 5 ≤ p → 1 ≤ k → 1 ≤ min p k
-some_least p k hp hk = omega arith
+module _ (share : BinsShareNoKey) (keyed : DumpsOfBodiesAreOfKeys) (strands : Strands) (l : Limits) (shape : Sizes) (some : 1 ≤ shape.m)
+    (within : shape.m ≤ shape.k) where
+  counted : (given bodies : List (List ℕ)) (words : List ℕ) (lists : List (List (List ℕ × ℕ))) → AreBins shape bodies words → given ≡ bodies
+      → AreDumpsOfBodies strands shape.k l given lists → AreCounted strands shape.k l bodies lists
+  counted given bodies words lists are same dumped =
+      let dumps = subst (λ (b : List (List ℕ)). AreDumpsOfBodies strands shape.k l b lists) same dumped in
+      let all = whole_lists strands shape.k l bodies lists dumps in
+      record {
+        super_kmers = all.0;
+        records = all.1;
+        dumps = keyed strands shape.k l bodies all.0 lists dumps all.1;
+        apart = share strands shape bodies words all.0 some within are all.1;
+      }
 
-least_within : (p k : ℕ) → min p k ≤ k
-least_within p k = omega arith
-
-pub counted : BinsShareNoKey → DumpsOfBodiesAreOfKeys → (strands : Strands) (k p n : ℕ) (l : Limits) (shape : Sizes) (given bodies : List (List ℕ))
-    (words : List ℕ) (lists : List (List (List ℕ × ℕ)))
-    → 1 ≤ k → 5 ≤ p → shape ≡ record { k = k; m = min p k; n = n } → AreBins shape bodies words → given ≡ bodies
-    → AreDumpsOfBodies strands k l given lists → AreCounted strands k l bodies lists
-counted share keyed strands k p n l shape given bodies words lists some_k some_p shaped are same dumped =
-    let dumps = subst (λ (b : List (List ℕ)). AreDumpsOfBodies strands k l b lists) same dumped in
-    let own = subst (λ (s : Sizes). AreBins s bodies words) shaped are in
-    let whole = whole_lists strands k l bodies lists dumps in
-    record {
-      super_kmers = whole.0;
-      records = whole.1;
-      dumps = keyed strands k l bodies whole.0 lists dumps whole.1;
-      apart = share strands record { k = k; m = min p k; n = n } bodies words whole.0 (some_least p k some_p some_k) (least_within p k) own whole.1;
-    }
-
--- the lists of bins can be merged, and their whole is the dump of all bins
-pub listed : BinsShareNoKey → DumpsOfBodiesAreOfKeys → PackedDumpsAreOne → (strands : Strands) (k p n : ℕ) (l : Limits) (shape : Sizes)
-    (given bodies : List (List ℕ)) (words : List ℕ) (lists : List Listed)
-    → 1 ≤ k → 5 ≤ p → shape ≡ record { k = k; m = min p k; n = n } → AreBins shape bodies words → given ≡ bodies → AreListsOfBodies strands k l given lists
-    → CanBeMerged k lists × IsDumpOfBins strands k l bodies (spelled k (whole lists))
-listed share keyed packed strands k p n l shape given bodies words lists some_k some_p shaped are same h =
-    let done = counted share keyed strands k p n l shape given bodies words (map pairs_of lists) some_k some_p shaped are same h.dumps in
-    let made = packed l k (map (record_keys strands k) done.super_kmers) lists h.each done.dumps done.apart in
-    (made.0, record { super_kmers = done.super_kmers; records = done.records; dump = made.1 })
+  -- the lists of bins can be merged, and their whole is the dump of all bins
+  pub listed : PackedDumpsAreOne → (given bodies : List (List ℕ)) (words : List ℕ) (lists : List Listed) → AreBins shape bodies words → given ≡ bodies
+      → AreListsOfBodies strands shape.k l given lists
+      → CanBeMerged shape.k lists × IsDumpOfBins strands shape.k l bodies (spelled shape.k (whole lists))
+  listed packed given bodies words lists are same h =
+      let done = counted given bodies words (map pairs_of lists) are same h.dumps in
+      let made = packed l shape.k (map (record_keys strands shape.k) done.super_kmers) lists h.each done.dumps done.apart in
+      (made.0, record { super_kmers = done.super_kmers; records = done.records; dump = made.1 })

@@ -23,7 +23,7 @@ use Rattle.kmc_store.specs.Holds.{HoldsReads}
 use Rattle.kmc_store.specs.Lemmas.Sums.{sum_same, sum_none, sum_add, sum_map, sum_flat_map, sum_filter}
 use Rattle.kmc_count.specs.Occurrences.{occurrences}
 use Rattle.kmc_count.specs.Merge.{joined}
-use Rattle.kmc_count.proofs.Zips.{zip_at}
+use Rattle.kmc_count.specs.Lemmas.Zips.{zip_at}
 use Rattle.kmc_workers.specs.Lemmas.Places.{sum_places}
 use Rattle.kmc_tool.proofs.Summed.{sum_range, sum_once, sum_swap, occurs_flat}
 

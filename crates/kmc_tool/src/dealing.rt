@@ -16,14 +16,17 @@ use std::mem::replace;
 use std::sync::Wait;
 use std::thread::Threads;
 
-/// How reads are dealt: by the settings of a run, and each as its pieces of at most so many symbols, with the source of the
-/// memory for them. The gate is told of the points that their parts pass.
+/// How the reads of each round are dealt to the splitters. `PIECE_SYMBOLS` and `NoGate` are what a run takes.
 #[derive(Drop)]
-pub(crate) struct Dealing<'a, G> {
-    pub(crate) alloc: Global,
-    pub(crate) params: Params,
-    pub(crate) limit: usize,
-    pub(crate) gate: &'a G,
+pub struct Dealing<'a, G> {
+    /// The source of the memory for pieces and records.
+    pub alloc: Global,
+    /// The settings of the run.
+    pub params: Params,
+    /// A read is dealt as its pieces of at most so many symbols, and at least of the symbols of a word.
+    pub limit: usize,
+    /// It is told of the points that the parts of the reads pass.
+    pub gate: &'a G,
     pub ghost some: { params.k ≤ limit },
 }
 

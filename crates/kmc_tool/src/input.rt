@@ -20,7 +20,7 @@ use std::thread::Threads;
 pub const PIECE_SYMBOLS: usize = 1 << 16;
 
 /// So many reads of a reader may give bytes.
-pub(crate) const MOST_READS: u64 = 1 << 32;
+pub const MOST_READS: u64 = 1 << 32;
 
 /// Reads all that the reader gives and counts its reads: lists of bins whose pairs, in the order of the words, are the dump
 /// of the direct count. A faulty text is refused once its first faulty line was read.

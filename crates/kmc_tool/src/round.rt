@@ -48,7 +48,8 @@ fn read_and_feed<R: Read>(reader: &mut Counted<R>, feeder: &mut Feeder) -> Resul
 }
 
 /// Reads and feeds until so many reads wait, or their symbols or those of an open read fill a round, or the text ends. The answer is whether
-/// it goes on. No read is made once `most` of them gave bytes: then the input is too long.
+/// it goes on. No read is made once `most` of them gave bytes: then the input is too long. A faulty text is refused with its first
+/// fault, as soon as the line is read that has it.
 pub fn fill_round<R: Read>(
     reader: &mut Counted<R>,
     feeder: &mut Feeder,

@@ -1,5 +1,5 @@
 //! The reads of a text, a round at a time, into bins: a round is cut in threads while the caller's thread reads on.
-ghost use Rattle.std.specs.Prelude.{◌≡◌, ℕ, ◌+◌, ◌-◌, ◌^◌, ◌<◌, ◌≤◌, List, ◌++◌, false, IfOk, IfErr, OnOk, Ok};
+ghost use Rattle.std.specs.Prelude.{◌≡◌, ◌≢◌, ℕ, ◌+◌, ◌-◌, ◌*◌, ◌^◌, ◌<◌, ◌≤◌, min, List, ◌++◌, false, IfOk, IfErr, OnOk, Ok};
 ghost use Rattle.std.specs.Io.KnownBytes.{IsAtEnd};
 ghost use Rattle.kmc_reads.specs.declared.format.Format.{Format};
 ghost use Rattle.kmc_reads.specs.Cuts.{AreCut};
@@ -22,13 +22,19 @@ use std::io::Read;
 use std::sync::Wait;
 use std::thread::{Threads, join_mut};
 
-/// So many reads fill a round.
-fn round_of(params: &Params) -> usize {
+/// So many reads fill a round: a chunk for each splitter, as far as a `usize` tells.
+pub fn round_of(params: &Params) -> usize
+    ensures { result ≡ min (params.now.sp * params.now.batch) (2 ^ 64 - 1) }
+{
     params.sp.saturating_mul(params.batch)
 }
 
-/// A round is added to the bins in threads, while this thread reads and feeds the next one.
-fn feed_round<T: Threads + Wait + Sync, R: Read, G: Gate + Sync>(
+/// A round, the reads that were taken out of the feeder last, is added in threads to the bins, which are of the shape of the
+/// settings; meanwhile this thread reads and feeds the next round, as [`fill_round`](crate::fill_round) does. Both end before
+/// this does. The first answer is that of the bins, which hold the round's reads too, each as its pieces of at most `limit`
+/// symbols, or were refused memory, and then what they held may be lost. The second is that of the reading: whether the text
+/// goes on. Where the one is a refusal the other may be none.
+pub fn feed_round<T: Threads + Wait + Sync, R: Read, G: Gate + Sync>(
     rt: &T,
     bins: &mut Bins,
     round: &Reads,
@@ -79,8 +85,11 @@ fn feed_round<T: Threads + Wait + Sync, R: Read, G: Gate + Sync>(
     )
 }
 
-/// The text ends here: the reads that are left go into the bins.
-fn last_round<T: Threads + Wait + Sync, G: Gate + Sync>(
+/// The text ends here, where the reader gave all that it has: the feeder ends, and the reads that it still has go into the
+/// bins, each as its pieces. With those that were taken before they are the reads of the text, whatever the bins held: these
+/// go on with bins of the earlier rounds, or begin with none. It fails where the text is no list of reads, or for want of
+/// memory.
+pub fn last_round<T: Threads + Wait + Sync, G: Gate + Sync>(
     rt: &T,
     bins: Bins,
     feeder: Feeder,
@@ -88,16 +97,17 @@ fn last_round<T: Threads + Wait + Sync, G: Gate + Sync>(
 ) -> Result<Bins, RunError>
     requires { bins.shape ≡ shape_of dealing.now.params }
     ensures shape { IfOk result (λ b. b.shape ≡ shape_of dealing.now.params) }
-    ensures holds { (format : Format) (text : List ℕ) (taken : List (List ℕ))
+    ensures holds { (format : Format) (text : List ℕ) (taken held : List (List ℕ))
         → StandsCut (dealing.now.params.k - 1) format text taken feeder
-        → HoldsPieces (shape_of dealing.now.params) dealing.now.limit taken bins.bodies
+        → HoldsPieces (shape_of dealing.now.params) dealing.now.limit held bins.bodies
         → IfOk result
-        (λ b. (reads cuts : List (List ℕ)) × (reads_of format text ≡ Ok reads)
-        × AreCut (dealing.now.params.k - 1) reads cuts
-        × HoldsPieces (shape_of dealing.now.params) dealing.now.limit cuts b.bodies) }
+        (λ b. (reads last : List (List ℕ)) × (reads_of format text ≡ Ok reads)
+        × AreCut (dealing.now.params.k - 1) reads (taken ++ last)
+        × HoldsPieces (shape_of dealing.now.params) dealing.now.limit (held ++ last) b.bodies) }
     ensures cause { (format : Format) (text : List ℕ) (taken : List (List ℕ))
         → StandsCut (dealing.now.params.k - 1) format text taken feeder
         → IfErr result (IsLastError format text) }
+    ensures silent { IfErr result (λ e. e ≢ RunError.Write) }
 {
     let reads = match feeder.finish() {
         Ok(reads) => reads,

@@ -1,6 +1,6 @@
 use Rattle.std.proofs.Common.{◌∙◌, arith, rules}
 use Rattle.std.proofs.lemmas.List.{length-set}
-use Rattle.kmc_store.proofs.Places.{left_more, appended_more}
+use Rattle.kmc_store.specs.Lemmas.Places.{left_more, appended_more}
 use Rattle.kmc_store.proofs.growth.append_bodies.Goals as goal
 
 pub loop-i-preserved : goal.loop-i-preserved

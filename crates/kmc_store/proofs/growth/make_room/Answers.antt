@@ -1,6 +1,6 @@
 use Rattle.std.proofs.Common.{length, ap, ◌∙◌, arith}
 use Rattle.std.proofs.lemmas.List.{length-set}
-use Rattle.kmc_store.proofs.Places.{set_keeps, room_more}
+use Rattle.kmc_store.specs.Lemmas.Places.{set_keeps, room_more}
 use Rattle.kmc_store.proofs.growth.make_room.Goals as goal
 
 pub returns-in_err-make_room_for-clause-kept : goal.returns-in_err-make_room_for-clause-kept

@@ -1,7 +1,7 @@
 use Rattle.std.proofs.Common.{◌+◌, ◌++◌, Ok, true, false, refl, sym, subst, ◌∙◌, arith}
 use Rattle.kmc_tool.specs.Rounds.{AreCounts, IsFedBy}
-use Rattle.kmc_tool.proofs.Causes.{same_err}
-use Rattle.kmc_tool.proofs.Fed.{fed_none, fed_on, fed_by}
+use Rattle.kmc_tool.specs.Lemmas.Causes.{same_err}
+use Rattle.kmc_tool.specs.Lemmas.Fed.{fed_none, fed_on, fed_by}
 use Rattle.kmc_tool.proofs.round.fill_round.Goals as goal
 
 pub loop-init : goal.loop-init

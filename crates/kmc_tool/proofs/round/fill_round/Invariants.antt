@@ -1,5 +1,5 @@
 use Rattle.std.proofs.Common.{◌≤◌}
-use Rattle.kmc_tool.proofs.Fed.{IsUnderWay}
+use Rattle.kmc_tool.specs.Lemmas.Fed.{IsUnderWay}
 use Rattle.kmc_tool.proofs.round.fill_round.Given as goal
 
 abbrev pub invariant-loop : goal.invariant-loop

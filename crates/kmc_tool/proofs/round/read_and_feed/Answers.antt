@@ -1,6 +1,6 @@
 use Rattle.std.proofs.Common.{rules, ◌≡◌, ◌≢◌, ◌<◌, ◌+◌, length, take}
 use Rattle.kmc_reads.specs.declared.error.ReadsError.TheVariants.{Memory}
-use Rattle.kmc_tool.proofs.Fed.{reads_many, refused_for_good}
+use Rattle.kmc_tool.specs.Lemmas.Fed.{reads_many, refused_for_good}
 use Rattle.kmc_tool.proofs.round.read_and_feed.Goals as goal
 
 pub returns-in-Ok-feed-clause-fed : goal.returns-in-Ok-feed-clause-fed

@@ -4,8 +4,8 @@ use Rattle.kmc_store.specs.Holds.{HoldsReads}
 use Rattle.kmc_tool.specs.Rounds.{AreCounts, AreCountsOf, HoldsPieces, IsFedBy}
 use Rattle.kmc_settings.specs.Shape.{shape_of}
 use Rattle.kmc_tool.specs.declared.error.RunError.TheVariants.{Memory}
-use Rattle.kmc_tool.proofs.Causes.{passed_on}
-use Rattle.kmc_tool.proofs.Fed.{risen, counts_on, fed_on, fed_by, fed_cause, last_bins, last_counts, last_input, memory_on, taken_fed}
+use Rattle.kmc_tool.specs.Lemmas.Causes.{passed_on}
+use Rattle.kmc_tool.specs.Lemmas.Fed.{risen, counts_on, fed_on, fed_by, fed_cause, last_bins, last_counts, last_input, memory_on, taken_fed}
 use Rattle.kmc_tool.proofs.rounds.bins_of_input.Goals as goal
 
 pub returns-in_err-more-clause-cause : goal.returns-in_err-more-clause-cause
@@ -47,7 +47,7 @@ returns-then-not-more-clause-ok g c =
     let st = c.loop.invariant.stored in let p = c.args.params.now in
     last_bins p.format (shape_of p) c.args.limit _ _ c.args.reader.now.reads c.loop.reader.reads st.taken c.loop.feeder c.last_round.result
     st.fed (c.loop.invariant.ended c.if-not-more.true) c.last_round.ensures.shape
-    (c.last_round.ensures.holds p.format st.fed.bytes st.taken st.fed.stands st.holds)
+    (c.last_round.ensures.holds p.format st.fed.bytes st.taken st.taken st.fed.stands st.holds)
 
 pub returns-then-not-more-clause-counts : goal.returns-then-not-more-clause-counts
 returns-then-not-more-clause-counts g c =

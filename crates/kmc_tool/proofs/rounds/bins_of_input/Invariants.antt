@@ -1,7 +1,7 @@
 use Rattle.std.proofs.Common.{◌≡◌, ◌<◌, ◌≤◌, ◌+◌, true, false}
 use Rattle.std.specs.Io.KnownBytes.{IsAtEnd}
 use Rattle.kmc_settings.specs.Shape.{shape_of}
-use Rattle.kmc_tool.proofs.Fed.{AreStored}
+use Rattle.kmc_tool.specs.Lemmas.Fed.{AreStored}
 use Rattle.kmc_tool.proofs.rounds.bins_of_input.Given as goal
 
 abbrev pub invariant-loop : goal.invariant-loop

@@ -1,15 +1,15 @@
-use Rattle.std.proofs.Common.{◌≢◌, ◌-◌, ◌++◌, rules}
+use Rattle.std.proofs.Common.{◌≢◌, ◌-◌, rules}
 use Rattle.kmc_reads.specs.declared.error.ReadsError.TheVariants.{Memory}
 use Rattle.kmc_tool.proofs.rounds.last_round.Goals as goal
 
 pub returns-clause-holds : goal.returns-clause-holds
-returns-clause-holds g c = λ format text taken s h.
+returns-clause-holds g c = λ format text taken held s h.
     let all = c.in-Ok.ensures.cut (c.args.dealing.now.params.k - 1) format text taken s in (
       all.0,
-      taken ++ c.in-Ok.reads,
+      c.in-Ok.reads,
       all.1,
       all.2,
-      c.in_ok-store_round.ensures.holds taken h,
+      c.in_ok-store_round.ensures.holds held h,
     )
 
 pub returns-in-Err-clause-cause : goal.returns-in-Err-clause-cause

@@ -8,9 +8,8 @@ use Rattle.kmc_dump.specs.Lists.{lists_of}
 use Rattle.kmc_dump.specs.Ranges.{whole}
 use Rattle.kmc_tool.specs.Rounds.{IsInputError}
 use Rattle.kmc_tool.specs.Run.{IsWriteError}
-use Rattle.kmc_tool.specs.declared.error.RunError.{RunError}
 use Rattle.kmc_tool.specs.declared.error.RunError.TheVariants as run
-use Rattle.kmc_tool.proofs.Causes.{counted, err_then, kept_by, most_by, no_answer, not_ok, of_err, ok_then, on_ok_then, passed_on, told_of}
+use Rattle.kmc_tool.specs.Lemmas.Causes.{counted, err_then, kept_by, most_by, no_answer, not_ok, of_err, ok_then, on_ok_then, passed_on, told_of}
 use Rattle.kmc_tool.proofs.Written.{is_dump_of, no_input, untouched_but_written}
 use Rattle.kmc_tool.proofs.running.run_with_gate.Goals as goal
 

@@ -4,8 +4,8 @@ use Rattle.std.proofs.lemmas.Grind.{common_steps}
 use Rattle.std.specs.Prelude.{slice_index}
 use Rattle.kmc_record.specs.Parts.{capped}
 use Rattle.kmc_store.specs.Bins.{AreBins, Absorbed}
-use Rattle.kmc_store.proofs.Places.{bytes_of, set_keeps}
-use Rattle.kmc_store.proofs.Filling.{bin_within, bins_absorbed, absorbed_is}
+use Rattle.kmc_store.specs.Lemmas.Places.{bytes_of, set_keeps}
+use Rattle.kmc_store.specs.Lemmas.Filling.{bin_within, bins_absorbed, absorbed_is}
 use Rattle.kmc_store.proofs.bins.Bins.absorb.Goals.{After-saturating_add}
 use Rattle.kmc_store.proofs.bins.Bins.absorb.Goals as goal
 

@@ -4,8 +4,8 @@ use Rattle.std.proofs.lemmas.Grind.{common_steps}
 use Rattle.std.specs.Prelude.{slice_index}
 use Rattle.kmc_record.specs.Parts.{capped}
 use Rattle.kmc_store.specs.Bins.{BinList}
-use Rattle.kmc_store.proofs.Places.{bytes_of, grown_with_room}
-use Rattle.kmc_store.proofs.Filling.{bins_merge, merged_is}
+use Rattle.kmc_store.specs.Lemmas.Places.{bytes_of, grown_with_room}
+use Rattle.kmc_store.specs.Lemmas.Filling.{bins_merge, merged_is}
 use Rattle.kmc_store.proofs.bins.Bins.merge.Goals as goal
 
 pub invariant_of-self-2 : goal.invariant_of-self-2

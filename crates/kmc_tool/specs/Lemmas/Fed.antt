@@ -174,15 +174,15 @@ module _ (overlap : ℕ) (format : Format) (most : ℕ) (old new : Option (List 
 pub last_bins : (format : Format) (shape : Sizes) (limit : ℕ) (old new : Option (List ℕ)) (before after : ℕ) (taken : List (List ℕ))
     (v : FeederState) (r : Result BinList RunError) (f : IsFed (shape.k - 1) format old new before after [] taken v) → IsAtEnd new
     → IfOk r (λ b. b.shape ≡ shape)
-    → IfOk r (λ b. (reads cuts : List (List ℕ)) × (reads_of format f.bytes ≡ Ok reads) × AreCut (shape.k - 1) reads cuts
-    × HoldsPieces shape limit cuts b.bodies)
+    → IfOk r (λ b. (reads last : List (List ℕ)) × (reads_of format f.bytes ≡ Ok reads) × AreCut (shape.k - 1) reads (taken ++ last)
+    × HoldsPieces shape limit (taken ++ last) b.bodies)
     → IfOk r (HoldsInput format shape limit old new)
 last_bins format shape limit old new before after taken v (Ok bins) f end shaped h = record {
   bytes = f.bytes;
   given = (f.given, end);
   reads = h.0;
   are_reads = h.2;
-  cuts = h.1;
+  cuts = taken ++ h.1;
   cut = h.3;
   shaped = shaped;
   holds = h.4;

@@ -13,7 +13,7 @@ use Rattle.kmc_record.specs.Record.{spelling, IsSpelled, IsBodyOf}
 use Rattle.kmc_record.specs.Shapes.{Sizes}
 use Rattle.kmc_record.specs.Parts.{Parcel, IsPart, all_windows, capped}
 use Rattle.kmc_store.specs.Bins.{BinList, body_at, AreBins, Absorbed, Merged}
-use Rattle.kmc_store.proofs.Places.{Bytes, bytes_of, body_is}
+use Rattle.kmc_store.specs.Lemmas.Places.{Bytes, bytes_of, body_is}
 
 -- ---- bodies, one behind the other
 
