@@ -13,7 +13,7 @@ use Rattle.kmc_device.specs.Device.{Watched, RisesByOne}
 use Rattle.kmc_sum.specs.Faults.{GaveFront, IsFaultAt}
 use Rattle.kmc_sum.specs.declared.error.LineFault.{LineFault}
 use Rattle.kmc_sum.specs.declared.error.LineFault.TheVariants.{OtherLength}
-use Rattle.kmc_sum.specs.Sources.{IsSource, AreReady, AreSources, GaveFronts, left_at, list_at, with_first}
+use Rattle.kmc_sum.specs.Sources.{IsSource, AreReady, AreSources, GaveFronts, failures_of, left_at, list_at, with_first}
 use Rattle.kmc_sum.proofs.Gave.{gave_fewer, begins_other}
 use Rattle.kmc_sum.proofs.Trees.{same_winner, least, leaf}
 
@@ -22,9 +22,6 @@ pub source_like : (k : ℕ) (start a b : Option (List ℕ)) (r s : Room) (h g : 
 source_like k start a b r s h g t u ea er eh et source =
     subst (λ x. IsSource k start x s g u) ea (subst (λ x. IsSource k start a x g u) er
     (subst (λ x. IsSource k start a r x u) eh (subst (λ x. IsSource k start a r h x) et source)))
-
-abbrev failures_of : {T : Type 0} → List (Watched T) → List ℕ
-failures_of readers = map (λ w. w.failures) readers
 
 module _ (k n : ℕ) (rooms : List Room) (heads : List Head) (ready : AreReady k n rooms heads) (tree : IsTree heads) (some : 1 ≤ n) where
   abbrev first : ℕ

@@ -95,14 +95,14 @@ module _ (xs : List ℕ) (m value : ℕ) (within : m ≤ length xs) (is : value 
 
 -- ---- a line
 
-not_tab : IsLetter 9 → ⊥
+pub not_tab : IsLetter 9 → ⊥
 not_tab (zero, small, e) = absurd (omega (arith, e))
 not_tab (suc zero, small, e) = absurd (omega (arith, e))
 not_tab (suc (suc zero), small, e) = absurd (omega (arith, e))
 not_tab (suc (suc (suc zero)), small, e) = absurd (omega (arith, e))
 not_tab (suc (suc (suc (suc c))), small, e) = absurd (omega (arith, small))
 
-letters_are : (w : List ℕ) → AreCodes w → (i : ℕ) → i < length (map letter w) → IsLetter (get_or (map letter w) i 0)
+pub letters_are : (w : List ℕ) → AreCodes w → (i : ℕ) → i < length (map letter w) → IsLetter (get_or (map letter w) i 0)
 letters_are [] codes i inside = absurd (omega (arith, inside))
 letters_are (c ∷ w) codes zero inside = (c, codes.0, refl)
 letters_are (c ∷ w) codes (suc i) inside = letters_are w codes.1 i (omega (arith, inside))

@@ -15,14 +15,14 @@ use Rattle.kmc_base.specs.Lemmas.Packs.{AreCodes, codes_append}
 use Rattle.kmc_base.specs.Lemmas.Packing.{length_unpack}
 use Rattle.kmc_count.specs.Dump.{words_of}
 use Rattle.kmc_device.specs.Line.{line_of, text_of}
-use Rattle.kmc_count.proofs.Listing.{kmer_total}
-use Rattle.kmc_count.proofs.PackedRuns.{cmp_packed}
+use Rattle.kmc_count.specs.Lemmas.Listing.{kmer_total}
+use Rattle.kmc_count.specs.Lemmas.PackedRuns.{cmp_packed}
 use Rattle.kmc_sum.specs.Listed.{IsPair, AreListed}
 use Rattle.kmc_sum.specs.Line.{IsLineOf}
 use Rattle.kmc_sum.specs.Pairs.{EndsIn}
-use Rattle.kmc_sum.specs.Faults.{GaveFront, line_after, IsOfOtherLength, IsNotRising}
+use Rattle.kmc_sum.specs.Faults.{BeginsNoLine, GaveFront, line_after, IsMalformed, IsOfOtherLength, IsNotRising}
 use Rattle.kmc_sum.specs.Refusals.{BeginsWith}
-use Rattle.kmc_sum.specs.Source.{unread, GoesOn}
+use Rattle.kmc_sum.specs.Source.{unread, GoesOn, IsEnough}
 use Rattle.kmc_sum.specs.Heads.{pending}
 use Rattle.kmc_sum.specs.Sources.{IsSource}
 use Rattle.kmc_sum.specs.declared.heads.Head.{Head}
@@ -118,6 +118,19 @@ of_other_length k a c pairs rest l gave is differ = record {
   other = differ;
   is = line_pair l rest is;
   begins = (drop l.end rest, line_splits l rest is);
+}
+
+-- what stands behind what a source gave is no line
+pub malformed_next : (k : ℕ) (a b c : Option (List ℕ)) (pairs : List (List ℕ × ℕ)) (before rest : List ℕ) → GaveFront k a b pairs before
+    → GoesOn b c before rest → rest ≢ [] → IsEnough rest c → BeginsNoLine rest → IsMalformed k a c (line_after pairs)
+malformed_next k a b c pairs before rest gave goes some enough none = record {
+  pairs = pairs;
+  rest = rest;
+  gave = front_goes k a b c pairs before rest gave goes;
+  number = refl;
+  some = some;
+  enough = enough;
+  none = none;
 }
 
 -- ---- the line behind the last one

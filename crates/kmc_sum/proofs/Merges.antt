@@ -1,5 +1,5 @@
 -- The texts of sources, and the dump of their sum.
-use Rattle.std.proofs.Common.{◌≡◌, ℕ, suc, ◌+◌, ◌*◌, ◌<◌, ◌≤◌, List, [], ◌∷◌, length, get_or, map, Option, refl, sym, subst, ◌∙◌, arith, append-nil, Result, Ok, Err, IfOk, OnOk}
+use Rattle.std.proofs.Common.{◌≡◌, ℕ, suc, ◌+◌, ◌*◌, ◌<◌, ◌≤◌, List, [], ◌∷◌, length, get_or, map, Option, refl, sym, subst, ◌∙◌, arith, append-nil, Result, Ok, Err, OnOk}
 use Rattle.std.proofs.KnownBytes.{Appends-nil}
 use Rattle.std.proofs.lemmas.List.{length-map, get_or-map}
 use Rattle.std.specs.List.{AllZip}
@@ -13,8 +13,9 @@ use Rattle.kmc_sum.specs.declared.heads.Head.{Head}
 use Rattle.kmc_sum.specs.declared.source.Room.{Room}
 use Rattle.kmc_sum.proofs.Advances.{source_like}
 use Rattle.kmc_sum.specs.Sources.{AreSources, GaveFronts, left_at, list_at, no_lists}
-use Rattle.kmc_sum.specs.State.{IsWritten, IsBegun, IsSumWritten}
+use Rattle.kmc_sum.specs.State.{IsBegun, IsSumWritten}
 use Rattle.kmc_sum.proofs.Openings.{none_sum, gave_none, list_none}
+use Rattle.kmc_sum.proofs.Steps.{IsWritten}
 use Rattle.kmc_sum.proofs.Rooms.{goes_nowhere}
 use Rattle.kmc_sum.proofs.Tallies.{empty_dump}
 
@@ -82,10 +83,6 @@ sources_built left readers k nows rooms heads built lists leaves long are = reco
       source_like k (left_at starts i) _ _ _ _ _ _ _ _ refl refl (sym
       (leaves (length starts + i) (omega (arith, long, length-map readers left)))) refl (are.each i room inside);
 }
-
-pub if_ok_then : {A E : Type 0} (r : Result A E) (P Q : A → Type 0) → ((x : A) → P x → Q x) → IfOk r P → IfOk r Q
-if_ok_then (Ok x) P Q f h = f x h
-if_ok_then (Err e) P Q f h = tt
 
 pub on_ok_then : {A E : Type 0} (r : Result A E) (P Q : Type 0) → (P → Q) → OnOk r P → OnOk r Q
 on_ok_then (Ok x) P Q f h = f h

@@ -9,14 +9,17 @@ use Rattle.kmc_base.specs.Words.{kmer_cmp}
 use Rattle.kmc_base.specs.Packed.{unpack}
 use Rattle.kmc_device.specs.Line.{text_of}
 use Rattle.kmc_sum.specs.Line.{IsLineOf}
+use Rattle.kmc_sum.specs.Listed.{IsLength}
 use Rattle.kmc_sum.specs.Faults.{GaveFront, IsFaultAt, IsOfOtherLength, IsMalformed, BeginsNoLine}
 use Rattle.kmc_sum.specs.Heads.{no_head, head_at, pending}
 use Rattle.kmc_sum.specs.Source.{unread, IsRoom, GoesOn, IsEnough}
 use Rattle.kmc_sum.specs.Sources.{IsSource, IsFresh, Agrees, AreReady, AreSources, AreOpened, GaveFronts, left_at, list_at, no_lists}
 use Rattle.kmc_sum.specs.Sum.{sum_of, listed_count}
-use Rattle.kmc_sum.specs.Refusals.{BeginsWith, IsFirstFault, IsReadBefore}
+use Rattle.kmc_sum.specs.Refusals.{BeginsWith, HasFailed, IsFaultOf, IsFirstFault, IsReadBefore}
 use Rattle.kmc_sum.specs.declared.error.LineFault.{LineFault}
 use Rattle.kmc_sum.specs.declared.error.LineFault.TheVariants.{OtherLength}
+use Rattle.kmc_sum.specs.declared.error.SourceFault.{SourceFault}
+use Rattle.kmc_sum.specs.declared.error.SourceFault.TheVariants.{Line as AtLine, Read}
 use Rattle.kmc_sum.specs.declared.line.Line.{Line}
 use Rattle.kmc_sum.specs.declared.heads.Head.{Head}
 use Rattle.kmc_sum.specs.declared.source.Room.{Room}
@@ -271,6 +274,16 @@ module _ {T : Type 0} (left : T → Option (List ℕ)) (readers : List T) (reade
   reader_at_fault m source line fault is read h =
       fault_after left readers i next m starts source line fault here (omega (arith, inside, before.starts_long)) is read
       (subst (λ a. IsFaultAt m a (left next) line fault) start h)
+
+  -- the reader of this source is at fault
+  pub fault_opened : (olds news : List ℕ) (source : ℕ) (fault : SourceFault) → source ≡ i
+      → ((line : ℕ) (f : LineFault) → fault ≡ AtLine line f → (m : ℕ) × IsLength m × IsFaultAt m (left (get_or readers i reader)) (left next) line f
+      × (f ≡ OtherLength → m ≡ k)) → (1 ≤ k → HasBegun k i starts (map left readers)) → (fault ≡ Read → HasFailed source olds news)
+      → (m : ℕ) × IsLength m × IsFaultOf m starts (map left (set readers i next)) olds news source fault
+  fault_opened olds news source Read is first begun read = (1, (omega arith, omega arith), read refl)
+  fault_opened olds news source (AtLine line f) is first begun read =
+      let h = first line f refl in
+      (h.0, h.1, reader_at_fault h.0 source line f is (λ other. read_before h.0 line (h.3 other) h.1.0 begun) h.2)
 
   pub reader_lost : (m : ℕ) → ((rest : List ℕ) × GaveFront m (left (get_or readers i reader)) (left next) [] rest) → GaveFronts m starts
       (map left (set readers i next)) (no_lists starts)

@@ -11,9 +11,9 @@ use Rattle.kmc_count.specs.declared.limits.Limits.{Limits}
 use Rattle.kmc_count.specs.Occurrences.{same_word, is_key_of, count_of}
 use Rattle.kmc_count.specs.Dump.{IsListed, shown, words_of, IsDump}
 use Rattle.kmc_count.specs.Merge.{joined}
-use Rattle.kmc_count.proofs.Listing.{same_is, same_itself}
-use Rattle.kmc_count.proofs.Members.{Has, has_contains, below_has}
-use Rattle.kmc_count.proofs.OneDump.{listed_has, not_below_itself, Below}
+use Rattle.kmc_count.specs.Lemmas.Listing.{same_is, same_itself}
+use Rattle.kmc_count.specs.Lemmas.Members.{Has, has_contains, below_has}
+use Rattle.kmc_count.specs.Lemmas.OneDump.{listed_has, not_below_itself, Below}
 use Rattle.kmc_sum.specs.Sum.{listed_count, sum_of}
 use Rattle.kmc_sum.specs.Laws.{ListsEach, AreDumpsOfParts}
 

@@ -3,7 +3,7 @@ use Rattle.std.proofs.Common.{◌≡◌, ℕ, ◌+◌, ◌-◌, ◌<◌, ◌≤�
 use Rattle.std.proofs.lemmas.Grind.{flat_map-append}
 use Rattle.std.proofs.lemmas.List.Sums.{sum_by-cons, sum_by-append, sum_by-set}
 use Rattle.std.proofs.KnownBytes.{Appends-nil}
-use Rattle.std.specs.Io.KnownBytes.{Appends}
+use Rattle.std.specs.Io.KnownBytes.{Appends, IsAtEnd}
 use Rattle.kmc_base.specs.Words.{kmer_cmp}
 use Rattle.kmc_base.specs.Packed.{unpack}
 use Rattle.kmc_base.specs.Lemmas.Powers.{pow_up}
@@ -19,13 +19,27 @@ use Rattle.kmc_sum.specs.Tally.{kept_pair, Tallied}
 use Rattle.kmc_sum.specs.Faults.{GaveFront}
 use Rattle.kmc_sum.specs.Heads.{rank, head_at, pending, IsTree}
 use Rattle.kmc_sum.specs.Source.{unread}
-use Rattle.kmc_sum.specs.Sources.{AreReady, AreSources, GaveFronts, GaveLists, left_at, list_at, with_first}
-use Rattle.kmc_sum.specs.State.{IsSoFar, IsWritten, IsBegun}
+use Rattle.kmc_sum.specs.Sources.{AreReady, AreSources, GaveFronts, left_at, list_at, with_first}
+use Rattle.kmc_sum.specs.State.{IsSoFar, IsBegun}
 use Rattle.kmc_sum.specs.declared.heads.Head.{Head}
 use Rattle.kmc_sum.specs.declared.source.Room.{Room}
 use Rattle.kmc_sum.proofs.Advances.{first_least}
 use Rattle.kmc_sum.proofs.Gave.{gave_fewer}
 use Rattle.kmc_sum.proofs.Tallies.{tally_end, tally_more, tally_next, tally_start}
+
+-- each reader gave the lines of these pairs, and nothing is left
+pub record GaveLists (k : ℕ) (starts nows : List (Option (List ℕ))) (lists : List (List (List ℕ × ℕ))) : Type 0 where
+  pub lists_long : length lists ≡ length starts
+  pub each : (i : ℕ) → i < length starts → GaveFront k (left_at starts i) (left_at nows i) (list_at lists i) [] × IsAtEnd (left_at nows i)
+
+-- each reader gave the lines of its list and nothing else, and the dump of the sum of the lists was written
+pub record IsWritten (k : ℕ) (l : Limits) (starts nows : List (Option (List ℕ))) (lines : ℕ) (old new : Option (List ℕ)) : Type 0 where
+  pub lists : List (List (List ℕ × ℕ))
+  pub gave : GaveLists k starts nows lists
+  pub pairs : List (List ℕ × ℕ)
+  pub dump : IsDump (sum_of lists) l pairs
+  pub text : Appends old new (text_of pairs)
+  pub count : lines ≡ length pairs
 
 -- the first pair is added to the sum
 sum_next : (k : ℕ) (heads : List Head) (lists : List (List (List ℕ × ℕ))) (y : List ℕ) → (head_at heads 1).source < length lists → (head_at heads 1).live ≡ true
@@ -208,14 +222,14 @@ module _ (k : ℕ) (l : Limits) (small : l.cx ≤ 2 ^ 63) (starts nows : List (O
 
 -- nothing is taken
 pub so_start : (k : ℕ) (l : Limits) (starts nows : List (Option (List ℕ))) (rooms : List Room) (heads : List Head) (x : List ℕ)
-    (old : Option (List ℕ)) (lists : List (List (List ℕ × ℕ))) → AreSources k starts nows rooms heads lists
-    → ((y : List ℕ) → sum_of lists y ≡ 0) → IsSoFar k l starts nows rooms heads x 0 0 old old []
-so_start k l starts nows rooms heads x old lists are none = record {
+    (old : Option (List ℕ)) (held : List ℕ) (lists : List (List (List ℕ × ℕ))) → held ≡ [] → AreSources k starts nows rooms heads lists
+    → ((y : List ℕ) → sum_of lists y ≡ 0) → IsSoFar k l starts nows rooms heads x 0 0 old old held
+so_start k l starts nows rooms heads x old held lists empty are none = record {
   lists = lists;
   sources = are;
   pairs = [];
   tallied = tally_start l (sum_of lists) x none;
-  out = ([], refl, Appends-nil old);
+  out = ([], empty, Appends-nil old);
   count = refl;
 }
 

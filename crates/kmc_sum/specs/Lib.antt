@@ -10,6 +10,8 @@ pub mod Tally
 pub mod Sources
 pub mod State
 pub mod Refusals
+pub mod Answer
 pub mod Request
 pub mod Program
+pub mod Messages
 pub mod Laws

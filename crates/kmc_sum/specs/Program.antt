@@ -5,8 +5,6 @@ use Rattle.kmc_count.specs.declared.limits.Limits.{Limits}
 use Rattle.kmc_sum.specs.Request.{IsRequest}
 use Rattle.kmc_sum.specs.State.{IsBegun, IsSumWritten}
 use Rattle.kmc_sum.specs.Numbers.{most_sources}
-use Rattle.kmc_sum.specs.declared.request.RequestError.{RequestError}
-use Rattle.kmc_sum.specs.declared.request.RequestError.TheVariants.{Usage, OutOfRange, Memory}
 
 -- the words ask for the sum of files within limits, and as many readers gave bytes
 pub record AreRead (words : List Word) : Type 0 where
@@ -28,9 +26,3 @@ pub record IsGivenUp (words : List Word) (old new : Option (List ℕ)) : Type 0 
   pub read : AreRead words
   pub k : ℕ
   pub begun : IsBegun k read.limits read.starts read.nows old new
-
--- the exit status where the words ask for nothing, or could not be had
-abbrev pub status_of : RequestError → ℕ
-status_of Usage = 2
-status_of OutOfRange = 2
-status_of Memory = 1

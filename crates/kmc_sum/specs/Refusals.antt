@@ -1,13 +1,13 @@
 -- The causes of refusals.
-use Rattle.std.specs.Prelude.{◌≡◌, ◌≤◌, ◌-◌, ◌^◌, ℕ, ◌<◌, ◌⊎◌, ⊤, List, [], ◌∷◌, length, slice_index_or, Option}
+use Rattle.std.specs.Prelude.{◌≡◌, ◌≤◌, ◌-◌, ◌^◌, ℕ, ◌<◌, ◌⊎◌, List, [], ◌∷◌, length, slice_index_or, Option}
 use Rattle.std.specs.List.{sum_by}
 use Rattle.kmc_device.specs.Device.{RisesByOne}
 use Rattle.kmc_sum.specs.Sources.{left_at, GaveFronts}
 use Rattle.kmc_sum.specs.Faults.{GaveFront, IsFaultAt}
 use Rattle.kmc_sum.specs.declared.error.LineFault.{LineFault}
 use Rattle.kmc_sum.specs.declared.error.LineFault.TheVariants.{OtherLength}
-use Rattle.kmc_sum.specs.declared.error.SumError.{SumError}
-use Rattle.kmc_sum.specs.declared.error.SumError.TheVariants.{Line, Read, Write, Memory, TooLong}
+use Rattle.kmc_sum.specs.declared.error.SourceFault.{SourceFault}
+use Rattle.kmc_sum.specs.declared.error.SourceFault.TheVariants.{Line, Read}
 
 -- the first line that the reader gave has a word of k letters
 pub record BeginsWith (k : ℕ) (old new : Option (List ℕ)) : Type 0 where
@@ -39,10 +39,7 @@ pub record HaveTooMany (k : ℕ) (starts nows : List (Option (List ℕ))) : Type
   pub gave : GaveFronts k starts nows lists
   pub many : 2 ^ 64 - 2 ≤ sum_by length lists
 
--- a source is at fault, or its reader failed
-abbrev pub IsOfSource : SumError → Type 0
-IsOfSource (Line source line fault) = ⊤
-IsOfSource (Read source) = ⊤
-IsOfSource Write = ⊥
-IsOfSource Memory = ⊥
-IsOfSource TooLong = ⊥
+-- how this source is at fault: a read of it failed, or its first line at fault is this one
+abbrev pub IsFaultOf : ℕ → List (Option (List ℕ)) → List (Option (List ℕ)) → List ℕ → List ℕ → ℕ → SourceFault → Type 0
+IsFaultOf k starts nows olds news source Read = HasFailed source olds news
+IsFaultOf k starts nows olds news source (Line line fault) = IsFirstFault k starts nows source line fault

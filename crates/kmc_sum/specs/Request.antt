@@ -1,8 +1,33 @@
 -- What the words of a command line ask a merge for.
-use Rattle.std.specs.Prelude.{◌≡◌, ◌≤◌, ◌||◌, ℕ, Bool, true, not, List, [], ◌∷◌, Option, Some, None, is_some, length, codes}
+use Rattle.std.specs.Prelude.{◌≡◌, ◌≤◌, ◌&&◌, ◌||◌, ℕ, Bool, true, not, List, [], ◌∷◌, Option, Some, None, find, is_some, length, codes}
+use Rattle.std.specs.Prelude.{if◌then◌else◌, nat_le, option_and_then}
 use Rattle.std.specs.List.{list_all, filter, filter_map}
 use Rattle.kmc_settings.specs.Words.{Word, rest_after, number_of}
+use Rattle.kmc_settings.specs.Settings.{bounds_of}
+use Rattle.kmc_settings.specs.declared.setting.Bounds.{Bounds}
+use Rattle.kmc_settings.specs.declared.setting.Setting.{Setting}
+use Rattle.kmc_settings.specs.declared.setting.Setting.TheVariants.{Ci as LeastListed, Cx as GreatestListed, Cs as GreatestShown}
 use Rattle.kmc_count.specs.declared.limits.Limits.{Limits}
+use Rattle.kmc_sum.specs.declared.options.LimitOption.{LimitOption}
+use Rattle.kmc_sum.specs.declared.options.LimitOption.TheVariants.{Ci, Cx, Cs}
+use Rattle.kmc_sum.specs.declared.request.RequestError.{RequestError}
+use Rattle.kmc_sum.specs.declared.request.RequestError.TheVariants.{Usage, OutOfRange}
+
+-- the options, in the order in which their values are judged
+abbrev pub limit_options : List LimitOption
+limit_options = Ci ∷ Cx ∷ Cs ∷ []
+
+-- the hyphen and the letters of an option, to which its value is glued
+abbrev pub prefix_of : LimitOption → Word
+prefix_of Ci = codes "-ci"
+prefix_of Cx = codes "-cx"
+prefix_of Cs = codes "-cs"
+
+-- the setting of `kmc` that has the option's range and default
+abbrev pub setting_of : LimitOption → Setting
+setting_of Ci = LeastListed
+setting_of Cx = GreatestListed
+setting_of Cs = GreatestShown
 
 -- a word that begins with a hyphen is no name of a file
 abbrev pub is_file : Word → Bool
@@ -16,23 +41,6 @@ is_option word = is_some (rest_after (codes "-ci") word) || is_some (rest_after 
 abbrev pub given : Word → List Word → List Word
 given name words = filter_map (rest_after name) words
 
--- an option that is not given has its default, and one that is given once has its number
-abbrev pub IsLimit : List Word → ℕ → ℕ → Type 0
-IsLimit [] default n = n ≡ default
-IsLimit (text ∷ []) default n = number_of text ≡ Some n
-IsLimit (text ∷ other ∷ more) default n = ⊥
-
--- the words are options and names of files, at least one and at most so many, and give these limits: at least 2 and at most
--- 10^9 occurrences, shown up to 255, where the options leave them out, as `kmc` has them
-pub record IsRequest (most : ℕ) (words : List Word) (limits : Limits) (files : List Word) : Type 0 where
-  pub known : list_all (λ word. is_file word || is_option word) words ≡ true
-  pub files_are : files ≡ filter is_file words
-  pub some : 1 ≤ length files
-  pub few : length files ≤ most
-  pub ci : IsLimit (given (codes "-ci") words) 2 limits.ci
-  pub cx : IsLimit (given (codes "-cx") words) 1000000000 limits.cx
-  pub cs : IsLimit (given (codes "-cs") words) 255 limits.cs
-
 -- no word is unknown, no option is given twice, and there is a file and no more than are taken
 pub record IsTaken (most : ℕ) (words : List Word) : Type 0 where
   pub known : list_all (λ word. is_file word || is_option word) words ≡ true
@@ -42,14 +50,36 @@ pub record IsTaken (most : ℕ) (words : List Word) : Type 0 where
   pub cx : length (given (codes "-cx") words) ≤ 1
   pub cs : length (given (codes "-cs") words) ≤ 1
 
--- the options give no limits
-abbrev pub GivesNoLimits : List Word → Type 0
-GivesNoLimits words = (l : Limits) → IsLimit (given (codes "-ci") words) 2 l.ci → IsLimit (given (codes "-cx") words) 1000000000 l.cx → IsLimit
-    (given (codes "-cs") words) 255 l.cs → ⊥
+-- the number, where it is in range
+abbrev pub within : Bounds → ℕ → Option ℕ
+within b n = if nat_le b.least n && nat_le n b.most then Some n else None
 
--- the words ask for nothing
-abbrev pub AsksForNothing : ℕ → List Word → Type 0
-AsksForNothing most words = (limits : Limits) (files : List Word) → IsRequest most words limits files → ⊥
+-- the number that is given, where it is one and in range, and the default where none is given
+abbrev pub number_given : Bounds → List Word → Option ℕ
+number_given b [] = Some b.default
+number_given b (text ∷ more) = option_and_then (within b) (number_of text)
+
+-- the number of an option; none where what is given for it is no number or out of range
+abbrev pub value_of : List Word → LimitOption → Option ℕ
+value_of words o = number_given (bounds_of (setting_of o)) (given (prefix_of o) words)
+
+-- the first option whose value is out of range, in the order -ci, -cx, -cs, wherever they stand among the words
+abbrev pub first_out_of_range : List Word → Option LimitOption
+first_out_of_range words = find (λ o. not (is_some (value_of words o))) limit_options
+
+-- the words are options, each at most once and in range, and names of files, at least one and at most so many, and give these limits,
+-- with the defaults of `kmc` where the options leave them out
+pub record IsRequest (most : ℕ) (words : List Word) (limits : Limits) (files : List Word) : Type 0 where
+  pub taken : IsTaken most words
+  pub files_are : files ≡ filter is_file words
+  pub ci : value_of words Ci ≡ Some limits.ci
+  pub cx : value_of words Cx ≡ Some limits.cx
+  pub cs : value_of words Cs ≡ Some limits.cs
+
+-- why the words ask for nothing: their form is judged first, and then the values of the options
+abbrev pub Explains : ℕ → List Word → RequestError → Type 0
+Explains most words Usage = IsTaken most words → ⊥
+Explains most words (OutOfRange o) = IsTaken most words × (first_out_of_range words ≡ Some o)
 
 -- the texts of what is given at most once
 abbrev pub texts_of : Option Word → List Word

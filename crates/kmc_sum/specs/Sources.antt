@@ -1,11 +1,20 @@
 -- Many sources side by side, and what each gave so far.
 use Rattle.std.specs.Prelude.{◌≡◌, ℕ, ◌+◌, ◌*◌, ◌-◌, ◌<◌, ◌≤◌, ◌^◌, ◌⊎◌, min, map, true, false, List, [], ◌++◌, length, slice_index_or, slice_set, Option, None}
 use Rattle.std.specs.Io.KnownBytes.{IsAtEnd}
+use Rattle.kmc_device.specs.Device.{Watched}
 use Rattle.kmc_sum.specs.Heads.{head_at, pending}
 use Rattle.kmc_sum.specs.Source.{unread, IsRoom}
 use Rattle.kmc_sum.specs.Faults.{GaveFront}
 use Rattle.kmc_sum.specs.declared.heads.Head.{Head}
 use Rattle.kmc_sum.specs.declared.source.Room.{Room}
+
+-- what each reader has left, where that is known
+abbrev pub lefts_of : {R : Type 0} → (R → Option (List ℕ)) → List (Watched R) → List (Option (List ℕ))
+lefts_of remaining readers = map (λ r. remaining r.inner) readers
+
+-- how many calls of each reader failed
+abbrev pub failures_of : {R : Type 0} → List (Watched R) → List ℕ
+failures_of readers = map (λ r. r.failures) readers
 
 -- the pairs that were taken from one of the sources
 abbrev pub list_at : List (List (List ℕ × ℕ)) → ℕ → List (List ℕ × ℕ)
@@ -46,11 +55,6 @@ with_first k heads lists = let i = (head_at heads 1).source in slice_set lists i
 pub record GaveFronts (k : ℕ) (starts nows : List (Option (List ℕ))) (lists : List (List (List ℕ × ℕ))) : Type 0 where
   pub lists_long : length lists ≡ length starts
   pub each : (i : ℕ) → i < length starts → (rest : List ℕ) × GaveFront k (left_at starts i) (left_at nows i) (list_at lists i) rest
-
--- each reader gave the lines of these pairs, and nothing is left
-pub record GaveLists (k : ℕ) (starts nows : List (Option (List ℕ))) (lists : List (List (List ℕ × ℕ))) : Type 0 where
-  pub lists_long : length lists ≡ length starts
-  pub each : (i : ℕ) → i < length starts → GaveFront k (left_at starts i) (left_at nows i) (list_at lists i) [] × IsAtEnd (left_at nows i)
 
 -- a length of words that is not yet known, 0, agrees with each
 abbrev pub Agrees : ℕ → ℕ → Type 0

@@ -8,7 +8,7 @@ use Rattle.std.specs.Io.KnownBytes.{Appends}
 use Rattle.kmc_sum.specs.Sum.{sum_of}
 use Rattle.kmc_sum.specs.Listed.{IsMerge}
 use Rattle.kmc_sum.specs.Tally.{Tallied}
-use Rattle.kmc_sum.specs.Sources.{AreSources, GaveFronts, GaveLists, left_at}
+use Rattle.kmc_sum.specs.Sources.{AreSources, GaveFronts, left_at}
 use Rattle.kmc_sum.specs.declared.heads.Head.{Head}
 use Rattle.kmc_sum.specs.declared.source.Room.{Room}
 
@@ -20,15 +20,6 @@ pub record IsSoFar (k : ℕ) (l : Limits) (starts nows : List (Option (List ℕ)
   pub pairs : List (List ℕ × ℕ)
   pub tallied : Tallied l (sum_of lists) x n pairs
   pub out : WritesOut old new (text_of pairs) gathered
-  pub count : lines ≡ length pairs
-
--- each reader gave the lines of its list and nothing else, and the dump of the sum of the lists was written
-pub record IsWritten (k : ℕ) (l : Limits) (starts nows : List (Option (List ℕ))) (lines : ℕ) (old new : Option (List ℕ)) : Type 0 where
-  pub lists : List (List (List ℕ × ℕ))
-  pub gave : GaveLists k starts nows lists
-  pub pairs : List (List ℕ × ℕ)
-  pub dump : IsDump (sum_of lists) l pairs
-  pub text : Appends old new (text_of pairs)
   pub count : lines ≡ length pairs
 
 -- each reader gave the lines of its list first, and a front of the dump of the sum of the lists was written

@@ -2,12 +2,15 @@
 ghost use Rattle.std.specs.Prelude.{◌≡◌, ℕ, ◌-◌, ◌^◌, ◌<◌, ◌≤◌, ◌⊎◌, List, length, map, MatchResult, string_bytes};
 ghost use Rattle.std.specs.Process.{exit_status};
 ghost use Rattle.kmc_settings.specs.Words.{Word};
-ghost use Rattle.kmc_sum.specs.Request.{AsksForNothing};
+ghost use Rattle.kmc_sum.specs.Request.{Explains};
 ghost use Rattle.kmc_sum.specs.Numbers.{most_sources};
-ghost use Rattle.kmc_sum.specs.Program.{IsAnswered, IsGivenUp, status_of};
+ghost use Rattle.kmc_sum.specs.Program.{IsAnswered, IsGivenUp};
+ghost use Rattle.kmc_sum.specs.Messages.{status_of_answer};
+ghost use Rattle.kmc_sum.specs.Sources.{failures_of, lefts_of};
 ghost use Rattle.kmc_sum.specs.State.{IsBegun, IsSumWritten};
 
-use crate::error::{LineFault, SumError};
+use crate::error::SumError;
+use crate::fault::{Fault, Message};
 use crate::merging::{MOST_SOURCES, merge};
 use crate::request::{RequestError, asked_for};
 use kmc_count::Limits;
@@ -18,96 +21,52 @@ use std::process::ExitCode;
 use std::rt::{Env, Files};
 use std::{env, fs};
 
-const MISUSED: u8 = 2;
-
-const FAILED: u8 = 1;
-
-/// The process's arguments behind the program's name.
-fn arguments<T: Env + Alloc<A = Global>>(rt: &T) -> Result<Vec<String>, RequestError> {
+/// The process's arguments behind the program's name. Arguments that cannot be read are no usage.
+fn arguments<T: Env + Alloc<A = Global>>(rt: &T) -> Result<Vec<String>, Fault> {
     let Ok(mut arguments) = env::args(rt) else {
-        return Err(RequestError::Usage);
+        return Err(Fault::Request(RequestError::Usage));
     };
     let _program = arguments.next();
     Ok(arguments.collect(rt.alloc())?)
 }
 
-/// Tells why the words ask for nothing, and gives the status.
-fn misused(rt: &impl Eprint, error: RequestError) -> ExitCode
-    ensures { exit_status result ≡ status_of error }
+/// Shows a fault of the files, unless it is a write to a closed pipe, and gives the exit status: 0 where there is no fault. A
+/// line that cannot be written changes nothing of the status.
+fn ended(
+    rt: &impl Eprint,
+    files: &[String],
+    answer: Result<u64, Fault>,
+    pipe_closed: bool,
+) -> ExitCode
+    ensures { exit_status result ≡ status_of_answer answer }
 {
-    match error {
-        RequestError::Usage => {
-            let _ = rt.eprintln("usage: kmc_merge [-ci<n>] [-cx<n>] [-cs<n>] a.dump b.dump ..");
-            ExitCode::from(MISUSED)
-        }
-        RequestError::OutOfRange => {
-            let _ = rt.eprintln("kmc_merge: value of an option is out of range");
-            ExitCode::from(MISUSED)
-        }
-        RequestError::Memory => {
-            let _ = rt.eprintln("kmc_merge: out of memory");
-            ExitCode::from(FAILED)
-        }
-    }
-}
-
-/// The name of a source.
-fn name_of(files: &[String], source: usize) -> &str {
-    match files.get(source) {
-        Some(name) => name.as_str(),
-        None => "",
-    }
-}
-
-/// Tells why the merge was given up, unless a pipe was closed, and gives the status.
-fn failed(rt: &impl Eprint, files: &[String], error: SumError, pipe_closed: bool) -> ExitCode
-    ensures { exit_status result ≡ 1 }
-{
-    match error {
-        SumError::Line(source, line, fault) => {
-            let name = name_of(files, source);
-            let what = match fault {
-                LineFault::Malformed => "is no line of a dump",
-                LineFault::OtherLength => "has a word of another length",
-                LineFault::NotRising => "has a word that is not above the one before",
-            };
-            let _ = eprintln!(rt; "kmc_merge: {name}: line {line} {what}");
-        }
-        SumError::Read(source) => {
-            let name = name_of(files, source);
-            let _ = eprintln!(rt; "kmc_merge: {name}: cannot be read");
-        }
-        SumError::Write => {
-            if !pipe_closed {
-                let _ = rt.eprintln("kmc_merge: cannot write");
+    match answer {
+        Ok(_) => ExitCode::from(0),
+        Err(fault) => {
+            if fault.is_told(pipe_closed) {
+                let _ = rt.eprintln(Message { files, fault });
             }
-        }
-        SumError::Memory => {
-            let _ = rt.eprintln("kmc_merge: out of memory");
-        }
-        SumError::TooLong => {
-            let _ = rt.eprintln("kmc_merge: too many lines");
+            ExitCode::from(fault.status())
         }
     }
-    ExitCode::from(FAILED)
 }
 
-/// A reader for each file; where one cannot be opened, tells so and gives the status.
-fn opened<T: Files + Eprint + Alloc<A = Global>>(
+/// A reader for each file, or why there are none: the first file that cannot be opened, or want of memory.
+fn opened<T: Files + Alloc<A = Global>>(
     rt: &T,
     files: &[String],
-) -> Result<Vec<Counted<T::File>>, ExitCode>
+) -> Result<Vec<Counted<T::File>>, Fault>
     ensures { MatchResult result (λ readers. length readers.items ≡ length files.now)
-        (λ status. exit_status status ≡ 1) }
+        (λ fault. (fault ≡ Fault.Sum SumError.Memory)
+        ⊎ ((i : ℕ) × (i < length files.now) × (fault ≡ Fault.NotOpened i))) }
 {
     let mut readers = Vec::new(rt.alloc());
-    for name in files {
-        let Ok(file) = fs::open(rt, name.as_str()) else {
-            let _ = eprintln!(rt; "kmc_merge: {name}: cannot be opened");
-            return Err(ExitCode::from(FAILED));
+    for i in 0..files.len() {
+        let Ok(file) = fs::open(rt, files[i].as_str()) else {
+            return Err(Fault::NotOpened(i));
         };
         if readers.push(Counted::new(file)).is_err() {
-            return Err(failed(rt, files, SumError::Memory, false));
+            return Err(Fault::Sum(SumError::Memory));
         }
     }
     Ok(readers)
@@ -128,20 +87,19 @@ pub fn sum_readers<T: Eprint + Alloc<A = Global>, R: Read, W: Write>(
     requires each { length readers.old ≡ length files.now }
     requires writer { writer.old.failures < 2 ^ 64 - 1 }
     ensures done { exit_status result ≡ 0 → ((lines : ℕ) × IsSumWritten limits.now
-        (map (λ r. R.remaining r.inner) readers.old)
-        (map (λ r. R.remaining r.inner) readers.new) lines
+        (lefts_of R.remaining readers.old) (lefts_of R.remaining readers.new) lines
         (W.contents writer.old.inner) (W.contents writer.new.inner))
-        × (map (λ r. r.failures) readers.new ≡ map (λ r. r.failures) readers.old)
+        × (failures_of readers.new ≡ failures_of readers.old)
         × (writer.new.failures ≡ writer.old.failures) }
     ensures failed { exit_status result ≡ 1
-        → (k : ℕ) × IsBegun k limits.now (map (λ r. R.remaining r.inner) readers.old)
-        (map (λ r. R.remaining r.inner) readers.new)
+        → (k : ℕ) × IsBegun k limits.now (lefts_of R.remaining readers.old)
+        (lefts_of R.remaining readers.new)
         (W.contents writer.old.inner) (W.contents writer.new.inner) }
     ensures statuses { exit_status result ≤ 1 }
 {
     match merge(rt.alloc(), readers, limits, writer) {
-        Ok(_) => ExitCode::from(0),
-        Err(error) => failed(rt, files, error, writer.is_pipe_closed()),
+        Ok(lines) => ended(rt, files, Ok(lines), false),
+        Err(error) => ended(rt, files, Err(Fault::Sum(error)), writer.is_pipe_closed()),
     }
 }
 
@@ -159,7 +117,8 @@ pub fn sum_files<T: Files + Eprint + Alloc<A = Global>, W: Write>(
         (W.contents writer.new.inner)
         × (writer.new.failures ≡ writer.old.failures) }
     ensures misused { exit_status result ≡ 2
-        → AsksForNothing most_sources (map string_bytes words.items) × (writer.new ≡ writer.old) }
+        → ((e : RequestError) × Explains most_sources (map string_bytes words.items) e)
+        × (writer.new ≡ writer.old) }
     ensures failed { exit_status result ≡ 1 → (writer.new ≡ writer.old)
         ⊎ IsGivenUp (map string_bytes words.items) (W.contents writer.old.inner)
         (W.contents writer.new.inner) }
@@ -167,11 +126,11 @@ pub fn sum_files<T: Files + Eprint + Alloc<A = Global>, W: Write>(
 {
     let asked = match asked_for(words, MOST_SOURCES) {
         Ok(asked) => asked,
-        Err(error) => return misused(rt, error),
+        Err(error) => return ended(rt, &[], Err(Fault::Request(error)), false),
     };
     let mut readers = match opened(rt, &asked.files) {
         Ok(readers) => readers,
-        Err(status) => return status,
+        Err(fault) => return ended(rt, &asked.files, Err(fault), false),
     };
     sum_readers(
         rt,
@@ -199,6 +158,6 @@ pub fn program<T: Files + Env + Eprint + Alloc<A = Global>, W: Write>(
 {
     match arguments(rt) {
         Ok(words) => sum_files(rt, words, writer),
-        Err(error) => misused(rt, error),
+        Err(fault) => ended(rt, &[], Err(fault), false),
     }
 }

@@ -1,4 +1,9 @@
 //! Why a merge is given up.
+ghost use Rattle.std.specs.Prelude.{◌≡◌, Some};
+ghost use Rattle.kmc_sum.specs.Messages.{text_of_line_fault, text_of_source_fault};
+ghost use Rattle.kmc_sum.specs.declared.error.SumError.TheVariants.{Source};
+
+use std::fmt;
 
 /// How a line is at fault.
 #[derive(Clone, Copy, Debug, PartialEq, Eq)]
@@ -12,17 +17,62 @@ pub enum LineFault {
     NotRising,
 }
 
-/// Why a merge is given up. Sources are numbered from 0, and their lines from 1.
+impl fmt::Display for LineFault {
+    ghost output = { λ e. Some (text_of_line_fault e) };
+
+    fn fmt<W: fmt::Write>(&self, f: &mut fmt::Formatter<W>) -> fmt::Result {
+        match self {
+            LineFault::Malformed => write!(f, "is no line of a dump"),
+            LineFault::OtherLength => write!(f, "has a word of another length"),
+            LineFault::NotRising => write!(f, "has a word that is not above the one before"),
+        }
+    }
+}
+
+/// How a source is at fault.
+#[derive(Clone, Copy, Debug, PartialEq, Eq)]
+pub enum SourceFault {
+    /// A read of it failed.
+    Read,
+    /// Its first line at fault, numbered from 1, and how that line is.
+    Line(u64, LineFault),
+}
+
+impl fmt::Display for SourceFault {
+    ghost output = { λ e. Some (text_of_source_fault e) };
+
+    fn fmt<W: fmt::Write>(&self, f: &mut fmt::Formatter<W>) -> fmt::Result {
+        match self {
+            SourceFault::Read => write!(f, "cannot be read"),
+            SourceFault::Line(line, fault) => write!(f, "line {line} {fault}"),
+        }
+    }
+}
+
+/// The source at fault, numbered from 0, and how it is.
+#[derive(Clone, Copy, Debug, PartialEq, Eq)]
+pub struct SourceError {
+    pub source: usize,
+    pub fault: SourceFault,
+}
+
+/// Why a merge is given up.
 #[derive(Clone, Copy, Debug, PartialEq, Eq)]
 pub enum SumError {
-    /// The first fault of this source, in this line.
-    Line(usize, u64, LineFault),
-    /// A read of this source failed.
-    Read(usize),
+    /// A source is at fault.
+    Source(SourceError),
     /// A write or the flush failed, or a write took nothing.
     Write,
     /// Memory was refused.
     Memory,
     /// The sources have 2^64 - 1 lines or more: so many are not counted.
     TooLong,
+}
+
+impl From<SourceError> for SumError {
+    ghost from_gives = { λ e s. s ≡ Source e };
+
+    fn from(error: SourceError) -> SumError {
+        SumError::Source(error)
+    }
 }

@@ -1,7 +1,7 @@
 //! The next line of each of many sources, and which of them has the least word: a tree in one list. The heads of n
 //! sources stand at the places n to 2n - 1, and each place j from 1 to n - 1 repeats the lesser of those at 2j and
 //! 2j + 1, so that the place 1 has the least of all. Where one changes, about log2 n comparisons mend the tree.
-ghost use Rattle.std.specs.Prelude.{◌≡◌, ◌≢◌, ℕ, ◌+◌, ◌*◌, ◌<◌, ◌≤◌, ◌↔◌, IsTrue, length, List};
+ghost use Rattle.std.specs.Prelude.{◌≡◌, ◌≢◌, ℕ, ◌+◌, ◌*◌, ◌<◌, ◌≤◌, ◌↔◌, IsTrue, length};
 ghost use Rattle.kmc_sum.specs.Heads.{rank, head_at, IsWinner, IsTree};
 
 /// The next line of a source: its packed word and count. A source that has ended is not live.

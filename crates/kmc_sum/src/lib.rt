@@ -5,17 +5,22 @@
 
 mod arguments;
 mod error;
+mod fault;
 mod heads;
 pub mod laws;
 mod line;
 mod merging;
 mod opening;
+mod options;
+mod output;
 mod request;
 mod source;
 mod sources;
 mod writing;
 
 pub use arguments::{program, sum_files, sum_readers};
-pub use error::{LineFault, SumError};
+pub use error::{LineFault, SourceError, SourceFault, SumError};
+pub use fault::{Fault, Message};
 pub use merging::{MOST_SOURCES, merge};
+pub use options::LimitOption;
 pub use request::{Request, RequestError, asked_for};

@@ -1,22 +1,20 @@
 //! The dump of the sum of dumps.
-ghost use Rattle.std.specs.Prelude.{◌≡◌, ℕ, ◌+◌, ◌*◌, ◌-◌, ◌^◌, ◌<◌, ◌≤◌, List, length, map, IfOk, OnOk, OnErr, IfErr, IsErrOf, Option, slice_index_or};
-ghost use Rattle.kmc_device.specs.Device.{RisesByOne};
+ghost use Rattle.std.specs.Prelude.{◌≡◌, ℕ, ◌*◌, ◌-◌, ◌^◌, ◌<◌, ◌≤◌, List, length, Option, slice_index_or};
+ghost use Rattle.kmc_sum.specs.Answer.{IsMergeAnswer};
 ghost use Rattle.kmc_sum.specs.Sum.{sum_of};
 ghost use Rattle.kmc_sum.specs.Listed.{IsLength};
 ghost use Rattle.kmc_sum.specs.Heads.{IsTree};
-ghost use Rattle.kmc_sum.specs.Sources.{IsFresh, AreReady, AreSources};
-ghost use Rattle.kmc_sum.specs.State.{IsWritten, IsBegun, IsSumWritten};
-ghost use Rattle.kmc_sum.specs.Refusals.{IsFirstFault, HasFailed, HaveTooMany};
-ghost use Rattle.kmc_sum.specs.declared.error.LineFault.{LineFault};
+ghost use Rattle.kmc_sum.specs.Sources.{IsFresh, AreReady, AreSources, lefts_of};
 
 use crate::error::SumError;
 use crate::heads::{Head, build};
 use crate::opening::{heads_for, open, rooms_for};
+use crate::output::OutputBuffer;
 use crate::source::Room;
 use crate::sources::advance;
-use crate::writing::{close, put_pair};
+use crate::writing::put_pair;
 use kmc_count::Limits;
-use kmc_device::{Counted, ROOM};
+use kmc_device::Counted;
 use std::alloc::Global;
 use std::io::{Read, Write};
 
@@ -34,40 +32,13 @@ fn drain<R: Read, W: Write>(
     requires tree { IsTree heads.old }
     requires long { IsLength k }
     requires writer { writer.old.failures < 2 ^ 64 - 1 }
-    ensures written { IfOk result (λ lines. (starts : List (Option (List ℕ)))
-        (lists : List (List (List ℕ × ℕ)))
-        → AreSources k starts
-        (map (λ r. R.remaining r.inner) readers.old) rooms.old heads.old lists
+    ensures { (starts : List (Option (List ℕ))) (lists : List (List (List ℕ × ℕ)))
+        → AreSources k starts (lefts_of R.remaining readers.old) rooms.old heads.old lists
         → ((x : List ℕ) → sum_of lists x ≡ 0)
-        → IsWritten k limits.now starts (map (λ r. R.remaining r.inner) readers.new) lines
-        (W.contents writer.old.inner) (W.contents writer.new.inner)) }
-    ensures sound { OnOk result ((map (λ r. r.failures) readers.new
-        ≡ map (λ r. r.failures) readers.old) × (writer.new.failures ≡ writer.old.failures)) }
-    ensures fault { (source line : ℕ) (fault : LineFault)
-        → IsErrOf result (SumError.Line source line fault)
-        → (starts : List (Option (List ℕ))) (lists : List (List (List ℕ × ℕ)))
-        → AreSources k starts
-        (map (λ r. R.remaining r.inner) readers.old) rooms.old heads.old lists
-        → ((x : List ℕ) → sum_of lists x ≡ 0)
-        → IsFirstFault k starts (map (λ r. R.remaining r.inner) readers.new) source line fault }
-    ensures read { (source : ℕ) → IsErrOf result (SumError.Read source)
-        → HasFailed source (map (λ r. r.failures) readers.old) (map (λ r. r.failures) readers.new) }
-    ensures write { IsErrOf result SumError.Write
-        → RisesByOne writer.old.failures writer.new.failures }
-    ensures long { IsErrOf result SumError.TooLong
-        → (starts : List (Option (List ℕ))) (lists : List (List (List ℕ × ℕ)))
-        → AreSources k starts (map (λ r. R.remaining r.inner) readers.old) rooms.old heads.old lists
-        → HaveTooMany k starts (map (λ r. R.remaining r.inner) readers.new) }
-    ensures begun { OnErr result
-        ((starts : List (Option (List ℕ))) (lists : List (List (List ℕ × ℕ)))
-        → AreSources k starts
-        (map (λ r. R.remaining r.inner) readers.old) rooms.old heads.old lists
-        → ((x : List ℕ) → sum_of lists x ≡ 0)
-        → IsBegun k limits.now starts (map (λ r. R.remaining r.inner) readers.new)
-        (W.contents writer.old.inner) (W.contents writer.new.inner)) }
+        → IsMergeAnswer R.remaining W.contents limits.now starts readers.old readers.new
+        writer.old writer.new result }
 {
-    let mut room = [0; ROOM];
-    let mut filled = 0;
+    let mut buffer = OutputBuffer::new();
     let mut lines: u64 = 0;
     let mut packed: u128 = 0;
     let mut count: u64 = 0;
@@ -80,11 +51,8 @@ fn drain<R: Read, W: Write>(
         if next == packed {
             count = count.saturating_add(more);
         } else {
-            match put_pair(writer, &mut room, filled, limits, k, packed, count) {
-                Ok((end, put)) => {
-                    filled = end;
-                    lines += put;
-                }
+            match put_pair(writer, &mut buffer, limits, k, packed, count) {
+                Ok(put) => lines += put,
                 Err(_) => return Err(SumError::Write),
             }
             packed = next;
@@ -95,8 +63,8 @@ fn drain<R: Read, W: Write>(
     if heads[1].live {
         return Err(SumError::TooLong);
     }
-    match put_pair(writer, &mut room, filled, limits, k, packed, count) {
-        Ok((end, put)) => match close(writer, &room, end) {
+    match put_pair(writer, &mut buffer, limits, k, packed, count) {
+        Ok(put) => match buffer.flush_into(writer) {
             Ok(()) => Ok(lines + put),
             Err(_) => Err(SumError::Write),
         },
@@ -118,28 +86,8 @@ fn merge_in<R: Read, W: Write>(
         → IsFresh (slice_index_or rooms.old i room)) }
     requires heads { length heads.old ≡ 2 * length readers.old }
     requires writer { writer.old.failures < 2 ^ 64 - 1 }
-    ensures ok { IfOk result (λ lines. IsSumWritten limits.now
-        (map (λ r. R.remaining r.inner) readers.old)
-        (map (λ r. R.remaining r.inner) readers.new) lines
-        (W.contents writer.old.inner) (W.contents writer.new.inner)) }
-    ensures sound { OnOk result ((map (λ r. r.failures) readers.new
-        ≡ map (λ r. r.failures) readers.old) × (writer.new.failures ≡ writer.old.failures)) }
-    ensures fault { (source line : ℕ) (fault : LineFault)
-        → IsErrOf result (SumError.Line source line fault)
-        → (k : ℕ) × IsLength k
-        × IsFirstFault k (map (λ r. R.remaining r.inner) readers.old)
-        (map (λ r. R.remaining r.inner) readers.new) source line fault }
-    ensures read { (source : ℕ) → IsErrOf result (SumError.Read source)
-        → HasFailed source (map (λ r. r.failures) readers.old) (map (λ r. r.failures) readers.new) }
-    ensures write { IsErrOf result SumError.Write
-        → RisesByOne writer.old.failures writer.new.failures }
-    ensures long { IsErrOf result SumError.TooLong → (k : ℕ) × IsLength k
-        × HaveTooMany k (map (λ r. R.remaining r.inner) readers.old)
-        (map (λ r. R.remaining r.inner) readers.new) }
-    ensures begun { OnErr result
-        ((k : ℕ) × IsBegun k limits.now (map (λ r. R.remaining r.inner) readers.old)
-        (map (λ r. R.remaining r.inner) readers.new)
-        (W.contents writer.old.inner) (W.contents writer.new.inner)) }
+    ensures { IsMergeAnswer R.remaining W.contents limits.now
+        (lefts_of R.remaining readers.old) readers.old readers.new writer.old writer.new result }
 {
     let k = open(readers, rooms, heads)?;
     build(heads);
@@ -162,28 +110,8 @@ pub fn merge<R: Read, W: Write>(
     requires some { 1 ≤ length readers.old }
     requires most { length readers.old ≤ MOST_SOURCES }
     requires writer { writer.old.failures < 2 ^ 64 - 1 }
-    ensures ok { IfOk result (λ lines. IsSumWritten limits.now
-        (map (λ r. R.remaining r.inner) readers.old)
-        (map (λ r. R.remaining r.inner) readers.new) lines
-        (W.contents writer.old.inner) (W.contents writer.new.inner)) }
-    ensures sound { OnOk result ((map (λ r. r.failures) readers.new
-        ≡ map (λ r. r.failures) readers.old) × (writer.new.failures ≡ writer.old.failures)) }
-    ensures fault { (source line : ℕ) (fault : LineFault)
-        → IsErrOf result (SumError.Line source line fault)
-        → (k : ℕ) × IsLength k
-        × IsFirstFault k (map (λ r. R.remaining r.inner) readers.old)
-        (map (λ r. R.remaining r.inner) readers.new) source line fault }
-    ensures read { (source : ℕ) → IsErrOf result (SumError.Read source)
-        → HasFailed source (map (λ r. r.failures) readers.old) (map (λ r. r.failures) readers.new) }
-    ensures write { IsErrOf result SumError.Write
-        → RisesByOne writer.old.failures writer.new.failures }
-    ensures long { IsErrOf result SumError.TooLong → (k : ℕ) × IsLength k
-        × HaveTooMany k (map (λ r. R.remaining r.inner) readers.old)
-        (map (λ r. R.remaining r.inner) readers.new) }
-    ensures begun { OnErr result
-        ((k : ℕ) × IsBegun k limits.now (map (λ r. R.remaining r.inner) readers.old)
-        (map (λ r. R.remaining r.inner) readers.new)
-        (W.contents writer.old.inner) (W.contents writer.new.inner)) }
+    ensures { IsMergeAnswer R.remaining W.contents limits.now
+        (lefts_of R.remaining readers.old) readers.old readers.new writer.old writer.new result }
 {
     let count = readers.len();
     let mut rooms = match rooms_for(alloc, count) {

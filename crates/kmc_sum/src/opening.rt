@@ -1,17 +1,16 @@
 //! The first lines of all sources.
-ghost use Rattle.std.specs.Prelude.{◌≡◌, ℕ, ◌+◌, ◌*◌, ◌^◌, ◌<◌, ◌≤◌, ◌⊎◌, [], List, length, map, OnOk, OnErr, IfOk, IfErr, IsErrOf, Option, slice_index_or};
+ghost use Rattle.std.specs.Prelude.{◌≡◌, ℕ, ◌+◌, ◌*◌, ◌^◌, ◌<◌, ◌≤◌, ◌⊎◌, [], List, length, OnOk, OnErr, IfOk, IfErr, slice_index_or};
 ghost use Rattle.kmc_device.specs.Device.{RisesByOne};
 ghost use Rattle.kmc_sum.specs.Listed.{IsLength};
 ghost use Rattle.kmc_sum.specs.Faults.{GaveFront, IsFaultAt};
-ghost use Rattle.kmc_sum.specs.Heads.{head_at};
 ghost use Rattle.kmc_sum.specs.Source.{IsRoom};
-ghost use Rattle.kmc_sum.specs.Sources.{IsSource, IsFresh, Agrees, AreReady, AreSources, AreOpened, GaveFronts, no_lists};
-ghost use Rattle.kmc_sum.specs.Refusals.{BeginsWith, IsFirstFault, HasFailed, IsOfSource};
+ghost use Rattle.kmc_sum.specs.Sources.{IsSource, IsFresh, Agrees, AreReady, AreSources, GaveFronts, no_lists, failures_of, lefts_of};
+ghost use Rattle.kmc_sum.specs.Refusals.{BeginsWith, IsFaultOf};
 ghost use Rattle.kmc_sum.specs.declared.error.LineFault.{LineFault};
 
-use crate::error::{LineFault, SumError};
+use crate::error::{LineFault, SourceError, SourceFault};
 use crate::heads::Head;
-use crate::source::{NextFault, Room, next_line};
+use crate::source::{Room, next_line};
 use kmc_base::MAX_K;
 use kmc_device::Counted;
 use std::alloc::{AllocError, Global};
@@ -51,7 +50,7 @@ fn first_head<R: Read>(
     room: &mut Room,
     source: usize,
     k: usize,
-) -> Result<(Head, usize), SumError>
+) -> Result<(Head, usize), SourceError>
     requires fresh { IsFresh room.old }
     requires most { k ≤ MAX_K }
     ensures room { IsRoom room.new }
@@ -61,17 +60,16 @@ fn first_head<R: Read>(
     ensures ok { IfOk result (λ r. (m : ℕ) → Agrees r.1 m
         → IsSource m (R.remaining reader.old.inner)
         (R.remaining reader.new.inner) room.new r.0 []) }
-    ensures fault { (s line : ℕ) (fault : LineFault) → IsErrOf result (SumError.Line s line fault)
-        → (s ≡ source)
-        × ((m : ℕ) × IsLength m
+    ensures source { IfErr result (λ e. e.source ≡ source) }
+    ensures fault { IfErr result (λ e. (line : ℕ) (fault : LineFault)
+        → e.fault ≡ SourceFault.Line line fault → (m : ℕ) × IsLength m
         × IsFaultAt m (R.remaining reader.old.inner) (R.remaining reader.new.inner) line fault
         × (fault ≡ LineFault.OtherLength → m ≡ k)) }
     ensures begins { IfOk result (λ r. (r.1 ≡ k)
         ⊎ BeginsWith r.1 (R.remaining reader.old.inner) (R.remaining reader.new.inner)) }
     ensures kept { OnOk result (reader.new.failures ≡ reader.old.failures) }
-    ensures read { (s : ℕ) → IsErrOf result (SumError.Read s) → (s ≡ source)
-        × RisesByOne reader.old.failures reader.new.failures }
-    ensures other { IfErr result IsOfSource }
+    ensures read { IfErr result (λ e. e.fault ≡ SourceFault.Read
+        → RisesByOne reader.old.failures reader.new.failures) }
     ensures lost { OnErr result
         ((m : ℕ) → (rest : List ℕ)
         × GaveFront m (R.remaining reader.old.inner) (R.remaining reader.new.inner) [] rest) }
@@ -79,7 +77,8 @@ fn first_head<R: Read>(
     match next_line(reader, room) {
         Ok(Some(line)) => {
             if k != 0 && line.k != k {
-                return Err(SumError::Line(source, 1, LineFault::OtherLength));
+                let fault = SourceFault::Line(room.lines, LineFault::OtherLength);
+                return Err(SourceError { source, fault });
             }
             let head = Head {
                 live: true,
@@ -98,8 +97,7 @@ fn first_head<R: Read>(
             };
             Ok((head, k))
         }
-        Err(NextFault::Device) => Err(SumError::Read(source)),
-        Err(NextFault::Malformed) => Err(SumError::Line(source, 1, LineFault::Malformed)),
+        Err(fault) => Err(SourceError { source, fault }),
     }
 }
 
@@ -108,29 +106,22 @@ pub fn open<R: Read>(
     readers: &mut [Counted<R>],
     rooms: &mut [Room],
     heads: &mut [Head],
-) -> Result<usize, SumError>
+) -> Result<usize, SourceError>
     requires rooms { (length rooms.old ≡ length readers.old)
         × ((i : ℕ) (room : _) → i < length readers.old
         → IsFresh (slice_index_or rooms.old i room)) }
     requires heads { length heads.old ≡ 2 * length readers.old }
     ensures length { IfOk result IsLength }
     ensures ready { IfOk result (λ k. AreReady k (length readers.new) rooms.new heads.new) }
-    ensures sources { IfOk result (λ k. let starts = map (λ r. R.remaining r.inner) readers.old in
-        AreSources k starts (map (λ r. R.remaining r.inner) readers.new) rooms.new heads.new
+    ensures sources { IfOk result (λ k. let starts = lefts_of R.remaining readers.old in
+        AreSources k starts (lefts_of R.remaining readers.new) rooms.new heads.new
         (no_lists starts)) }
-    ensures fault { (source line : ℕ) (fault : LineFault)
-        → IsErrOf result (SumError.Line source line fault)
-        → (m : ℕ) × IsLength m
-        × IsFirstFault m (map (λ r. R.remaining r.inner) readers.old)
-        (map (λ r. R.remaining r.inner) readers.new) source line fault }
-    ensures kept { OnOk result (map (λ r. r.failures) readers.new
-        ≡ map (λ r. r.failures) readers.old) }
-    ensures read { (source : ℕ) → IsErrOf result (SumError.Read source)
-        → HasFailed source (map (λ r. r.failures) readers.old) (map (λ r. r.failures) readers.new) }
-    ensures other { IfErr result IsOfSource }
-    ensures lost { OnErr result
-        ((m : ℕ) → let starts = map (λ r. R.remaining r.inner) readers.old in
-        GaveFronts m starts (map (λ r. R.remaining r.inner) readers.new) (no_lists starts)) }
+    ensures fault { IfErr result (λ e. (m : ℕ) × IsLength m
+        × IsFaultOf m (lefts_of R.remaining readers.old) (lefts_of R.remaining readers.new)
+        (failures_of readers.old) (failures_of readers.new) e.source e.fault) }
+    ensures kept { OnOk result (failures_of readers.new ≡ failures_of readers.old) }
+    ensures lost { OnErr result ((m : ℕ) → let starts = lefts_of R.remaining readers.old in
+        GaveFronts m starts (lefts_of R.remaining readers.new) (no_lists starts)) }
 {
     let count = readers.len();
     let mut k = 0;

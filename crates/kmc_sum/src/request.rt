@@ -1,20 +1,15 @@
 //! What the words of a command line ask for: limits and the names of files.
-ghost use Rattle.std.specs.Prelude.{◌≡◌, ◌≢◌, ◌≤◌, ◌<◌, ◌^◌, ◌||◌, ℕ, [], ◌∷◌, Some, None, option_map, MatchResult, IfOk, IfErr, IsErrOf, length, map, not, is_some, string_bytes, codes};
-ghost use Rattle.std.specs.List.{list_all};
-ghost use Rattle.kmc_settings.specs.Words.{number_of};
-ghost use Rattle.kmc_sum.specs.declared.request.RequestError.TheVariants.{Memory};
-ghost use Rattle.kmc_sum.specs.Request.{is_file, is_option, given, texts_of, IsLimit, IsRequest, IsTaken, GivesNoLimits, AsksForNothing};
+ghost use Rattle.std.specs.Prelude.{◌≡◌, ◌≤◌, ◌||◌, Some, None, option_map, MatchResult, IfOk, IfErr, length, map, string_bytes};
+ghost use Rattle.std.specs.List.{list_all, filter};
+ghost use Rattle.kmc_settings.specs.Settings.{bounds_of, IsFor};
+ghost use Rattle.kmc_sum.specs.declared.options.LimitOption.TheVariants.{Ci, Cx, Cs};
+ghost use Rattle.kmc_sum.specs.Messages.{text_of_request_error};
+ghost use Rattle.kmc_sum.specs.Request.{is_file, is_option, given, texts_of, number_given, setting_of, value_of, IsRequest, IsTaken, Explains};
 
+use crate::options::LimitOption;
 use kmc_count::Limits;
 use kmc_settings::{number, rest_after};
-use std::alloc::AllocError;
-
-/// The limits where the options leave them out, as `kmc` has them.
-const LEAST: u64 = 2;
-
-const GREATEST: u64 = 1_000_000_000;
-
-const CAP: u64 = 255;
+use std::fmt;
 
 /// What is asked for: the dump of the sum of these files within these limits.
 #[derive(Drop)]
@@ -23,22 +18,31 @@ pub struct Request {
     pub files: Vec<String>,
 }
 
-/// Why the words ask for nothing.
+/// Why the words ask for nothing. Usage is judged first, and then the options in the order -ci, -cx, -cs.
 #[derive(Clone, Copy, Debug, PartialEq, Eq)]
 pub enum RequestError {
     /// A word is no option, an option is given twice, or there is no file or more than are taken.
     Usage,
-    /// The value of an option is no number, or out of its range.
-    OutOfRange,
-    /// Memory was refused.
-    Memory,
+    /// The value of this option is no number, or out of the option's range.
+    OutOfRange(LimitOption),
 }
 
-impl From<AllocError> for RequestError {
-    ghost from_gives = { λ _ e. e ≡ Memory };
+impl fmt::Display for RequestError {
+    ghost output = { λ e. Some (text_of_request_error e) };
 
-    fn from(_: AllocError) -> RequestError {
-        RequestError::Memory
+    fn fmt<W: fmt::Write>(&self, f: &mut fmt::Formatter<W>) -> fmt::Result {
+        match self {
+            RequestError::Usage => {
+                write!(
+                    f,
+                    "usage: kmc_merge [-ci<n>] [-cx<n>] [-cs<n>] a.dump b.dump .."
+                )
+            }
+            RequestError::OutOfRange(option) => {
+                let name = option.prefix();
+                write!(f, "kmc_merge: value of {name} is out of range")
+            }
+        }
     }
 }
 
@@ -91,49 +95,65 @@ fn given<'a>(name: &str, words: &'a [String]) -> Result<Option<&'a str>, Request
     Ok(text)
 }
 
-/// The number of an option.
-fn limit(name: &str, words: &[String], default: u64) -> Result<u64, RequestError>
+/// The number of an option: that of its text, where it is one and in range, and its default where there is no text.
+fn value(option: LimitOption, text: Option<&str>) -> Result<u64, RequestError>
     ensures { MatchResult result
-        (λ n. IsLimit (given name.now (map string_bytes words.now)) default n)
-        (λ e. (e ≢ RequestError.Memory)
-        × (e ≡ RequestError.Usage → 2 ≤ length (given name.now (map string_bytes words.now)))
-        × ((n : ℕ) → IsLimit (given name.now (map string_bytes words.now)) default n
-        → 2 ^ 64 ≤ n)) }
+        (λ n. (number_given (bounds_of (setting_of option))
+        (texts_of (option_map (λ t. t.now) text.entry)) ≡ Some n) × IsFor (setting_of option) n)
+        (λ e. (number_given (bounds_of (setting_of option))
+        (texts_of (option_map (λ t. t.now) text.entry)) ≡ None) × (e ≡ RequestError.OutOfRange option)) }
 {
-    match given(name, words)? {
-        None => Ok(default),
-        Some(text) => match number(text) {
-            Some(number) => Ok(number),
-            None => Err(RequestError::OutOfRange),
-        },
+    let setting = option.setting();
+    let Some(text) = text else {
+        return Ok(setting.bounds().default);
+    };
+    match number(text) {
+        Some(number) if setting.takes(number) => Ok(number),
+        _ => Err(RequestError::OutOfRange(option)),
     }
+}
+
+/// How many words name files.
+fn count_files(words: &[String]) -> usize
+    ensures { result ≡ length (filter is_file (map string_bytes words.now)) }
+{
+    let mut count = 0;
+    for word in words {
+        if is_file(word) {
+            count += 1;
+        }
+    }
+    count
+}
+
+/// The limits of words that are taken: their form is judged first, and then the values of the options.
+fn limits_of(words: &[String], most: usize) -> Result<Limits, RequestError>
+    ensures { let texts = map string_bytes words.now in MatchResult result
+        (λ l. IsTaken most texts × (value_of texts Ci ≡ Some l.ci) × (value_of texts Cx ≡ Some l.cx)
+        × (value_of texts Cs ≡ Some l.cs))
+        (Explains most texts) }
+{
+    let count = count_files(words);
+    if count == 0 || count > most || !are_known(words) {
+        return Err(RequestError::Usage);
+    }
+    let ci = given("-ci", words)?;
+    let cx = given("-cx", words)?;
+    let cs = given("-cs", words)?;
+    let ci = value(LimitOption::Ci, ci)?;
+    let cx = value(LimitOption::Cx, cx)?;
+    let cs = value(LimitOption::Cs, cs)?;
+    Ok(Limits { ci, cx, cs })
 }
 
 /// What the words ask for: `-ci<n>`, `-cx<n>` and `-cs<n>`, each at most once, and the names of 1 to `most` files.
 pub fn asked_for(words: Vec<String>, most: usize) -> Result<Request, RequestError>
-    ensures asked { IfOk result (λ r. IsRequest most (map string_bytes words.items) r.limits
-        (map string_bytes r.files.items)) }
-    ensures refused { IfErr result
-        (λ e. (e ≢ RequestError.Memory) × AsksForNothing most (map string_bytes words.items)) }
-    ensures usage { IsErrOf result RequestError.Usage → IsTaken most (map string_bytes words.items)
-        → ⊥ }
-    ensures range { IsErrOf result RequestError.OutOfRange
-        → GivesNoLimits (map string_bytes words.items) }
+    ensures { let texts = map string_bytes words.items in MatchResult result
+        (λ r. IsRequest most texts r.limits (map string_bytes r.files.items))
+        (Explains most texts) }
 {
-    if !are_known(&words) {
-        return Err(RequestError::Usage);
-    }
-    let ci = limit("-ci", &words, LEAST)?;
-    let cx = limit("-cx", &words, GREATEST)?;
-    let cs = limit("-cs", &words, CAP)?;
+    let limits = limits_of(&words, most)?;
     let mut files = words;
     files.retain(|word| is_file(word));
-    let count = files.len();
-    if count == 0 || count > most {
-        return Err(RequestError::Usage);
-    }
-    match Limits::new(ci, cx, cs) {
-        Some(limits) => Ok(Request { limits, files }),
-        None => Err(RequestError::OutOfRange),
-    }
+    Ok(Request { limits, files })
 }

@@ -1,13 +1,15 @@
 //! A source of lines: a reader, and a room for the bytes that it gave and that are not yet judged, a piece at a time.
-ghost use Rattle.std.specs.Prelude.{◌≡◌, ◌≢◌, ℕ, ◌+◌, ◌-◌, ◌^◌, ◌<◌, ◌≤◌, ◌++◌, [], List, length, take, drop, min, OnOk, OnErr, IfOk, IsErrOf, MatchOption, Option, IfSome, None};
-ghost use Rattle.std.specs.Io.KnownBytes.{Consumes, IsAtEnd, Keeps};
+ghost use Rattle.std.specs.Prelude.{◌≡◌, ◌≢◌, ℕ, ◌+◌, ◌-◌, ◌^◌, ◌<◌, ◌≤◌, ◌++◌, [], List, length, take, drop, min, OnOk, OnErr, IfOk, IfErr, IsErrOf, MatchOption, Option, IfSome, None};
+ghost use Rattle.std.specs.Io.KnownBytes.{IsAtEnd, Keeps};
 ghost use Rattle.kmc_device.specs.Device.{RisesByOne};
 ghost use Rattle.kmc_sum.specs.Line.{IsLineOf};
 ghost use Rattle.kmc_sum.specs.Faults.{BeginsNoLine, GaveFront, IsFaultAt, line_after};
 ghost use Rattle.kmc_sum.specs.Pairs.{EndsIn, pairs_of};
+ghost use Rattle.kmc_sum.specs.declared.error.LineFault.{LineFault};
+ghost use Rattle.kmc_sum.specs.declared.error.SourceFault.{SourceFault};
 ghost use Rattle.kmc_sum.specs.Source.{unread, IsRoom, IsEnough, GoesOn};
 
-use crate::error::LineFault;
+use crate::error::{LineFault, SourceFault};
 use crate::line::{Line, line_at};
 use kmc_base::MAX_K;
 use kmc_device::Counted;
@@ -27,15 +29,6 @@ pub struct Room {
     pub from: usize,
     pub to: usize,
     pub lines: u64,
-}
-
-/// Why a source gives no line.
-#[derive(Clone, Copy)]
-pub enum NextFault {
-    /// A read failed.
-    Device,
-    /// What is next is no line.
-    Malformed,
 }
 
 impl Room {
@@ -67,7 +60,7 @@ fn read_behind<R: Read>(
     reader: &mut Counted<R>,
     bytes: &mut [u8],
     to: usize,
-) -> Result<usize, NextFault>
+) -> Result<usize, SourceFault>
     requires { to < length bytes.old }
     ensures ok { IfOk result (λ end. (to ≤ end) × (end ≤ length bytes.new)
         × (end ≡ to → IsAtEnd (R.remaining reader.new.inner))
@@ -75,18 +68,18 @@ fn read_behind<R: Read>(
         (take end bytes.new)) }
     ensures kept { OnOk result (reader.new.failures ≡ reader.old.failures) }
     ensures failed { OnErr result (RisesByOne reader.old.failures reader.new.failures) }
-    ensures device { (e : NextFault) → IsErrOf result e → e ≡ NextFault.Device }
+    ensures read { IfErr result (λ e. e ≡ SourceFault.Read) }
     ensures bytes { OnErr result
         (Keeps (R.remaining reader.old.inner) (R.remaining reader.new.inner)) }
 {
     match reader.read(&mut bytes[to..]) {
         Ok(n) => Ok(to + n),
-        Err(_) => Err(NextFault::Device),
+        Err(_) => Err(SourceFault::Read),
     }
 }
 
 /// Reads until enough bytes for a line are there, or nothing is left.
-fn fill<R: Read>(reader: &mut Counted<R>, room: &mut Room) -> Result<(), NextFault>
+fn fill<R: Read>(reader: &mut Counted<R>, room: &mut Room) -> Result<(), SourceFault>
     requires { IsRoom room.old }
     ensures room { IsRoom room.new }
     ensures lines { room.new.lines ≡ room.old.lines }
@@ -95,7 +88,7 @@ fn fill<R: Read>(reader: &mut Counted<R>, room: &mut Room) -> Result<(), NextFau
     ensures enough { OnOk result (IsEnough (unread room.new) (R.remaining reader.new.inner)) }
     ensures kept { OnOk result (reader.new.failures ≡ reader.old.failures) }
     ensures failed { OnErr result (RisesByOne reader.old.failures reader.new.failures) }
-    ensures device { (e : NextFault) → IsErrOf result e → e ≡ NextFault.Device }
+    ensures read { IfErr result (λ e. e ≡ SourceFault.Read) }
     ensures lost { OnErr result
         ((rest : List ℕ)
         × GoesOn (R.remaining reader.old.inner) (R.remaining reader.new.inner)
@@ -121,7 +114,7 @@ fn fill<R: Read>(reader: &mut Counted<R>, room: &mut Room) -> Result<(), NextFau
 pub fn next_line<R: Read>(
     reader: &mut Counted<R>,
     room: &mut Room,
-) -> Result<Option<Line>, NextFault>
+) -> Result<Option<Line>, SourceFault>
     requires { IsRoom room.old }
     ensures room { IsRoom room.new }
     ensures ok { IfOk result (λ answer. (rest : List ℕ)
@@ -132,13 +125,15 @@ pub fn next_line<R: Read>(
         × IsAtEnd (R.remaining reader.new.inner))
         (λ l. IsLineOf l rest × (unread room.new ≡ drop l.end rest)
         × (room.new.lines ≡ min (room.old.lines + 1) (2 ^ 64 - 1)))) }
-    ensures malformed { IsErrOf result NextFault.Malformed → (rest : List ℕ)
+    ensures malformed { (line : ℕ) (fault : LineFault)
+        → IsErrOf result (SourceFault.Line line fault)
+        → (line ≡ min (room.old.lines + 1) (2 ^ 64 - 1)) × (fault ≡ LineFault.Malformed)
+        × (rest : List ℕ)
         × GoesOn (R.remaining reader.old.inner) (R.remaining reader.new.inner)
         (unread room.old) rest
-        × (rest ≢ []) × IsEnough rest (R.remaining reader.new.inner) × BeginsNoLine rest
-        × (room.new.lines ≡ room.old.lines) }
+        × (rest ≢ []) × IsEnough rest (R.remaining reader.new.inner) × BeginsNoLine rest }
     ensures kept { OnOk result (reader.new.failures ≡ reader.old.failures) }
-    ensures device { IsErrOf result NextFault.Device
+    ensures read { IsErrOf result SourceFault.Read
         → RisesByOne reader.old.failures reader.new.failures }
     ensures lost { OnErr result
         ((rest : List ℕ)
@@ -147,28 +142,20 @@ pub fn next_line<R: Read>(
 {
     match fill(reader, room) {
         Ok(()) => {}
-        Err(_) => return Err(NextFault::Device),
+        Err(_) => return Err(SourceFault::Read),
     }
     if room.from == room.to {
         return Ok(None);
     }
+    let number = room.lines.saturating_add(1);
     match line_at(&room.bytes[room.from..room.to]) {
         Some(line) => {
             room.from += line.end;
-            room.lines = room.lines.saturating_add(1);
+            room.lines = number;
             Ok(Some(line))
         }
-        None => Err(NextFault::Malformed),
+        None => Err(SourceFault::Line(number, LineFault::Malformed)),
     }
-}
-
-/// Why a source gives no line that goes on with a dump.
-#[derive(Clone, Copy)]
-pub enum PairFault {
-    /// A read failed.
-    Device,
-    /// The line is at fault.
-    Line(LineFault),
 }
 
 /// Takes the next line of a source behind a line with the word `last` of `k` codes.
@@ -177,7 +164,7 @@ pub fn next_pair<R: Read>(
     room: &mut Room,
     k: usize,
     last: u128,
-) -> Result<Option<Line>, PairFault>
+) -> Result<Option<Line>, SourceFault>
     requires { IsRoom room.old }
     ensures room { IsRoom room.new }
     ensures ok { IfOk result (λ answer. (start : Option (List ℕ)) (pairs : List (List ℕ × ℕ))
@@ -190,27 +177,31 @@ pub fn next_pair<R: Read>(
     ensures more { IfOk result (λ answer. IfSome answer
         (λ l. (last < l.packed) × (l.packed < 4 ^ k) × (l.count < 2 ^ 64)
         × (room.new.lines ≡ min (room.old.lines + 1) (2 ^ 64 - 1)))) }
-    ensures fault { (f : LineFault) → IsErrOf result (PairFault.Line f)
-        → (start : Option (List ℕ)) (pairs : List (List ℕ × ℕ)) → EndsIn k last pairs
+    ensures fault { (line : ℕ) (fault : LineFault)
+        → IsErrOf result (SourceFault.Line line fault)
+        → (line ≡ min (room.old.lines + 1) (2 ^ 64 - 1))
+        × ((start : Option (List ℕ)) (pairs : List (List ℕ × ℕ)) → EndsIn k last pairs
         → GaveFront k start (R.remaining reader.old.inner) pairs (unread room.old)
-        → IsFaultAt k start (R.remaining reader.new.inner) (line_after pairs) f }
+        → IsFaultAt k start (R.remaining reader.new.inner) (line_after pairs) fault) }
     ensures kept { OnOk result (reader.new.failures ≡ reader.old.failures) }
-    ensures device { IsErrOf result PairFault.Device
+    ensures read { IsErrOf result SourceFault.Read
         → RisesByOne reader.old.failures reader.new.failures }
-    ensures lost { OnErr result ((rest : List ℕ) × GoesOn (R.remaining reader.old.inner) (R.remaining reader.new.inner) (unread room.old) rest) }
+    ensures lost { OnErr result
+        ((rest : List ℕ)
+        × GoesOn (R.remaining reader.old.inner) (R.remaining reader.new.inner)
+        (unread room.old) rest) }
 {
     match next_line(reader, room) {
         Ok(Some(line)) => {
             if line.k != k {
-                Err(PairFault::Line(LineFault::OtherLength))
+                Err(SourceFault::Line(room.lines, LineFault::OtherLength))
             } else if line.packed <= last {
-                Err(PairFault::Line(LineFault::NotRising))
+                Err(SourceFault::Line(room.lines, LineFault::NotRising))
             } else {
                 Ok(Some(line))
             }
         }
         Ok(None) => Ok(None),
-        Err(NextFault::Device) => Err(PairFault::Device),
-        Err(NextFault::Malformed) => Err(PairFault::Line(LineFault::Malformed)),
+        Err(fault) => Err(fault),
     }
 }

@@ -1,6 +1,6 @@
 use kmc_count::Limits;
 use kmc_device::Counted;
-use kmc_sum::{LineFault, MOST_SOURCES, SumError, merge};
+use kmc_sum::{LineFault, MOST_SOURCES, SourceError, SourceFault, SumError, merge};
 use std::alloc::Global;
 use std::process::Abort;
 use std::test::Fail;
@@ -24,6 +24,22 @@ const SOUND: Devices = Devices {
     room: 1 << 20,
     flushes: true,
 };
+
+/// The refusal of a line.
+fn at_line(source: usize, line: u64, fault: LineFault) -> SumError {
+    SumError::Source(SourceError {
+        source,
+        fault: SourceFault::Line(line, fault),
+    })
+}
+
+/// The refusal where a read failed.
+fn at_read(source: usize) -> SumError {
+    SumError::Source(SourceError {
+        source,
+        fault: SourceFault::Read,
+    })
+}
 
 /// What a merge of the texts answers, and what it writes, with readers that give three bytes at a time.
 fn summed(
@@ -139,7 +155,7 @@ fn each_field_at_fault_is_told_by_its_line(rt: HostRuntime) -> Result<(), Fail> 
             &rt,
             &["AA\t7\nAC\t1\nGG\t1\n", text],
             &SOUND,
-            SumError::Line(1, 2, LineFault::Malformed),
+            at_line(1, 2, LineFault::Malformed),
             "",
         )?;
     }
@@ -148,16 +164,16 @@ fn each_field_at_fault_is_told_by_its_line(rt: HostRuntime) -> Result<(), Fail> 
 
 #[test]
 fn words_that_do_not_rise_are_told(rt: HostRuntime) -> Result<(), Fail> {
-    let error = SumError::Line(0, 2, LineFault::NotRising);
+    let error = at_line(0, 2, LineFault::NotRising);
     refuses(&rt, &["AC\t1\nAC\t1\n"], &SOUND, error, "")?;
     refuses(&rt, &["AC\t1\nAA\t1\n"], &SOUND, error, "")
 }
 
 #[test]
 fn words_of_other_lengths_are_told(rt: HostRuntime) -> Result<(), Fail> {
-    let within = SumError::Line(0, 2, LineFault::OtherLength);
+    let within = at_line(0, 2, LineFault::OtherLength);
     refuses(&rt, &["AC\t1\nCAA\t1\n"], &SOUND, within, "")?;
-    let between = SumError::Line(1, 1, LineFault::OtherLength);
+    let between = at_line(1, 1, LineFault::OtherLength);
     refuses(&rt, &["AC\t1\n", "CAA\t1\n"], &SOUND, between, "")
 }
 
@@ -168,13 +184,7 @@ fn a_read_that_fails_is_told(rt: HostRuntime) -> Result<(), Fail> {
         room: 1 << 20,
         flushes: true,
     };
-    refuses(
-        &rt,
-        &["AC\t1\n", "AC\t1\n"],
-        &devices,
-        SumError::Read(0),
-        "",
-    )
+    refuses(&rt, &["AC\t1\n", "AC\t1\n"], &devices, at_read(0), "")
 }
 
 #[test]

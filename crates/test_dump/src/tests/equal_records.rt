@@ -243,3 +243,47 @@ fn one_record_a_million_times(rt: HostRuntime) -> Result<(), Fail> {
 fn a_row_longer_than_the_greatest_weight(rt: HostRuntime) -> Result<(), Fail> {
     assert_repeated(&rt, rt.alloc(), 22, (1 << 20) + 1)
 }
+
+/// Records that are all different.
+fn single_records(alloc: Global, dice: &mut Dice, k: usize) -> Result<Vec<u8>, AllocError> {
+    let mut body = Vec::new(alloc);
+    for _ in 0..40 {
+        let codes = thrown_codes(alloc, dice, k.saturating_add(10))?;
+        push_copies(alloc, &mut body, &codes, k, 1)?;
+    }
+    Ok(body)
+}
+
+/// Asserts that the lists of bins in a row are their plain counts: behind one of single records equal ones are not looked for.
+fn assert_rows_plain<R: Abort + Threads + Sync>(
+    rt: &R,
+    alloc: Global,
+    k: usize,
+) -> Result<(), Fail> {
+    assert!(rt; 1 <= k && k <= 64);
+    let mut dice = Dice { state: 7 };
+    let mut bodies = Vec::new(alloc);
+    let mut plain = Vec::new(alloc);
+    for bin in 0..18 {
+        let body = if bin % 17 == 0 {
+            single_records(alloc, &mut dice, k)?
+        } else {
+            repeated_records(alloc, k)?
+        };
+        let pairs = count_bin(alloc, &body, k, Strands::Joined, &LIMITS);
+        plain.push(pairs.ok().ok_or("records")?)?;
+        bodies.push(body)?;
+    }
+    let lists = list_bins(rt, alloc, bodies, k, Strands::Joined, &LIMITS, 1);
+    let lists = lists.ok().ok_or("records")?;
+    assert!(rt; are_plain(&lists, &plain), "k {k}");
+    Ok(())
+}
+
+#[test]
+fn bins_behind_one_of_single_records(rt: HostRuntime) -> Result<(), Fail> {
+    for k in [9, 25, 33] {
+        assert_rows_plain(&rt, rt.alloc(), k)?;
+    }
+    Ok(())
+}

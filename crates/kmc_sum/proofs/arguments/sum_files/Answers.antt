@@ -8,7 +8,7 @@ use Rattle.kmc_sum.proofs.arguments.sum_files.Goals as goal
 pub returns-clause-done : goal.returns-clause-done
 returns-clause-done g c = λ is. let done = c.sum_readers.ensures.done is in (
   record {
-    read = are_read _ _ string_bytes c.in-Ok.asked.files.items c.in-Ok.ensures.asked _ _
+    read = are_read _ _ string_bytes c.in-Ok.asked.files.items c.in-Ok.ensures _ _
         (length-map c.as_mut_slice.result.now _ ∙ ap length c.as_mut_slice.ensures.value ∙ c.in-Ok-opened.ensures ∙ ap length c.deref.ensures.value);
     lines = done.0.0;
     written = done.0.1;
@@ -18,7 +18,7 @@ returns-clause-done g c = λ is. let done = c.sum_readers.ensures.done is in (
 
 pub returns-clause-failed : goal.returns-clause-failed
 returns-clause-failed g c = λ is. let begun = c.sum_readers.ensures.failed is in inr (record {
-  read = are_read _ _ string_bytes c.in-Ok.asked.files.items c.in-Ok.ensures.asked _ _
+  read = are_read _ _ string_bytes c.in-Ok.asked.files.items c.in-Ok.ensures _ _
       (length-map c.as_mut_slice.result.now _ ∙ ap length c.as_mut_slice.ensures.value ∙ c.in-Ok-opened.ensures ∙ ap length c.deref.ensures.value);
   k = begun.0;
   begun = begun.1;

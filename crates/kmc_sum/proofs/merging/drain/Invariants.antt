@@ -1,4 +1,4 @@
-use Rattle.std.proofs.Common.{◌≡◌, ℕ, ◌*◌, ◌<◌, ◌≤◌, ◌^◌, List, length, map, take, Option}
+use Rattle.std.proofs.Common.{◌≡◌, ℕ, ◌*◌, ◌<◌, ◌≤◌, ◌^◌, List, length, map, Option}
 use Rattle.kmc_base.specs.Packed.{unpack}
 use Rattle.kmc_sum.specs.Sum.{sum_of}
 use Rattle.kmc_sum.specs.Heads.{rank, head_at, IsTree}
@@ -15,7 +15,6 @@ invariant-loop-step g l = record {
   ready : AreReady l.k (length l.readers) l.rooms l.heads;
   tree : IsTree l.heads;
   fits : l.packed < 4 ^ l.k;
-  within : l.filled ≤ length l.room;
   kept : l.writer.failures ≡ l.initial.writer.failures;
   lines : l.lines ≤ l._step;
   behind : (j : ℕ) → length l.readers ≤ j → j < 2 * length l.readers → l.packed ≤ rank (head_at l.heads j);
@@ -23,7 +22,7 @@ invariant-loop-step g l = record {
       (map (λ r. g.R.Read.remaining r.inner) l.initial.readers) l.initial.rooms l.initial.heads lists
       → ((x : List ℕ) → sum_of lists x ≡ 0)
       → IsSoFar l.k l.limits starts (map (λ r. g.R.Read.remaining r.inner) l.readers) l.rooms l.heads (unpack l.k l.packed) l.count l.lines
-      (g.W.Write.contents l.initial.writer.inner) (g.W.Write.contents l.writer.inner) (take l.filled l.room);
+      (g.W.Write.contents l.initial.writer.inner) (g.W.Write.contents l.writer.inner) l.buffer;
   taken : (starts : List (Option (List ℕ))) (lists : List (List (List ℕ × ℕ))) → AreSources l.k starts
       (map (λ r. g.R.Read.remaining r.inner) l.initial.readers) l.initial.rooms l.initial.heads lists
       → HaveTaken l.k starts (map (λ r. g.R.Read.remaining r.inner) l.readers) l.rooms l.heads l._step;

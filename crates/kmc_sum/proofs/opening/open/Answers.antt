@@ -1,12 +1,12 @@
-use Rattle.std.proofs.Common.{◌<◌, length, refl, sym, subst, ◌∙◌, arith, inl, inr}
+use Rattle.std.proofs.Common.{refl, sym, subst, ◌∙◌, arith, inl, inr}
 use Rattle.std.proofs.lemmas.List.{length-set}
 use Rattle.std.proofs.lemmas.Grind.{common_steps}
-use Rattle.kmc_count.proofs.PassedOn.{passed_on}
 use Rattle.kmc_device.specs.Device.{Watched}
 use Rattle.kmc_device.specs.Lemmas.Devices.{on_err}
 use Rattle.kmc_sum.specs.Sources.{AreReady}
 use Rattle.kmc_sum.proofs.Advances.{failed_at, failed_after, kept_at}
-use Rattle.kmc_sum.proofs.Openings.{all_ready, all_sources, begun_next, read_before, reader_opened, reader_at_fault, reader_lost}
+use Rattle.kmc_sum.proofs.Openings.{all_ready, all_sources, begun_next, fault_opened, reader_opened, reader_lost}
+use Rattle.kmc_sum.proofs.Answers.{handed_on}
 use Rattle.kmc_sum.proofs.opening.open.Goals as goal
 
 pub loop-i-preserved : goal.loop-i-preserved
@@ -20,37 +20,25 @@ loop-i-preserved g c =
           c.in_ok-head.ensures.kept ∙ inv.same;
       most = c.in_ok-head.ensures.length.1;
       begun = begun_next (λ
-          (r : Watched g.row.R.Denot). g.R.Read.remaining r.inner) readers c.index-readers-i.result c.first_head.new.reader _ _ i _ _ _ inv.opened c.index-rooms-i.result c.loop-i-test.true
+          (r : Watched g.row.R.Denot). g.R.Read.remaining r.inner) readers c.index-readers-i.result c.first_head.new.reader _ _ i _ _ _ inv.opened
+          c.index-rooms-i.result c.loop-i-test.true
           c.in_ok-head.found c.in_ok-head.ensures.begins inv.begun;
       opened = reader_opened
-          (λ (r : Watched g.row.R.Denot). g.R.Read.remaining r.inner) readers c.index-readers-i.result c.first_head.new.reader _ _ i _ _ _ inv.opened c.index-rooms-i.result c.loop-i-test.true
+          (λ (r : Watched g.row.R.Denot). g.R.Read.remaining r.inner) readers c.index-readers-i.result c.first_head.new.reader _ _ i _ _ _
+          inv.opened c.index-rooms-i.result c.loop-i-test.true
           c.in_ok-head.found c.first_head.new.room c.in_ok-head.head c.in_ok-head.ensures.length.2 c.in_ok-head.ensures.room
           c.in_ok-head.ensures.length.0 c.in_ok-head.ensures.fits c.in_ok-head.ensures.ok;
     }
 
 pub returns-in_err-head-clause-fault : goal.returns-in_err-head-clause-fault
-returns-in_err-head-clause-fault g c = λ source line fault is.
-    let h = c.first_head.ensures.fault source line fault
-    (passed_on c.first_head.result c.from_residual.result _ _ c.in_err-head.was c.from_residual.ensures.1 is) in (
-      h.1.0,
-      h.1.1,
-      reader_at_fault (λ (r : Watched g.row.R.Denot). g.R.Read.remaining r.inner) c.loop-i.readers c.index-readers-i.result c.first_head.new.reader _ _ _ _ _ _ c.loop-i.invariant.opened c.index-rooms-i.result c.loop-i-test.true
-          h.1.0 source line fault h.0
-          (λ other. read_before
-          (λ (r : Watched g.row.R.Denot). g.R.Read.remaining r.inner) c.loop-i.readers c.index-readers-i.result c.first_head.new.reader _ _ _ _ _ _ c.loop-i.invariant.opened c.index-rooms-i.result c.loop-i-test.true
-          h.1.0 line (h.1.3 other) h.1.1.0 c.loop-i.invariant.begun)
-          h.1.2,
-    )
-
-pub returns-in_err-head-clause-read : goal.returns-in_err-head-clause-read
-returns-in_err-head-clause-read g c = λ source is.
-    let i = c.loop-i.i in
-    let inv = c.loop-i.invariant in
-    let inside : i < length c.args.readers.now = c.loop-i-test.true in
-    let here = c.first_head.ensures.read source
-    (passed_on c.first_head.result c.from_residual.result _ _ c.in_err-head.was c.from_residual.ensures.1 is) in
-    failed_after source _ _ _ inv.same (failed_at c.loop-i.readers i c.index-readers-i.result c.first_head.new.reader
-    (omega (arith, inv.many, inside)) source here.0 here.1)
+returns-in_err-head-clause-fault g c = handed_on c.from_residual.result _ _ c.from_residual.ensures.1
+    (fault_opened (λ (r : Watched g.row.R.Denot). g.R.Read.remaining r.inner) c.loop-i.readers c.index-readers-i.result c.first_head.new.reader _ _
+    _ _ _ _
+    c.loop-i.invariant.opened c.index-rooms-i.result c.loop-i-test.true _ _ _ _ c.in_err-head.ensures.source c.in_err-head.ensures.fault
+    c.loop-i.invariant.begun (λ is. failed_after _ _ _ _ c.loop-i.invariant.same
+    (failed_at c.loop-i.readers c.loop-i.i c.index-readers-i.result c.first_head.new.reader
+    (omega (arith, c.loop-i.invariant.many, c.loop-i-test.true))
+    _ c.in_err-head.ensures.source (c.in_err-head.ensures.read is))))
 
 pub returns-in_err-head-clause-lost : goal.returns-in_err-head-clause-lost
 returns-in_err-head-clause-lost g c = on_err c.from_residual.result _ (λ m.

@@ -9,15 +9,18 @@ pub returns-then-end-room-clause-ok : goal.returns-then-end-room-clause-ok
 returns-then-end-room-clause-ok g c =
     let r = c.args.room.now in
     let here = c.loop-room.room in
-    let moved = shifted r.bytes c.as_mut_slice.result.now c.shift.new.bytes c.as_mut_slice.ensures.value c.shift.auto.bytes r.from r.to c.shift.ensures in
+    let moved = shifted r.bytes c.as_mut_slice.result.now c.shift.new.bytes c.as_mut_slice.ensures.value c.shift.auto.bytes r.from r.to
+    c.shift.ensures in
     goes_trans _ _ _ _ _ _ (goes_like _ _ _ _ _ moved c.loop-room.invariant.goes)
-    (read_on here.bytes c.as_mut_slice-in-loop-room.result.now c.read_behind.new.bytes c.as_mut_slice-in-loop-room.ensures.value c.read_behind.auto.bytes _ _ here.from here.to here.to
+    (read_on here.bytes c.as_mut_slice-in-loop-room.result.now c.read_behind.new.bytes c.as_mut_slice-in-loop-room.ensures.value
+    c.read_behind.auto.bytes _ _ here.from here.to here.to
     c.loop-room.invariant.front (goes_to _ _ _ _ _ _ c.if-end-room.true c.in_ok-end.ensures.ok.3))
 
 pub loop-room-preserved : goal.loop-room-preserved
 loop-room-preserved g c =
     let here = c.loop-room.room in
-    let same = rewritten_length here.bytes c.as_mut_slice-in-loop-room.result.now c.read_behind.new.bytes c.as_mut_slice-in-loop-room.ensures.value c.read_behind.auto.bytes in
+    let same = rewritten_length here.bytes c.as_mut_slice-in-loop-room.result.now c.read_behind.new.bytes c.as_mut_slice-in-loop-room.ensures.value
+    c.read_behind.auto.bytes in
     record {
       room = record {
         order = omega (arith, c.loop-room.invariant.front);
@@ -43,7 +46,8 @@ pub returns-in_err-end-clause-lost : goal.returns-in_err-end-clause-lost
 returns-in_err-end-clause-lost g c =
     let r = c.args.room.now in
     let here = c.loop-room.room in
-    let moved = shifted r.bytes c.as_mut_slice.result.now c.shift.new.bytes c.as_mut_slice.ensures.value c.shift.auto.bytes r.from r.to c.shift.ensures in
+    let moved = shifted r.bytes c.as_mut_slice.result.now c.shift.new.bytes c.as_mut_slice.ensures.value c.shift.auto.bytes r.from r.to
+    c.shift.ensures in
     on_err c.from_residual.result _ (
       unread here,
       goes_kept _ _ _ _ _ (goes_like _ _ _ _ _ moved c.loop-room.invariant.goes)

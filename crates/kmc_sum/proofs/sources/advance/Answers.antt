@@ -1,11 +1,11 @@
 use Rattle.std.proofs.Common.{◌≡◌, ◌^◌, length, set, cond, refl, sym, ap, subst, arith}
 use Rattle.std.proofs.lemmas.List.{length-set}
-use Rattle.kmc_count.proofs.PassedOn.{passed_on}
 use Rattle.kmc_device.specs.Device.{Watched}
 use Rattle.kmc_device.specs.Lemmas.Devices.{on_err}
 use Rattle.kmc_sum.specs.Heads.{rank, head_at}
 use Rattle.kmc_sum.specs.Sources.{AreReady}
 use Rattle.kmc_sum.proofs.Advances.{inside_after, settled_after, ready_after, behind_after, failed_at, kept_at, source_was, sources_went_on, source_at_fault, source_lost}
+use Rattle.kmc_sum.proofs.Answers.{by_fault, handed_on}
 use Rattle.kmc_sum.proofs.sources.advance.Goals as goal
 
 pub next_head-requires : goal.next_head-requires
@@ -32,7 +32,8 @@ returns-clause-ready g c =
 pub returns-clause-sources : goal.returns-clause-sources
 returns-clause-sources g c = λ starts lists are.
     let left = λ (r : Watched g.row.R.Denot). g.R.Read.remaining r.inner in
-    let old = source_was left c.args.readers.now c.index-readers-source.result c.next_head.new.reader _ _ _ c.requires.ready c.requires.tree c.requires.some c.index-rooms-source.result starts lists are in
+    let old = source_was left c.args.readers.now c.index-readers-source.result c.next_head.new.reader _ _ _ c.requires.ready c.requires.tree
+    c.requires.some c.index-rooms-source.result starts lists are in
     sources_went_on left c.args.readers.now c.index-readers-source.result c.next_head.new.reader _ _ _ c.requires.ready c.requires.tree
     c.requires.some c.index-rooms-source.result starts lists are c.in_ok-head.head c.mend.new.heads c.mend.auto.heads c.mend.ensures.leaves
     c.next_head.new.room (c.in_ok-head.ensures.ok _ _ _ c.requires.live refl old)
@@ -46,20 +47,16 @@ returns-clause-behind g c =
     c.in_ok-head.ensures.behind.1 (omega (arith, top))
 
 pub returns-in_err-head-clause-fault : goal.returns-in_err-head-clause-fault
-returns-in_err-head-clause-fault g c = λ source line fault is starts lists are.
+returns-in_err-head-clause-fault g c = handed_on c.from_residual.result _ _ c.from_residual.ensures.1 (λ starts lists are.
     let left = λ (r : Watched g.row.R.Denot). g.R.Read.remaining r.inner in
-    let old = source_was left c.args.readers.now c.index-readers-source.result c.next_head.new.reader _ _ _ c.requires.ready c.requires.tree c.requires.some c.index-rooms-source.result starts lists are in
-    let here = c.next_head.ensures.fault source line fault
-    (passed_on c.next_head.result c.from_residual.result _ _ c.in_err-head.was c.from_residual.ensures.1 is) in
-    let at_fault = here.1 _ _ _ c.requires.live refl old in
-    source_at_fault left c.args.readers.now c.index-readers-source.result c.next_head.new.reader _ _ _ c.requires.ready c.requires.tree c.requires.some c.index-rooms-source.result starts lists are source line fault here.0 at_fault.1 at_fault.0
-
-pub returns-in_err-head-clause-read : goal.returns-in_err-head-clause-read
-returns-in_err-head-clause-read g c = λ source is.
-    let s = (head_at c.args.heads.now 1).source in
-    let here = c.next_head.ensures.read source
-    (passed_on c.next_head.result c.from_residual.result _ _ c.in_err-head.was c.from_residual.ensures.1 is) in
-    failed_at c.args.readers.now s c.index-readers-source.result c.next_head.new.reader c.requires.inside source here.0 here.1
+    let old = source_was left c.args.readers.now c.index-readers-source.result c.next_head.new.reader _ _ _ c.requires.ready c.requires.tree
+    c.requires.some c.index-rooms-source.result starts lists are in
+    by_fault c.args.k starts _ _ _ _ _ (λ line fault is.
+    let at_fault = c.in_err-head.ensures.fault line fault is _ _ _ c.requires.live refl old in
+    source_at_fault left c.args.readers.now c.index-readers-source.result c.next_head.new.reader _ _ _ c.requires.ready c.requires.tree
+    c.requires.some c.index-rooms-source.result starts lists are _ line fault c.in_err-head.ensures.source at_fault.1 at_fault.0)
+    (λ is. failed_at c.args.readers.now (head_at c.args.heads.now 1).source c.index-readers-source.result c.next_head.new.reader c.requires.inside _
+    c.in_err-head.ensures.source (c.in_err-head.ensures.read is)))
 
 pub returns-clause-kept : goal.returns-clause-kept
 returns-clause-kept g c =
@@ -69,6 +66,7 @@ returns-clause-kept g c =
 pub returns-in_err-head-clause-lost : goal.returns-in_err-head-clause-lost
 returns-in_err-head-clause-lost g c = on_err c.from_residual.result _ (λ starts lists are.
     let left = λ (r : Watched g.row.R.Denot). g.R.Read.remaining r.inner in
-    let old = source_was left c.args.readers.now c.index-readers-source.result c.next_head.new.reader _ _ _ c.requires.ready c.requires.tree c.requires.some c.index-rooms-source.result starts lists are in
+    let old = source_was left c.args.readers.now c.index-readers-source.result c.next_head.new.reader _ _ _ c.requires.ready c.requires.tree
+    c.requires.some c.index-rooms-source.result starts lists are in
     source_lost left c.args.readers.now c.index-readers-source.result c.next_head.new.reader _ _ _ c.requires.ready c.requires.tree
     c.requires.some c.index-rooms-source.result starts lists are (c.in_err-head.ensures.lost _ _ _ old))
