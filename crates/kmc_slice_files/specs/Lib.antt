@@ -1,0 +1,12 @@
+pub mod Check
+pub mod Frames
+pub mod Files
+pub mod Headers
+pub mod Laws
+pub mod Writes
+pub mod Room
+pub mod Reads
+pub mod Opening
+pub mod Whole
+pub mod Lemmas
+pub mod Messages

@@ -1,0 +1,21 @@
+use Rattle.std.proofs.Common.{map, string_bytes, Err, inl, inr, refl, sym, ap, ◌∙◌}
+use Rattle.kmc_slice_programs.proofs.Statuses.{asks_for_nothing}
+use Rattle.kmc_slice_programs.proofs.listing.list_words.Goals as goal
+
+pub returns-in-Ok-clause-done : goal.returns-in-Ok-clause-done
+returns-in-Ok-clause-done g c = λ status _.
+    let done = c.list_files.ensures.done status in
+    (c.in-Ok.request, c.in-Ok.ensures.asked, done.0, done.1)
+
+pub returns-in-Ok-clause-failed : goal.returns-in-Ok-clause-failed
+returns-in-Ok-clause-failed g c = λ status _. elim (c.list_files.ensures.failed status) [
+  | inl same ↦ inl same
+  | inr front ↦ inr (c.in-Ok.request, c.in-Ok.ensures.asked, front)
+]
+
+pub returns-in-Err-clause-misused : goal.returns-in-Err-clause-misused
+returns-in-Err-clause-misused g c = λ status. (
+  asks_for_nothing (map string_bytes c.args.words.items) c.in-Err.error (λ is. c.in-Err.ensures.usage (ap Err is))
+      (λ s is. c.in-Err.ensures.range s (ap Err is)) (sym c.ended.ensures ∙ status),
+  refl,
+)

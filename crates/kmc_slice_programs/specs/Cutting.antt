@@ -1,0 +1,38 @@
+-- What the program that cuts reads does.
+use Rattle.std.specs.Prelude.{◌≡◌, ◌⊎◌, ℕ, List, [], Option, Result, Ok, Err, length}
+use Rattle.kmc_settings.specs.declared.params.Params.{Params}
+use Rattle.kmc_settings.specs.declared.setting.Setting.{Setting}
+use Rattle.kmc_settings.specs.Shape.{shape_of}
+use Rattle.kmc_settings.specs.Words.{Word}
+use Rattle.kmc_tool.specs.declared.input.TheConstants.{PIECE_SYMBOLS}
+use Rattle.kmc_slice_options.specs.Requests.{AsksForCut, IsCutRequest, IsOutOfRange}
+use Rattle.kmc_slice_options.specs.declared.cutting.CutRequest.{CutRequest}
+use Rattle.kmc_slice_options.specs.declared.cutting.CutRequestError.TheVariants.{Usage, OutOfRange, Slices, Memory}
+use Rattle.kmc_slices.specs.Cut.{WroteSlices}
+use Rattle.kmc_slice_programs.specs.declared.cut_fault.CutFault.{CutFault}
+use Rattle.kmc_slice_programs.specs.declared.cut_fault.CutFault.TheVariants.{Request, NotMade, Cut}
+
+-- files, as many as slices, got the slices of bins that hold all that the reader gave
+pub record WroteFiles (params : Params) (S : ℕ) (old new : Option (List ℕ)) : Type 0 where
+  pub olds : List (Option (List ℕ))
+  pub news : List (Option (List ℕ))
+  pub many : length olds ≡ S
+  pub wrote : WroteSlices params.format (shape_of params) PIECE_SYMBOLS S old new olds news
+
+-- the words ask for no cut: they are no usage, an option is out of its range, or the number of slices is
+abbrev pub AsksForNoCut : List Word → Type 0
+AsksForNoCut words = (AsksForCut words → ⊥) ⊎ (((s : Setting) × IsOutOfRange words s) ⊎ ((r : CutRequest) → IsCutRequest words r → ⊥))
+
+-- 2 where the command line is at fault, and else 1
+abbrev pub status_of : CutFault → ℕ
+status_of (Request Usage) = 2
+status_of (Request (OutOfRange s)) = 2
+status_of (Request Slices) = 2
+status_of (Request Memory) = 1
+status_of (NotMade e) = 1
+status_of (Cut e) = 1
+
+-- and 0 where there is no fault
+abbrev pub status_of_answer : Result (Unit {0}) CutFault → ℕ
+status_of_answer (Ok u) = 0
+status_of_answer (Err fault) = status_of fault

@@ -1,0 +1,62 @@
+-- What the program that lists a slice does.
+use Rattle.std.specs.Prelude.{◌≡◌, ◌⊎◌, ◌<◌, ℕ, List, Option, Result, Ok, Err, length}
+use Rattle.std.specs.Io.KnownBytes.{Appends}
+use Rattle.kmc_device.specs.Device.{AppendsFront}
+use Rattle.kmc_device.specs.Line.{text_of}
+use Rattle.kmc_settings.specs.declared.params.Params.{Params}
+use Rattle.kmc_settings.specs.declared.setting.Setting.{Setting}
+use Rattle.kmc_settings.specs.Words.{Word}
+use Rattle.kmc_tool.specs.Stages.{IsDumpOfBins}
+use Rattle.kmc_slice_files.specs.declared.slice.SliceFault.{SliceFault}
+use Rattle.kmc_slice_options.specs.Requests.{AsksForList, IsOutOfRange}
+use Rattle.kmc_slice_options.specs.declared.listing.ListRequestError.TheVariants.{Usage, OutOfRange, Memory}
+use Rattle.kmc_slices.specs.Gathered.{AreGathered, Records}
+use Rattle.kmc_slices.specs.declared.listing.ListError.TheVariants.{Memory as NoMemory}
+use Rattle.kmc_slice_programs.specs.declared.list_fault.ListFault.{ListFault}
+use Rattle.kmc_slice_programs.specs.declared.list_fault.ListFault.TheVariants.{Request, NotOpened, File, Dump}
+
+-- so many files gave the records of one slice, and the pairs are their dump
+pub record AreListed (files : ℕ) (params : Params) (pairs : List (List ℕ × ℕ)) : Type 0 where
+  pub readings : List (Option (List ℕ) × Option (List ℕ))
+  pub many : length readings ≡ files
+  pub records : Records
+  pub gathered : AreGathered readings records
+  pub dump : IsDumpOfBins params.strands records.shape.k params.limits records.bodies pairs
+
+-- the dump of so many files of one slice was written
+pub record IsListed (files : ℕ) (params : Params) (old new : Option (List ℕ)) : Type 0 where
+  pub pairs : List (List ℕ × ℕ)
+  pub are : AreListed files params pairs
+  pub out : Appends old new (text_of pairs)
+
+-- a front of the dump of so many files of one slice was written
+pub record LeavesFront (files : ℕ) (params : Params) (old new : Option (List ℕ)) : Type 0 where
+  pub pairs : List (List ℕ × ℕ)
+  pub are : AreListed files params pairs
+  pub out : AppendsFront old new (text_of pairs)
+
+-- a fault of the file of this number, or of memory while it was read
+abbrev pub IsFileFault : ℕ → ListFault → Type 0
+IsFileFault i fault = (fault ≡ Dump NoMemory) ⊎ ((fault ≡ NotOpened i) ⊎ ((e : SliceFault) × (fault ≡ File i e)))
+
+-- a fault of one of so many files
+abbrev pub IsOfFiles : ℕ → ListFault → Type 0
+IsOfFiles n fault = (i : ℕ) × (i < n) × IsFileFault i fault
+
+-- the words ask for nothing: they are no usage, or an option is out of its range
+abbrev pub AsksForNothing : List Word → Type 0
+AsksForNothing words = (AsksForList words → ⊥) ⊎ ((s : Setting) × IsOutOfRange words s)
+
+-- 2 where the command line is at fault, and else 1
+abbrev pub status_of : ListFault → ℕ
+status_of (Request Usage) = 2
+status_of (Request (OutOfRange s)) = 2
+status_of (Request Memory) = 1
+status_of (NotOpened i) = 1
+status_of (File i e) = 1
+status_of (Dump e) = 1
+
+-- and 0 where there is no fault
+abbrev pub status_of_answer : Result ℕ ListFault → ℕ
+status_of_answer (Ok lines) = 0
+status_of_answer (Err fault) = status_of fault

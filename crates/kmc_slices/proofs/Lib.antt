@@ -1,0 +1,9 @@
+mod Sums
+mod Dumps
+mod Bins
+mod Whole
+mod FilesRead
+mod Rounds
+mod Told
+mod Files
+mod KnownFiles

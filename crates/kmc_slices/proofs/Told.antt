@@ -1,0 +1,108 @@
+-- Refusals of the reading, as they are told.
+use Rattle.std.proofs.Common.{◌≡◌, ◌≢◌, ℕ, ◌-◌, ◌≤◌, List, [], ◌++◌, Option, Result, Ok, Err, IfErr, inr, sym, subst, arith, append_assoc, length-append}
+use Rattle.std.specs.Io.KnownBytes.{IsAtEnd}
+use Rattle.kmc_reads.specs.declared.format.Format.{Format}
+use Rattle.kmc_reads.specs.Standing.{FeederState, StandsCut}
+use Rattle.kmc_record.specs.Shapes.{Sizes}
+use Rattle.kmc_tool.specs.declared.error.RunError.{RunError}
+use Rattle.kmc_tool.specs.declared.error.RunError.TheVariants as run
+use Rattle.kmc_tool.specs.Rounds.{AreCountsOf, IsFed, IsFedBy, IsInputError, IsLastError}
+use Rattle.kmc_tool.specs.Lemmas.Fed.{consumes_on, refused_on}
+use Rattle.kmc_slices.specs.declared.error.CutError.{CutError}
+use Rattle.kmc_slices.specs.declared.error.CutError.TheVariants.{Memory, Read, Write, Input, TooLong}
+use Rattle.kmc_slices.specs.Cut.{AreReadCounts, AreWriteCounts, IsCutError, IsLastCutError, IsToldAs}
+use Rattle.kmc_slices.specs.Rounds.{AreRounds}
+
+pub not_write : (most before after failed fails : ℕ) (e : RunError) → AreCountsOf most before after failed fails e → e ≢ run.Write
+not_write most before after failed fails e counts is = subst (AreCountsOf most before after failed fails) is counts
+
+pub told_counts : (most before after failed fails : ℕ) (e : RunError) (c : CutError) → IsToldAs e c → AreCountsOf most before after failed fails e
+    → AreReadCounts most before after failed fails c
+told_counts most before after failed fails run.Memory c is h = subst (AreReadCounts most before after failed fails) (sym is) h
+told_counts most before after failed fails run.Read c is h = subst (AreReadCounts most before after failed fails) (sym is) h
+told_counts most before after failed fails run.Write c is h = absurd is
+told_counts most before after failed fails (run.Input e) c is h = subst (AreReadCounts most before after failed fails) (sym is) h
+told_counts most before after failed fails run.TooLong c is h = subst (AreReadCounts most before after failed fails) (sym is) h
+
+pub told_cause : (format : Format) (most : ℕ) (old new : Option (List ℕ)) (e : RunError) (c : CutError) → IsToldAs e c
+    → IsInputError format most old new e
+    → IsCutError format most old new c
+told_cause format most old new run.Memory c is h = subst (IsCutError format most old new) (sym is) tt
+told_cause format most old new run.Read c is h = subst (IsCutError format most old new) (sym is) tt
+told_cause format most old new run.Write c is h = absurd is
+told_cause format most old new (run.Input e) c is h = subst (IsCutError format most old new) (sym is) h
+told_cause format most old new run.TooLong c is h = subst (IsCutError format most old new) (sym is) h
+
+pub told_last : (format : Format) (text : List ℕ) (e : RunError) (c : CutError) → IsToldAs e c → IsLastError format text e
+    → IsLastCutError format text c
+told_last format text run.Memory c is h = subst (IsLastCutError format text) (sym is) tt
+told_last format text run.Read c is h = absurd h
+told_last format text run.Write c is h = absurd is
+told_last format text (run.Input e) c is h = subst (IsLastCutError format text) (sym is) h
+told_last format text run.TooLong c is h = absurd h
+
+pub told_writes : (olds news : List ℕ) (e : RunError) (c : CutError) → IsToldAs e c → news ≡ olds → AreWriteCounts olds news c
+told_writes olds news run.Memory c is same = subst (AreWriteCounts olds news) (sym is) same
+told_writes olds news run.Read c is same = subst (AreWriteCounts olds news) (sym is) same
+told_writes olds news run.Write c is same = absurd is
+told_writes olds news (run.Input e) c is same = subst (AreWriteCounts olds news) (sym is) same
+told_writes olds news run.TooLong c is same = subst (AreWriteCounts olds news) (sym is) same
+
+-- the numbers and the cause where the last round was not cut
+pub last_counts : {A : Type 0} (format : Format) (text : List ℕ) (most before after failed fails : ℕ) (r : Result A CutError) → fails ≡ failed
+    → before ≤ after → after ≤ most
+    → IfErr r (IsLastCutError format text) → IfErr r (AreReadCounts most before after failed fails)
+last_counts format text most before after failed fails (Ok x) same least below h = tt
+last_counts format text most before after failed fails (Err Memory) same least below h = (same, least, below)
+last_counts format text most before after failed fails (Err Read) same least below h = absurd h
+last_counts format text most before after failed fails (Err (Write s)) same least below h = (same, least, below)
+last_counts format text most before after failed fails (Err (Input e)) same least below h = (same, least, below)
+last_counts format text most before after failed fails (Err TooLong) same least below h = absurd h
+
+pub last_cause : {A : Type 0} (overlap : ℕ) (format : Format) (most : ℕ) (old new : Option (List ℕ)) (before after : ℕ) (taken : List (List ℕ))
+    (v : FeederState)
+    (r : Result A CutError) (f : IsFed overlap format old new before after [] taken v) → IsAtEnd new → IfErr r (IsLastCutError format f.bytes)
+    → IfErr r (IsCutError format most old new)
+last_cause overlap format most old new before after taken v (Ok x) f end h = tt
+last_cause overlap format most old new before after taken v (Err Memory) f end h = tt
+last_cause overlap format most old new before after taken v (Err Read) f end h = tt
+last_cause overlap format most old new before after taken v (Err (Write s)) f end h = tt
+last_cause overlap format most old new before after taken v (Err (Input e)) f end h =
+    record { bytes = f.bytes; given = f.given; refused = h; for_good = inr end }
+last_cause overlap format most old new before after taken v (Err TooLong) f end h = absurd h
+
+-- what earlier rounds left as it was
+pub writes_on : {A : Type 0} (olds mids news : List ℕ) (r : Result A CutError) → mids ≡ olds → IfErr r (AreWriteCounts mids news) → IfErr r
+    (AreWriteCounts olds news)
+writes_on olds mids news r same h = subst (λ (l : List ℕ). IfErr r (AreWriteCounts l news)) same h
+
+-- the reading and the writing of the rounds so far: what was taken went out
+pub record AreUnderWay (format : Format) (shape : Sizes) (limit S : ℕ) (old new : Option (List ℕ)) (before after : ℕ) (v : FeederState)
+    (begins news : List (Option (List ℕ))) (counts counted : List ℕ) : Type 0 where
+  pub taken : List (List ℕ)
+  pub fed : IsFed (shape.k - 1) format old new before after [] taken v
+  pub written : (olds : List (Option (List ℕ))) → AreRounds shape limit S [] olds begins counts → AreRounds shape limit S taken olds news counted
+
+-- more was read, and more reads were taken meanwhile
+pub taken_since : (overlap : ℕ) (format : Format) (old mid new : Option (List ℕ)) (a b c : ℕ) (text : List ℕ) (taken more : List (List ℕ))
+    (v w : FeederState)
+    (f : IsFed overlap format old mid a b text taken v) → IsFed overlap format mid new b c (text ++ f.bytes) more w
+    → IsFed overlap format old new a c text more w
+taken_since overlap format old mid new a b c text taken more v w f g = record {
+  bytes = f.bytes ++ g.bytes;
+  given = consumes_on old mid new f.bytes g.bytes f.given g.given;
+  many = omega (arith, f.many, g.many, length-append f.bytes g.bytes);
+  stands = subst (λ t. StandsCut overlap format t more w) (append_assoc text f.bytes g.bytes) g.stands;
+}
+
+-- and the reading was refused
+pub refused_since : (overlap : ℕ) (format : Format) (old mid new : Option (List ℕ)) (a b c : ℕ) (text : List ℕ) (taken more : List (List ℕ))
+    (v w : FeederState)
+    (e : RunError) (f : IsFed overlap format old mid a b text taken v) → IsFedBy overlap format mid new b c (text ++ f.bytes) more w (Err e)
+    → IsFedBy overlap format old new a c text more w (Err e)
+refused_since overlap format old mid new a b c text taken more v w run.Memory f g = tt
+refused_since overlap format old mid new a b c text taken more v w run.Read f g = tt
+refused_since overlap format old mid new a b c text taken more v w run.Write f g = tt
+refused_since overlap format old mid new a b c text taken more v w (run.Input e) f g = refused_on overlap format old mid new a b text taken v e f g
+refused_since overlap format old mid new a b c text taken more v w run.TooLong f g =
+    taken_since overlap format old mid new a b c text taken more v w f g

@@ -1,0 +1,133 @@
+//! The reads of a text, a round at a time, to the files of slices.
+ghost use Rattle.std.specs.Prelude.{◌≡◌, ℕ, ◌+◌, ◌-◌, ◌^◌, ◌<◌, ◌≤◌, List, [], length, map, slice_index, Option, OnOk, OnErr, IfErr};
+ghost use Rattle.kmc_reads.specs.declared.format.Format.{Format};
+ghost use Rattle.kmc_reads.specs.Standing.{StandsCut};
+ghost use Rattle.kmc_settings.specs.Shape.{shape_of};
+ghost use Rattle.kmc_slices.specs.Cut.{AreReadCounts, AreWriteCounts, IsCutError, IsLastCutError};
+ghost use Rattle.kmc_slices.specs.Rounds.{AreAllRounds, AreLastRounds, AreRounds, AreUnended};
+
+use crate::error::{CutError, told};
+use crate::round::next_bins;
+use crate::writing::write_bins;
+use kmc_device::Counted;
+use kmc_partqueue::Gate;
+use kmc_reads::Feeder;
+use kmc_store::Bins;
+use kmc_store::laws::empty_bins_hold_no_reads;
+use kmc_tool::{Dealing, fill_round, last_round, round_of};
+use std::io::{Read, Write};
+use std::sync::Wait;
+use std::thread::Threads;
+
+/// The text ends here: the reads that are left go, by way of bins of their own, to the writers.
+fn cut_last_round<T: Threads + Wait + Sync, W: Write, G: Gate + Sync>(
+    rt: &T,
+    feeder: Feeder,
+    writers: &mut [Counted<W>],
+    counts: &mut [u64],
+    dealing: &Dealing<'_, G>,
+) -> Result<(), CutError>
+    requires some { 1 ≤ length writers.old }
+    requires counts { length counts.old ≡ length writers.old }
+    requires failures { (s : ℕ) → s < length writers.old
+        → slice_index (map (λ w. w.failures) writers.old) s < 2 ^ 64 - 1 }
+    ensures ok { (format : Format) (text : List ℕ) (taken : List (List ℕ)) (olds : List (Option (List ℕ)))
+        → StandsCut (dealing.now.params.k - 1) format text taken feeder
+        → AreRounds (shape_of dealing.now.params) dealing.now.limit (length writers.old) taken olds
+        (map (λ w. W.contents w.inner) writers.old) counts.old
+        → OnOk result
+        (AreLastRounds format (shape_of dealing.now.params) dealing.now.limit
+        (length writers.old) text olds (map (λ w. W.contents w.inner) writers.new) counts.new) }
+    ensures kept { OnOk result
+        (map (λ w. w.failures) writers.new ≡ map (λ w. w.failures) writers.old) }
+    ensures cause { (format : Format) (text : List ℕ) (taken : List (List ℕ))
+        → StandsCut (dealing.now.params.k - 1) format text taken feeder
+        → IfErr result (IsLastCutError format text) }
+    ensures write_counts { IfErr result
+        (AreWriteCounts (map (λ w. w.failures) writers.old) (map (λ w. w.failures) writers.new)) }
+    ensures left { (taken : List (List ℕ)) (olds : List (Option (List ℕ)))
+        → AreRounds (shape_of dealing.now.params) dealing.now.limit (length writers.old) taken olds
+        (map (λ w. W.contents w.inner) writers.old) counts.old
+        → OnErr result
+        (AreUnended (shape_of dealing.now.params) (length writers.old) olds
+        (map (λ w. W.contents w.inner) writers.new)) }
+{
+    empty_bins_hold_no_reads();
+    let bins = Bins::new(dealing.alloc, dealing.params.shape())?;
+    let bins = match last_round(rt, bins, feeder, dealing) {
+        Ok(bins) => bins,
+        Err(e) => return Err(told(e)),
+    };
+    match write_bins(writers, counts, &bins) {
+        Ok(()) => Ok(()),
+        Err(s) => Err(CutError::Write(s)),
+    }
+}
+
+/// All that the reader gives, of which fewer than `max_reads` reads may give bytes, goes to the writers, round after round: of
+/// a round's reads, its bins and the next round's bytes no more than one round is held at a time. The frames of each
+/// writer are counted.
+pub(crate) fn cut_rounds<T: Threads + Wait + Sync, R: Read, W: Write, G: Gate + Sync>(
+    rt: &T,
+    reader: &mut Counted<R>,
+    writers: &mut [Counted<W>],
+    counts: &mut [u64],
+    dealing: &Dealing<'_, G>,
+    max_reads: u64,
+) -> Result<(), CutError>
+    requires reader { reader.old.failures < 2 ^ 64 - 1 }
+    requires reads { reader.old.reads + max_reads < 2 ^ 64 }
+    requires most { max_reads ≤ 2 ^ 32 }
+    requires some { 1 ≤ length writers.old }
+    requires counts { length counts.old ≡ length writers.old }
+    requires failures { (s : ℕ) → s < length writers.old
+        → slice_index (map (λ w. w.failures) writers.old) s < 2 ^ 64 - 1 }
+    ensures ok { (olds : List (Option (List ℕ)))
+        → AreRounds (shape_of dealing.now.params) dealing.now.limit (length writers.old) [] olds
+        (map (λ w. W.contents w.inner) writers.old) counts.old
+        → OnOk result
+        (AreAllRounds dealing.now.params.format (shape_of dealing.now.params) dealing.now.limit
+        (length writers.old) (R.remaining reader.old.inner) (R.remaining reader.new.inner) olds
+        (map (λ w. W.contents w.inner) writers.new) counts.new) }
+    ensures sound { OnOk result ((reader.new.failures ≡ reader.old.failures)
+        × (reader.old.reads ≤ reader.new.reads)
+        × (reader.new.reads < reader.old.reads + max_reads)) }
+    ensures kept { OnOk result
+        (map (λ w. w.failures) writers.new ≡ map (λ w. w.failures) writers.old) }
+    ensures cause { IfErr result
+        (IsCutError dealing.now.params.format max_reads (R.remaining reader.old.inner)
+        (R.remaining reader.new.inner)) }
+    ensures read_counts { IfErr result
+        (AreReadCounts (reader.old.reads + max_reads) reader.old.reads reader.new.reads
+        reader.old.failures reader.new.failures) }
+    ensures write_counts { IfErr result
+        (AreWriteCounts (map (λ w. w.failures) writers.old) (map (λ w. w.failures) writers.new)) }
+    ensures left { (olds : List (Option (List ℕ)))
+        → AreRounds (shape_of dealing.now.params) dealing.now.limit (length writers.old) [] olds
+        (map (λ w. W.contents w.inner) writers.old) counts.old
+        → OnErr result
+        (AreUnended (shape_of dealing.now.params) (length writers.old) olds
+        (map (λ w. W.contents w.inner) writers.new)) }
+{
+    let params = &dealing.params;
+    let mut feeder = Feeder::new(dealing.alloc, params.format);
+    let most = reader.reads() + max_reads;
+    let mut more = match fill_round(reader, &mut feeder, most, round_of(params)) {
+        Ok(more) => more,
+        Err(e) => return Err(told(e)),
+    };
+    for _ in 0..1u64 << 32 {
+        if !more {
+            return cut_last_round(rt, feeder, writers, counts, dealing);
+        }
+        let (bins, goes_on) = match next_bins(rt, dealing, reader, &mut feeder, most) {
+            Ok(next) => next,
+            Err(e) => return Err(told(e)),
+        };
+        match write_bins(writers, counts, &bins) {
+            Ok(()) => more = goes_on,
+            Err(s) => return Err(CutError::Write(s)),
+        }
+    }
+    Err(CutError::TooLong)
+}

@@ -1,0 +1,51 @@
+//! Why reads were not cut to the files of slices.
+ghost use Rattle.std.specs.Prelude.{◌≡◌, ◌≢◌};
+ghost use Rattle.kmc_slices.specs.Cut.{IsToldAs};
+ghost use Rattle.kmc_slices.specs.declared.error.CutError.TheVariants.{Memory};
+
+use kmc_reads::ReadsError;
+use kmc_tool::RunError;
+use std::alloc::AllocError;
+use thiserror::Error;
+
+/// Why reads were not cut to the files of slices. Of several causes the one that is met first is answered.
+#[derive(Clone, Copy, Debug, PartialEq, Eq, Error)]
+pub enum CutError {
+    /// A growth or the start of a thread was refused.
+    #[error("out of memory")]
+    Memory,
+    /// A read failed, of whatever kind.
+    #[error("read failed")]
+    Read,
+    /// A write to the file of this slice or its flush failed, or a write took nothing of what was left.
+    #[error("write failed: slice {0}")]
+    Write(usize),
+    /// The text is no list of reads; never for want of memory.
+    #[error("{0}")]
+    Input(ReadsError),
+    /// 2^32 reads gave bytes.
+    #[error("input too long")]
+    TooLong,
+}
+
+impl From<AllocError> for CutError {
+    ghost from_gives = { λ _ e. e ≡ Memory };
+
+    fn from(_: AllocError) -> CutError {
+        CutError::Memory
+    }
+}
+
+/// How a refusal of the reading, which is none of a write, is told.
+pub(crate) fn told(e: RunError) -> CutError
+    requires { e ≢ RunError.Write }
+    ensures { IsToldAs e result }
+{
+    match e {
+        RunError::Memory => CutError::Memory,
+        RunError::Read => CutError::Read,
+        RunError::Write => unreachable!(),
+        RunError::Input(fault) => CutError::Input(fault),
+        RunError::TooLong => CutError::TooLong,
+    }
+}

@@ -1,0 +1,92 @@
+//! The dump of a slice.
+ghost use Rattle.std.specs.Prelude.{◌≡◌, ◌≢◌, ℕ, ◌-◌, ◌^◌, ◌<◌, List, length, IfOk, IfErr, IsErrOf};
+ghost use Rattle.std.specs.Io.KnownBytes.{Appends};
+ghost use Rattle.kmc_device.specs.Device.{AppendsFront, RisesByOne};
+ghost use Rattle.kmc_device.specs.Line.{text_of};
+ghost use Rattle.kmc_store.specs.Bins.{AreBins};
+ghost use Rattle.kmc_store.specs.Outside.{IsBinFault};
+ghost use Rattle.kmc_store.specs.declared.judging.BinFault.{BinFault};
+ghost use Rattle.kmc_tool.specs.Stages.{IsDumpOfBins};
+ghost use Rattle.kmc_slices.specs.declared.listing.ListError.TheVariants.{Memory, Foreign, Write};
+
+use crate::gathering::SliceRecords;
+use kmc_device::Counted;
+use kmc_dump::{DumpError, write_bins};
+use kmc_settings::Params;
+use kmc_store::{BinFault, Bins};
+use kmc_tool::lists_of_bins;
+use std::alloc::{AllocError, Global};
+use std::io;
+use std::thread::Threads;
+
+/// Why a slice was not listed.
+#[derive(Clone, Copy, Debug, PartialEq, Eq)]
+pub enum ListError {
+    /// The first bin whose records are none of that bin, and why. Nothing was written.
+    Foreign(BinFault),
+    /// Memory was refused. Nothing was written.
+    Memory,
+    /// A write or the flush failed. A front of the dump is out.
+    Write,
+}
+
+impl From<AllocError> for ListError {
+    ghost from_gives = { λ _ e. e ≡ Memory };
+
+    fn from(_: AllocError) -> ListError {
+        ListError::Memory
+    }
+}
+
+impl From<BinFault> for ListError {
+    ghost from_gives = { λ fault e. e ≡ Foreign fault };
+
+    fn from(fault: BinFault) -> ListError {
+        ListError::Foreign(fault)
+    }
+}
+
+impl From<DumpError> for ListError {
+    ghost use Rattle.kmc_slices.specs.Listing.{list_error};
+
+    ghost from_gives = { λ error e. e ≡ list_error error };
+
+    fn from(error: DumpError) -> ListError {
+        match error {
+            DumpError::Memory => ListError::Memory,
+            DumpError::Write => ListError::Write,
+        }
+    }
+}
+
+/// Writes the dump of the records of a slice, within the limits and by the strands and threads of these settings, and nothing
+/// else. The answer is the number of lines. Records that came from outside are looked through first: each must be whole, with
+/// words of its bin alone.
+pub fn list_records<T: Threads + Sync, W: io::Write>(
+    rt: &T,
+    alloc: Global,
+    records: SliceRecords,
+    params: &Params,
+    writer: &mut Counted<W>,
+) -> Result<u64, ListError>
+    requires failures { writer.old.failures < 2 ^ 64 - 1 }
+    ensures ok { IfOk result (λ lines. (pairs : List (List ℕ × ℕ))
+        × IsDumpOfBins params.now.strands records.shape.k params.now.limits records.bodies pairs
+        × (lines ≡ length pairs)
+        × Appends (W.contents writer.old.inner) (W.contents writer.new.inner) (text_of pairs)) }
+    ensures bins { IfOk result (λ lines. (words : List ℕ) × AreBins records.shape records.bodies words) }
+    ensures kept { IfOk result (λ lines. writer.new.failures ≡ writer.old.failures) }
+    ensures foreign { (fault : BinFault) → IsErrOf result (Foreign fault)
+        → IsBinFault records.shape records.bodies fault }
+    ensures front { IsErrOf result Write → (pairs : List (List ℕ × ℕ))
+        × IsDumpOfBins params.now.strands records.shape.k params.now.limits records.bodies pairs
+        × AppendsFront (W.contents writer.old.inner) (W.contents writer.new.inner) (text_of pairs) }
+    ensures failed { IsErrOf result Write → RisesByOne writer.old.failures writer.new.failures }
+    ensures silent { IfErr result (λ e. e ≢ Write → writer.new ≡ writer.old) }
+{
+    let (slicing, bodies) = records.into_parts();
+    let bins = Bins::from_bodies(alloc, slicing.shape, bodies)?;
+    let lists = lists_of_bins(rt, alloc, bins, params.strands, &params.limits, params.sr)?;
+    let lines = write_bins(rt, alloc, writer, &lists, slicing.shape.k(), params.sr)?;
+    Ok(lines)
+}
