@@ -3,6 +3,7 @@ import contextlib
 import ctypes
 import os
 import resource
+import shutil
 import signal
 import subprocess
 
@@ -10,6 +11,8 @@ from futoncrane.faults import Ended, Fault, reason, shown
 
 ENDING = (signal.SIGINT, signal.SIGTERM, signal.SIGHUP)
 PR_SET_PDEATHSIG = 1
+# a merge of 1000 dumps has so many files open, and some more
+MOST_OPEN = 4096
 
 try:
     PRCTL = ctypes.CDLL(None).prctl
@@ -47,6 +50,16 @@ def held_signals():
         signal.pthread_sigmask(signal.SIG_SETMASK, before)
 
 
+def open_more():
+    """Has this process open as many files as it may, up to a bound, and gives how many."""
+    now, most = resource.getrlimit(resource.RLIMIT_NOFILE)
+    wanted = MOST_OPEN if most == resource.RLIM_INFINITY else min(most, MOST_OPEN)
+    if now != resource.RLIM_INFINITY and now < wanted:
+        resource.setrlimit(resource.RLIMIT_NOFILE, (wanted, most))
+        return wanted
+    return MOST_OPEN if now == resource.RLIM_INFINITY else now
+
+
 def in_child(mask, space):
     """What a child does before its program begins: it ends with its parent, and takes at most `space` bytes of addresses."""
     parent = os.getpid()
@@ -57,17 +70,19 @@ def in_child(mask, space):
             if os.getppid() != parent:
                 os._exit(1)
         signal.pthread_sigmask(signal.SIG_SETMASK, mask)
+        open_more()
         if space:
             resource.setrlimit(resource.RLIMIT_AS, (space, space))
     return act
 
 
-# what is to be gone when the command ends, whichever moment a signal comes at: children, and files under names of the meantime
-RUNNING, TEMPORARY = [], set()
+# what is to be gone when the command ends, whichever moment a signal comes at: children, and files and folders of the meantime
+# (a folder of EMPTIED goes only where nothing is in it)
+RUNNING, TEMPORARY, FOLDERS, EMPTIED = [], set(), set(), set()
 
 
 def sweep():
-    """Ends all children and removes all files of the meantime."""
+    """Ends all children and removes all files and folders of the meantime."""
     with held_signals():
         for it in RUNNING:
             if it.poll() is None:
@@ -82,6 +97,13 @@ def sweep():
             with contextlib.suppress(OSError):
                 os.unlink(it)
         TEMPORARY.clear()
+        for it in FOLDERS:
+            shutil.rmtree(it, ignore_errors=True)
+        FOLDERS.clear()
+        for it in EMPTIED:
+            with contextlib.suppress(OSError):
+                os.rmdir(it)
+        EMPTIED.clear()
 
 
 class Children:

@@ -1,44 +1,54 @@
 #!/usr/bin/env python3
 """Counts k-mers on several machines, or in several processes of one, by way of dask.distributed.
 
-usage: futoncrane cluster (--workers N | --scheduler ADDRESS --directory DIR) [--megabytes N] [--ranges N] [KMC OPTION..] FILE.. > dump.txt
+usage: futoncrane cluster (--workers N | --scheduler ADDRESS --directory DIR) [--memory SIZE] [--slices N] [--megabytes N] [KMC OPTION..] FILE.. > dump.txt
 
   --workers N          starts N workers on this machine for this run
   --scheduler ADDRESS  gives the work to the workers of this scheduler, as tcp://node1:8786
-  --directory DIR      where the parts' dumps lie in the meantime: all machines must see it (with --workers $TMPDIR, else /tmp)
-  --megabytes N        text of a part, in millions of bytes (64)
-  --ranges N           ranges of k-mers that are merged apart (four for each worker)
+  --directory DIR      where files lie in the meantime, about 1.1 bytes for each symbol: all machines must see it (with --workers
+                       $TMPDIR, else /tmp)
+  --memory SIZE        memory of one worker, as 8G (its machine's, shared by the workers there)
+  --slices N           slices, 1 to 1000 (as many as there are workers, and more where their memory wants it)
+  --megabytes N        text of a part, in millions of bytes (eight parts for each worker, of 64 million at least, and about 1000 at most)
+  --quiet              tells nothing of the work
   --help               shows this text
 
-A word that begins with one '-' is an option of kmc, glued to its value, and every other word is a file. All machines must see
-the files, and have the program (the path in $KMC, else kmc of this repository, else futoncrane-kmc), under the same path.
+A word that begins with one '-' is an option of kmc, glued to its value, and every other word is a file. All machines must see the files and
+the folder, and have the programs kmc_cut and kmc_list: under the path that they have here, or in PATH as futoncrane-kmc-cut and
+futoncrane-kmc-list.
 
-The reads are dealt to the workers in parts: a plain file is cut between records after each N million bytes, and a file of
-gzip, bzip2 or zstd is one part. Each part is counted with -ci1 and the greatest -cx and -cs, and with -sp1 -sr1 where the
-options do not say otherwise. The dumps are cut into ranges of k-mers. Each range is merged: equal k-mers' counts are added, in
-whole numbers without a bound, and -ci, -cx and -cs judge the sums. The ranges, one after the other, are the dump of all reads.
-Ranges are merged by `kmc_merge` where that stands beside the program or in the worker's PATH, or as futoncrane-kmc-merge, else by `sort -m`
-and this program.
+The reads are cut in parts by the workers: a plain file is parted between records after each N million bytes, and a packed file (gzip, bzip2,
+xz, zstd) is one part. kmc_cut makes the records of each slice of a part. Then a worker lists a slice from the records of all parts, by
+kmc_list with the limits of the options, and kmc_merge puts the slices' dumps together here. Each program has one thread, unless -sp and -sr
+say otherwise.
 
-A worker that dies is the scheduler's to replace. Its unfinished parts are counted again by another one, and the dump is the same.
-The status is 0 only where the dump is whole. After a fault nothing was written, unless it was the writing that failed.
+A worker that dies is the scheduler's to replace. Its unfinished work is done again by another one, and the dump is the same.
+The status is 0 only where the dump is whole. After a fault nothing was written, unless it was the merging or the writing that failed.
 """
 import argparse
 import contextlib
 import mmap
 import os
+import resource
 import shutil
 import signal
 import subprocess
 import sys
 import tempfile
+import time
 import uuid
 
 BLOCK = 1 << 20
 MOST = 1 << 63
-SAMPLES = 64
-LIMITS = {"ci": 2, "cx": 10**9, "cs": 255}
+# what kmc_list and kmc_merge take
+MOST_PARTS, MOST_SLICES = 100000, 1000
+MOST_OPEN = 4096
+MOST_BINS, FEW_SLICES = 2000, 64
+# parts where none are told: so many for each worker, of so many bytes at least; and so many in all at most
+PARTS_OF_A_WORKER, LEAST_PART, USUAL_PARTS = 8, 64 * 10**6, 1000
 FASTA_OPTIONS = ("-fa", "-fm", "--fa", "--fm")
+OF_LISTING = ("ci", "cx", "cs", "sr", "b")
+LINES_LOOKED_AT = 16
 
 
 class Fault(Exception):
@@ -51,17 +61,44 @@ class Fault(Exception):
 def unpacker(path):
     """The command that unpacks the file, by its first bytes; none for a plain file."""
     with open(path, "rb") as file:
-        first = file.read(4)
-    for magic, command in ((b"\x1f\x8b", "gzip"), (b"BZh", "bzip2"), (b"\x28\xb5\x2f\xfd", "zstd")):
+        first = file.read(6)
+    for magic, command in ((b"\x1f\x8b", "gzip"), (b"BZh", "bzip2"), (b"\x28\xb5\x2f\xfd", "zstd"), (b"\xfd7zXZ\x00", "xz")):
         if first.startswith(magic):
             return command
     return None
 
 
-def fastq_ends(file, size):
-    """Places between FASTQ records, each the first that lies at least `size` bytes behind the one before. Blank lines
-    between records are passed over, as kmc does."""
-    start = place = 0
+def record_behind(file, place):
+    """Where the first FASTQ record begins behind this place, if the lines there tell: a header, a line of '+' and a quality as long as the
+    sequence, at one of four lines alone."""
+    file.seek(place)
+    file.readline()
+    place, lines = file.tell(), [file.readline() for _ in range(LINES_LOOKED_AT)]
+    lengths = [len(line.rstrip(b"\r\n")) for line in lines]
+
+    def is_begin(first):
+        return all(lines[it][:1] == b"@" and lines[it + 2][:1] == b"+" and lengths[it + 1] == lengths[it + 3]
+                   for it in range(first, LINES_LOOKED_AT - 3, 4))
+    found = [first for first in range(4) if is_begin(first)]
+    return place + sum(map(len, lines[:found[0]])) if len(found) == 1 else None
+
+
+def fastq_ends(file, size, length):
+    """Places between FASTQ records, each the first that lies behind `size` bytes from the one before."""
+    start = 0
+    while start + size < length:
+        end = record_behind(file, start + size)
+        if end is None:
+            yield from fastq_ends_by_lines(file, start, size)
+            return
+        yield end
+        start = end
+
+
+def fastq_ends_by_lines(file, start, size):
+    """The same by counting lines, where the lines at a place do not tell. Blank lines between records are passed over, as kmc does."""
+    file.seek(start)
+    place = start
     for header in iter(file.readline, b""):
         place += len(header)
         if header.rstrip(b"\r\n"):
@@ -71,7 +108,7 @@ def fastq_ends(file, size):
             start = place
 
 
-def fasta_ends(file, size):
+def fasta_ends(file, size, length):
     """Places before FASTA headers, each the first that lies at least `size` bytes behind the one before."""
     with mmap.mmap(file.fileno(), 0, access=mmap.ACCESS_READ) as text:
         place = text.find(b"\n>", size)
@@ -88,7 +125,7 @@ def parts_of(paths, is_fasta, size):
         start = 0
         if command is None and length > size:
             with open(path, "rb") as file:
-                for end in (fasta_ends if is_fasta else fastq_ends)(file, size):
+                for end in (fasta_ends if is_fasta else fastq_ends)(file, size, length):
                     if end < length:
                         yield path, None, start, end
                         start = end
@@ -99,9 +136,33 @@ def parts_of(paths, is_fasta, size):
 # What a worker does. These functions are sent to it by value.
 
 
-def feed(program, path, start, end):
+def program(name, path):
+    """The program that the client found, else the one in the worker's PATH."""
+    for it in (path, shutil.which("futoncrane-" + name.replace("_", "-")), shutil.which(name)):
+        if it and os.access(it, os.X_OK):
+            return it
+    raise Fault("the program %s is not on this machine, neither as %s nor in PATH" % (name, path))
+
+
+def room_of_worker():
+    """The name of the machine, and the memory that it has, or its container gives."""
+    found = os.sysconf("SC_PAGE_SIZE") * os.sysconf("SC_PHYS_PAGES")
+    with contextlib.suppress(OSError, ValueError), open("/sys/fs/cgroup/memory.max", encoding="ascii") as text:
+        found = min(found, int(text.read()))
+    return os.uname().nodename, found
+
+
+def open_more():
+    """Has this process and its children open as many files as they may: a program has one for each slice."""
+    now, most = resource.getrlimit(resource.RLIMIT_NOFILE)
+    wanted = MOST_OPEN if most == resource.RLIM_INFINITY else min(most, MOST_OPEN)
+    if now != resource.RLIM_INFINITY and now < wanted:
+        resource.setrlimit(resource.RLIMIT_NOFILE, (wanted, most))
+
+
+def feed(child, path, start, end):
     """Writes the bytes of the file from start to end to the program's standard input, and closes that."""
-    with open(path, "rb") as file, contextlib.suppress(BrokenPipeError), program.stdin as sink:
+    with open(path, "rb") as file, contextlib.suppress(BrokenPipeError), child.stdin as sink:
         file.seek(start)
         while start < end:
             block = file.read(min(BLOCK, end - start))
@@ -111,200 +172,223 @@ def feed(program, path, start, end):
             start += len(block)
 
 
-def count(part, command, out):
-    """Counts the part by the command, into the file `out`."""
-    path, unpack, start, end = part
-    program = subprocess.Popen(command, stdin=subprocess.PIPE, stdout=out, stderr=subprocess.PIPE)
+def unpack(child, command, path):
+    """Unpacks the file into the program's standard input, and closes that."""
+    with open(path, "rb") as packed:
+        status = subprocess.run([command, "-dc"], stdin=packed, stdout=child.stdin, stderr=subprocess.DEVNULL).returncode
+    child.stdin.close()
+    if status == -signal.SIGPIPE:
+        child.wait()
+    if status != 0 and (status != -signal.SIGPIPE or child.returncode == 0):
+        raise Fault("%s: %s cannot unpack it" % (path, command))
+
+
+def run_cut(part, command):
+    """Cuts a part by the command."""
+    path, packing, start, end = part
+    child = subprocess.Popen(command, stdin=subprocess.PIPE, stdout=subprocess.DEVNULL, stderr=subprocess.PIPE)
     try:
-        if unpack is None:
-            feed(program, path, start, end)
+        if packing is None:
+            feed(child, path, start, end)
         else:
-            with open(path, "rb") as packed:
-                unpacked = subprocess.run([unpack, "-dc"], stdin=packed, stdout=program.stdin, stderr=subprocess.DEVNULL)
-            program.stdin.close()
-            if unpacked.returncode > 0:  # it is below 0 where kmc gave up first
-                raise Fault("%s: %s cannot unpack it" % (path, unpack))
-        message = program.stderr.read().decode(errors="replace").strip()
-        if program.wait() != 0:
-            raise Fault("%s, lines counted from byte %d on: %s" % (path, start, message or "kmc was ended"))
+            unpack(child, packing, path)
+        message = child.stderr.read().decode(errors="replace").strip()
+        if child.wait() != 0:
+            raise Fault("%s, lines counted from byte %d on: %s" % (path, start, message or "kmc_cut was ended"))
     finally:
-        program.kill()
-        program.wait()
-        program.stderr.close()
+        child.kill()
+        child.wait()
+        child.stderr.close()
 
 
-def some_words(path):
-    """Words of a dump at places that lie evenly in it."""
-    size = os.path.getsize(path)
-    words = []
-    with open(path, "rb") as file:
-        for number in range(SAMPLES if size else 0):
-            file.seek(size * number // SAMPLES)
-            if number:
-                file.readline()
-            words.append(file.readline().partition(b"\t")[0])
-    return [word for word in words if word]
+def cut_part(number, part, path, options, slices, directory):
+    """Cuts a part into a file in the folder of each slice, unless an earlier try did. A file has its name once all are whole."""
+    done = os.path.join(directory, "cut", str(number))
+    if not os.path.exists(done):
+        work = os.path.join(directory, "work", uuid.uuid4().hex)
+        open_more()
+        run_cut(part, [program("kmc_cut", path), *options, "-slices%d" % slices, work])
+        for it in range(slices):
+            os.replace("%s.%d" % (work, it), os.path.join(directory, "slice-%d" % it, str(number)))
+        with open(done, "wb"):
+            pass
+    return number
 
 
-def count_part(number, part, command, directory):
-    """Counts a part, unless an earlier try did. Answers the dump's path, and some of its words."""
-    path = os.path.join(directory, "part-%d" % number)
-    if not os.path.exists(path):
-        unfinished = "%s.%s" % (path, uuid.uuid4().hex)
-        with open(unfinished, "wb") as out:
-            count(part, command, out)
-        os.replace(unfinished, path)
-    return path, some_words(path)
-
-
-def lower_bound(text, size, word):
-    """Where the first line of a dump stands whose word is not below this one."""
-    low, high, bound = 0, size, size
-    while low < high:
-        middle = (low + high) // 2
-        place = text.find(b"\n", middle - 1) + 1 if middle else 0
-        if place == 0 and middle or place >= high:
-            high = middle
-            continue
-        if text[place:text.find(b"\t", place)] < word:
-            low = text.find(b"\n", place) + 1
-        else:
-            bound, high = place, middle
-    return bound
-
-
-def cut_range(path, low, high, slice_path):
-    """Copies the lines with low <= word < high; a bound that is none is no bound. Answers whether there are any."""
-    size = os.path.getsize(path)
-    if size == 0:
-        return False
-    with open(path, "rb") as file, mmap.mmap(file.fileno(), 0, access=mmap.ACCESS_READ) as text:
-        start = 0 if low is None else lower_bound(text, size, low)
-        end = size if high is None else lower_bound(text, size, high)
-        with open(slice_path, "wb") as out:
-            for place in range(start, end, BLOCK):
-                out.write(text[place:min(place + BLOCK, end)])
-    return start < end
-
-
-def add_counts(lines, limits, out):
-    """Adds the counts of equal words, which stand together, and writes the lines within the limits."""
-    least, greatest, cap = limits
-    word, total = None, 0
-    for line in lines:
-        next_word, _, text = line.partition(b"\t")
-        if next_word == word:
-            total += int(text)
-            continue
-        if word is not None and least <= total <= greatest:
-            out.write(b"%s\t%d\n" % (word, min(total, cap)))
-        word, total = next_word, int(text)
-    if word is not None and least <= total <= greatest:
-        out.write(b"%s\t%d\n" % (word, min(total, cap)))
-
-
-def merge_files(paths, limits, kmc, out):
-    """Merges sorted dumps into the file `out`, by the kmc_merge beside this kmc or in PATH, which takes up to 1000 files."""
-    names = ("kmc_merge", "futoncrane-kmc-merge")
-    beside = [os.path.join(os.path.dirname(kmc), name) for name in names] if os.sep in kmc else []
-    merger = next(filter(None, map(shutil.which, [*beside, *names])), None)
-    if merger and len(paths) <= 1000:
-        options = ["-ci%d" % limits[0], "-cx%d" % limits[1], "-cs%d" % limits[2]]
-        status = subprocess.run([merger] + options + paths, stdout=out).returncode
-    else:
-        environment = dict(os.environ, LC_ALL="C")
-        with subprocess.Popen(["sort", "-m", "--"] + paths, stdout=subprocess.PIPE, env=environment) as sort:
-            add_counts(sort.stdout, limits, out)
-        status = sort.returncode
-    if status != 0:
-        raise Fault("the dumps cannot be merged")
-
-
-def merge_range(number, bounds, dumps, limits, kmc, directory):
-    """Merges one range of all dumps, unless an earlier try did. Answers the path of its lines."""
-    path = os.path.join(directory, "range-%d" % number)
-    if not os.path.exists(path):
-        unfinished = "%s.%s" % (path, uuid.uuid4().hex)
-        with tempfile.TemporaryDirectory(dir=directory) as work:
-            slices = [(dump, os.path.join(work, str(place))) for place, dump in enumerate(dumps)]
-            slices = [copy for dump, copy in slices if cut_range(dump, bounds[0], bounds[1], copy)]
-            with open(unfinished, "wb") as out:
-                if slices:
-                    merge_files(slices, limits, kmc, out)
-        os.replace(unfinished, path)
-    return path
+def list_slice(number, parts, path, options, directory):
+    """Lists a slice from the files of all parts, unless an earlier try did. The names are short, since so many are one command line."""
+    dump = os.path.join(directory, "dump", str(number))
+    if not os.path.exists(dump):
+        work = os.path.join(directory, "work", uuid.uuid4().hex)
+        folder = os.path.join(directory, "slice-%d" % number)
+        command = [program("kmc_list", path), *options, *map(str, range(parts))]
+        with open(work, "wb") as out:
+            ran = subprocess.run(command, cwd=folder, stdin=subprocess.DEVNULL, stdout=out, stderr=subprocess.PIPE)
+        if ran.returncode != 0:
+            raise Fault("slice %d: %s" % (number, ran.stderr.decode(errors="replace").strip() or "kmc_list was ended"))
+        os.replace(work, dump)
+    return number
 
 
 # The run.
 
 
-def bounds_of(words, ranges):
-    """So many ranges with about as many of the words each: pairs (first word, word behind the last), none at the ends."""
-    words = sorted(words)
-    cuts = sorted({words[len(words) * number // ranges] for number in range(1, ranges)}) if words else []
-    return list(zip([None] + cuts, cuts + [None]))
+def human(count):
+    """Bytes as people write them; 1 GB is 2^30 bytes."""
+    for unit in ("bytes", "kB", "MB", "GB"):
+        if count < 1000:
+            return "%.3g %s" % (count, unit)
+        count /= 1024
+    return "%.3g TB" % count
 
 
-def run(client, parts, command, limits, ranges, directory):
-    """Writes the dump of all parts to standard output."""
-    counted = [client.submit(count_part, number, part, command, directory, pure=False) for number, part in enumerate(parts)]
-    counted = client.gather(counted)
-    dumps = [path for path, _ in counted]
-    bounds = bounds_of([word for _, words in counted for word in words], ranges)
-    merged = [client.submit(merge_range, number, pair, dumps, limits, command[0], directory, pure=False) for number, pair in enumerate(bounds)]
-    for path in client.gather(merged):
-        with open(path, "rb") as lines:
-            shutil.copyfileobj(lines, sys.stdout.buffer, BLOCK)
-    sys.stdout.buffer.flush()
+def room_of_each(client):
+    """How many workers there are, and the memory that the one with least has for itself."""
+    machines = list(client.run(room_of_worker).values())
+    if not machines:
+        raise Fault("the scheduler has no worker")
+    names = [name for name, _ in machines]
+    return len(machines), min(room // names.count(name) for name, room in machines)
+
+
+def settled(client, asked, options, paths, is_fasta):
+    """The parts, the number of slices, and the bytes that the disk takes; the options of cutting get their number of bins."""
+    from futoncrane import inputs, memory
+    workers, room = room_of_each(client)
+    symbols = sum(inputs.Input(path).symbols() for path in paths)
+    size = sum(map(os.path.getsize, paths))
+    part = int(asked.megabytes * 10**6) if asked.megabytes else max(LEAST_PART, size // min(USUAL_PARTS, PARTS_OF_A_WORKER * workers))
+    parts = list(parts_of(paths, is_fasta, part))
+    if len(parts) > MOST_PARTS:
+        raise Fault("there are %d parts, and %d are taken: give a greater --megabytes" % (len(parts), MOST_PARTS))
+    listed = memory.listed_of(symbols, "FASTA" if is_fasta else "FASTQ", options.number("k", 25), options.number("ci", 2))
+    found = memory.plan(symbols, listed, options.number("k", 25), options.number("cs", 255), options.number("sr", 1), asked.memory or room)
+    if found.slices is None and not asked.slices:
+        raise Fault("the memory of a worker, %s, is estimated to be too little for each number of slices" % human(asked.memory or room))
+    slices = asked.slices or min(MOST_SLICES, max(found.slices, workers))
+    slices = min(slices, options.number("n", MOST_BINS))
+    if slices > FEW_SLICES and options.number("n", None) is None:
+        options.cutting.append("-n%d" % MOST_BINS)
+    return parts, slices, memory.disk(symbols)
+
+
+def run(client, parts, slices, options, directory):
+    """Has the workers cut and list, and merges the dumps to standard output."""
+    for name in ["work", "cut", "dump", *("slice-%d" % it for it in range(slices))]:
+        os.mkdir(os.path.join(directory, name))
+    cut = [client.submit(cut_part, number, part, options.programs["kmc_cut"], options.cutting, slices, directory, pure=False)
+           for number, part in enumerate(parts)]
+    client.gather(cut)
+    listed = [client.submit(list_slice, number, len(parts), options.programs["kmc_list"], options.listing, directory, pure=False)
+              for number in range(slices if parts else 0)]
+    client.gather(listed)
+    if not parts:
+        return
+    names = [str(it) for it in range(slices)]
+    open_more()
+    merger = [options.programs["kmc_merge"], "-ci1", "-cx%d" % MOST, "-cs%d" % MOST, *names]
+    ran = subprocess.run(merger, cwd=os.path.join(directory, "dump"), stdin=subprocess.DEVNULL, stderr=subprocess.PIPE)
+    if ran.returncode != 0:
+        raise Fault(ran.stderr.decode(errors="replace").strip() or "kmc_merge was ended")
+
+
+class Options:
+    """KMC's options: those of the cutting and those of the listing, and the programs that take them."""
+
+    def __init__(self, words):
+        from futoncrane import places
+        self.words = words
+        self.listing = [word for word in words if self.rest(word).startswith(OF_LISTING)]
+        self.cutting = [word for word in words if word not in self.listing]
+        for words_of_it, name in ((self.cutting, "sp"), (self.listing, "sr")):
+            if self.number(name, None) is None:
+                words_of_it.append("-%s1" % name)
+        self.programs = {name: places.find(name) for name in ("kmc_cut", "kmc_list", "kmc_merge")}
+
+    @staticmethod
+    def rest(word):
+        return word[2 if word.startswith("--") else 1:]
+
+    def number(self, name, default):
+        """The number that an option gives, or what it is without it."""
+        for word in self.words:
+            value = self.rest(word)[len(name):].lstrip("=")
+            if self.rest(word).startswith(name) and value.isdigit():
+                return int(value)
+        return default
+
+    def check(self, directory):
+        """Has the programs judge their options, on no reads. The status of the first that refuses them is this command's."""
+        prefix = os.path.join(directory, "tried")
+        for command in ([self.programs["kmc_cut"], *self.cutting, "-slices1", prefix], [self.programs["kmc_list"], *self.listing, prefix + ".0"]):
+            try:
+                tried = subprocess.run(command, stdin=subprocess.DEVNULL, stdout=subprocess.DEVNULL)
+            except OSError as fault:
+                raise Fault("%s: %s" % (command[0], fault.strerror)) from None
+            if tried.returncode != 0:
+                sys.exit(tried.returncode if tried.returncode > 0 else 1)
 
 
 def settings(words):
     """The command line, kmc's options, and the files."""
+    from futoncrane.options import size
     parser = argparse.ArgumentParser(prog="cluster", usage="see cluster --help", add_help=False, allow_abbrev=False)
     engine = parser.add_mutually_exclusive_group(required=True)
     engine.add_argument("--workers", type=int)
     engine.add_argument("--scheduler")
     parser.add_argument("--directory")
-    parser.add_argument("--megabytes", type=float, default=64)
-    parser.add_argument("--ranges", type=int)
+    parser.add_argument("--memory")
+    parser.add_argument("--slices", type=int)
+    parser.add_argument("--megabytes", type=float)
+    parser.add_argument("--quiet", action="store_true")
     asked, rest = parser.parse_known_args(words)
     if asked.scheduler and not asked.directory:
         parser.error("--scheduler wants a --directory that all machines see")
-    if (asked.workers is not None and asked.workers < 1) or asked.megabytes <= 0 or (asked.ranges is not None and asked.ranges < 1):
-        parser.error("numbers must be positive")
+    if any(it is not None and it <= 0 for it in (asked.workers, asked.megabytes)) or not 1 <= (asked.slices or 1) <= MOST_SLICES:
+        parser.error("numbers must be positive, and there are at most %d slices" % MOST_SLICES)
+    if asked.memory:
+        asked.memory = size(64 << 20)("--memory", asked.memory)
     paths = [os.path.abspath(word) for word in rest if not word.startswith("-")]
     if not paths:
         parser.error("no file is given")
     return asked, [word for word in rest if word.startswith("-")], paths
 
 
-def program():
-    """The path of the program on every machine."""
-    found = os.environ.get("KMC", "futoncrane-kmc")
-    return os.path.abspath(found) if os.sep in found else found
-
-
-def command_of(options):
-    """The command that counts a part, and the limits (ci, cx, cs) that judge the sums. kmc itself judges the options."""
-    kmc = program()
+@contextlib.contextmanager
+def own_folder(directory):
+    """A folder that is gone at the end, also where a program that was ended still writes there."""
+    path = tempfile.mkdtemp(prefix="cluster-", dir=directory)
     try:
-        tried = subprocess.run([kmc] + options, stdin=subprocess.DEVNULL, stdout=subprocess.DEVNULL)
-    except OSError as fault:
-        sys.exit("cluster: %s" % fault)
-    if tried.returncode != 0:
-        sys.exit(tried.returncode)
-    limits, others = dict(LIMITS), []
-    for option in options:
-        name, value = option.lstrip("-")[:2], option.lstrip("-")[2:].lstrip("=")
-        if name in limits:
-            limits[name] = int(value)
-        else:
-            others.append(option)
-    for name in ("sp", "sr"):
-        if not any(option.lstrip("-").startswith(name) for option in others):
-            others.append("-%s1" % name)
-    whole = ["-ci1", "-cx%d" % MOST, "-cs%d" % MOST]
-    return [kmc] + others + whole, (limits["ci"], limits["cx"], limits["cs"])
+        yield os.path.abspath(path)
+    finally:
+        for _ in range(100):
+            shutil.rmtree(path, ignore_errors=True)
+            if not os.path.exists(path):
+                break
+            time.sleep(0.1)
+
+
+def told(text):
+    print("cluster: %s" % text, file=sys.stderr, flush=True)
+
+
+def work(asked, options, paths, directory):
+    """Counts with the workers of this machine or of the scheduler."""
+    from distributed import Client, LocalCluster
+    is_fasta = any(word in FASTA_OPTIONS for word in options.words)
+    with contextlib.ExitStack() as stack:
+        address = asked.scheduler
+        if asked.workers:
+            address = stack.enter_context(LocalCluster(
+                n_workers=asked.workers, threads_per_worker=1, memory_limit=0, dashboard_address=":0", local_directory=directory))
+        client = stack.enter_context(Client(address))
+        parts, slices, disk = settled(client, asked, options, paths, is_fasta)
+        free = shutil.disk_usage(directory).free
+        if disk > free:
+            raise Fault("%s: the files are estimated to take %s, and %s are free" % (os.path.dirname(directory), human(disk), human(free)))
+        if not asked.quiet:
+            told("%d parts, %d slices; files in %s take about %s, and the dumps of slices" % (len(parts), slices, os.path.dirname(directory), human(disk)))
+        run(client, parts, slices, options, directory)
 
 
 def main():
@@ -312,34 +396,31 @@ def main():
     if "--help" in words:
         print(__doc__, end="")
         return 0
-    asked, options, paths = settings(words)
-    command, limits = command_of(options)
+    sys.path.insert(0, os.path.dirname(os.path.dirname(os.path.realpath(__file__))))
+    from futoncrane.faults import Fault as Other, Misuse
     signal.signal(signal.SIGTERM, lambda number, frame: sys.exit(128 + number))
-    with tempfile.TemporaryDirectory(prefix="cluster-", dir=asked.directory) as directory:
+    try:
+        asked, words, paths = settings(words)
+        options = Options(words)
         try:
-            from distributed import Client, KilledWorker, LocalCluster
+            from distributed import KilledWorker
         except ImportError:
-            print("cluster: %s has no dask.distributed (Debian's package python3-distributed, for /usr/bin/python3)" % sys.executable,
-                  file=sys.stderr)
-            return 1
-        try:
-            parts = list(parts_of(paths, any(word in FASTA_OPTIONS for word in options), int(asked.megabytes * 10**6)))
-            with contextlib.ExitStack() as stack:
-                address = asked.scheduler
-                if asked.workers:
-                    address = stack.enter_context(LocalCluster(
-                        n_workers=asked.workers, threads_per_worker=1, memory_limit=0, dashboard_address=":0",
-                        local_directory=directory))
-                client = stack.enter_context(Client(address))
-                ranges = asked.ranges or 4 * max(1, len(client.scheduler_info()["workers"]))
-                run(client, parts, command, limits, ranges, directory)
-        except (Fault, OSError) as fault:
-            print("cluster: %s" % fault, file=sys.stderr)
-            return 1
-        except KilledWorker:
-            print("cluster: a part was given up after several workers died over it", file=sys.stderr)
-            return 1
-        return 0
+            raise Fault("%s has no dask.distributed (Debian's package python3-distributed, for /usr/bin/python3)" % sys.executable) from None
+        with own_folder(asked.directory) as directory:
+            try:
+                options.check(directory)
+                work(asked, options, paths, directory)
+            except KilledWorker:
+                raise Fault("some work was given up after several workers died over it") from None
+    except Misuse as fault:
+        told(fault)
+        return 2
+    except (Fault, Other, OSError) as fault:
+        told(fault)
+        return 1
+    except KeyboardInterrupt:
+        return 130
+    return 0
 
 
 if __name__ == "__main__":

@@ -146,6 +146,15 @@ class Input:
             symbols = sum(len(line) for line in lines if not line.startswith(b">"))
         self.share = symbols / len(text)
 
+    def identity(self):
+        """What tells a regular file from another one, and from itself once it was written to."""
+        descriptor = self.open()
+        try:
+            kind = os.fstat(descriptor)
+        finally:
+            self.close(descriptor)
+        return os.path.realpath(self.name), kind.st_dev, kind.st_ino, kind.st_size, kind.st_mtime_ns, self.start
+
     def symbols(self):
         """About how many symbols the input has; of a stream nothing is known."""
         return int(self.bytes * self.ratio * self.share)

@@ -9,7 +9,9 @@ from futoncrane.faults import Ended, Fault, Misuse, Quiet, reason
 
 COMMANDS = {
     "count": "counts the k-mers of files of reads",
-    "merge": "sums the dumps of parts",
+    "cut": "cuts reads into the records of slices, which are counted apart",
+    "list": "the dump of one slice",
+    "merge": "the dump of all, from those of slices or of parts",
     "histogram": "how many k-mers have which count, with a picture",
     "size": "a genome's size from that histogram",
     "compare": "the k-mers that two dumps share",

@@ -14,7 +14,11 @@ ADDRESSES_OF_A_THREAD = 10 * MEGA
 # how many k-mers are listed for each symbol, of which this is a guess: with errors of reading, and without
 LISTED_WITH_ERRORS = 0.5
 LISTED_WITHOUT = 0.1
-MOST_SLICES = 1024
+MOST_SLICES = 1000
+# how much greater than the mean the greatest slice is taken to be
+UNEVEN = 1.5
+# of the files of records: bytes of the disk for each symbol
+DISK_OF_A_SYMBOL = 1.1
 
 Plan = collections.namedtuple("Plan", "slices wanted")
 
@@ -30,23 +34,42 @@ def bytes_of_a_line(k, cap):
     return (17 if k > 32 else 10) + (7 if cap > 2**32 - 1 else 3 if cap > 255 else 0)
 
 
+def listing(symbols, listed, k, cap, threads):
+    """The bytes of memory that the listing of so many symbols takes."""
+    return BYTES_OF_A_SYMBOL * symbols + bytes_of_a_line(k, cap) * listed + BYTES_OF_A_COUNTER * threads
+
+
+def rounds(symbols):
+    """The bytes of memory that reading takes beside the records."""
+    return min(ROUNDS[0] + 3 * symbols, ROUNDS[1])
+
+
 def wanted(symbols, listed, k, cap, threads):
     """The bytes of memory that one run takes: the greater of what it takes while it cuts, and while it lists."""
-    records = BYTES_OF_A_SYMBOL * symbols
-    cutting = records + min(ROUNDS[0] + 3 * symbols, ROUNDS[1])
-    listing = records + bytes_of_a_line(k, cap) * listed + BYTES_OF_A_COUNTER * threads
-    return int(max(cutting, listing))
+    return int(max(BYTES_OF_A_SYMBOL * symbols + rounds(symbols), listing(symbols, listed, k, cap, threads)))
+
+
+def of_slice(slices, symbols, listed, k, cap, threads):
+    """The bytes of memory that one of so many slices takes: the greater of what cutting all takes, and listing the greatest slice."""
+    share = UNEVEN / slices
+    return int(max(rounds(symbols), listing(symbols * share, listed * share, k, cap, threads)))
 
 
 def plan(symbols, listed, k, cap, threads, room):
-    """One run where that fits the room, else the least power of two of slices that do; the slices are none where no number does."""
-    slices = 1
+    """One run where that fits the room, else the least power of two of slices that do, or the most; the slices are none where no number
+    does."""
     whole = wanted(symbols, listed, k, cap, threads)
-    while slices <= MOST_SLICES:
-        if wanted(symbols // slices, listed // slices, k, cap, threads) <= room:
+    if whole <= room:
+        return Plan(1, whole)
+    for slices in [1 << it for it in range(1, MOST_SLICES.bit_length())] + [MOST_SLICES]:
+        if of_slice(slices, symbols, listed, k, cap, threads) <= room:
             return Plan(slices, whole)
-        slices *= 2
     return Plan(None, whole)
+
+
+def disk(symbols):
+    """The bytes that the records of slices take on the disk. Their dumps come besides; how long they are is not known before."""
+    return int(DISK_OF_A_SYMBOL * symbols)
 
 
 def addresses(room, threads):
@@ -76,7 +99,7 @@ def human(count):
 
 
 def refuse(found, room, is_asked):
-    """The fault that a run is estimated not to fit."""
+    """The fault that a run is estimated not to fit, in however many slices."""
     cap = "--memory allows %s" % human(room) if is_asked else "the machine has %s" % human(room)
-    raise Fault("this run is estimated to take %s of memory, and %s: give a higher --memory or fewer --threads, or count the files in parts with "
-                "'--min 1 --cap none -o PART' and join these by 'futoncrane merge'" % (human(found.wanted), cap))
+    raise Fault("this run is estimated to take %s of memory, and %s, which is too little for %d slices too: give a higher --memory or fewer "
+                "--threads" % (human(found.wanted), cap, MOST_SLICES))

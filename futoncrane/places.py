@@ -10,7 +10,7 @@ READS = os.path.join(TOP, "examples", "reads.fastq")
 DUMP = os.path.join(TOP, "examples", "reads.dump")
 
 # the name of a program in a checkout, and where it is installed: Debian's `kmc` is another program
-INSTALLED = {"kmc": "futoncrane-kmc", "kmc_merge": "futoncrane-kmc-merge"}
+INSTALLED = {"kmc": "futoncrane-kmc", "kmc_cut": "futoncrane-kmc-cut", "kmc_list": "futoncrane-kmc-list", "kmc_merge": "futoncrane-kmc-merge"}
 
 # the folder of the command as it was called
 BESIDE = [TOP]

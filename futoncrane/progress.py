@@ -43,25 +43,48 @@ def clock(seconds):
     return "%d:%02d:%02d" % (hours, *divmod(seconds, 60)) if hours else "%d:%02d" % divmod(seconds, 60)
 
 
-def step_of(place, total, seconds, written):
-    """The step that a run is at and how far it is, in words."""
+def moved(doing, place, total, seconds):
+    """How far a step is, in words."""
+    rate = place / max(seconds, 0.001)
+    if total is None:
+        return "%s: %s, %s/s" % (doing, human(place), human(rate))
+    left = ", %s left" % clock((total - place) / rate) if place and seconds > 1 else ""
+    return "%s: %s of %s (%d %%), %s/s%s" % (doing, human(place), human(total), 100 * place // max(1, total), human(rate), left)
+
+
+def one_run(place, total, seconds, written):
+    """The step that a run of kmc is at, and how far it is."""
     if written:
         return "writing: %s" % human(written)
-    if total is None:
-        return "reading: %s, %s/s" % (human(place), human(place / max(seconds, 0.001)))
-    if place < total:
-        rate = place / max(seconds, 0.001)
-        left = ", %s left" % clock((total - place) / rate) if place and seconds > 1 else ""
-        return "reading: %s of %s (%d %%), %s/s%s" % (human(place), human(total), 100 * place // max(1, total), human(rate), left)
+    if total is None or place < total:
+        return moved("reading", place, total, seconds)
     return "counting: all %s read" % human(total)
+
+
+def cutting(place, total, seconds, written):
+    """How far the cutting is."""
+    return "%s; %s on the disk" % (moved("cutting", min(place, total or place), total, seconds), human(written))
+
+
+def listing(number, slices):
+    """How the listing of a slice is told."""
+    def step(place, total, seconds, written):
+        doing = "writing: %s" % human(written) if written else "reading: %s of %s" % (human(min(place, total)), human(total))
+        return "slice %d of %d, %s" % (number + 1, slices, doing)
+    return step
+
+
+def merging(place, total, seconds, written):
+    """How far a merge is."""
+    return moved("merging", place if total is None else min(place, total), total, seconds)
 
 
 class Watch:
     """Looks at a run while it works. On a terminal it shows the step; where a cap is set, a program that takes more is ended, and
     `is_over` tells so."""
 
-    def __init__(self, feed, program, is_shown, cap=None):
-        self.feed, self.program, self.cap = feed, program, cap
+    def __init__(self, feed, program, is_shown, cap=None, step=one_run):
+        self.feed, self.program, self.cap, self.step = feed, program, cap, step
         self.is_shown = is_shown and sys.stderr.isatty()
         self.is_over, self.begun = False, time.monotonic()
         self.stop = threading.Event()
@@ -95,7 +118,7 @@ class Watch:
         seconds = time.monotonic() - self.begun
         total = self.feed.total()
         place = self.feed.place(self.program) or (read_by(self.program) if total is None else 0)
-        self._line("%s  %s" % (clock(seconds), step_of(place, total, seconds, written_by(self.program))))
+        self._line("%s  %s" % (clock(seconds), self.step(place, total, seconds, written_by(self.program))))
 
     def _line(self, text):
         try:
@@ -110,10 +133,11 @@ class Watch:
         if self.is_shown:
             self._line("futoncrane: %s\n" % text)
 
-    def last(self, status):
-        """How much was read, how long it took and the most memory of one program, where all went well."""
+    def last(self, status, begun=None):
+        """How much was read, how long it took and the most memory of one program, where all went well. `begun` is when the first of
+        several steps began; then it is not told what the last one read."""
         if self.is_shown and status == 0:
-            read, seconds = self.feed.total(), time.monotonic() - self.begun
+            read = self.feed.total() if begun is None else None
             peak = 1024 * resource.getrusage(resource.RUSAGE_CHILDREN).ru_maxrss
             self.say("%sdone in %s, at most %s of memory" % (
-                "%s read, " % human(read) if read is not None else "", clock(seconds), human(peak)))
+                "%s read, " % human(read) if read is not None else "", clock(time.monotonic() - (begun or self.begun)), human(peak)))

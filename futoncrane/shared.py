@@ -3,9 +3,13 @@ import os
 import types
 
 from futoncrane import memory
+from futoncrane.faults import Misuse
 from futoncrane.options import MOST, Option, number, size
 
 MOST_THREADS = 16
+MOST_BINS = 2000
+# more slices than this are made of more bins, so that they are alike
+FEW_SLICES = 64
 
 
 def processors():
@@ -28,8 +32,11 @@ OUT = Option(["-o", "--output"], "out", "FILE", text="writes to this file, by gz
              "whole (standard output)")
 QUIET = Option(["--quiet", "-q"], "quiet", default=False, text="shows no progress; it is shown only where standard error is a terminal")
 THREADS = Option(["--threads", "-t"], "threads", "N", number(1, MOST_THREADS), text="threads, 1 to 16 (as many as there are processors)")
-MEMORY = Option(["--memory", "-m"], "memory", "SIZE", size(64 << 20), text="memory that the run may take, as 8G or 500M: one that is estimated to "
-                "want more is not begun, and one that takes more is ended (none: begun where the machine's memory should do)")
+MEMORY = Option(["--memory", "-m"], "memory", "SIZE", size(64 << 20), text="memory that the run may take, as 8G or 500M: what is estimated to "
+                "want more is done in slices, and a program that takes more is ended (none: the machine's memory)")
+SLICES = Option(["--slices"], "slices", "N", number(1, memory.MOST_SLICES), text="so many slices, one after the other, 1 to 1000 (as many as the "
+                "memory wants)")
+DIRECTORY = Option(["--directory"], "directory", "DIR", text="where files of the meantime lie, which slices need (beside -o, else TMPDIR)")
 # KMC's words for what is seen or chosen here
 OLD = [
     Option([], "format", hidden=["-fq", "--fq"], constant="FASTQ"),
@@ -37,35 +44,54 @@ OLD = [
     Option([], "splitters", "N", number(1, MOST_THREADS), hidden=["-sp", "--sp"]),
     Option([], "counters", "N", number(1, MOST_THREADS), hidden=["-sr", "--sr"]),
     Option([], "signature", "N", number(5, 11), hidden=["-p", "--p"]),
-    Option([], "bins", "N", number(1, 2000), hidden=["-n", "--n"]),
+    Option([], "bins", "N", number(1, MOST_BINS), hidden=["-n", "--n"]),
 ]
-ABOUT_RUNS = [BOTH, STRANDS, THREADS, MEMORY, QUIET, *OLD]
+ABOUT_RUNS = [BOTH, STRANDS, THREADS, MEMORY, SLICES, DIRECTORY, QUIET, *OLD]
 
 
 def settings(asked, least=1, greatest=MOST, cap=MOST):
     """What a run is told, from the words of a command; the limits are those given here where the command has none."""
+    given = vars(asked)
     threads = asked.threads or min(MOST_THREADS, processors())
     return types.SimpleNamespace(
-        k=asked.k, forward=asked.forward, quiet=asked.quiet, memory=asked.memory, format=asked.format, threads=threads,
-        splitters=asked.splitters or threads, counters=asked.counters or threads, signature=asked.signature, bins=asked.bins,
-        least=getattr(asked, "least", least), greatest=getattr(asked, "greatest", greatest), cap=getattr(asked, "cap", cap))
+        k=given.get("k"), forward=given.get("forward", False), quiet=asked.quiet, memory=asked.memory, format=given.get("format"), threads=threads,
+        splitters=given.get("splitters") or threads, counters=given.get("counters") or threads, signature=given.get("signature"),
+        bins=given.get("bins"), slices=given.get("slices"), directory=given.get("directory"), keep=given.get("keep", False), out=given.get("out"),
+        least=given.get("least", least), greatest=given.get("greatest", greatest), cap=given.get("cap", cap))
 
 
 def words(told, format_name):
-    """KMC's words for these settings."""
-    found = ["-k%d" % told.k, "-ci%d" % told.least, "-cx%d" % told.greatest, "-cs%d" % told.cap]
-    found += ["-sp%d" % told.splitters, "-sr%d" % told.counters, "-fm" if format_name == "FASTA" else "-fq"]
-    found += ["-b"] if told.forward else []
+    """KMC's words for these settings: those for cutting, and those for listing."""
+    return words_of_cut(told, format_name) + words_of_list(told)
+
+
+def words_of_cut(told, format_name):
+    found = ["-k%d" % told.k, "-sp%d" % told.splitters, "-fm" if format_name == "FASTA" else "-fq"]
     found += ["-p%d" % told.signature] if told.signature else []
     return found + (["-n%d" % told.bins] if told.bins else [])
 
 
-def check_room(told, inputs, format_name):
-    """Refuses a run that is estimated not to fit. Of what comes through a pipe nothing is known."""
+def words_of_list(told):
+    found = ["-ci%d" % told.least, "-cx%d" % told.greatest, "-cs%d" % told.cap, "-sr%d" % told.counters]
+    return found + (["-b"] if told.forward else [])
+
+
+def size_of(told, inputs, format_name):
+    """A guess at the symbols of the inputs, and at how many k-mers are listed. Of what comes through a pipe nothing is known."""
     symbols = sum(it.symbols() for it in inputs)
-    listed = memory.listed_of(symbols, format_name, told.k, told.least)
+    return symbols, memory.listed_of(symbols, format_name, told.k, told.least)
+
+
+def plan(told, symbols, listed):
+    """How many slices, as the words say or as the memory wants. What is estimated not to fit in any number is refused."""
     room = told.memory or memory.of_machine()
     found = memory.plan(symbols, listed, told.k, told.cap, told.threads, room)
-    if found.slices != 1:
+    if told.slices:
+        found = found._replace(slices=told.slices)
+    if found.slices is None:
         memory.refuse(found, room, told.memory is not None)
+    if told.bins and found.slices > told.bins:
+        raise Misuse("there are %d slices, and -n says %d bins: a slice wants a bin" % (found.slices, told.bins))
+    if not told.bins and found.slices > FEW_SLICES:
+        told.bins = MOST_BINS
     return found

@@ -3,7 +3,7 @@
 
 usage: make recipes, or tests_user/run.py [WORD ..]      (WORD: tests with this word in their name, or of this file)
 
-The programs kmc and kmc_merge are those at the top, or in the folder FUTONCRANE_BIN. A test whose tools are not installed is skipped, and says
+The programs kmc, kmc_cut, kmc_list and kmc_merge are those at the top, or in the folder FUTONCRANE_BIN. A test whose tools are not installed is skipped, and says
 what is missing. The tests of tests_user/shell.sh are run and counted too. The last line is 'N passed, M failed, K skipped', and the status
 is 1 where a test failed.
 """
@@ -23,7 +23,7 @@ sys.path[:0] = [HERE, os.path.dirname(HERE)]
 
 import room  # noqa: E402
 
-FILES = ("programs", "words", "reading", "packed", "writing", "commands", "limits", "terminal", "signals", "real_reads")
+FILES = ("programs", "words", "reading", "packed", "writing", "commands", "limits", "slices", "terminal", "signals", "real_reads")
 AT_ONCE = 2
 
 

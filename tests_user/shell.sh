@@ -1,5 +1,5 @@
 #!/usr/bin/env bash
-# Tests the programs kmc and kmc_merge, the old names in recipes/ and `futoncrane cluster` on examples/reads.fastq. What they write is compared
+# Tests the programs kmc, kmc_merge, kmc_cut and kmc_list, the scripts of recipes/ and `futoncrane cluster` on examples/reads.fastq. What they write is compared
 # with what plain programs make of the same reads.
 #
 # usage: tests_user/shell.sh, which tests_user/run.py calls; the programs are at the top, or in the folder FUTONCRANE_BIN
@@ -14,6 +14,8 @@ FUTONCRANE_BIN=$(realpath "${FUTONCRANE_BIN:-$top}")
 KMC=$FUTONCRANE_BIN/kmc
 export FUTONCRANE_BIN KMC
 merger=$FUTONCRANE_BIN/kmc_merge
+cutter=$FUTONCRANE_BIN/kmc_cut
+lister=$FUTONCRANE_BIN/kmc_list
 reads=$top/examples/reads.fastq
 whole=$top/examples/reads.dump
 greatest=9223372036854775808
@@ -33,7 +35,7 @@ package_of() {
         gnuplot) echo gnuplot-nox ;;
         dask | dask-scheduler) echo python3-distributed ;;
         script) echo bsdutils ;;
-        kmc_merge) echo 'none: make builds it' ;;
+        kmc_merge | kmc_cut | kmc_list) echo 'none: make builds it' ;;
         *) echo "$1" ;;
     esac
 }
@@ -50,8 +52,8 @@ done
 is_installed() {
     if [ "$1" = dask ]; then
         [ -n "$dask_python" ]
-    elif [ "$1" = kmc_merge ]; then
-        [ -x "$merger" ]
+    elif [ "$1" = kmc_merge ] || [ "$1" = kmc_cut ] || [ "$1" = kmc_list ]; then
+        [ -x "$FUTONCRANE_BIN/$1" ]
     else
         command -v "$1" > /dev/null
     fi
@@ -96,7 +98,7 @@ ends() {
 
 each_shows_its_help() {
     local recipe
-    for recipe in histogram genome-size solid many-files compare genomescope-histogram cluster; do
+    for recipe in histogram genome-size solid many-files slices compare genomescope-histogram cluster; do
         "$here/$recipe" --help | grep -q '^usage: '
     done
 }
@@ -323,38 +325,73 @@ genomescope_histogram_is_what_jellyfish_writes() {
 }
 
 cluster() {
-    timeout 300 "$dask_python" "$top/futoncrane/cluster.py" "$@"
+    timeout 600 "$dask_python" "$top/futoncrane/cluster.py" "$@"
 }
 
-cluster_gives_the_dump_of_one_run_though_a_worker_dies() {
-    # the program as the workers run it: it tells which process started it, and takes its time
-    cat > slow-kmc << 'SCRIPT'
+# a folder of the programs under their own names, where kmc_cut tells which process started it; of the starts behind the 300th, the
+# first that makes the folder takes its time (two may start at once, so that none sees just 300)
+slow_programs() {
+    mkdir -p slow
+    ln -sf "$lister" "$merger" slow
+    cat > slow/kmc_cut << SCRIPT
 #!/bin/sh
-echo "$PPID" >> "$KMC_STARTS"
-sleep 1
-exec "$KMC_ITSELF" "$@"
+echo "\$PPID" >> "$work/starts"
+if [ "\$(wc -l < "$work/starts")" -ge 300 ] && mkdir "$work/held" 2> /dev/null; then
+    echo "\$PPID" > "$work/slow-worker"
+    exec sleep 60
+fi
+exec "$cutter" "\$@"
 SCRIPT
-    chmod +x slow-kmc
+    chmod +x slow/kmc_cut
+    rm -rf held slow-worker
     : > starts
-    export KMC_STARTS=$work/starts KMC_ITSELF=$KMC
-    KMC=$work/slow-kmc cluster --workers 4 --megabytes 0.005 "$reads" > given &
+}
+
+cluster_of_1000_parts_gives_the_dump_of_one_run_though_a_worker_dies() {
+    python3 "$top/bench/simulate_reads.py" 2000 40 5000 1 > small.fastq
+    plainly 21 2 < small.fastq > wanted
+    slow_programs
+    FUTONCRANE_BIN=$work/slow cluster --workers 4 --megabytes 0.00018 --slices 3 -k21 small.fastq > given 2> told &
     local run=$!
-    # the first start is the client's, which tries the options; the latest is a worker's, which still waits its second
-    for _ in $(seq 300); do
-        [ "$(wc -l < starts)" -lt 3 ] || break
+    while kill -0 "$run" 2> /dev/null && [ ! -s slow-worker ]; do
         sleep 0.1
     done
-    kill -KILL "$(tail -n 1 starts)"
+    kill -KILL "$(cat slow-worker)"
     wait "$run"
+    cmp wanted given
+    local parts
+    parts=$(sed -n 's/^cluster: \([0-9]*\) parts, 3 slices; .*/\1/p' told)
+    [ "$parts" -ge 1000 ]
+    # a start for each part, one that tries the options, and once more what died
+    [ "$(wc -l < starts)" -gt "$((1 + parts))" ]
+}
+
+cluster_gives_the_dump_of_one_run() {
+    local slices
+    for slices in 1 2 7; do
+        cluster --workers 4 --megabytes 0.005 --slices "$slices" --quiet "$reads" > given 2> told
+        cmp "$whole" given
+        [ ! -s told ]
+    done
+    cluster --workers 2 --memory 1G "$reads" > given 2> told
     cmp "$whole" given
-    # 8 parts and the client's start, and once more what died
-    [ "$(wc -l < starts)" -gt "$((1 + 8))" ]
+    grep -q '^cluster: 1 parts, 2 slices; files in ' told
+}
+
+# a listing that is ended, as by a system without memory, is no dump
+cluster_tells_of_a_listing_that_was_ended() {
+    mkdir -p ending
+    ln -sf "$cutter" "$merger" ending
+    printf '#!/bin/sh\ncase $* in */tried*) exit 0 ;; *) kill -KILL $$ ;; esac\n' > ending/kmc_list
+    chmod +x ending/kmc_list
+    FUTONCRANE_BIN=$work/ending ends 1 cluster --workers 1 --quiet "$reads" 2> told
+    grep -q '^cluster: slice 0: kmc_list was ended' told
 }
 
 cluster_judges_the_sums() {
     gzip < "$reads" > packed.gz
     cat "$reads" "$reads" "$reads" | plainly 31 20 40 35 > wanted
-    cluster --workers 2 --megabytes 0.02 --ranges 3 -k31 -ci20 -cx40 -cs35 "$reads" packed.gz "$reads" > given
+    cluster --workers 2 --megabytes 0.02 --slices 3 -k31 -ci20 -cx40 -cs35 "$reads" packed.gz "$reads" > given
     [ -s wanted ]
     cmp wanted given
 }
@@ -387,28 +424,14 @@ cluster_works_for_a_scheduler() {
     rmdir shared
 }
 
-cluster_merges_by_kmc_merge() {
-    mkdir -p merger
-    cat > merger/kmc_merge << 'SCRIPT'
-#!/usr/bin/env python3
-import sys
-limits = {word[1:3]: int(word[3:]) for word in sys.argv[1:4]}
-sums = {}
-for path in sys.argv[4:]:
-    for line in open(path):
-        sums[line.split()[0]] = sums.get(line.split()[0], 0) + int(line.split()[1])
-for word in sorted(sums):
-    if limits["ci"] <= sums[word] <= limits["cx"]:
-        print(word, min(sums[word], limits["cs"]), sep="\t")
-open("merged-by-it", "w")
-SCRIPT
-    sed -i "s|merged-by-it|$work/merged-by-it|" merger/kmc_merge
-    chmod +x merger/kmc_merge
-    cp "$KMC" merger/kmc
-    (KMC=$work/merger/kmc && export KMC && cluster --workers 1 --megabytes 0.02 -cs9 "$reads") > given
+cluster_finds_installed_names() {
+    mkdir -p installed
+    ln -sf "$cutter" installed/futoncrane-kmc-cut
+    ln -sf "$lister" installed/futoncrane-kmc-list
+    ln -sf "$merger" installed/futoncrane-kmc-merge
+    (FUTONCRANE_BIN=$work/installed && export FUTONCRANE_BIN && cluster --workers 1 --megabytes 0.02 -cs9 "$reads") > given
     plainly 25 2 1000000000 9 < "$reads" > wanted
     cmp wanted given
-    [ -e merged-by-it ]
 }
 
 cluster_writes_nothing_after_a_fault() {
@@ -479,22 +502,36 @@ merge_names_the_first_fault() {
 
 manual_pages_have_no_fault() {
     # that a page which is not installed is not found says nothing of this one
-    ! mandoc -Tlint "$top/docs/kmc.1" "$top/docs/kmc_merge.1" "$top/docs/futoncrane.1" | grep -v 'referenced manual not found'
+    ! mandoc -Tlint "$top/docs/kmc.1" "$top/docs/kmc_merge.1" "$top/docs/kmc_cut.1" "$top/docs/kmc_list.1" "$top/docs/futoncrane.1" | grep -v 'referenced manual not found'
+}
+
+# made TARGET: a target of the top for the programs that are tried here; -o keeps make from proving and building them anew
+made() {
+    make -s -C "$top" -o "$KMC" -o "$merger" -o "$cutter" -o "$lister" "$1" DESTDIR="$work/root" PREFIX=/opt/k NAME=counter MERGE_NAME=summer \
+        CUT_NAME=cutter LIST_NAME=lister KMC="$KMC" KMC_MERGE="$merger" KMC_CUT="$cutter" KMC_LIST="$lister"
 }
 
 installs_and_uninstalls() {
-    make -s -C "$top" install DESTDIR="$work/root" PREFIX=/opt/k NAME=counter MERGE_NAME=summer
+    made install
     root/opt/k/bin/counter < "$reads" > given
     cmp "$whole" given
     root/opt/k/bin/summer given > again
     cmp given again
     grep -qx '\.Nm counter' root/opt/k/share/man/man1/counter.1
     grep -qx '\.Nm summer' root/opt/k/share/man/man1/summer.1
+    grep -qx '\.Nm cutter' root/opt/k/share/man/man1/cutter.1
+    grep -qx '\.Nm lister' root/opt/k/share/man/man1/lister.1
+    root/opt/k/bin/cutter -slices2 reads.cut < "$reads"
+    for slice in 0 1; do root/opt/k/bin/lister "reads.cut.$slice" > "reads.listed.$slice"; done
+    root/opt/k/bin/summer -ci1 reads.listed.0 reads.listed.1 > again
+    cmp "$whole" again
     (unset FUTONCRANE_BIN && PATH=/usr/bin:/bin root/opt/k/bin/futoncrane count -k25 "$reads") > given
     cmp "$whole" given
     (unset FUTONCRANE_BIN && PATH=/usr/bin:/bin root/opt/k/bin/futoncrane doctor) > told
     grep -qx 'all is well' told
-    make -s -C "$top" uninstall DESTDIR="$work/root" PREFIX=/opt/k NAME=counter MERGE_NAME=summer
+    (unset FUTONCRANE_BIN && PATH=/usr/bin:/bin root/opt/k/bin/futoncrane count -k25 --slices 3 --quiet "$reads") > given
+    cmp "$whole" given
+    made uninstall
     [ -z "$(find root -type f -o -type l)" ]
 }
 
@@ -531,16 +568,18 @@ try compare_counts_what_is_in_common
 try compare_refuses_what_it_cannot_compare
 try genomescope_histogram_has_each_count
 try genomescope_histogram_is_what_jellyfish_writes jellyfish
-try cluster_gives_the_dump_of_one_run_though_a_worker_dies dask
-try cluster_judges_the_sums dask
-try cluster_cuts_fasta_at_headers dask
-try cluster_works_for_a_scheduler dask dask-scheduler
-try cluster_merges_by_kmc_merge dask
-try cluster_writes_nothing_after_a_fault dask
+try cluster_of_1000_parts_gives_the_dump_of_one_run_though_a_worker_dies dask kmc_cut kmc_list kmc_merge
+try cluster_gives_the_dump_of_one_run dask kmc_cut kmc_list kmc_merge
+try cluster_tells_of_a_listing_that_was_ended dask kmc_cut kmc_list kmc_merge
+try cluster_judges_the_sums dask kmc_cut kmc_list kmc_merge
+try cluster_cuts_fasta_at_headers dask kmc_cut kmc_list kmc_merge
+try cluster_works_for_a_scheduler dask dask-scheduler kmc_cut kmc_list kmc_merge
+try cluster_finds_installed_names dask kmc_cut kmc_list kmc_merge
+try cluster_writes_nothing_after_a_fault dask kmc_cut kmc_list kmc_merge
 try merged_parts_are_the_dump_of_all kmc_merge
 try merge_names_the_first_fault kmc_merge
 try manual_pages_have_no_fault mandoc
-try installs_and_uninstalls
+try installs_and_uninstalls kmc_merge kmc_cut kmc_list
 try scripts_have_no_fault shellcheck
 try nothing_is_left_behind
 echo "$passed passed, $failed failed, $skipped skipped"

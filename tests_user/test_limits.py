@@ -55,9 +55,9 @@ def test_a_run_that_does_not_fit_is_not_begun(room):
         file.write(content(READS))
         file.truncate(4 << 40)
     room.stand_in("#!/bin/sh\ntouch begun\n")
-    room.refuses(1, "estimated to take", "the machine has", "futoncrane merge", words=["count", "big.fastq", "-o", "out"])
-    room.refuses(1, "estimated to take", "--memory allows 2 GB", words=["count", "--memory", "2G", "big.fastq", "-o", "out"])
-    room.refuses(1, "estimated to take", words=["histogram", "big.fastq"])
+    room.refuses(1, "estimated to take", "--memory allows 1 GB", "1000 slices", words=["count", "--memory", "1G", "big.fastq", "-o", "out"])
+    room.refuses(1, "the slices are estimated to take", "on its disk", "--directory", words=["count", "--memory", "60G", "big.fastq", "-o", "out"])
+    room.refuses(1, "estimated to take", words=["histogram", "--memory", "1G", "big.fastq"])
 
 
 def test_a_cap_is_told_to_the_system(room):

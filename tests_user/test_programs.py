@@ -1,4 +1,5 @@
 """The two proved programs by their words and devices: what no contract can say of a process."""
+import os
 import subprocess
 
 from room import MOST, READS, content, plainly, program
@@ -34,6 +35,15 @@ def test_a_full_device_is_a_failed_write(room):
         assert ended(room, "kmc_merge", "a.dump", out=full) == (1, None, b"kmc_merge: cannot write\n")
 
 
+def test_a_closed_pipe_is_not_told(room):
+    room.write("a.dump", "AC\t2\nCA\t5\n")
+    for name, *words in (("kmc",), ("kmc_merge", "a.dump")):
+        reader, writer = os.pipe()
+        os.close(reader)
+        with os.fdopen(writer, "wb") as out:
+            assert ended(room, name, *words, text=content(READS), out=out) == (1, None, b""), name
+
+
 def test_a_merge_names_the_line_of_a_later_file(room):
     room.write("a.dump", "AAAC\t2\nAACC\t3\n")
     room.write("b.dump", "AAAA\t1\nAAAC\t2\nAACC\t3\nAACA\t1\n")
@@ -51,6 +61,13 @@ def test_a_merge_refuses_wrong_words(room):
     for words in ([], [b"a\xff.dump"], ["-ci1"], ["-ci1", "-ci1", "a.dump"], ["-x", "a.dump"]):
         status, out, told = ended(room, "kmc_merge", *words)
         assert (status, out, told) == (2, b"", MERGE_USAGE), (words, told)
+
+
+def test_a_merge_names_the_first_option_out_of_range(room):
+    room.write("a.dump", "AC\t2\n")
+    for words, name in ((["-cix"], b"-ci"), (["-cx%d" % (MOST + 1)], b"-cx"), (["-cs0"], b"-cs"), (["-cs0", "-cx", "-ci1"], b"-cx"), (["-cs", "-ci-1"], b"-ci")):
+        told = b"kmc_merge: value of " + name + b" is out of range\n"
+        assert ended(room, "kmc_merge", *words, "a.dump") == (2, b"", told), words
 
 
 def test_300_dumps_are_summed(room):

@@ -5,7 +5,7 @@ import select
 import subprocess
 import sys
 
-from room import COMMAND, READS, content, wanted_dump
+from room import COMMAND, READS, content, program, wanted_dump
 
 
 def on_terminal(room, *words, stdin=subprocess.DEVNULL, stdout=subprocess.PIPE):
@@ -44,6 +44,17 @@ def test_progress_is_shown_on_a_terminal(room):
     assert (status, written) == (0, b""), shown
     for part in ("one run of kmc", "reading: ", " of 41.5 kB (", "left", "/s", "counting: all 41.5 kB read", "writing: ", "41.5 kB read, done in 0:0"):
         assert part in shown, "%s is not shown: %r" % (part, shown)
+
+
+def test_each_step_of_slices_is_shown(room):
+    for it in ("kmc_cut", "kmc_list", "kmc_merge"):
+        program(it)
+    status, written, shown = on_terminal(room, "count", "-k25", "--slices", "2", READS)
+    assert (status, written) == (0, wanted_dump()), shown
+    for part in ("2 slices, one after the other", "cutting: ", "slice 1 of 2, ", "slice 2 of 2, ", "merging: ", "done in 0:0"):
+        assert part in shown, "%s is not shown: %r" % (part, shown)
+    status, _, shown = on_terminal(room, "count", "-k25", "--slices", "2", "--quiet", READS)
+    assert (status, shown) == (0, ""), shown
 
 
 def test_progress_of_packed_files_and_pipes(room):

@@ -6,7 +6,7 @@ import subprocess
 
 from room import TOP, content, need
 
-COMMANDS = ("count", "merge", "histogram", "size", "compare", "solid", "genomescope", "cluster", "doctor")
+COMMANDS = ("count", "cut", "list", "merge", "histogram", "size", "compare", "solid", "genomescope", "cluster", "doctor")
 
 
 def text_of(*path):
@@ -60,8 +60,11 @@ def test_an_option_stands_once(room):
 
 def test_numbers_of_files_are_told(room):
     room.refuses(2, "two dumps", words=["compare", "a"])
-    room.refuses(2, "1 to 1000", words=["merge"])
-    room.refuses(2, "1 to 1000", words=["merge", *map(str, range(1001))])
+    room.refuses(2, "no dump", words=["merge"])
+    room.refuses(1, "0: No such file", words=["merge", *map(str, range(1001))])
+    room.refuses(2, "no file", words=["list"])
+    room.refuses(2, "-o PREFIX", words=["cut", "a"])
+    room.refuses(2, "1 to 1000", words=["count", "--slices", "1001", "a"])
     room.refuses(2, "no file", words=["doctor", "a"])
 
 
@@ -90,7 +93,7 @@ def test_zsh_reads_its_completion(room):
 
 def test_pages_have_no_fault(room):
     need("mandoc")
-    for name in ("futoncrane.1", "kmc.1", "kmc_merge.1"):
+    for name in ("futoncrane.1", "kmc.1", "kmc_cut.1", "kmc_list.1", "kmc_merge.1"):
         ran = subprocess.run(["mandoc", "-Tlint", os.path.join(TOP, "docs", name)], stdout=subprocess.PIPE)
         # that a page which is not installed is not found says nothing of this one
         told = [line for line in ran.stdout.decode().splitlines() if "referenced manual not found" not in line]
@@ -101,7 +104,7 @@ def test_one_version_stands_everywhere(room):
     version = text_of("VERSION").strip()
     assert re.fullmatch(r"[0-9]+\.[0-9]+\.[0-9]+", version)
     places = {("CITATION.cff",): r"^version: (\S+)$", ("CHANGELOG.md",): r"\A# v?([0-9.]+)", ("docs", "futoncrane.1"): r"describes version (\S+)\.$",
-              ("docs", "kmc.1"): r"describes version (\S+)\.$"}
+              **{("docs", name): r"describes version (\S+)\.$" for name in ("kmc.1", "kmc_cut.1", "kmc_list.1")}}
     for path, pattern in places.items():
         found = re.search(pattern, text_of(*path), re.MULTILINE)
         assert found and found[1] == version, "%s says %s, and VERSION %s" % ("/".join(path), found and found[1], version)

@@ -5,8 +5,6 @@ import os
 import subprocess
 import sys
 
-from futoncrane import places
-
 OPTIONS = []  # it reads its own words
 PROGRAM = os.path.join(os.path.dirname(os.path.dirname(os.path.abspath(__file__))), "cluster.py")
 SYSTEM = "/usr/bin/python3"
@@ -21,5 +19,4 @@ def interpreter():
 
 
 def main(words):
-    os.environ.setdefault("KMC", places.find("kmc"))
     os.execv(interpreter(), [interpreter(), PROGRAM, *words])

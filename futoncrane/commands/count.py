@@ -1,6 +1,7 @@
 """futoncrane count: k-mers of any number of files."""
 from futoncrane import shared
 from futoncrane.children import Children
+from futoncrane.options import Option
 from futoncrane.output import Output
 from futoncrane.run import open_inputs, run
 
@@ -12,20 +13,29 @@ the letters.
 A file is FASTQ or FASTA, plain or packed by gzip, bzip2, xz or zstd: both are seen from its first bytes. - is standard input, which is also
 read where no file is given.
 
-The counting is done by kmc, whose answer is proved. The status is 0 only where each file was read to its end and the dump was written
+What is estimated to fit the memory is one run of kmc. What is not is counted in slices: the reads are cut once into files of records, which
+take about 1.1 bytes of the disk for each symbol; slice after slice is listed; and the dumps are merged. The dump is the same. A line tells
+which it is. Of what comes through a pipe nothing is known: give --slices there.
+
+The counting is done by programs whose answer is proved. The status is 0 only where each file was read to its end and the dump was written
 whole.
 """
-OPTIONS = [shared.k_option(31), *shared.LIMITS, shared.CAP, *shared.ABOUT_RUNS, shared.OUT]
+KEEP = Option(["--keep"], "keep", default=False, text="leaves the files of slices in --directory where the run does not come to its end, and "
+              "goes on with those that an earlier run over the same files left there")
+OPTIONS = [shared.k_option(31), *shared.LIMITS, shared.CAP, *shared.ABOUT_RUNS, KEEP, shared.OUT]
 EXAMPLES = [
     "futoncrane count -k 21 -o dump.txt reads_1.fastq.gz reads_2.fastq.gz",
     "futoncrane count --min 1 --max none --cap none -o genome.dump.gz genome.fa",
+    "futoncrane count --memory 12G --directory /scratch -o human.dump human_*.fastq.gz",
     "samtools fastq reads.bam | futoncrane count - > dump.txt",
 ]
 
 
 def main(asked):
     with Children() as children, Output(asked.out, children) as output:
-        run(open_inputs(asked.files, asked.out), shared.settings(asked), children, output)
+        work = run(open_inputs(asked.files, asked.out), shared.settings(asked), children, output)
         output.finish()
+        if work:
+            work.drop()
     return 0
 

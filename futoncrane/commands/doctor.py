@@ -84,6 +84,7 @@ def trials(folder):
     out = os.path.join(folder, "dump")
     yield "kmc counts the example", lambda: counted([places.READS], out) == wanted
     yield "two files together", lambda: counted(halves(reads, folder), out) == wanted
+    yield "kmc_cut and kmc_list count it in slices", lambda: counted([places.READS], out, slices=3, directory=folder) == wanted
     whole = {"least": 1, "cap": options.MOST}
     yield "kmc_merge sums its parts", lambda: sum_of_parts(halves(reads, folder), folder, whole) == wanted
     for kind, path in packed_examples(reads, folder):
@@ -109,7 +110,7 @@ def sum_of_parts(paths, folder, whole):
 def tell_programs():
     """Tells where the programs are. Whether the needed ones are there."""
     is_whole = True
-    for name in ("kmc", "kmc_merge"):
+    for name in places.INSTALLED:
         try:
             say("%-12s %s" % (name, places.find(name)))
         except Fault as fault:

@@ -1,0 +1,160 @@
+"""The merge of dumps: of as many at once as may be open, and of more in levels."""
+import contextlib
+import os
+import signal
+import stat
+import subprocess
+
+from futoncrane import packing, places
+from futoncrane.children import open_more, signal_of
+from futoncrane.faults import Fault, Misuse, Quiet, reason, shown
+from futoncrane.feeding import judge_unpacker
+from futoncrane.options import MOST
+from futoncrane.progress import Watch, merging, read_by
+
+# what kmc_merge takes at once; and what else a process has open
+MOST_DUMPS, OTHERS = 1000, 32
+# the system takes command lines of so many bytes, with the environment
+MOST_WORDS = 1 << 20
+WHOLE = ["-ci1", "-cx%d" % MOST, "-cs%d" % MOST]
+
+
+class Parts:
+    """Files as the programs take them: by their names, or through pipes from programs that unpack them."""
+
+    def __init__(self, names, children):
+        self.given, self.children, self.unpackers, self.pipes, self.bytes = {}, children, [], [], 0
+        for name in names:
+            try:
+                self._add(name)
+            except OSError as fault:
+                raise Fault("%s: %s" % (shown(name), reason(fault))) from None
+
+    def _add(self, name):
+        with open(0 if name == "-" else name, "rb", closefd=name != "-") as file:
+            kind = packing.kind_of_file(file.fileno())
+            if kind is None:
+                self.bytes += os.fstat(file.fileno()).st_size
+                given = "/dev/stdin" if name == "-" else "./" + name if name.startswith("-") else name
+            else:
+                source, sink = os.pipe()
+                child = self.children.start(packing.unpacker(kind, shown(name)), stdin=file, stdout=sink)
+                os.close(sink)
+                self.pipes.append(source)
+                self.unpackers.append((shown(name), kind, child))
+                given = "/dev/fd/%d" % source
+        self.given[given] = shown(name)
+
+    def total(self):
+        return None if self.unpackers else self.bytes
+
+    def place(self, program):
+        return read_by(program)
+
+    def let_go(self):
+        """Closes the pipes, once the program has them."""
+        for it in self.pipes:
+            os.close(it)
+
+    def judge(self):
+        """The fault of a file that was not unpacked whole."""
+        for name, kind, child in self.unpackers:
+            if child.wait() != -signal.SIGPIPE:
+                judge_unpacker(name, kind, child)
+            self.children.forget(child)
+
+    def named(self, text):
+        """A fault with the files' names as the user knows them."""
+        for given in sorted(self.given, key=len, reverse=True):
+            if text.startswith(given + ":"):
+                return self.given[given] + text[len(given):]
+        return " ".join(text.split())
+
+
+def check_names(names):
+    """That each file is named once, by whatever name."""
+    seen = {}
+    for name in names:
+        try:
+            kind = os.stat(name) if name != "-" else os.fstat(0)
+        except OSError as fault:
+            raise Fault("%s: %s" % (shown(name), reason(fault))) from None
+        key = (kind.st_dev, kind.st_ino) if stat.S_ISREG(kind.st_mode) else name
+        if key in seen:
+            first = seen[key]
+            raise Misuse("%s stands twice%s" % (shown(name), "" if first == name else ", first as %s" % shown(first)))
+        seen[key] = name
+
+
+def is_packed(name):
+    """Whether a dump is packed."""
+    try:
+        with open(0 if name == "-" else name, "rb", closefd=name != "-") as file:
+            return packing.kind_of_file(file.fileno()) is not None
+    except OSError as fault:
+        raise Fault("%s: %s" % (shown(name), reason(fault))) from None
+
+
+def at_once(names):
+    """How many of the first dumps are merged at once: a packed one has two files open here, and names are words of a command line."""
+    files, words = open_more() - OTHERS, MOST_WORDS
+    for number, name in enumerate(names[:MOST_DUMPS]):
+        files -= 2 if is_packed(name) else 1
+        words -= len(os.fsencode(name)) + 16
+        if number >= 2 and (files < 0 or words < 0):
+            return number
+    return MOST_DUMPS
+
+
+def merged(names, limits, children, quiet, output=None, reader=None, sink=None, begun=None):
+    """Merges these dumps at once, into the output, the file `sink`, or what `reader` reads. Tells how long all took since `begun`."""
+    parts = Parts(names, children)
+    command = [places.find("kmc_merge"), *limits, *parts.given]
+    out = subprocess.PIPE if reader else output.descriptor if output else sink
+    merger = children.start(command, pass_fds=parts.pipes, stdin=0 if "-" in names else subprocess.DEVNULL, stdout=out)
+    parts.let_go()
+    if output:
+        output.let_go()
+    with Watch(parts, merger, not quiet, step=merging) as watch:
+        if reader:
+            reader(merger.stdout)
+        status = merger.wait()
+        if sink is None:
+            watch.last(status, begun)
+    parts.judge()
+    if status:
+        judge(merger, status, parts, output)
+    children.forget(merger)
+
+
+def merge(names, limits, children, quiet, folder, output=None, reader=None, begun=None):
+    """Merges dumps, however many: where there are too many, the first of them first, whole, into a dump in the folder that `folder` gives."""
+    names, made = list(names), 0
+    most = at_once(names)
+    while len(names) > most:
+        some = names[:min(most, len(names) - most + 1)]
+        path = os.path.join(folder(), "level.%d" % made)
+        with open(path, "wb") as sink:
+            merged(some, WHOLE, children, quiet, sink=sink)
+        for it in some:
+            if it.startswith(folder() + os.sep):
+                with contextlib.suppress(OSError):
+                    os.unlink(it)
+        names, made = names[len(some):] + [path], made + 1
+        most = at_once(names)
+    merged(names, limits, children, quiet, output, reader, begun=begun)
+
+
+def judge(merger, status, parts, output):
+    """Tells why kmc_merge has not done its work."""
+    text = merger.stderr.read().decode(errors="surrogateescape").strip()
+    if status < 0:
+        raise Fault("kmc_merge %s" % signal_of(status))
+    if "cannot write" in text:
+        shown_name = output.shown if output else "the merge of some dumps"
+        raise Fault("%s: it cannot be written%s" % (shown_name, output.why() if output else ": no space left on its disk"))
+    if text:
+        raise Fault(parts.named(text.replace("kmc_merge: ", "", 1)))
+    if output and output.packer:
+        output.finish()
+    raise Quiet

@@ -1,0 +1,158 @@
+"""Counting in slices: the reads are cut once into files of records, a file for each slice; slice after slice is listed within the limits; and
+the dumps, which share no word, are merged. kmc_cut, kmc_list and kmc_merge do it."""
+import contextlib
+import os
+import subprocess
+import sys
+import time
+
+from futoncrane import folders, memory, merging, places, progress, shared
+from futoncrane.children import TEMPORARY, held_signals, told
+from futoncrane.faults import Fault, Misuse, Quiet, shown
+from futoncrane.memory import human
+from futoncrane.programs import fed, judge_memory, name_and_text
+
+
+def say(text, quiet):
+    """A line on standard error, also where that is no terminal."""
+    if not quiet and sys.stderr is not None:
+        with contextlib.suppress(OSError):
+            os.write(2, ("futoncrane: %s\n" % text).encode(errors="backslashreplace"))
+
+
+class Disk:
+    """The files of the meantime, as a fault tells of them in the place of an output."""
+
+    def __init__(self, path):
+        self.path, self.shown, self.packer = path, shown(os.path.dirname(path)), None
+
+    def why(self):
+        room = os.statvfs(os.path.dirname(self.path))
+        return ": no space left on its disk" if room.f_bavail * room.f_frsize < 1 << 16 else ""
+
+
+def cut(found, setting, format_name, slices, prefix, children):
+    """Cuts the inputs into files PREFIX.0, PREFIX.1 and so on, which are gone when the command ends, unless they are let go."""
+    command = [places.find("kmc_cut"), *shared.words_of_cut(setting, format_name), "-slices%d" % slices, prefix]
+    names = ["%s.%d" % (prefix, number) for number in range(slices)]
+    TEMPORARY.update(names)
+    fed(command, found, setting, children, None, step=progress.cutting, disk=Disk(prefix))
+    return names
+
+
+def listed(names, setting, children, step, output=None, file=None):
+    """Lists the files of one slice into the output, or into an open file."""
+    parts = merging.Parts(names, children)
+    space = memory.addresses(setting.memory, setting.threads) if setting.memory else None
+    command = [places.find("kmc_list"), *shared.words_of_list(setting), *parts.given]
+    program = children.start(command, space, pass_fds=parts.pipes, stdin=0 if "-" in names else subprocess.DEVNULL,
+                             stdout=output.descriptor if output else file)
+    parts.let_go()
+    if output:
+        output.let_go()
+    with progress.Watch(parts, program, not setting.quiet, setting.memory, step) as watch:
+        status = program.wait()
+        if output:
+            watch.last(status)
+    parts.judge()
+    if status == 0:
+        children.forget(program)
+        return
+    name, text = name_and_text(program, told(program))
+    judge_memory(name, text, status, watch.is_over, setting)
+    if text == "cannot write":
+        written = output or Disk(file.name)
+        raise Fault("%s: it cannot be written%s" % (written.shown, written.why()))
+    if not text and output and output.packer:
+        output.finish()
+    if not text:
+        raise Quiet
+    raise Fault(parts.named(text))
+
+
+class Work:
+    """A count in slices. Its folder is gone when it ends, unless it is to be kept for a later run."""
+
+    def __init__(self, setting, found, format_name, slices, children):
+        self.setting, self.found, self.format, self.slices, self.children = setting, found, format_name, slices, children
+        self.begun, self.kept = time.monotonic(), None
+        self.directory = folders.place_for(setting.directory, setting.out)
+        if setting.keep and setting.directory is None:
+            raise Misuse("--keep wants a --directory")
+
+    def begin(self, memory_of_one_run, disk):
+        """Says what is done, looks at the disk's room, and makes the folder."""
+        is_told = any(it.is_stream for it in self.found)
+        one_run = "one run would take %s of memory; " % human(memory_of_one_run) if not self.setting.slices and not is_told else ""
+        size = "1.1 bytes for each symbol" if is_told else "about %s" % human(disk)
+        if self.setting.keep and self._note() is not None:
+            self.kept = folders.Kept(self.directory)
+            self.path = self.kept.path
+        if self._is_cut():
+            say("%d slices stand in %s, and are listed" % (self.slices, shown(self.path)), self.setting.quiet)
+            return
+        folders.check_room(self.directory, disk)
+        say("%s%s; files in %s take %s, and the dumps of slices" % (
+            one_run, "one slice" if self.slices == 1 else "%d slices, one after the other" % self.slices, shown(self.directory), size), self.setting.quiet)
+        if not self.kept:
+            self.path = folders.made(self.directory)
+
+    def count(self, output, reader=None):
+        """The three steps. The dump goes to the output, or to `reader`."""
+        if not self._is_cut():
+            self._cut()
+        dumps = [self._list(number) for number in range(self.slices)]
+        merging.merge(dumps, merging.WHOLE, self.children, self.setting.quiet, lambda: self.path, output, reader, self.begun)
+        if not self.kept:
+            folders.dropped(self.path)
+
+    def drop(self):
+        """Removes what is kept, once the answer is there."""
+        if self.kept:
+            self.kept.clear()
+
+    def _note(self):
+        """What the files of slices are of; nothing where that cannot be known again, as of a pipe."""
+        if any(it.is_stream for it in self.found):
+            return None
+        setting = self.setting
+        reads = [list(it.identity()) for it in self.found]
+        return {"version": places.version(), "reads": reads, "format": self.format, "slices": self.slices,
+                "k": setting.k, "signature": setting.signature, "bins": setting.bins}
+
+    def _is_cut(self):
+        note = self._note() if self.kept else None
+        return note is not None and self.kept.has(note)
+
+    def _cut(self):
+        if self.kept:
+            self.kept.clear()
+        names = cut(self.found, self.setting, self.format, self.slices, self._path("part"), self.children)
+        with held_signals():
+            if self.kept:
+                self.kept.set(self._note())
+                TEMPORARY.difference_update(names)
+
+    def _path(self, name):
+        return os.path.join(self.path, name)
+
+    def _list(self, number):
+        """The dump of a slice: that of an earlier run, or a new one."""
+        setting, part = self.setting, self._path("part.%d" % number)
+        dump = self._path("dump-%d-%d-%d%s.%d" % (setting.least, setting.greatest, setting.cap, "-b" if setting.forward else "", number))
+        if self.kept and os.path.exists(dump):
+            return dump
+        work = self._path("listed")
+        with held_signals():
+            TEMPORARY.add(work)
+        with open(work, "wb") as out:
+            listed([part], setting, self.children, progress.listing(number, self.slices), file=out)
+            out.flush()
+            if self.kept:
+                os.fsync(out.fileno())
+        with held_signals():
+            os.replace(work, dump)
+            TEMPORARY.discard(work)
+            if not self.kept:
+                os.unlink(part)
+        return dump
