@@ -1,15 +1,21 @@
 # The k-mer counter: `make count` builds it and counts the example, `make check` is the gate.
 KMC := ./kmc
 KMC_MERGE := ./kmc_merge
+KMC_CUT := ./kmc_cut
+KMC_LIST := ./kmc_list
+# the programs of users
+PROGRAMS = $(KMC) $(KMC_MERGE) $(KMC_CUT) $(KMC_LIST)
 # programs that the scripts in bench/ try
 REFUSED := ./try_refused_growths
 BODIES := ./try_damaged_bodies
 MANY := ./try_many_threads
 
-# where `make install` puts the program and its page, and under which name: Debian's `kmc` is KMC 3
+# where `make install` puts the programs and their pages, and under which names: Debian's `kmc` is KMC 3
 PREFIX := /usr/local
 NAME := futoncrane-kmc
 MERGE_NAME := futoncrane-kmc-merge
+CUT_NAME := futoncrane-kmc-cut
+LIST_NAME := futoncrane-kmc-list
 BIN = $(DESTDIR)$(PREFIX)/bin
 MAN = $(DESTDIR)$(PREFIX)/share/man/man1
 
@@ -33,11 +39,19 @@ $(KMC_MERGE): $(SOURCES)
 	@echo "make: proving and building kmc_merge (some minutes the first time)"
 	$(call built,kmc_merge)
 
+$(KMC_CUT): $(SOURCES)
+	@echo "make: proving and building kmc_cut (some minutes the first time)"
+	$(call built,kmc_cut)
+
+$(KMC_LIST): $(SOURCES)
+	@echo "make: proving and building kmc_list (some minutes the first time)"
+	$(call built,kmc_list)
+
 $(REFUSED) $(BODIES) $(MANY): ./%: $(SOURCES)
 	@echo "make: proving and building $* (some minutes the first time)"
 	$(call built,$*)
 
-count: $(KMC) $(KMC_MERGE)
+count: $(PROGRAMS)
 	@$(KMC) < examples/reads.fastq > examples/.counted
 	@cmp examples/.counted examples/reads.dump
 	@rm -f examples/.counted
@@ -50,25 +64,33 @@ CHECKS = $(shell awk -v n=$$(nproc) '/^MemAvailable/ { m = int($$2 / 5000000); m
 check:
 	RT_JOBS=$(CHECKS) MIMALLOC_PURGE_DELAY=-1 rt ci
 
-# the tests of users: the command futoncrane, and the two programs, as people call them
-recipes: $(KMC) $(KMC_MERGE)
+# the tests of users: the command futoncrane, and the programs, as people call them
+recipes: $(PROGRAMS)
 	@tests_user/run.py
 
-install: $(KMC) $(KMC_MERGE)
+# call installed,FILE,PAGE,NAME: the program, and its page, which then speaks of the names of this installation
+RENAMED = s/^\.Xr kmc 1/.Xr $(NAME) 1/; s/^\.Xr kmc_merge 1/.Xr $(MERGE_NAME) 1/; s/^\.Xr kmc_cut 1/.Xr $(CUT_NAME) 1/; \
+	s/^\.Xr kmc_list 1/.Xr $(LIST_NAME) 1/; /^\.Dl/ { s/\<kmc_merge /$(MERGE_NAME) /; s/\<kmc_cut /$(CUT_NAME) /; s/\<kmc_list /$(LIST_NAME) /; s/\<kmc -/$(NAME) -/ }
+define installed
+	install -m 755 $(1) "$(BIN)/$(3)"
+	sed 's/^\.Nm $(2)$$/.Nm $(3)/; s/^\.Dt [A-Z_]* /.Dt $(3) /; $(RENAMED)' docs/$(2).1 > "$(MAN)/$(3).1"
+	chmod 644 "$(MAN)/$(3).1"
+endef
+
+install: $(PROGRAMS)
 	install -d "$(BIN)" "$(MAN)"
-	install -m 755 $(KMC) "$(BIN)/$(NAME)"
-	sed 's/^\.Nm kmc$$/.Nm $(NAME)/; s/^\.Dt KMC /.Dt $(NAME) /; /^\.Dl/ s/kmc -/$(NAME) -/' docs/kmc.1 > "$(MAN)/$(NAME).1"
-	install -m 755 $(KMC_MERGE) "$(BIN)/$(MERGE_NAME)"
-	sed 's/^\.Nm kmc_merge$$/.Nm $(MERGE_NAME)/; s/^\.Dt KMC_MERGE /.Dt $(MERGE_NAME) /; s/^\.Xr kmc 1/.Xr $(NAME) 1/' docs/kmc_merge.1 > "$(MAN)/$(MERGE_NAME).1"
-	chmod 644 "$(MAN)/$(NAME).1" "$(MAN)/$(MERGE_NAME).1"
-	build/lay_out.sh "$(DESTDIR)$(PREFIX)" "$(NAME)" "$(MERGE_NAME)"
+	$(call installed,$(KMC),kmc,$(NAME))
+	$(call installed,$(KMC_MERGE),kmc_merge,$(MERGE_NAME))
+	$(call installed,$(KMC_CUT),kmc_cut,$(CUT_NAME))
+	$(call installed,$(KMC_LIST),kmc_list,$(LIST_NAME))
+	build/lay_out.sh "$(DESTDIR)$(PREFIX)" "kmc=$(NAME)" "kmc_merge=$(MERGE_NAME)" "kmc_cut=$(CUT_NAME)" "kmc_list=$(LIST_NAME)"
 
 uninstall:
-	rm -f "$(BIN)/$(NAME)" "$(MAN)/$(NAME).1" "$(BIN)/$(MERGE_NAME)" "$(MAN)/$(MERGE_NAME).1"
+	rm -f $(foreach name,$(NAME) $(MERGE_NAME) $(CUT_NAME) $(LIST_NAME),"$(BIN)/$(name)" "$(MAN)/$(name).1")
 	build/lay_out.sh --remove "$(DESTDIR)$(PREFIX)"
 
 # an archive and a Debian package that need neither the kit nor a compiler; build/try_dist.sh tries both in an empty root
-dist: $(KMC) $(KMC_MERGE)
+dist: $(PROGRAMS)
 	build/dist.sh
 
 # docs/HOSTILE.md tells what these six try; each takes some minutes. `make fuzz SEED=2` tries other texts
@@ -94,14 +116,15 @@ threads: $(KMC) $(MANY)
 	@rm -f crates/test_queue/out.log
 	KMC="$(abspath $(KMC))" MANY="$(abspath $(MANY))" bench/hostile_threads.sh
 
-bench: $(KMC)
+bench: $(PROGRAMS)
 	bench/compare.sh
+	bench/slices.sh
 
 # measures all that documents tell, and writes it into bench/RESULTS.md, README.md and docs/DESIGN.md; `make results ONLY="kmc3 memory"`
 # measures these sections alone
 ONLY :=
 
-results: $(KMC) $(KMC_MERGE) $(REFUSED) $(BODIES) $(MANY)
+results: $(PROGRAMS) $(REFUSED) $(BODIES) $(MANY)
 	bench/results.py $(ONLY)
 
 # random splits of random reads, against a plain count of all reads; and the time of a merge beside that of sort -m
@@ -110,4 +133,4 @@ merges: $(KMC_MERGE)
 	bench/merge_time.sh
 
 clean:
-	rm -rf crates/*/out $(KMC) $(KMC_MERGE) $(REFUSED) $(BODIES) $(MANY)
+	rm -rf crates/*/out $(PROGRAMS) $(REFUSED) $(BODIES) $(MANY)

@@ -5,7 +5,7 @@ usage: make results    (or bench/results.py [SECTION ..], to measure some sectio
 
 The sections are those of the list below, in order. Programs run in turn, but nothing else should run beside them: the machine's load at the
 beginning and at the end of each section is written down. All of it takes some forty minutes; the variable ROUNDS (3) says how often the
-comparisons with KMC 3 run each program. Wants what the scripts want.
+comparisons with KMC 3 run each program, THREADS (1 4) with how many threads. Wants what the scripts want.
 """
 import os
 import re
@@ -16,15 +16,19 @@ import time
 TOP = os.path.dirname(os.path.dirname(os.path.abspath(__file__)))
 RESULTS = os.path.join(TOP, "bench", "RESULTS.md")
 ROUNDS = os.environ.get("ROUNDS", "3")  # how often the comparisons with KMC 3 run each program
+THREADS = os.environ.get("THREADS", "1 4")  # the numbers of threads
+
+# variables of the scripts that are told with their figures, where they are set
+TOLD = ("SHORT_READS", "LONG_READS", "CUT_TIMES", "SLICES", "K", "FOLDER")
 
 # name, heading, command, whether the last line alone is kept
 SECTIONS = [
-    ("kmc3", "Time and memory beside KMC 3, k 25", ["bench/compare.sh", "-r", ROUNDS], False),
+    ("kmc3", "Time and memory beside KMC 3, k 25", ["bench/compare.sh", "-r", ROUNDS, "-t", THREADS], False),
     ("k", "Other lengths of words, short reads", ["bench/compare.sh", "-r", ROUNDS, "-k", "9 31 55", "-t", "4", "short"], False),
     ("skew", "One letter throughout", ["bench/compare.sh", "-t", "4", "-r", "2", "alla"], False),
     ("memory", "Memory", ["bench/memory.sh"], False),
     ("feeding", "What futoncrane takes beside the program", ["bench/feeding.sh"], False),
-    ("feeding", "Files handed to kmc by the command", ["bench/feeding.sh"], False),
+    ("slices", "Slices: what does not fit one memory", ["bench/slices.sh"], False),
     ("merge", "Merging two dumps of 5.6 million lines", ["bench/merge_time.sh"], True),
     ("fuzz", "Hostile texts and options (make fuzz)", ["bench/fuzz.py", "--seed", "7"], True),
     ("hostile", "Refused memory (make hostile)", ["bench/hostile.py"], True),
@@ -67,10 +71,11 @@ def version():
 def section(name, heading, words, last):
     """The text of one section."""
     before, start = load(), time.time()
+    given = ["%s='%s'" % (each, os.environ[each]) for each in TOLD if name == "slices" and each in os.environ]
     lines = run(words)
     body = lines[-1:] if last else lines
     told = "%s, version %s, %s; load %s before and %s after; %d s" % (
-        time.strftime("%Y-%m-%d"), version(), "`%s`" % " ".join(words), before, load(), time.time() - start)
+        time.strftime("%Y-%m-%d"), version(), "`%s`" % " ".join([*given, *("'%s'" % word if " " in word else word for word in words)]), before, load(), time.time() - start)
     return "<!-- %s: begin -->\n## %s\n\n%s\n\n%s\n<!-- %s: end -->\n" % (name, heading, told, "\n".join(body), name)
 
 

@@ -1,9 +1,9 @@
 #!/bin/sh
 # Puts what belongs to the command futoncrane below a folder, or removes it again: `make install`, `make uninstall` and build/dist.sh call it.
 #
-# usage: build/lay_out.sh ROOT NAME MERGE_NAME | build/lay_out.sh --remove ROOT
+# usage: build/lay_out.sh ROOT PROGRAM=NAME .. | build/lay_out.sh --remove ROOT
 #
-# ROOT has bin and share; NAME and MERGE_NAME are the names of kmc and kmc_merge in ROOT/bin.
+# ROOT has bin and share; NAME is what the program is called in ROOT/bin, as kmc_merge=futoncrane-kmc-merge.
 set -eu
 cd "$(dirname "$0")/.."
 
@@ -16,6 +16,7 @@ if [ "$1" = --remove ]; then
 fi
 
 root=$1
+shift
 own=$root/share/futoncrane
 rm -rf "$own"
 install -d "$root/bin" "$root/share/man/man1" "$root/share/bash-completion/completions" "$root/share/zsh/site-functions" \
@@ -25,10 +26,11 @@ install -m 644 futoncrane/*.py "$own/futoncrane"
 install -m 644 futoncrane/commands/*.py "$own/futoncrane/commands"
 install -m 755 futoncrane/futoncrane "$own/futoncrane/futoncrane"
 install -m 644 examples/reads.fastq examples/reads.dump "$own/examples"
-# the command finds its package behind the link, and the programs behind these two, whatever their names are
+# the command finds its package behind the link, and the programs behind the others, whatever their names are
 ln -sf ../share/futoncrane/futoncrane/futoncrane "$root/bin/futoncrane"
-ln -sf "../../bin/$2" "$own/kmc"
-ln -sf "../../bin/$3" "$own/kmc_merge"
+for program; do
+    ln -sf "../../bin/${program#*=}" "$own/${program%%=*}"
+done
 install -m 644 docs/futoncrane.1 "$root/share/man/man1/futoncrane.1"
 install -m 644 futoncrane/completions/futoncrane.bash "$root/share/bash-completion/completions/futoncrane"
 install -m 644 futoncrane/completions/_futoncrane "$root/share/zsh/site-functions/_futoncrane"

@@ -36,6 +36,7 @@ trial='
     futoncrane doctor
     example=$(dirname "$(readlink -f "$(command -v futoncrane)")")/../examples
     futoncrane count -k25 "$example/reads.fastq" | cmp - "$example/reads.dump"
+    futoncrane count -k25 --quiet --slices 3 "$example/reads.fastq" | cmp - "$example/reads.dump"
     gzip -c "$example/reads.fastq" > /tmp/reads.gz
     futoncrane count -k25 -o /tmp/dump /tmp/reads.gz
     cmp /tmp/dump "$example/reads.dump"
