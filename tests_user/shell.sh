@@ -337,7 +337,7 @@ slow_programs() {
 #!/bin/sh
 echo "\$PPID" >> "$work/starts"
 if [ "\$(wc -l < "$work/starts")" -ge 300 ] && mkdir "$work/held" 2> /dev/null; then
-    echo "\$PPID" > "$work/slow-worker"
+    echo "\$PPID \$\$" > "$work/slow-worker"
     exec sleep 60
 fi
 exec "$cutter" "\$@"
@@ -356,7 +356,10 @@ cluster_of_1000_parts_gives_the_dump_of_one_run_though_a_worker_dies() {
     while kill -0 "$run" 2> /dev/null && [ ! -s slow-worker ]; do
         sleep 0.1
     done
-    kill -KILL "$(cat slow-worker)"
+    local worker sleeper
+    read -r worker sleeper < slow-worker
+    kill -KILL "$worker"
+    kill -KILL "$sleeper"
     wait "$run"
     cmp wanted given
     local parts
