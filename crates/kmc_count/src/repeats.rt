@@ -7,6 +7,9 @@ use kmc_record::MOST_KEY_SYMBOLS;
 /// So many bins are counted word by word before equal records are looked for again.
 const PLAIN_BINS: u32 = 15;
 
+/// A bin of fewer records tells nothing of the next ones.
+const LEAST_RECORDS: usize = 1024;
+
 /// What the bins before tell of the next one: where few of their records were equal, sorting its records saves nothing. Whatever
 /// it says, the count is the same.
 #[derive(Clone, Copy, Debug)]
@@ -31,8 +34,8 @@ impl Repeats {
         0
     }
 
-    /// Learns from the sorted numbers of a bin's records whether the next bins are worth the look: where more than 5 of 8 records
-    /// differ from the one before them, they are not.
+    /// Learns from the sorted numbers of a bin's records whether the next bins are worth the look: where there are enough, and more
+    /// than 5 of 8 differ from the one before them, they are not.
     pub(crate) fn learn(&mut self, numbers: &[u128]) {
         let mut rows: usize = 0;
         let mut last = 0;
@@ -42,7 +45,7 @@ impl Repeats {
                 last = *number;
             }
         }
-        if rows > numbers.len() / 8 * 5 {
+        if numbers.len() >= LEAST_RECORDS && rows > numbers.len() / 8 * 5 {
             self.plain = PLAIN_BINS;
         }
     }

@@ -3,6 +3,7 @@ use Rattle.std.specs.Prelude.{◌≡◌, ℕ, ◌+◌, ◌-◌, ◌*◌, ◌/◌
 use Rattle.std.specs.List.{All, sum_by}
 use Rattle.kmc_base.specs.declared.strands.Strands.{Strands}
 use Rattle.kmc_base.specs.Packed.{unpack}
+use Rattle.kmc_base.specs.Strands.{keys}
 use Rattle.kmc_base.specs.Weights.{items, worth, AreItems}
 use Rattle.kmc_record.specs.RecordWords.{record_keys}
 
@@ -29,6 +30,11 @@ key_words strands k ns = record_keys strands k (map codes_of ns)
 pub record Gains (k f : ℕ) (old new : List ℕ) (ws : List (List ℕ)) (m : ℕ) : Type 0 where
   pub each : (g : List ℕ → ℕ) → worth g (items k f new) ≡ worth g (items k f old) + m * sum_by g ws
   pub fit : AreItems k f old → AreItems k f new
+
+-- numbers grow by the words of a super-k-mer
+pub record GainsWords (strands : Strands) (k : ℕ) (old new : List ℕ) (s : List ℕ) : Type 0 where
+  pub each : (g : List ℕ → ℕ) → sum_by g (key_words strands k new) ≡ sum_by g (key_words strands k old) + sum_by g (keys strands k s)
+  pub long : All (IsRecordKey k) old → All (IsRecordKey k) new
 
 -- super-k-mers are taken in, some as numbers and the words of others as items: together they come to the keys of all words
 pub record IsTaken (strands : Strands) (k f : ℕ) (numbers now : List ℕ) (ss : List (List ℕ)) : Type 0 where

@@ -1,7 +1,7 @@
-//! A body's records, taken in to be counted: short ones as numbers, the words of long ones as items.
+//! A body's records, taken in to be counted: as numbers, the long ones as those of their pieces; or their words as items.
 ghost use Rattle.std.specs.Prelude.{◌≡◌, ℕ, ◌+◌, ◌*◌, ◌<◌, ◌≤◌, ◌++◌, ◌∷◌, [], List, length, map, take, OnOk, IsErrOf};
 ghost use Rattle.kmc_record.specs.Record.{codes_in, size_of, IsBodyOf};
-ghost use Rattle.kmc_record.specs.RecordKeys.{IsTaken};
+ghost use Rattle.kmc_record.specs.RecordKeys.{GainsWords, IsTaken};
 ghost use Rattle.kmc_record.specs.Faults.{IsFirstFault};
 ghost use Rattle.kmc_record.specs.Refusals.{StopsAtRecord};
 ghost use Rattle.kmc_record.specs.declared.fault.RecordFault.{RecordFault};
@@ -13,7 +13,66 @@ use crate::record_key::{MOST_KEY_SYMBOLS, record_key};
 use kmc_base::{KeyRule, Weight, Word};
 use std::alloc::AllocError;
 
-/// Takes in one record more: as a number where it has at most `short` symbols.
+/// Puts the number of the first symbols of the bytes behind the numbers.
+fn push_piece(
+    numbers: &mut Vec<u128>,
+    bytes: &[u8],
+    symbols: usize,
+    rule: KeyRule,
+) -> Result<(), AllocError>
+    requires long { rule.k ≤ symbols }
+    requires short { symbols ≤ MOST_KEY_SYMBOLS }
+    requires inside { symbols ≤ 4 * length bytes.now }
+    ensures { OnOk result (GainsWords rule.strands rule.k numbers.old.items numbers.new.items
+        (take symbols (codes_in bytes.now))) }
+{
+    let size = (symbols + 3) / 4;
+    numbers.push(record_key(&bytes[..size], symbols, rule.strands))?;
+    Ok(())
+}
+
+/// How many bytes on the next piece of a long record begins, so that a piece has at most `short` symbols and each word stands
+/// in one piece; 0 where there is no such place.
+fn bytes_on(k: usize, short: usize) -> usize
+    requires some { 1 ≤ k }
+    requires short { short ≤ MOST_KEY_SYMBOLS }
+    ensures { 1 ≤ result → 4 * result + k ≤ short + 1 }
+{
+    if short < k {
+        return 0;
+    }
+    (short - k + 1) / 4
+}
+
+/// Puts the numbers of a record's pieces behind the numbers. Each begins `on` bytes behind the one before, and neighbours
+/// overlap by k - 1 symbols. A record of at most `short` symbols is one piece.
+fn push_pieces(
+    numbers: &mut Vec<u128>,
+    bytes: &[u8],
+    symbols: usize,
+    rule: KeyRule,
+    short: usize,
+    on: usize,
+) -> Result<(), AllocError>
+    requires long { rule.k ≤ symbols }
+    requires short { short ≤ MOST_KEY_SYMBOLS }
+    requires inside { symbols ≤ 4 * length bytes.now }
+    requires few { length bytes.now < 1000 }
+    requires on { short < symbols → (1 ≤ on) × (4 * on + rule.k ≤ short + 1) }
+    ensures { OnOk result (GainsWords rule.strands rule.k numbers.old.items numbers.new.items
+        (take symbols (codes_in bytes.now))) }
+{
+    let mut at = 0;
+    while 4 * at + short < symbols {
+        push_piece(numbers, &bytes[at..], 4 * on + rule.k - 1, rule)?;
+        at += on;
+    }
+    push_piece(numbers, &bytes[at..], symbols - 4 * at, rule)?;
+    Ok(())
+}
+
+/// Takes in one record more: as the numbers of its pieces of at most `short` symbols, or where no four words fit one, word by
+/// word.
 fn take_record<W: Word + Drop>(
     numbers: &mut Vec<u128>,
     items: &mut Vec<W>,
@@ -34,15 +93,17 @@ fn take_record<W: Word + Drop>(
         → IsTaken rule.strands rule.k bits numbers.new.items (map W.number items.new.items)
         (ss ++ take symbols (codes_in bytes.now) ∷ [])) }
 {
-    if symbols <= short {
-        numbers.push(record_key(bytes, symbols, rule.strands))?;
+    let on = bytes_on(rule.k, short);
+    if symbols <= short || on > 0 {
+        push_pieces(numbers, bytes, symbols, rule, short, on)?;
     } else {
         push_record(items, rule, bytes, symbols, Weight { bits, times: 1 })?;
     }
     Ok(())
 }
 
-/// Takes in the records of a body, record by record: those of at most `short` symbols as numbers, and of the others the words.
+/// Takes in the records of a body, record by record: as numbers of at most `short` symbols, or where no four words fit one, the
+/// words.
 /// The items have so many bits for their weights.
 pub fn take_body<W: Word + Drop>(
     numbers: &mut Vec<u128>,

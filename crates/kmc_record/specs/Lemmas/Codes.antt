@@ -1,5 +1,5 @@
 -- The codes in bytes, place by place.
-use Rattle.std.proofs.Common.{◌≡◌, ◌≢◌, ◌≤◌, Bool, true, false, nat_eq, ℕ, zero, suc, ◌+◌, ◌*◌, ◌-◌, ◌/◌, ◌%◌, ◌^◌, ◌<◌, List, [], ◌∷◌, ◌++◌, length, get_or, take, refl, sym, ap, ◌∙◌, arith}
+use Rattle.std.proofs.Common.{◌≡◌, ◌≢◌, ◌≤◌, Bool, true, false, nat_eq, ℕ, zero, suc, ◌+◌, ◌*◌, ◌-◌, ◌/◌, ◌%◌, ◌^◌, ◌<◌, List, [], ◌∷◌, ◌++◌, length, get_or, take, drop, refl, sym, ap, ◌∙◌, arith}
 use Rattle.std.proofs.lemmas.List.{get_or-take}
 use Rattle.std.proofs.lemmas.Bool.Decides.{nat_tests}
 use Rattle.kmc_base.specs.Lemmas.Packs.{AreCodes}
@@ -33,10 +33,16 @@ code_is bs i h =
     let parts : 4 * (i / 4) + i % 4 ≡ i = omega arith in
     sym (at bs (i / 4) (i % 4) (omega arith) (omega arith)) ∙ ap (λ j. get_or (codes_in bs) j 0) parts
 
-take_codes : (n : ℕ) (bs : List ℕ) → codes_in (take n bs) ≡ take (4 * n) (codes_in bs)
+pub take_codes : (n : ℕ) (bs : List ℕ) → codes_in (take n bs) ≡ take (4 * n) (codes_in bs)
 take_codes zero bs = refl
 take_codes (suc n) [] = let e : 4 * suc n ≡ suc (4 * n + 3) = omega arith in rw e refl
 take_codes (suc n) (b ∷ bs) = let e : 4 * suc n ≡ suc (suc (suc (suc (4 * n)))) = omega arith in rw e (ap (λ (t : List ℕ). quarters b ++ t) (take_codes n bs))
+
+-- the codes of what is behind some bytes are those behind their codes
+pub drop_codes : (n : ℕ) (bs : List ℕ) → codes_in (drop n bs) ≡ drop (4 * n) (codes_in bs)
+drop_codes zero bs = refl
+drop_codes (suc n) [] = let e : 4 * suc n ≡ suc (4 * n + 3) = omega arith in rw e refl
+drop_codes (suc n) (b ∷ bs) = let e : 4 * suc n ≡ suc (suc (suc (suc (4 * n)))) = omega arith in rw e (drop_codes n bs)
 
 -- the codes of the first bytes are the first codes
 pub code_in_front : (n m : ℕ) (bs : List ℕ) (i : ℕ) → m ≡ n → i < 4 * n → get_or (codes_in (take m bs)) i 0 ≡ get_or (codes_in bs) i 0

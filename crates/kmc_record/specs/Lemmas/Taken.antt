@@ -12,7 +12,7 @@ use Rattle.kmc_base.specs.Weights.{weighted}
 use Rattle.kmc_base.specs.Lemmas.Keys.{keys_are_words}
 use Rattle.kmc_base.specs.Lemmas.Packs.{AreCodes}
 use Rattle.kmc_record.specs.RecordWords.{record_keys}
-use Rattle.kmc_record.specs.RecordKeys.{codes_of, symbols_of, key_words, IsRecordKey, IsTaken}
+use Rattle.kmc_record.specs.RecordKeys.{codes_of, symbols_of, key_words, IsRecordKey, GainsWords, IsTaken}
 use Rattle.kmc_record.specs.Lemmas.Gaining.{gains_words}
 use Rattle.kmc_record.specs.Lemmas.Turned.{canonical_words}
 
@@ -48,20 +48,28 @@ module _ (strands : Strands) (k : ℕ) where
       sum_by-append g (keys strands k (codes_of m)) (key_words strands k (ns ++ n ∷ []))
       ∙ omega (arith, keys_push g ns n, sum_by-append g (keys strands k (codes_of m)) (key_words strands k ns))
 
+  -- its number is put behind the others
+  pub gains_key : (ns : List ℕ) (s : List ℕ) (n : ℕ) → IsRecord k s → symbols_of n ≡ length s → codes_of n ≡ key strands s
+      → GainsWords strands k ns (ns ++ n ∷ []) s
+  gains_key ns s n is long codes = record {
+    each = λ g.
+        let same = sum_by-IsPermutation g (keys strands k s) (keys strands k (key strands s)) (canonical_words strands k s is.codes) in
+        let here : sum_by g (keys strands k (codes_of n)) ≡ sum_by g (keys strands k (key strands s)) = ap (λ t. sum_by g (keys strands k t)) codes in
+        omega (arith, same, here, keys_push g ns n);
+    long = λ h. All-append (IsRecordKey k) ns (n ∷ []) h (All-cons (IsRecordKey k) n [] (omega (arith, long, is.least)) (All-nil (IsRecordKey k)));
+  }
+
   module _ (f : ℕ) where
     pub none_taken : IsTaken strands k f [] [] []
     none_taken = record { each = λ g. refl; fit = All-nil (λ n. n / 2 ^ f < 4 ^ k); long = All-nil (IsRecordKey k) }
 
-    -- its key is kept
-    pub key_taken : (keys now : List ℕ) (ss : List (List ℕ)) (s : List ℕ) (n : ℕ) → IsRecord k s → symbols_of n ≡ length s → codes_of n ≡ key strands s
-        → IsTaken strands k f keys now ss → IsTaken strands k f (keys ++ n ∷ []) now (ss ++ s ∷ [])
-    key_taken ks now ss s n is long codes h = record {
-      each = λ g.
-          let same = sum_by-IsPermutation g (keys strands k s) (keys strands k (key strands s)) (canonical_words strands k s is.codes) in
-          let here : sum_by g (keys strands k (codes_of n)) ≡ sum_by g (keys strands k (key strands s)) = ap (λ t. sum_by g (keys strands k t)) codes in
-          omega (arith, same, here, keys_push g ks n, records_push g ss s, h.each g);
+    -- the numbers of its pieces are kept
+    pub pieces_taken : (old new now : List ℕ) (ss : List (List ℕ)) (s : List ℕ) → GainsWords strands k old new s
+        → IsTaken strands k f old now ss → IsTaken strands k f new now (ss ++ s ∷ [])
+    pieces_taken old new now ss s gains h = record {
+      each = λ g. omega (arith, gains.each g, records_push g ss s, h.each g);
       fit = h.fit;
-      long = All-append (IsRecordKey k) ks (n ∷ []) h.long (All-cons (IsRecordKey k) n [] (omega (arith, long, is.least)) (All-nil (IsRecordKey k)));
+      long = gains.long h.long;
     }
 
     -- its words are put into items
