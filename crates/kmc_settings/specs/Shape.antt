@@ -1,8 +1,12 @@
 -- How settings cut reads into parts.
-use Rattle.std.specs.Prelude.{min}
+use Rattle.std.specs.Prelude.{ℕ, ◌+◌, ◌-◌, min}
 use Rattle.kmc_record.specs.Shapes.{Sizes}
 use Rattle.kmc_settings.specs.declared.params.Params.{Params}
 
--- words of k symbols, signatures of p symbols or of a whole word, n bins
+-- the most symbols of a signature of short words: from 14 symbols on one more for each symbol
+abbrev pub most_symbols : ℕ → ℕ
+most_symbols k = 5 + (k - 14)
+
+-- words of k symbols, signatures of at most p symbols or of a whole word, n bins
 abbrev pub shape_of : Params → Sizes
-shape_of p = record { k = p.k; m = min p.p p.k; n = p.n }
+shape_of p = record { k = p.k; m = min (min p.p (most_symbols p.k)) p.k; n = p.n }

@@ -13,6 +13,12 @@ use kmc_record::Shape;
 /// Most reads in a chunk.
 pub const MAX_BATCH: usize = 65536;
 
+/// A signature has at least so many symbols, but for shorter words.
+const LEAST_SYMBOLS: usize = 5;
+
+/// Words of at most so many symbols have the shortest signatures.
+const SHORT_WORD: usize = 14;
+
 const READERS: usize = 1;
 
 const PER_WRITER: usize = 8;
@@ -31,7 +37,7 @@ pub struct Params {
     pub limits: Limits,
     /// The symbols of a counted word, 1 to 64.
     pub k: usize,
-    /// The symbols of a signature, 5 to 11.
+    /// The most symbols of a signature, 5 to 11.
     pub p: usize,
     /// The bins, 1 to 2000.
     pub n: usize,
@@ -90,11 +96,13 @@ impl Params {
         })
     }
 
-    /// How the reads of a chunk are cut into parts.
+    /// How the reads of a chunk are cut into parts. Short words have short signatures, so that neighbours share one: 5 symbols where
+    /// a word has at most 14, and one more for each symbol above, up to the setting. The dump is the same for every length.
     pub fn shape(&self) -> Shape
         ensures { result ≡ shape_of self.now }
     {
-        match Shape::new(self.k, self.p, self.n) {
+        let most = LEAST_SYMBOLS + self.k.saturating_sub(SHORT_WORD);
+        match Shape::new(self.k, self.p.min(most), self.n) {
             Some(shape) => shape,
             None => unreachable!(),
         }

@@ -20,7 +20,7 @@ pub struct Bounds {
 pub enum Setting {
     /// The symbols of a counted word.
     K,
-    /// The symbols of a signature; a shorter word is its own signature.
+    /// The most symbols of a signature; short words have shorter ones.
     P,
     /// The bins between the two stages.
     N,

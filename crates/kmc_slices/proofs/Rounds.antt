@@ -8,6 +8,7 @@ use Rattle.kmc_device.specs.Device.{AppendsFront}
 use Rattle.kmc_device.specs.Lemmas.Devices.{front_after, front_of, front_all}
 use Rattle.kmc_reads.specs.declared.format.Format.{Format}
 use Rattle.kmc_record.specs.Shapes.{Sizes, IsShape}
+use Rattle.kmc_settings.specs.Shape.{most_symbols}
 use Rattle.kmc_settings.specs.declared.params.Params.{Params}
 use Rattle.kmc_store.specs.Bins.{AreBins, body_at}
 use Rattle.kmc_store.specs.Holds.{HoldsReads}
@@ -187,7 +188,7 @@ left_so format shape limit S old new olds news r e q is passed h =
     (is_left format shape limit S old new olds news e (subst (λ x. OnErr x (AreUnended shape S olds news)) is h))
 
 -- the shape of settings
-pub shape_is : (p : Params) → IsShape p.k (min p.p p.k) p.n
+pub shape_is : (p : Params) → IsShape p.k (min (min p.p (most_symbols p.k)) p.k) p.n
 shape_is p =
     let a = p.in_range.0 in
     record {
