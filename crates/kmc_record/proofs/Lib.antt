@@ -9,3 +9,4 @@ pub mod Belonging
 pub mod Filling
 pub mod Laying
 pub mod PackedBytes
+pub mod Quarters
