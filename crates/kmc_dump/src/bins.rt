@@ -1,6 +1,6 @@
 //! The counts of all bins in packed form, over threads: each thread takes a row of neighbouring bins and frees the records
 //! of each as soon as it is counted.
-ghost use Rattle.std.specs.Prelude.{ℕ, ◌<◌, ◌≤◌, length, map, IfOk, IsErrOf};
+ghost use Rattle.std.specs.Prelude.{ℕ, ◌≤◌, map, IfOk, IsErrOf};
 ghost use Rattle.std.specs.Thread.{IsSync};
 ghost use Rattle.kmc_record.specs.declared.fault.RecordFault.{RecordFault};
 ghost use Rattle.kmc_count.specs.Bodies.{IsFirstDamaged};
@@ -11,7 +11,7 @@ use crate::counts::Counts;
 use crate::shown::Shown;
 use kmc_base::{KeyRule, Word};
 use kmc_count::{Limits, Repeats};
-use kmc_record::BodyError;
+use kmc_record::{BodyError, share};
 use std::alloc::Global;
 use std::thread;
 use std::thread::Threads;
@@ -48,29 +48,6 @@ fn list_row<W: Word + Drop, C: Shown + Drop>(
         lists.push_reserved(list);
     }
     Ok(lists)
-}
-
-/// How many of the bodies, from the first on, have about so many of `threads` parts of all bytes.
-fn share(bodies: &[Vec<u8>], parts: usize, threads: usize) -> usize
-    requires some { 1 ≤ threads }
-    requires part { parts ≤ threads }
-    ensures { result ≤ length bodies.now }
-{
-    let mut bytes: usize = 0;
-    for body in bodies {
-        bytes = bytes.saturating_add(body.len());
-    }
-    let wanted = bytes / threads * parts;
-    let mut taken: usize = 0;
-    let mut count = 0;
-    for body in bodies {
-        if taken >= wanted {
-            return count;
-        }
-        taken = taken.saturating_add(body.len());
-        count += 1;
-    }
-    count
 }
 
 /// The list of each body, in the order of the bodies, by at most so many threads. The bodies are parted by their bytes,

@@ -1,18 +1,20 @@
 -- Bodies of one bin, record by record.
+<<<<<<< HEAD
 use Rattle.std.proofs.Common.{◌≡◌, ℕ, ◌+◌, ◌-◌, ◌%◌, ◌<◌, ◌≤◌, List, ◌++◌, length, take, drop, refl, sym, ap, subst, ◌∙◌, arith, length-append, append_assoc}
 use Rattle.std.proofs.lemmas.List.{take_at, take-append-drop}
 use Rattle.std.specs.List.{All}
+=======
+use Rattle.std.proofs.Common.{◌≡◌, ℕ, ◌+◌, ◌-◌, ◌<◌, ◌≤◌, List, ◌++◌, length, take, drop, refl, sym, ap, subst, ◌∙◌, arith, length-append, append_assoc}
+use Rattle.std.proofs.lemmas.List.{take_at, take-append-drop}
+>>>>>>> 3a47e4ebd6ba82daede2ef136e4a35e0a0600b31
 use Rattle.kmc_base.specs.Words.{windows}
-use Rattle.kmc_split.specs.Signature.{signature_of}
-use Rattle.kmc_split.specs.SuperKmer.{Piece, piece_words}
 use Rattle.kmc_record.specs.Record.{spelling, IsSpelled}
 use Rattle.kmc_record.specs.Shapes.{Sizes}
 use Rattle.kmc_record.specs.Parts.{Parcel, IsPart, capped}
 use Rattle.kmc_record.specs.Bodies.{AreRecordsOfBin, Belong, IsFirstError}
 use Rattle.kmc_record.specs.Faults.{HasFault}
-use Rattle.kmc_record.specs.Refusals.{BeginsRecord}
 use Rattle.kmc_record.specs.declared.fault.RecordFault.{RecordFault}
-use Rattle.kmc_record.specs.declared.fault.PartError.TheVariants.{Damaged, Memory}
+use Rattle.kmc_record.specs.declared.fault.PartError.TheVariants.{Damaged}
 use Rattle.kmc_record.proofs.Parcels.{part_grown}
 
 pub records_of_part : (bin : ℕ) (shape : Sizes) (body : List ℕ) (words : ℕ) → IsPart bin shape body words → AreRecordsOfBin bin shape body
@@ -23,9 +25,6 @@ module _ (bin : ℕ) (shape : Sizes) (k offset : ℕ) (body : List ℕ) (same : 
     (front : AreRecordsOfBin bin shape (take offset body)) where
   pub damaged_at : (fault : RecordFault) → HasFault k fault (drop offset body) → IsFirstError bin shape (Damaged fault offset) body
   damaged_at fault h = (inside, front, subst (λ j. HasFault j fault (drop offset body)) same h)
-
-  pub memory_at : BeginsRecord k (drop offset body) → IsFirstError bin shape Memory body
-  memory_at h = (offset, inside, front, subst (λ j. BeginsRecord j (drop offset body)) same h)
 
 front_joined : (body w rest : List ℕ) (offset next : ℕ) → offset ≤ length body → drop offset body ≡ w ++ rest → next ≡ length body - length rest
     → take next body ≡ take offset body ++ w
@@ -44,25 +43,3 @@ part_more bin shape body rest codes k offset next words n more same h inside spe
     let v : Parcel = record { chunk = 0; bin = bin; shape = shape; body = take offset body; words = words } in
     part_grown v v refl codes (take next body) k n more h (subst (λ j. IsSpelled j codes) same spelled) belong count same
     (front_joined body (spelling k codes) rest offset next inside is at) total
-
--- ---- what is asked of a super-k-mer, and of its codes
-
-same_piece : (shape : Sizes) (k : ℕ) (s t : Piece) → k ≡ shape.k → s.k ≡ k → t ≡ s → t ≡ record { k = shape.k; codes = s.codes }
-same_piece shape k s t ek sk ts = ts ∙ (λ i. record { k = (sk ∙ ek) i; codes = s.codes })
-
-pub belongs_here : (bin : ℕ) (shape : Sizes) (k m n : ℕ) (s t : Piece) → k ≡ shape.k → m ≡ shape.m → n ≡ shape.n → s.k ≡ k → t ≡ s
-    → All (λ w. signature_of m w % n ≡ bin) (piece_words t) → Belong bin shape (windows shape.k s.codes)
-belongs_here bin shape k m n s t ek em en sk ts h =
-    let path = same_piece shape k s t ek sk ts in
-    subst (λ (x : Sizes). Belong bin x (windows shape.k s.codes)) (λ i. record { k = ek i; m = em i; n = en i })
-    (subst (λ (x : Piece). All (λ w. signature_of m w % n ≡ bin) (piece_words x)) path h)
-
-pub asked_here : (bin : ℕ) (shape : Sizes) (k m n : ℕ) (s t : Piece) → k ≡ shape.k → m ≡ shape.m → n ≡ shape.n → s.k ≡ k → t ≡ s
-    → Belong bin shape (windows shape.k s.codes) → All (λ w. signature_of m w % n ≡ bin) (piece_words t)
-asked_here bin shape k m n s t ek em en sk ts h =
-    let path = sym (same_piece shape k s t ek sk ts) in
-    subst (λ (x : Piece). All (λ w. signature_of m w % n ≡ bin) (piece_words x)) path
-    (subst (λ (x : Sizes). Belong bin x (windows shape.k s.codes)) (λ i. record { k = sym ek i; m = sym em i; n = sym en i }) h)
-
-pub counted_here : (shape : Sizes) (k c : ℕ) (s t : Piece) → k ≡ shape.k → s.k ≡ k → t ≡ s → c ≡ length (piece_words t) → c ≡ length (windows shape.k s.codes)
-counted_here shape k c s t ek sk ts h = h ∙ ap (λ (x : Piece). length (piece_words x)) (same_piece shape k s t ek sk ts)

@@ -10,3 +10,4 @@ pub mod Filling
 pub mod Laying
 pub mod PackedBytes
 pub mod Pieces
+pub mod Quarters

@@ -1,35 +1,75 @@
 //! Which bodies belong to a bin.
-ghost use Rattle.std.specs.Prelude.{◌<◌, IfOk, IfErr};
+ghost use Rattle.std.specs.Prelude.{◌≡◌, ◌+◌, ◌*◌, ◌<◌, ◌≤◌, ◌↔◌, length, take, IfOk, IfErr, IsTrue};
+ghost use Rattle.kmc_base.specs.Words.{windows};
+ghost use Rattle.kmc_record.specs.Record.{codes_in, size_of};
 ghost use Rattle.kmc_record.specs.Parts.{IsPart};
-ghost use Rattle.kmc_record.specs.Bodies.{IsFirstError};
+ghost use Rattle.kmc_record.specs.Bodies.{Belong, IsFirstError};
 
-use crate::decoding::decode;
-use crate::fault::{PartError, RecordError};
+use crate::fault::PartError;
+use crate::record::first_symbols;
 use crate::shape::Shape;
-use std::alloc::Global;
+use kmc_base::MAX_K;
+use kmc_split::words_in_bin;
 
-/// How many words the body has, and 2^64 - 1 where they are more, if it is whole records of the bin.
-pub fn count_words(alloc: Global, body: &[u8], bin: usize, shape: Shape) -> Result<u64, PartError>
+/// The most codes that the bytes of a record have, with those behind its last symbol.
+const MOST_CODES: usize = (MAX_K + 258) / 4 * 4;
+
+/// The four codes of each byte take the place of what was there.
+fn unpack(bytes: &[u8], codes: &mut [u8])
+    requires { length codes.old ≡ 4 * length bytes.now }
+    ensures { codes.new ≡ codes_in bytes.now }
+{
+    for j in 0..bytes.len() {
+        let byte = bytes[j];
+        codes[4 * j] = byte >> 6;
+        codes[4 * j + 1] = (byte >> 4) % 4;
+        codes[4 * j + 2] = (byte >> 2) % 4;
+        codes[4 * j + 3] = byte % 4;
+    }
+}
+
+/// Whether all words of the symbols in these bytes belong to the bin. The room is to be used again.
+fn belongs(
+    bytes: &[u8],
+    symbols: usize,
+    bin: usize,
+    shape: Shape,
+    room: &mut [u8; MOST_CODES],
+) -> bool
+    requires size { length bytes.now ≡ size_of symbols }
+    requires least { shape.k ≤ symbols }
+    requires most { symbols ≤ shape.k + 255 }
+    ensures { IsTrue result
+        ↔ Belong bin shape (windows shape.k (take symbols (codes_in bytes.now))) }
+{
+    let codes = &mut room[..4 * bytes.len()];
+    unpack(bytes, codes);
+    words_in_bin(&codes[..symbols], shape.k(), shape.m(), shape.n(), bin)
+}
+
+/// How many words the body has, and 2^64 - 1 where they are more, if it is whole records of the bin. It makes nothing in
+/// memory: the symbols of one record after the other are unpacked into the same room.
+pub fn count_words(body: &[u8], bin: usize, shape: Shape) -> Result<u64, PartError>
     requires { bin < shape.n }
     ensures ok { IfOk result (λ words. IsPart bin shape body.now words) }
     ensures first { IfErr result (λ e. IsFirstError bin shape e body.now) }
 {
     let k = shape.k();
-    let m = shape.m();
-    let n = shape.n();
+    let mut room = [0; MOST_CODES];
     let mut offset = 0;
     let mut words: u64 = 0;
     while offset < body.len() {
-        let (s, rest) = match decode(alloc, &body[offset..], k) {
-            Ok(found) => found,
-            Err(RecordError::Damaged(fault)) => return Err(PartError::Damaged(fault, offset)),
-            Err(RecordError::Memory) => return Err(PartError::Memory),
+        let rest = &body[offset..];
+        let symbols = match first_symbols(rest, k) {
+            Ok(symbols) => symbols,
+            Err(fault) => return Err(PartError::Damaged(fault, offset)),
         };
-        if !s.in_bin(m, n, bin) {
+        let size = (symbols + 3) / 4;
+        if !belongs(&rest[1..1 + size], symbols, bin, shape, &mut room) {
             return Err(PartError::WrongBin(offset));
         }
-        words = words.saturating_add(s.words() as u64);
-        offset = body.len() - rest.len();
+        words = words.saturating_add((symbols + 1 - k) as u64);
+        offset += 1 + size;
     }
     Ok(words)
 }

@@ -17,6 +17,7 @@ mod record;
 mod record_key;
 mod rows;
 mod shape;
+mod sharing;
 mod spell;
 mod taking;
 
@@ -29,5 +30,6 @@ pub use parts::parts_of_reads;
 pub use record_key::MOST_KEY_SYMBOLS;
 pub use rows::push_rows;
 pub use shape::{LEAST_P, MOST_BINS, Shape};
+pub use sharing::share;
 pub use spell::push_record_of;
 pub use taking::take_body;

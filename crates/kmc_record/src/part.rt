@@ -38,7 +38,6 @@ impl Part {
     /// The part of a body, where that is whole records whose words belong to the bin; else the first fault in the order
     /// of the body, damage before a wrong bin within one record, with the same body.
     pub fn from_body(
-        alloc: Global,
         chunk: u64,
         bin: usize,
         shape: Shape,
@@ -53,7 +52,7 @@ impl Part {
         ensures first { IfErr result (λ e. IsFirstError bin shape e.0 body.items) }
         ensures back { IfErr result (λ e. e.1.items ≡ body.items) }
     {
-        match count_words(alloc, &body, bin, shape) {
+        match count_words(&body, bin, shape) {
             Ok(words) => Ok(Part {
                 chunk,
                 bin,

@@ -1,7 +1,7 @@
 -- The words of a super-k-mer in a bin, by what its m-mers offer.
 use Rattle.std.proofs.Common.{◌≡◌, ℕ, suc, ◌+◌, ◌-◌, ◌%◌, ◌^◌, ◌<◌, ◌≤◌, ◌↔◌, slice_index, List, [], length, get_or, sym, ap, ◌∙◌, arith}
 use Rattle.std.specs.List.{All}
-use Rattle.std.proofs.lemmas.List.FromFn.{length-map-range_with_len, get_or-map-range_with_len}
+use Rattle.std.proofs.lemmas.List.FromFn.{get_or-map-range_with_len}
 use Rattle.kmc_base.specs.Words.{window, windows}
 use Rattle.kmc_base.specs.Lemmas.Windows.{length_windows}
 use Rattle.kmc_split.specs.Signature.{signature_of}

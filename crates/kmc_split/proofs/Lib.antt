@@ -6,3 +6,4 @@ pub mod Rolled
 pub mod Unique
 pub mod Kept
 pub mod Bins
+pub mod Sliding

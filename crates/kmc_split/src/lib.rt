@@ -17,4 +17,4 @@ mod super_kmers;
 pub use cutting::{Scratch, cut};
 pub use runs::Run;
 pub use signatures::{MAX_M, Sig, allowed, signature};
-pub use super_kmers::{SuperKmer, super_kmer};
+pub use super_kmers::{SuperKmer, super_kmer, words_in_bin};

@@ -47,3 +47,21 @@ pub(crate) fn lowest(values: &[u32]) -> u32
     }
     least
 }
+
+/// The least of `width` values from place i + 1 on, given that of those from place i on. Only where that one leaves, and
+/// what comes is greater, does it look again.
+pub(crate) fn next_low(values: &[u32], width: usize, i: usize, least: u32) -> u32
+    requires some { 1 ≤ width }
+    requires inside { i + width < length values.now }
+    requires least { least ≡ low (slice_index values.now) width i }
+    ensures { result ≡ low (slice_index values.now) width (i + 1) }
+{
+    let new = values[i + width];
+    if new <= least {
+        new
+    } else if least < values[i] {
+        least
+    } else {
+        lowest(&values[i + 1..i + 1 + width])
+    }
+}

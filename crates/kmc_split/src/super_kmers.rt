@@ -8,7 +8,7 @@ ghost use Rattle.kmc_split.specs.SuperKmer.{IsSuperKmer, piece_words};
 ghost use Rattle.kmc_split.specs.Pieces.{piece};
 
 use crate::judge::offers;
-use crate::minima::lowest;
+use crate::minima::{lowest, next_low};
 use crate::runs::Run;
 use crate::signatures::MAX_M;
 use kmc_base::{Kmer, MAX_K};
@@ -100,14 +100,30 @@ impl SuperKmer {
         requires bins { 1 ≤ n }
         ensures { IsTrue result ↔ All (λ w. signature_of m w % n ≡ bin) (piece_words self.now) }
     {
-        let mut room = [0; MOST_SYMBOLS];
-        let count = self.codes.len() + 1 - m;
-        words_in_bin(&self.codes, self.k, m, n, bin, &mut room[..count])
+        words_in_bin(&self.codes, self.k, m, n, bin)
     }
 }
 
+/// Whether the signature of each word of k codes in a row has this bin, of n bins: what [`SuperKmer::in_bin`] says, for codes
+/// that lie anywhere. It makes nothing in memory.
+pub fn words_in_bin(codes: &[u8], k: usize, m: usize, n: usize, bin: usize) -> bool
+    requires some { 1 ≤ m }
+    requires most { m ≤ MAX_M }
+    requires within { m ≤ k }
+    requires limit { k ≤ MAX_K }
+    requires inside { k ≤ length codes.now }
+    requires long { length codes.now ≤ k + 255 }
+    requires bins { 1 ≤ n }
+    requires codes { All (λ c. c < 4) codes.now }
+    ensures { IsTrue result ↔ All (λ w. signature_of m w % n ≡ bin) (windows k codes.now) }
+{
+    let mut room = [0; MOST_SYMBOLS];
+    let count = codes.len() + 1 - m;
+    offers_in_bin(codes, k, m, n, bin, &mut room[..count])
+}
+
 /// Whether the signature of each word has a bin, worked out in room for the offers of all m-mers.
-fn words_in_bin(codes: &[u8], k: usize, m: usize, n: usize, bin: usize, room: &mut [u32]) -> bool
+fn offers_in_bin(codes: &[u8], k: usize, m: usize, n: usize, bin: usize, room: &mut [u32]) -> bool
     requires some { 1 ≤ m }
     requires most { m ≤ MAX_M }
     requires within { m ≤ k }
@@ -121,7 +137,7 @@ fn words_in_bin(codes: &[u8], k: usize, m: usize, n: usize, bin: usize, room: &m
     lows_in_bin(room, k + 1 - m, n, bin)
 }
 
-/// Whether the least of each `width` values in a row has a bin, of n bins.
+/// Whether the least of each `width` values in a row has a bin, of n bins. It divides only where the least one changes.
 fn lows_in_bin(values: &[u32], width: usize, n: usize, bin: usize) -> bool
     requires some { 1 ≤ width }
     requires most { width ≤ length values.now }
@@ -130,10 +146,16 @@ fn lows_in_bin(values: &[u32], width: usize, n: usize, bin: usize) -> bool
         ↔ ((i : ℕ) → i + width ≤ length values.now
         → low (slice_index values.now) width i % n ≡ bin) }
 {
-    for i in 0..values.len() + 1 - width {
-        if lowest(&values[i..i + width]) as usize % n != bin {
+    let mut least = lowest(&values[..width]);
+    if least as usize % n != bin {
+        return false;
+    }
+    for i in 0..values.len() - width {
+        let next = next_low(values, width, i, least);
+        if next != least && next as usize % n != bin {
             return false;
         }
+        least = next;
     }
     true
 }

@@ -68,9 +68,9 @@ fn assert_told(rt: &impl Abort, alloc: Global, file: &[u8], other: &[u8], told: 
     assert_eq!(rt; fault, Some(SliceFault::Other(told)));
 }
 
-/// The place of a slice where reads are cut so, by signatures of 7 symbols.
+/// The place of a slice where reads are cut so, by signatures of 5 symbols.
 fn place(rt: &impl Abort, k: usize, n: usize, slices: u16, slice: u16) -> Slicing {
-    let shape = Shape::new(k, 7, n).expect(rt, "a shape");
+    let shape = Shape::new(k, 5, n).expect(rt, "a shape");
     Slicing {
         shape,
         slices,

@@ -68,7 +68,7 @@ pub fn tell_part(
 ) -> io::Result<()>
     requires { bin < shape.n }
 {
-    match Part::from_body(alloc, 0, bin, shape, body) {
+    match Part::from_body(0, bin, shape, body) {
         Ok(part) => println!(rt; "part: {}", part.words()),
         Err((error, _)) => tell_no_part(rt, error),
     }

@@ -141,7 +141,7 @@ fn a_long_run_is_two_records(rt: HostRuntime) -> Result<(), Fail> {
 fn part_from_outside(rt: &impl Abort, alloc: Global, shape: Shape) -> Result<Part, AllocError> {
     assert!(rt; 6 < shape.n());
     let body = [0, 0x1B, 0, 0x1B].to_vec(alloc)?;
-    let part = Part::from_body(alloc, 9, 6, shape, body).ok();
+    let part = Part::from_body(9, 6, shape, body).ok();
     Ok(part.expect(rt, "a part"))
 }
 

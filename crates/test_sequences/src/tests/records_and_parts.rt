@@ -230,7 +230,7 @@ fn words_of_body(
     bytes: &[u8],
 ) -> Result<Result<u64, PartError>, AllocError> {
     assert!(rt; bin < shape.n());
-    match Part::from_body(alloc, 0, bin, shape, bytes.to_vec(alloc)?) {
+    match Part::from_body(0, bin, shape, bytes.to_vec(alloc)?) {
         Ok(part) => Ok(Ok(part.words())),
         Err((e, back)) => {
             assert_bytes(rt, &back, bytes);

@@ -1,27 +1,28 @@
-use Rattle.std.proofs.Common.{◌≡◌, ℕ, ◌+◌, ◌-◌, ◌%◌, ◌≤◌, List, length, take, drop, slice_index, ap, sym, ◌∙◌, arith, below_more, rules}
-use Rattle.std.proofs.lemmas.List.{length-take-le, length-drop}
+use Rattle.std.proofs.Common.{◌≡◌, ℕ, ◌-◌, ◌%◌, ◌≤◌, List, length, take, slice_index, ap, sym, ◌∙◌, arith}
+use Rattle.std.proofs.lemmas.List.{length-take-le}
 use Rattle.kmc_split.specs.Minima.{low}
 use Rattle.kmc_split.specs.Lemmas.Lowest.{low_slice}
 use Rattle.kmc_split.proofs.super_kmers.lows_in_bin.Goals as goal
 
--- the least of a part that was cut out
-least_here : (xs : List ℕ) (i w r : ℕ) → 1 ≤ w → i + w ≤ length xs
-    → r ≡ low (slice_index (take ((i + w) - i) (drop i xs))) (length (take ((i + w) - i) (drop i xs))) 0 → r ≡ low (slice_index xs) w i
-least_here xs i w r some inside e =
-    let part = take ((i + w) - i) (drop i xs) in
-    let long : length part ≡ w = length-take-le ((i + w) - i) (drop i xs) (omega (arith, length-drop i xs)) ∙ omega arith in
-    e ∙ ap (λ n. low (slice_index part) n 0) long ∙ low_slice w i (i + w) xs some (omega arith)
+-- the least of the first ones
+first_low : (xs : List ℕ) (w r : ℕ) → 1 ≤ w → w ≤ length xs → r ≡ low (slice_index (take w xs)) (length (take w xs)) 0
+    → r ≡ low (slice_index xs) w 0
+first_low xs w r some inside e =
+    let long : length (take w xs) ≡ w = length-take-le w xs inside in
+    let all : w - 0 ≡ w = omega arith in
+    e ∙ ap (λ n. low (slice_index (take w xs)) n 0) long ∙ ap (λ n. low (slice_index (take n xs)) w 0) (sym all)
+    ∙ low_slice w 0 w xs some (omega arith)
 
-pub loop-i-preserved : goal.loop-i-preserved
-loop-i-preserved c =
-    let here = least_here c.args.values.now c.loop-i.i c.args.width c.lowest.result c.requires.some (omega arith) c.lowest.ensures in
-    below_more (λ (j : ℕ). low (slice_index c.args.values.now) c.args.width j % c.args.n ≡ c.args.bin) c.loop-i.i c.loop-i.invariant
-    (ap (λ (s : ℕ). s % c.args.n) (sym here) ∙ c.if-lowest-n.false)
-
-pub returns-then-lowest-n : goal.returns-then-lowest-n
-returns-then-lowest-n c =
-    let here = least_here c.args.values.now c.loop-i.i c.args.width c.lowest.result c.requires.some (omega arith) c.lowest.ensures in
-    ((λ h. absurd (cc)), (λ all. absurd (c.if-lowest-n.true (ap (λ (s : ℕ). s % c.args.n) here ∙ all c.loop-i.i (omega arith)))))
+pub returns-then-least-n : goal.returns-then-least-n
+returns-then-least-n c =
+    let here = first_low c.args.values.now c.args.width c.lowest-least.result c.requires.some c.requires.most c.lowest-least.ensures in
+    ((λ h. absurd (cc)), (λ all. absurd (c.if-least-n.true (ap (λ (s : ℕ). s % c.args.n) here ∙ all 0 (omega arith)))))
 
 pub loop-i-init : goal.loop-i-init
-loop-i-init c = search rules
+loop-i-init c =
+    let here = first_low c.args.values.now c.args.width c.lowest-least.result c.requires.some c.requires.most c.lowest-least.ensures in (
+      here,
+      λ j least.
+          let first : j ≡ 0 = omega arith in
+          ap (λ i. low (slice_index c.args.values.now) c.args.width i % c.args.n) first ∙ ap (λ (s : ℕ). s % c.args.n) (sym here) ∙ c.if-least-n.false,
+    )

@@ -1,6 +1,6 @@
 use Rattle.std.proofs.Common.{arith}
 use Rattle.kmc_split.proofs.Bins.{bins_are}
-use Rattle.kmc_split.proofs.super_kmers.words_in_bin.Goals as goal
+use Rattle.kmc_split.proofs.super_kmers.offers_in_bin.Goals as goal
 
 pub returns : goal.returns
 returns c =
