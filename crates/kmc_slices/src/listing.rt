@@ -85,7 +85,7 @@ pub fn list_records<T: Threads + Sync, W: io::Write>(
     ensures silent { IfErr result (λ e. e ≢ Write → writer.new ≡ writer.old) }
 {
     let (slicing, bodies) = records.into_parts();
-    let bins = Bins::from_bodies(alloc, slicing.shape, bodies)?;
+    let bins = Bins::from_bodies(rt, alloc, slicing.shape, bodies, params.sr)?;
     let lists = lists_of_bins(rt, alloc, bins, params.strands, &params.limits, params.sr)?;
     let lines = write_bins(rt, alloc, writer, &lists, slicing.shape.k(), params.sr)?;
     Ok(lines)

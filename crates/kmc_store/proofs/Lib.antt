@@ -4,3 +4,4 @@ pub mod Spelled
 pub mod Dealt
 pub mod Held
 pub mod Gathered
+pub mod Sides

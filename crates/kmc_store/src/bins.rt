@@ -1,5 +1,5 @@
 //! Bins in memory.
-ghost use Rattle.std.specs.Prelude.{◌≡◌, ◌<◌, length, map, slice_index, OnOk, OnErr, IfOk, IfErr};
+ghost use Rattle.std.specs.Prelude.{◌≡◌, ◌<◌, ◌≤◌, length, map, slice_index, OnOk, OnErr, IfOk, IfErr};
 ghost use Rattle.kmc_store.specs.Bins.{BinList, AreBins, body_at, empty_bins, Absorbed, Merged};
 ghost use Rattle.kmc_store.specs.Outside.{IsBinFault};
 
@@ -8,6 +8,7 @@ use crate::judging::{BinFault, count_bins};
 use kmc_record::{Part, Shape};
 use std::alloc::{AllocError, Global};
 use std::marker::Model;
+use std::thread::Threads;
 
 /// For each bin of a shape the records that came to it, and how many words they have.
 #[derive(Debug, Drop)]
@@ -46,14 +47,22 @@ impl Bins {
         })
     }
 
-    /// Bins of a shape with these bodies, where each is whole records whose words belong to its bin; else the first fault.
-    pub fn from_bodies(alloc: Global, shape: Shape, bodies: Vec<Vec<u8>>) -> Result<Bins, BinFault>
-        requires { length bodies.items ≡ shape.n }
+    /// Bins of a shape with these bodies, where each is whole records whose words belong to its bin; else the first fault. They
+    /// are judged by at most so many threads.
+    pub fn from_bodies<R: Threads + Sync>(
+        rt: &R,
+        alloc: Global,
+        shape: Shape,
+        bodies: Vec<Vec<u8>>,
+        threads: usize,
+    ) -> Result<Bins, BinFault>
+        requires bodies { length bodies.items ≡ shape.n }
+        requires threads { 1 ≤ threads }
         ensures shape { IfOk result (λ b. b.shape ≡ shape) }
         ensures bodies { IfOk result (λ b. b.bodies ≡ map (λ v. v.items) bodies.items) }
         ensures first { IfErr result (IsBinFault shape (map (λ v. v.items) bodies.items)) }
     {
-        let words = count_bins(alloc, shape, &bodies)?;
+        let words = count_bins(rt, alloc, shape, &bodies, 0, shape.n(), threads)?;
         Ok(Bins {
             shape,
             bodies,

@@ -1,11 +1,11 @@
-//! Bodies from outside, judged bin by bin.
-ghost use Rattle.std.specs.Prelude.{◌≡◌, ℕ, ◌<◌, length, map, slice_index, IfOk, IfErr};
-ghost use Rattle.kmc_record.specs.Parts.{IsPart};
-ghost use Rattle.kmc_store.specs.Bins.{body_at};
-ghost use Rattle.kmc_store.specs.Outside.{IsBinFault};
+//! Bodies from outside, judged bin by bin over threads: each thread takes a row of neighbouring bins.
+ghost use Rattle.std.specs.Prelude.{◌≡◌, ◌≤◌, length, map, IfOk, IfErr};
+ghost use Rattle.std.specs.Thread.{IsSync};
+ghost use Rattle.kmc_store.specs.Outside.{AreCounted, IsFaultIn, IsJudgedRow};
 
-use kmc_record::{PartError, Shape, count_words};
-use std::alloc::Global;
+use kmc_record::{PartError, Shape, count_words, share};
+use std::alloc::{AllocError, Global};
+use std::thread::{Threads, join_mut};
 
 /// The first bin whose body is not records of that bin, and why. Where memory is refused, no bin before it is at fault.
 #[derive(Clone, Copy, Debug, PartialEq, Eq)]
@@ -14,33 +14,82 @@ pub struct BinFault {
     pub why: PartError,
 }
 
-/// How many words the body of each bin has.
-pub(crate) fn count_bins(
+impl From<AllocError> for BinFault {
+    ghost use Rattle.kmc_store.specs.Outside.{want_of_memory};
+
+    ghost from_gives = { λ _ e. e ≡ want_of_memory };
+
+    fn from(_: AllocError) -> BinFault {
+        BinFault {
+            bin: 0,
+            why: PartError::Memory,
+        }
+    }
+}
+
+/// How many words the bodies of the bins of a row have, from bin `from` on and below `to`.
+fn count_row(
     alloc: Global,
     shape: Shape,
     bodies: &[Vec<u8>],
+    from: usize,
+    to: usize,
 ) -> Result<Vec<u64>, BinFault>
-    requires { length bodies.now ≡ shape.n }
-    ensures long { IfOk result (λ words. length words.items ≡ shape.n) }
-    ensures parts { IfOk result (λ words. (i : ℕ) → i < shape.n
-        → IsPart i shape (body_at (map (λ b. b.items) bodies.now) i) (slice_index words.items i)) }
-    ensures first { IfErr result (IsBinFault shape (map (λ b. b.items) bodies.now)) }
+    requires wide { length bodies.now ≡ shape.n }
+    requires order { from ≤ to }
+    requires inside { to ≤ shape.n }
+    ensures ok { IfOk result (λ words. AreCounted shape (map (λ b. b.items) bodies.now) from to words.items) }
+    ensures fault { IfErr result (IsFaultIn shape (map (λ b. b.items) bodies.now) from to) }
 {
-    let mut words = Vec::new(alloc);
-    for bin in 0..shape.n() {
-        let count = match count_words(alloc, &bodies[bin], bin, shape) {
+    let mut words = Vec::with_capacity(alloc, to - from)?;
+    for bin in from..to {
+        let count = match count_words(&bodies[bin], bin, shape) {
             Ok(count) => count,
             Err(why) => return Err(BinFault { bin, why }),
         };
-        match words.push(count) {
-            Ok(()) => {}
-            Err(_) => {
-                return Err(BinFault {
-                    bin,
-                    why: PartError::Memory,
-                });
-            }
-        }
+        words.push_reserved(count);
     }
+    Ok(words)
+}
+
+/// How many words the bodies of the bins of a row have, from bin `from` on and below `to`, by at most so many threads. The row
+/// is parted by the bytes of its bodies, and one side is judged in another thread with its part of the threads, again and
+/// again. Where a body is at fault, the fault is that of the first such body, whichever thread met it. Where no thread can be
+/// made, the calling thread judges.
+#[cycle(rows)]
+pub(crate) fn count_bins<R: Threads + Sync>(
+    rt: &R,
+    alloc: Global,
+    shape: Shape,
+    bodies: &[Vec<u8>],
+    from: usize,
+    to: usize,
+    threads: usize,
+) -> Result<Vec<u64>, BinFault>
+    requires wide { length bodies.now ≡ shape.n }
+    requires order { from ≤ to }
+    requires inside { to ≤ shape.n }
+    requires threads { 1 ≤ threads }
+    ensures ok { IfOk result (λ words. AreCounted shape (map (λ b. b.items) bodies.now) from to words.items) }
+    ensures fault { IfErr result (IsFaultIn shape (map (λ b. b.items) bodies.now) from to) }
+{
+    if threads == 1 {
+        return count_row(alloc, shape, bodies, from, to);
+    }
+    let few = threads / 2;
+    let others = threads - few;
+    let at = from + share(&bodies[from..to], few, threads);
+    let mut front = || -> Result<Vec<u64>, BinFault>
+        requires { IsSync R.row × (length bodies.now ≡ shape.n) × (from ≤ at) × (at ≤ shape.n) × (1 ≤ few) }
+        ensures { IsJudgedRow shape bodies.entry.now from at result }
+    { count_bins(rt, alloc, shape, bodies, from, at, few) };
+    let mut back = || -> Result<Vec<u64>, BinFault>
+        requires { IsSync R.row × (length bodies.now ≡ shape.n) × (at ≤ to) × (to ≤ shape.n) × (1 ≤ others) }
+        ensures { IsJudgedRow shape bodies.entry.now at to result }
+    { count_bins(rt, alloc, shape, bodies, at, to, others) };
+    let (one, two) = join_mut(rt, &mut front, &mut back);
+    let mut words = one?;
+    let mut more = two?;
+    words.append(&mut more)?;
     Ok(words)
 }

@@ -45,7 +45,7 @@ fn tell_line(rt: &impl Print, alloc: Global, line: &str) -> io::Result<()> {
     match row_of(alloc, line) {
         Some((shape, bin, body)) => {
             tell_count(rt, alloc, shape, &body)?;
-            tell_part(rt, alloc, shape, bin, body)
+            tell_part(rt, shape, bin, body)
         }
         None => rt.println("no body"),
     }

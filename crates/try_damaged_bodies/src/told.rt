@@ -59,13 +59,7 @@ fn tell_no_part(rt: &impl Print, error: PartError) -> io::Result<()> {
 }
 
 /// Tells how many words the part of the body has, or why there is none.
-pub fn tell_part(
-    rt: &impl Print,
-    alloc: Global,
-    shape: Shape,
-    bin: usize,
-    body: Vec<u8>,
-) -> io::Result<()>
+pub fn tell_part(rt: &impl Print, shape: Shape, bin: usize, body: Vec<u8>) -> io::Result<()>
     requires { bin < shape.n }
 {
     match Part::from_body(0, bin, shape, body) {
