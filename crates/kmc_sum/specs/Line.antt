@@ -1,5 +1,5 @@
 -- One line of a dump at the front of bytes.
-use Rattle.std.specs.Prelude.{◌≡◌, ℕ, ◌<◌, ◌≤◌, ◌^◌, List, length, take}
+use Rattle.std.specs.Prelude.{◌≡◌, ℕ, ◌<◌, ◌≤◌, ◌^◌, List, length, take, map, slice_index}
 use Rattle.kmc_base.specs.Words.{letter}
 use Rattle.kmc_base.specs.Packed.{unpack}
 use Rattle.kmc_device.specs.Line.{line_of}
@@ -9,6 +9,13 @@ use Rattle.kmc_sum.specs.declared.line.Line.{Line}
 -- A, C, G or T: 67 is C, and 99 is none
 abbrev pub IsLetter : ℕ → Type 0
 IsLetter b = (c : ℕ) × (c < 4) × (letter c ≡ b)
+
+-- so many bytes at the front are letters, whose codes are packed in this number
+pub record AreLetters (n packed : ℕ) (bytes : List ℕ) : Type 0 where
+  pub within : n ≤ length bytes
+  pub fits : packed < 4 ^ n
+  pub word : take n bytes ≡ map letter (unpack n packed)
+  pub each : (i : ℕ) → i < n → IsLetter (slice_index bytes i)
 
 -- the pair of a line
 abbrev pub pair_of : Line → List ℕ × ℕ

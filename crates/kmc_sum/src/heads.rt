@@ -13,15 +13,15 @@ pub struct Head {
     pub source: usize,
 }
 
-/// Whether the first stands before the second, or at one place with it.
+/// Whether the first stands before the second, or at one place with it. It has no branch, since none could be foretold.
 fn is_first(a: &Head, b: &Head) -> bool
     ensures { IsTrue result ↔ (rank a.now ≤ rank b.now) }
 {
     let (first, second) = (a.packed, b.packed);
-    !b.live || (a.live && first <= second)
+    !b.live | (a.live & (first <= second))
 }
 
-/// Repeats the lesser of the two below a place at that place.
+/// Repeats the lesser of the two below a place at that place, without a branch.
 fn settle(heads: &mut [Head], node: usize)
     requires some { 1 ≤ node }
     requires inside { 2 * node + 1 < length heads.old }
@@ -29,11 +29,8 @@ fn settle(heads: &mut [Head], node: usize)
     ensures others { (j : ℕ) → j ≢ node → head_at heads.new j ≡ head_at heads.old j }
 {
     let child = 2 * node;
-    if is_first(&heads[child], &heads[child + 1]) {
-        heads[node] = heads[child];
-    } else {
-        heads[node] = heads[child + 1];
-    }
+    let is_right = !is_first(&heads[child], &heads[child + 1]);
+    heads[node] = heads[child + usize::from(is_right)];
 }
 
 /// Settles this place and those above it, where all other places are settled.
