@@ -2,7 +2,7 @@
 ghost use Rattle.std.specs.Prelude.{ℕ, ◌<◌, ◌≤◌, IfOk, IsErrOf};
 ghost use Rattle.kmc_record.specs.Faults.{IsFirstFault};
 ghost use Rattle.kmc_record.specs.declared.fault.RecordFault.{RecordFault};
-ghost use Rattle.kmc_count.specs.Bodies.{IsDumpOfBody};
+ghost use Rattle.kmc_count.specs.Bodies.{IsDumpOfBody, WantsMemory};
 ghost use Rattle.kmc_dump.specs.Listed.{IsListOf, pairs_of};
 
 use crate::counts::Counts;
@@ -31,6 +31,7 @@ pub fn list_body<W: Word + Drop, C: Shown + Drop>(
     ensures damaged { (fault : RecordFault) (offset : ℕ)
         → IsErrOf result (BodyError.Damaged fault offset)
         → IsFirstFault rule.k fault offset body.now }
+    ensures memory { IsErrOf result BodyError.Memory → WantsMemory rule.k body.now }
 {
     let mut pairs = Counts::new(alloc, rule.k);
     count_into(numbers, items, &mut pairs, body, rule, limits, repeats)?;

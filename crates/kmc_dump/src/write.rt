@@ -1,5 +1,5 @@
 //! The dump of lists that share no word, on a device.
-ghost use Rattle.std.specs.Prelude.{◌≡◌, ◌+◌, ◌-◌, ◌^◌, ◌<◌, ◌≤◌, length, OnOk, IfOk, IsErrOf};
+ghost use Rattle.std.specs.Prelude.{◌≡◌, ◌+◌, ◌-◌, ◌^◌, ◌<◌, ◌≤◌, length, OnOk, OnErr, IfOk, IsErrOf};
 ghost use Rattle.std.specs.Io.KnownBytes.{Appends};
 ghost use Rattle.kmc_device.specs.Device.{AppendsFront, RisesByOne};
 ghost use Rattle.kmc_device.specs.Line.{text_of};
@@ -37,9 +37,10 @@ impl From<AllocError> for DumpError {
     }
 }
 
-/// How many pairs the lists have. It fails where there are more than a number tells, which no memory could hold.
+/// How many pairs the lists have. It fails only where there are more than a number tells, which no memory could hold.
 fn count_pairs<W: Word + Drop, C: Shown + Drop>(lists: &[Counts<W, C>]) -> Result<usize, AllocError>
-    ensures { IfOk result (λ total. total ≡ length (joined (packs lists.now))) }
+    ensures total { IfOk result (λ total. total ≡ length (joined (packs lists.now))) }
+    ensures most { OnErr result (2 ^ 64 ≤ length (joined (packs lists.now))) }
 {
     let mut total: usize = 0;
     for list in lists {

@@ -22,3 +22,7 @@ returns-clause-ok g c =
 pub returns-in_err-count_into-clause-damaged : goal.returns-in_err-count_into-clause-damaged
 returns-in_err-count_into-clause-damaged g c = λ fault offset is.
     c.count_into.ensures.damaged fault offset (passed_on c.count_into.result c.from_residual.result _ _ c.in_err-count_into.was c.from_residual.ensures.1 is)
+
+pub returns-in_err-count_into-clause-memory : goal.returns-in_err-count_into-clause-memory
+returns-in_err-count_into-clause-memory g c = λ is.
+    c.count_into.ensures.memory (passed_on c.count_into.result c.from_residual.result _ _ c.in_err-count_into.was c.from_residual.ensures.1 is)
