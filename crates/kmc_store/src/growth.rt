@@ -1,5 +1,5 @@
 //! How bodies grow by others.
-ghost use Rattle.std.specs.Prelude.{◌≡◌, ℕ, ◌+◌, ◌<◌, ◌++◌, length, map, OnOk, slice_index};
+ghost use Rattle.std.specs.Prelude.{◌≡◌, ℕ, ◌+◌, ◌<◌, ◌++◌, length, map, OnOk, OnErr, slice_index};
 ghost use Rattle.kmc_record.specs.Parts.{capped};
 ghost use Rattle.kmc_store.specs.Bins.{body_at};
 ghost use Rattle.kmc_store.specs.Growing.{HasRoom, HaveRoom};
@@ -11,6 +11,7 @@ use std::mem::swap;
 fn make_room_for(own: &mut Vec<u8>, more: &[u8]) -> Result<(), AllocError>
     ensures kept { own.new.items ≡ own.old.items }
     ensures ok { OnOk result (HasRoom own.new (length more.now)) }
+    ensures full { OnErr result (¬ (HasRoom own.old (length more.now))) }
 {
     if own.is_empty() {
         Ok(())
@@ -24,6 +25,7 @@ pub(crate) fn make_room(own: &mut Vec<Vec<u8>>, more: &[Vec<u8>]) -> Result<(), 
     requires { length own.old.items ≡ length more.now }
     ensures kept { map (λ v. v.items) own.new.items ≡ map (λ v. v.items) own.old.items }
     ensures ok { OnOk result (HaveRoom own.new.items more.now) }
+    ensures full { OnErr result (¬ (HaveRoom own.old.items more.now)) }
 {
     for i in 0..more.len() {
         make_room_for(&mut own[i], &more[i])?;
