@@ -12,6 +12,8 @@ mod failing;
 #[cfg(test)]
 mod files;
 #[cfg(test)]
+mod judged;
+#[cfg(test)]
 mod others;
 #[cfg(test)]
 mod refused;

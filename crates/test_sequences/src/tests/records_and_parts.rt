@@ -1,4 +1,5 @@
 //! Records and parts: worked values in both directions, refusals, and a table from an independent program.
+mod judged;
 mod plain;
 mod rows;
 

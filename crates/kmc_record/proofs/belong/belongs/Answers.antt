@@ -13,7 +13,8 @@ pub words_in_bin-requires-clause-codes : goal.words_in_bin-requires-clause-codes
 words_in_bin-requires-clause-codes c =
     let n = c.args.symbols in
     let bs = c.args.bytes.now in
-    subst (λ (t : List ℕ). All (λ x. x < 4) (take n t)) (sym c.unpack.ensures) (All-from_recursion (λ (x : ℕ). x < 4) (take n (codes_in bs)) (codes_front n (codes_in bs) (are_codes bs)))
+    subst (λ (t : List ℕ). All (λ x. x < 4) (take n t)) (sym c.unpack.ensures)
+    (All-from_recursion (λ (x : ℕ). x < 4) (take n (codes_in bs)) (codes_front n (codes_in bs) (are_codes bs)))
 
 pub returns : goal.returns
 returns c =

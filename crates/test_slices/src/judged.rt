@@ -1,0 +1,71 @@
+//! Bodies from outside, judged by several threads.
+use kmc_record::{PartError, Shape};
+use kmc_store::{BinFault, Bins};
+use std::alloc::{AllocError, Global};
+use std::process::Abort;
+use std::test::Fail;
+use std::thread::Threads;
+
+/// The body of one of 7 bins of words of 4 symbols: records of the bin, or one of another bin.
+fn body_of(bin: usize, faulty: bool) -> &'static [u8] {
+    match (bin, faulty) {
+        (2, false) => &[0, 0xb1],
+        (3, false) => &[0, 0x6c, 0, 0xc6],
+        (6, false) => &[0, 0x1b],
+        (_, false) => &[],
+        (6, true) => &[0, 0xb1],
+        (_, true) => &[0, 0x1b],
+    }
+}
+
+/// The bodies of 7 bins, of which those are at fault whose bit is one.
+fn bodies_of(alloc: Global, faults: u32) -> Result<Vec<Vec<u8>>, AllocError> {
+    let mut bodies = Vec::new(alloc);
+    for bin in 0..7u32 {
+        let faulty = (faults >> bin) % 2 == 1;
+        bodies.push(body_of(bin as usize, faulty).to_vec(alloc)?)?;
+    }
+    Ok(bodies)
+}
+
+/// Asserts that each bin has its words.
+fn assert_words(rt: &impl Abort, bins: &Bins) {
+    for (bin, want) in [0, 0, 1, 2, 0, 0, 1].iter().enumerate() {
+        assert!(rt; bin < bins.shape().n());
+        assert_eq!(rt; bins.words(bin), *want);
+    }
+}
+
+/// Asserts that so many threads tell the first of these faults, or that the bins have all words where there is none.
+fn assert_judged<R: Abort + Threads + Sync>(
+    rt: &R,
+    alloc: Global,
+    faults: u32,
+    threads: usize,
+) -> Result<(), Fail> {
+    let shape = Shape::new(4, 5, 7).expect(rt, "a shape");
+    let bodies = bodies_of(alloc, faults)?;
+    assert!(rt; bodies.len() == shape.n() && threads > 0);
+    match Bins::from_bodies(rt, alloc, shape, bodies, threads) {
+        Ok(bins) => {
+            assert_eq!(rt; faults, 0);
+            assert_words(rt, &bins);
+        }
+        Err(fault) => {
+            let bin = faults.trailing_zeros() as usize;
+            let why = PartError::WrongBin(0);
+            assert_eq!(rt; fault, BinFault { bin, why });
+        }
+    }
+    Ok(())
+}
+
+#[test]
+fn the_first_fault_is_told_whichever_thread_meets_it(rt: HostRuntime) -> Result<(), Fail> {
+    for faults in 0..128 {
+        for threads in 1..6 {
+            assert_judged(&rt, rt.alloc(), faults, threads)?;
+        }
+    }
+    Ok(())
+}
