@@ -14,7 +14,7 @@ READS = os.path.join(TOP, "examples", "reads.fastq")
 DUMP = os.path.join(TOP, "examples", "reads.dump")
 MOST = 1 << 63
 # seconds that nothing takes, however slow the machine is
-LONG = 600
+LONG = 300
 
 
 class Skipped(Exception):

@@ -25,7 +25,7 @@ sys.path[:0] = [HERE, os.path.dirname(HERE)]
 
 import room  # noqa: E402
 
-FILES = ("programs", "words", "reading", "packed", "writing", "commands", "limits", "slices", "terminal", "signals", "real_reads")
+FILES = ("programs", "words", "reading", "packed", "writing", "commands", "limits", "slices", "slice_files", "terminal", "signals", "real_reads")
 AT_ONCE = 2
 # what a test may send to the command; whoever starts the tests may have had them ignored, as nohup does
 SIGNALS = (signal.SIGINT, signal.SIGTERM, signal.SIGHUP, signal.SIGQUIT)

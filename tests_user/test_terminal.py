@@ -5,7 +5,7 @@ import select
 import subprocess
 import sys
 
-from room import COMMAND, READS, content, program, wanted_dump
+from room import COMMAND, LONG, READS, content, program, wanted_dump
 
 
 # what kmc is to wait for at each of its steps, in the slow one below: that the terminal was shown this
@@ -44,8 +44,9 @@ def on_terminal(room, *words, stdin=subprocess.DEVNULL, stdout=subprocess.PIPE, 
 
 def slow(room):
     """A kmc that takes its time over reading, counting and writing: as long as it takes the terminal to show it."""
-    room.stand_in("#!" + sys.executable + "\nimport os, time\ndef shown(step):\n    while not os.path.exists(step):\n        time.sleep(0.02)\n"
-                  "os.read(0, 20000)\nshown('0')\nwhile os.read(0, 20000):\n    pass\nshown('1')\nos.write(1, b'ACGT\\t2\\n')\nshown('2')\n")
+    room.stand_in("#!" + sys.executable + "\nimport os, sys, time\nend = time.monotonic() + %d\ndef shown(step):\n    while not os.path.exists(step):\n"
+                  "        time.sleep(0.02)\n        if time.monotonic() > end:\n            sys.exit('the terminal is not shown ' + step)\n"
+                  "os.read(0, 20000)\nshown('0')\nwhile os.read(0, 20000):\n    pass\nshown('1')\nos.write(1, b'ACGT\\t2\\n')\nshown('2')\n" % LONG)
 
 
 def test_progress_is_shown_on_a_terminal(room):
@@ -72,7 +73,7 @@ def test_progress_of_packed_files_and_pipes(room):
     import gzip
     slow(room)
     room.write("a.gz", gzip.compress(content(READS)))
-    status, _, shown = on_terminal(room, "count", "a.gz", READS, "-o", "dump")
+    status, _, shown = on_terminal(room, "count", "a.gz", READS, "-o", "dump", steps=("reading: ", "counting", "writing: "))
     assert status == 0 and "reading: " in shown and " of 45" in shown and "counting" in shown, shown
     with subprocess.Popen(["cat", READS], stdout=subprocess.PIPE) as cat:
         status, _, shown = on_terminal(room, "count", "-", "-o", "dump", stdin=cat.stdout, steps=("reading: ", "reading: ", "writing: "))
@@ -80,7 +81,8 @@ def test_progress_of_packed_files_and_pipes(room):
 
 
 def test_no_progress_elsewhere(room):
-    slow(room)
+    # time enough to show it
+    room.stand_in("#!/bin/sh\ncat > /dev/null; sleep 0.7; printf 'ACGT\\t2\\n'\n")
     for words in (["count", READS, "-o", "dump"], ["histogram", READS]):
         ran = room.run(*words)
         assert (ran.status, ran.err) == (0, ""), ran
