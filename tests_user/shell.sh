@@ -385,6 +385,11 @@ cluster_gives_the_dump_of_one_run() {
     grep -q '^cluster: 1 parts, 2 slices; files in ' told
 }
 
+cluster_is_a_command() {
+    timeout 1800 "$top/futoncrane/futoncrane" cluster --workers 1 --quiet "$reads" > given
+    cmp "$whole" given
+}
+
 # a listing that is ended, as by a system without memory, is no dump
 cluster_tells_of_a_listing_that_was_ended() {
     mkdir -p ending
@@ -580,6 +585,7 @@ try genomescope_histogram_has_each_count
 try genomescope_histogram_is_what_jellyfish_writes jellyfish
 try cluster_of_1000_parts_gives_the_dump_of_one_run_though_a_worker_dies dask kmc_cut kmc_list kmc_merge
 try cluster_gives_the_dump_of_one_run dask kmc_cut kmc_list kmc_merge
+try cluster_is_a_command dask kmc_cut kmc_list kmc_merge
 try cluster_tells_of_a_listing_that_was_ended dask kmc_cut kmc_list kmc_merge
 try cluster_judges_the_sums dask kmc_cut kmc_list kmc_merge
 try cluster_cuts_fasta_at_headers dask kmc_cut kmc_list kmc_merge

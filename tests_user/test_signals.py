@@ -7,7 +7,7 @@ import subprocess
 import threading
 import time
 
-from room import COMMAND, LONG, READS, alive, content, descendants, wait_for, wait_until
+from room import COMMAND, LONG, READS, alive, content, descendants, program, wait_for, wait_until
 
 MOMENTS = 20
 
@@ -60,6 +60,8 @@ def test_control_c_at_twenty_moments(room):
 
 
 def test_control_c_while_reads_still_come(room):
+    for it in ("kmc_cut", "kmc_list", "kmc_merge"):
+        program(it)
     room.write("packed.gz", gzip.compress(content(READS), 1))
     os.mkfifo(room.path("pipe"))
     kinds = (["count", "packed.gz", "pipe", "-o", "dump.gz"], ["count", "pipe", "-o", "dump"], ["histogram", "pipe", "-o", "dump"],
@@ -79,7 +81,7 @@ def test_control_c_while_reads_still_come(room):
         writer = threading.Thread(target=give, daemon=True)
         writer.start()
         child = started(room, kinds[number % len(kinds)])
-        wait_until(given.is_set, "the reader")
+        wait_until(lambda: given.is_set() or child.poll() is not None, "the reader")
         status, told, left = interrupted(child, signal.SIGINT)
         ended.set()
         writer.join()

@@ -8,10 +8,10 @@ import sys
 
 from room import LONG, READS, TOP, content, plainly, program
 
-# bytes: what kmc_cut takes at most, and what a file that lies is refused within
-MOST_OF_CUT, MOST_OF_A_LIE = 150 * 10**6, 50 * 10**6
-# a run's bound is reached with this much text; more of it takes no more, but for what differs from run to run
-TEXT, MORE_TEXT, DIFFERENCE = 200 * 10**6, 600 * 10**6, 10 * 10**6
+# bytes: what kmc_cut takes at most by one splitter and by four, and what a file that lies is refused within
+MOST_OF_CUT, MOST_OF_A_LIE = {1: 50 * 10**6, 4: 150 * 10**6}, 50 * 10**6
+# what one splitter takes grows up to this much text; more of it takes no more, but for what differs from run to run
+TEXT, DIFFERENCE = 200 * 10**6, 10 * 10**6
 
 
 def cut(room, prefix, text, *words):
@@ -53,7 +53,7 @@ def test_each_byte_left_out_doubled_or_changed_is_refused(room):
     source = random.Random(5)
     files = [*cut(room, "a", read_of(b"ACGTACGT"), "-k4", "-n7", "-slices2"), cut(room, "b", read_of(b"GATTACAGATTACAGCCTGA"), "-k9", "-n5", "-slices1")[0]]
     for whole in files:
-        assert 44 < len(whole) < 160, len(whole)
+        assert 44 <= len(whole) <= 160, len(whole)
         for place, byte in enumerate(whole):
             front, rest = whole[:place], whole[place + 1:]
             for other in (b"", bytes([byte, byte]), bytes([byte ^ 1 << source.randrange(8)])):
@@ -94,12 +94,13 @@ def test_cutting_takes_no_more_memory_for_more_reads(room):
     text = subprocess.run([sys.executable, os.path.join(TOP, "bench", "simulate_reads.py"), "50000", "100", "500000", "3"], stdout=subprocess.PIPE,
                           check=True).stdout
     peaks = []
-    for size in (TEXT, MORE_TEXT):
+    for splitters, size in ((1, TEXT), (1, 2 * TEXT), (4, TEXT)):
         with subprocess.Popen([sys.executable, "-S", "-c", "import sys\ntext = sys.stdin.buffer.read()\nfor _ in range(int(sys.argv[1])):\n"
                                "    sys.stdout.buffer.write(text)\n", str(size // len(text))], stdin=subprocess.PIPE, stdout=subprocess.PIPE) as source:
             source.stdin.write(text)
             source.stdin.close()
-            status, told, most = peak([program("kmc_cut"), "-k25", "-slices8", "-sp4", "--force", "part"], room, source.stdout)
+            status, told, most = peak([program("kmc_cut"), "-k25", "-slices8", "-sp%d" % splitters, "--force", "part"], room, source.stdout)
         assert (status, told, source.returncode) == (0, "", 0), (status, told)
+        assert most <= MOST_OF_CUT[splitters], (splitters, size, most)
         peaks.append(most)
-    assert max(peaks) <= MOST_OF_CUT and peaks[1] <= peaks[0] + DIFFERENCE, peaks
+    assert peaks[1] <= peaks[0] + DIFFERENCE, peaks
