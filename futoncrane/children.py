@@ -3,7 +3,6 @@ import contextlib
 import ctypes
 import os
 import resource
-import shutil
 import signal
 import subprocess
 
@@ -20,26 +19,6 @@ except (OSError, AttributeError):
     PRCTL = None  # no Linux: then a killed command can leave its children
 
 
-def end(number, frame):
-    """Ends the command by an exception, once: what cleans up is not interrupted."""
-    for it in ENDING:
-        signal.signal(it, signal.SIG_IGN)
-    raise Ended(number)
-
-
-def catch_signals():
-    """Has the signals that end a command raise Ended, but for those that the caller has it ignore."""
-    for it in ENDING:
-        if signal.getsignal(it) != signal.SIG_IGN:
-            signal.signal(it, end)
-
-
-def too_late():
-    """Has the signals do nothing from now on: the answer is there."""
-    for it in ENDING:
-        signal.signal(it, signal.SIG_IGN)
-
-
 @contextlib.contextmanager
 def held_signals():
     """Holds the signals back, so that what is made is also noted. Gives the mask that was before."""
@@ -48,6 +27,26 @@ def held_signals():
         yield before
     finally:
         signal.pthread_sigmask(signal.SIG_SETMASK, before)
+
+
+def too_late():
+    """Has the signals do nothing from now on: the answer is there. One that comes meanwhile is held back, and then passed over."""
+    with held_signals():
+        for it in ENDING:
+            signal.signal(it, signal.SIG_IGN)
+
+
+def end(number, frame):
+    """Ends the command by an exception, once: what cleans up is not interrupted."""
+    too_late()
+    raise Ended(number)
+
+
+def catch_signals():
+    """Has the signals that end a command raise Ended, but for those that the caller has it ignore."""
+    for it in ENDING:
+        if signal.getsignal(it) != signal.SIG_IGN:
+            signal.signal(it, end)
 
 
 def open_more():
@@ -98,6 +97,7 @@ def sweep():
                 os.unlink(it)
         TEMPORARY.clear()
         for it in FOLDERS:
+            import shutil  # what a run does not want is read only where it is wanted: a run begins the sooner
             shutil.rmtree(it, ignore_errors=True)
         FOLDERS.clear()
         for it in EMPTIED:

@@ -4,7 +4,7 @@
 usage: futoncrane cluster (--workers N | --scheduler ADDRESS --directory DIR) [--memory SIZE] [--slices N] [--megabytes N] [KMC OPTION..] FILE.. > dump.txt
 
   --workers N          starts N workers on this machine for this run
-  --scheduler ADDRESS  gives the work to the workers of this scheduler, as tcp://node1:8786
+  --scheduler ADDRESS  gives the work to the workers of this scheduler, as tcp://node1:8786; where it has none, it waits a minute for one
   --directory DIR      where files lie in the meantime, about 1.1 bytes for each symbol: all machines must see it (with --workers
                        $TMPDIR, else /tmp)
   --memory SIZE        memory of one worker, as 8G (its machine's, shared by the workers there)
@@ -27,6 +27,7 @@ The status is 0 only where the dump is whole. After a fault nothing was written,
 """
 import argparse
 import contextlib
+import logging
 import mmap
 import os
 import resource
@@ -49,6 +50,8 @@ PARTS_OF_A_WORKER, LEAST_PART, USUAL_PARTS = 8, 64 * 10**6, 1000
 FASTA_OPTIONS = ("-fa", "-fm", "--fa", "--fm")
 OF_LISTING = ("ci", "cx", "cs", "sr", "b")
 LINES_LOOKED_AT = 16
+# seconds: for a first worker of a scheduler, and for a process of this machine to answer, which may have much to do
+WAIT_FOR_WORKER, WAIT_FOR_ANSWER = 60, 600
 
 
 class Fault(Exception):
@@ -244,6 +247,9 @@ def human(count):
 
 def room_of_each(client):
     """How many workers there are, and the memory that the one with least has for itself."""
+    from distributed import TimeoutError as NoneCame
+    with contextlib.suppress(NoneCame):
+        client.wait_for_workers(1, timeout=WAIT_FOR_WORKER)
     machines = list(client.run(room_of_worker).values())
     if not machines:
         raise Fault("the scheduler has no worker")
@@ -374,13 +380,16 @@ def told(text):
 
 def work(asked, options, paths, directory):
     """Counts with the workers of this machine or of the scheduler."""
+    import dask
     from distributed import Client, LocalCluster
     is_fasta = any(word in FASTA_OPTIONS for word in options.words)
     with contextlib.ExitStack() as stack:
         address = asked.scheduler
         if asked.workers:
+            dask.config.set({"distributed.comm.timeouts.connect": WAIT_FOR_ANSWER})
             address = stack.enter_context(LocalCluster(
-                n_workers=asked.workers, threads_per_worker=1, memory_limit=0, dashboard_address=":0", local_directory=directory))
+                n_workers=asked.workers, threads_per_worker=1, memory_limit=0, dashboard_address=":0", local_directory=directory,
+                silence_logs=logging.CRITICAL if asked.quiet else logging.WARNING))
         client = stack.enter_context(Client(address))
         parts, slices, disk = settled(client, asked, options, paths, is_fasta)
         free = shutil.disk_usage(directory).free

@@ -9,7 +9,7 @@ from futoncrane import packing
 from futoncrane.faults import Fault, reason, shown
 
 BLOCK = 1 << 16
-SAMPLE = 1 << 20
+SAMPLE = 1 << 18
 # of a compressed file that cannot be sampled: bytes of text for each of its bytes
 USUAL_RATIO = 4.0
 FORMATS = {b">": "FASTA", b"@": "FASTQ"}
@@ -96,9 +96,7 @@ class Input:
         """Some text of a compressed file."""
         if self.packing == "zstd":
             return self._by_child(first)
-        import lzma
-        import zlib
-        make = packing.maker(self.packing)
+        make, damage = packing.maker(self.packing)
         unpack, text, read, block = make(), b"", 0, first
         try:
             while block:
@@ -111,7 +109,7 @@ class Input:
                     unpack = make()
                 read -= len(rest)
                 block = rest or next(blocks, b"")
-        except (zlib.error, OSError, ValueError, EOFError, lzma.LZMAError):
+        except (damage, OSError, ValueError, EOFError):
             raise Fault("%s: the %s data is damaged" % (self.shown, self.packing)) from None
         self.ratio = len(text) / max(1, read - len(getattr(unpack, "unconsumed_tail", b""))) if text else 1.0
         return text

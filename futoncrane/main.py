@@ -64,10 +64,8 @@ def tell(text):
         pass
 
 
-def main(words, beside):
-    """The status of the command line's words; `beside` is the folder of the command as it was called."""
-    places.BESIDE.insert(0, beside)
-    catch_signals()
+def answered(words):
+    """Does what the words ask for, tells its fault, and gives the status."""
     try:
         status = obey(words)
         too_late()
@@ -80,12 +78,21 @@ def main(words, beside):
         tell(fault)
     except Quiet:
         pass
-    except Ended as fault:
-        return 128 + fault.number
     except OSError as fault:
         tell("%s%s" % (fault.filename + ": " if isinstance(fault.filename, str) else "", reason(fault)))
     except MemoryError:
         tell("out of memory")
-    finally:
-        sweep()
     return 1
+
+
+def main(words, beside):
+    """The status of the command line's words; `beside` is the folder of the command as it was called."""
+    places.BESIDE.insert(0, beside)
+    try:
+        catch_signals()
+        status = answered(words)
+        too_late()
+    except Ended as fault:  # all later signals are passed over
+        status = 128 + fault.number
+    sweep()
+    return status

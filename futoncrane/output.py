@@ -3,7 +3,6 @@ import contextlib
 import os
 import stat
 import sys
-import tempfile
 
 from futoncrane import packing
 from futoncrane.children import TEMPORARY, held_signals, signal_of, told, too_late
@@ -74,6 +73,7 @@ class Output:
         mask = os.umask(0)
         os.umask(mask)
         mode = stat.S_IMODE(os.stat(final).st_mode) if os.path.exists(final) else 0o666 & ~mask
+        import tempfile  # read only where it is wanted
         with held_signals():
             self.file, self.work = tempfile.mkstemp(prefix=".futoncrane-", dir=os.path.dirname(final))
             TEMPORARY.add(self.work)

@@ -1,9 +1,9 @@
 """How files are compressed, and the programs that unpack them and pack the dump."""
 import os
-import shutil
 import sys
 
 from futoncrane.faults import Fault
+from futoncrane.places import in_path
 
 # its first bytes, the ends of names, the programs that unpack it, the best first, and the Debian package of the last
 KINDS = {
@@ -42,7 +42,7 @@ def is_cut_before_text(name, first):
 def unpacker(kind, name):
     """The command that unpacks standard input to standard output."""
     for program in KINDS[kind][2]:
-        found = shutil.which(program)
+        found = in_path(program)
         if found:
             # pigz passes over what stands behind the data, and tells of it only by -v
             return [found, "-dcv" if program == "pigz" else "-dc"]
@@ -59,15 +59,19 @@ def cleaned(said):
 def packer():
     """The command that packs standard input by gzip."""
     for program in ("pigz", "gzip"):
-        found = shutil.which(program)
+        found = in_path(program)
         if found:
             return [found, "-c"]
     return [sys.executable, os.path.join(HERE, "unpack.py"), "pack"]
 
 
 def maker(kind):
-    """What makes an object that unpacks one stream of this kind."""
-    import bz2  # these are read only where a file is packed
+    """What makes an object that unpacks one stream of this kind, and what such an object raises over damaged data."""
+    if kind == "gzip":
+        import zlib  # these are read only where they are wanted
+        return lambda: zlib.decompressobj(31), zlib.error
+    if kind == "bzip2":
+        import bz2
+        return bz2.BZ2Decompressor, OSError
     import lzma
-    import zlib
-    return {"gzip": lambda: zlib.decompressobj(31), "bzip2": bz2.BZ2Decompressor, "xz": lzma.LZMADecompressor}[kind]
+    return lzma.LZMADecompressor, lzma.LZMAError

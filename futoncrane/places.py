@@ -1,6 +1,5 @@
 """Where things lie: the proved programs, the example, the version."""
 import os
-import shutil
 
 from futoncrane.faults import Fault
 
@@ -26,13 +25,22 @@ def is_program(path):
     return os.path.isfile(path) and os.access(path, os.X_OK)
 
 
+def in_path(name):
+    """The path of a program that is in PATH, or none."""
+    for folder in os.environ.get("PATH", os.defpath).split(os.pathsep):
+        path = os.path.join(folder, name)
+        if is_program(path):
+            return path
+    return None
+
+
 def find(name):
     """The path of a proved program: in the folder FUTONCRANE_BIN where that is set, else beside this command, else in PATH."""
     installed, folder = INSTALLED[name], os.environ.get("FUTONCRANE_BIN")
     if folder:
         tried = [os.path.join(folder, it) for it in (installed, name)]
     else:
-        tried = [os.path.join(TOP, name)] + [os.path.join(it, installed) for it in BESIDE] + [shutil.which(installed) or ""]
+        tried = [os.path.join(TOP, name)] + [os.path.join(it, installed) for it in BESIDE] + [in_path(installed) or ""]
     for path in tried:
         if is_program(path):
             return os.path.abspath(path)

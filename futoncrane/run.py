@@ -1,7 +1,7 @@
 """A run over inputs, in one piece or in slices."""
 import sys
 
-from futoncrane import inputs, memory, places, shared, slices
+from futoncrane import inputs, memory, places, shared
 from futoncrane.faults import Misuse, shown
 from futoncrane.programs import fed
 
@@ -26,6 +26,7 @@ def run(found, setting, children, output, reader=None):
     symbols, listed = shared.size_of(setting, found, format_name)
     plan = shared.plan(setting, symbols, listed)
     if plan.slices != 1 or setting.slices:
+        from futoncrane import slices  # read only where it is wanted
         work = slices.Work(setting, found, format_name, plan.slices, children)
         work.begin(plan.wanted, memory.disk(symbols))
         work.count(output, reader)

@@ -1,18 +1,20 @@
 """What the tests of users share: a folder of its own for each, the command, and plain programs to compare with."""
 import os
 import shutil
-import signal
 import subprocess
 import sys
 import tempfile
+import time
 
 TOP = os.path.dirname(os.path.dirname(os.path.abspath(__file__)))
 BIN = os.path.abspath(os.environ.get("FUTONCRANE_BIN") or TOP)
-COMMAND = [sys.executable, os.path.join(TOP, "futoncrane", "futoncrane")]
+# as the command starts its Python itself
+COMMAND = [sys.executable, "-S", os.path.join(TOP, "futoncrane", "futoncrane")]
 READS = os.path.join(TOP, "examples", "reads.fastq")
 DUMP = os.path.join(TOP, "examples", "reads.dump")
 MOST = 1 << 63
-LONG = 240
+# seconds that nothing takes, however slow the machine is
+LONG = 300
 
 
 class Skipped(Exception):
@@ -116,37 +118,40 @@ class Room:
         shutil.rmtree(self.folder, ignore_errors=True)
 
 
-def descendants(root):
-    """The processes that descend from this one and are no zombies."""
-    found, parents = set(), {}
-    for name in filter(str.isdigit, os.listdir("/proc")):
+def processes():
+    """Of each process that is no zombie: its number and when it began, which no other one has, and the number of its parent."""
+    for number in filter(str.isdigit, os.listdir("/proc")):
         try:
-            with open("/proc/%s/stat" % name) as file:
-                state, parent = file.read().rpartition(")")[2].split()[:2]
-        except (OSError, IndexError):
+            with open("/proc/%s/stat" % number) as file:
+                state, parent, *rest = file.read().rpartition(")")[2].split()
+        except (OSError, ValueError):
             continue
-        if state != "Z":
-            parents[int(name)] = int(parent)
-    grown = {root}
+        if state not in "ZX":
+            yield (int(number), int(rest[17])), int(parent)
+
+
+def descendants(root):
+    """The processes that descend from the one of this number."""
+    parents, found, grown = dict(processes()), set(), {root}
     while grown:
-        grown = {child for child, parent in parents.items() if parent in grown} - found
-        found |= grown
+        some = {it for it, parent in parents.items() if parent in grown} - found
+        found, grown = found | some, {number for number, _ in some}
     return found
 
 
-def alive(processes):
+def alive(family):
     """Those of the processes that still run."""
-    found = set()
-    for it in processes:
-        try:
-            with open("/proc/%d/stat" % it) as file:
-                if file.read().rpartition(")")[2].split()[0] != "Z":
-                    found.add(it)
-        except OSError:
-            pass
-    return found
+    return family & {it for it, _ in processes()}
 
 
-def ended_by(child, number=signal.SIGKILL):
-    child.send_signal(number)
-    child.wait()
+def wait_until(is_so, what):
+    """Waits for what must come, at whatever time that is."""
+    end = time.monotonic() + LONG
+    while not is_so():
+        assert time.monotonic() < end, what + " does not come"
+        time.sleep(0.02)
+
+
+def wait_for(room, name):
+    """Waits for a file that a program makes."""
+    wait_until(lambda: os.path.exists(room.path(name)), name)

@@ -9,13 +9,15 @@ is 1 where a test failed.
 """
 import importlib
 import os
+import multiprocessing
 import shutil
+import signal
 import subprocess
 import sys
 import tempfile
 import time
 import traceback
-from concurrent.futures import ThreadPoolExecutor
+from concurrent.futures import ProcessPoolExecutor
 
 sys.dont_write_bytecode = True
 HERE = os.path.dirname(os.path.abspath(__file__))
@@ -23,24 +25,34 @@ sys.path[:0] = [HERE, os.path.dirname(HERE)]
 
 import room  # noqa: E402
 
-FILES = ("programs", "words", "reading", "packed", "writing", "commands", "limits", "slices", "terminal", "signals", "real_reads")
+FILES = ("programs", "words", "reading", "packed", "writing", "commands", "limits", "slices", "slice_files", "terminal", "signals", "real_reads")
 AT_ONCE = 2
+# what a test may send to the command; whoever starts the tests may have had them ignored, as nohup does
+SIGNALS = (signal.SIGINT, signal.SIGTERM, signal.SIGHUP, signal.SIGQUIT)
+
+
+def heed_signals():
+    """Has the signals do to this process, and to what it starts, what they do to one that a terminal starts."""
+    for it in SIGNALS:
+        if signal.getsignal(it) == signal.SIG_IGN:
+            signal.signal(it, signal.default_int_handler if it == signal.SIGINT else signal.SIG_DFL)
+    signal.pthread_sigmask(signal.SIG_SETMASK, ())
 
 
 def tests(wanted):
-    """Pairs of a test's name and its function."""
+    """Pairs of a file's name and the name of a test in it."""
     for name in FILES:
-        module = importlib.import_module("test_" + name)
-        for key, it in vars(module).items():
-            if key.startswith("test_") and callable(it) and (not wanted or any(word in key or word == name for word in wanted)):
-                yield key[len("test_"):], it
+        for key, it in vars(importlib.import_module("test_" + name)).items():
+            is_own = key.startswith("test_") and callable(it) and it.__module__ == "test_" + name
+            if is_own and (not wanted or any(word in key or word == name for word in wanted)):
+                yield name, key[len("test_"):]
 
 
-def attempt(name, test, base):
+def attempt(file, name, base):
     """Runs one test: 'passed', 'FAILED' or 'skipped', and what there is to say."""
     here, begun = room.Room(base), time.monotonic()
     try:
-        test(here)
+        getattr(importlib.import_module("test_" + file), "test_" + name)(here)
         result, text = "passed", ""
         left = os.listdir(here.temporary)
         if left:
@@ -72,11 +84,13 @@ def shell_tests(base, numbers):
 
 
 def main(wanted):
-    numbers = {"passed": 0, "FAILED": 0, "skipped": 0}
+    heed_signals()
+    numbers, found = {"passed": 0, "FAILED": 0, "skipped": 0}, list(tests(wanted))
     base = tempfile.mkdtemp(prefix="tests-user-")
     try:
-        with ThreadPoolExecutor(AT_ONCE) as pool:
-            for result, name, text, seconds in pool.map(lambda it: attempt(*it, base), tests(wanted)):
+        # processes, and not threads: a child of one test never has the files and pipes of another one, be it for a moment
+        with ProcessPoolExecutor(AT_ONCE, multiprocessing.get_context("fork")) as pool:
+            for result, name, text, seconds in pool.map(attempt, [it for it, _ in found], [it for _, it in found], [base] * len(found)):
                 numbers[result] += 1
                 print("%-8s %s%s%s" % (result, name, ": " + text.replace("\n", "\n         ").rstrip() if text else "",
                                        " (%.0f s)" % seconds if seconds > 10 else ""), flush=True)

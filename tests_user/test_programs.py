@@ -2,7 +2,7 @@
 import os
 import subprocess
 
-from room import MOST, READS, content, plainly, program
+from room import LONG, MOST, READS, content, plainly, program
 
 USAGE = b"usage: kmc [-fa|-fq|-fm] [-k<len>] [-p<len>] [-ci<n>] [-cx<n>] [-cs<n>] [-n<bins>] [-sp<n>] [-sr<n>] [-b]\n"
 MERGE_USAGE = b"usage: kmc_merge [-ci<n>] [-cx<n>] [-cs<n>] a.dump b.dump ..\n"
@@ -10,7 +10,7 @@ MERGE_USAGE = b"usage: kmc_merge [-ci<n>] [-cx<n>] [-cs<n>] a.dump b.dump ..\n"
 
 def ended(room, name, *words, text=b"", out=subprocess.PIPE):
     """Status, standard output and standard error of a program."""
-    ran = subprocess.run([program(name), *words], cwd=room.folder, input=text, stdout=out, stderr=subprocess.PIPE, timeout=120, check=False)
+    ran = subprocess.run([program(name), *words], cwd=room.folder, input=text, stdout=out, stderr=subprocess.PIPE, timeout=LONG, check=False)
     return ran.returncode, ran.stdout, ran.stderr
 
 

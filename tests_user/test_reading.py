@@ -87,7 +87,7 @@ def test_a_named_pipe_is_read_once(room):
     os.mkfifo(room.path("pipe"))
     for words in (["pipe"], ["empty", "pipe"]):
         room.write("empty", b"")
-        writer = threading.Thread(target=lambda: room.write("pipe", content(READS)))
+        writer = threading.Thread(target=lambda: room.write("pipe", content(READS)), daemon=True)
         writer.start()
         room.counts(wanted_dump(), "count", "-k25", *words)
         writer.join()

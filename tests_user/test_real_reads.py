@@ -4,18 +4,18 @@ import os
 import shutil
 import subprocess
 
-from room import MOST, Skipped, content, need
+from room import MOST, Skipped, content, need, program
 
-PLACES = ("/usr/share/doc/bowtie2/examples/reads/reads_1.fq.gz", "/usr/share/doc/bowtie2/examples/reads/reads_2.fq.gz",
-          "/usr/share/doc/bowtie2/examples/reads/longreads.fq.gz",
-          "/usr/share/doc/kallisto/test/reads_1.fastq.gz", "/usr/share/doc/kallisto/test/reads_2.fastq.gz")
+BOWTIE2, KALLISTO = "/usr/share/doc/bowtie2/examples/", "/usr/share/doc/kallisto/test/"
+# files of one format that belong together
+READS = ((BOWTIE2 + "reads/reads_1.fq.gz", BOWTIE2 + "reads/reads_2.fq.gz"), (BOWTIE2 + "reads/longreads.fq.gz",),
+         (KALLISTO + "reads_1.fastq.gz", KALLISTO + "reads_2.fastq.gz"), (KALLISTO + "sc_reads_1.fastq.gz", KALLISTO + "sc_reads_2.fastq.gz"))
+SEQUENCES = ((BOWTIE2 + "reference/lambda_virus.fa.gz",), (KALLISTO + "transcripts.fasta.gz",))
 
 
-def packages():
-    """The sets of reads that are installed: names of files that belong together."""
-    found = [[it for it in PLACES[:2] if os.path.exists(it)], [it for it in PLACES[2:3] if os.path.exists(it)],
-             [it for it in PLACES[3:] if os.path.exists(it)]]
-    found = [it for it in found if it]
+def packages(places=READS):
+    """The sets of files that are installed."""
+    found = [it for it in places if all(map(os.path.exists, it))]
     if not found:
         raise Skipped("no example reads are installed (Debian's packages bowtie2-examples, kallisto-examples)")
     return found
@@ -25,13 +25,13 @@ def quiet(room, *words):
     subprocess.run(words, cwd=room.folder, stdout=subprocess.DEVNULL, stderr=subprocess.DEVNULL, check=True)
 
 
-def kmc3(room, k, names):
+def kmc3(room, k, names, kind="-fq", least=2):
     """The dump of KMC 3, its limits as ours."""
     kmc = shutil.which("kmc")
     if kmc is None or shutil.which("kmc_tools") is None:
         raise Skipped("KMC 3 is not installed (Debian's package kmc)")
     room.write("list", "\n".join(names))
-    quiet(room, kmc, "-k%d" % k, "-ci2", "-cx1000000000", "-cs255", "-t2", "-m2", "@list", "base", room.temporary)
+    quiet(room, kmc, "-k%d" % k, kind, "-ci%d" % least, "-cx1000000000", "-cs255", "-t2", "-m2", "@list", "base", room.temporary)
     quiet(room, "kmc_tools", "-t2", "transform", "base", "dump", "-s", "theirs")
     return content(room.path("theirs"))
 
@@ -42,6 +42,30 @@ def test_the_dump_is_kmc_3s(room):
             wanted = kmc3(room, k, names)
             assert wanted.count(b"\n") > 1000
             room.counts(wanted, "count", "-k", str(k), *names)
+
+
+def test_the_dump_of_slices_is_kmc_3s(room):
+    for it in ("kmc_cut", "kmc_list", "kmc_merge"):
+        program(it)
+    for names in packages():
+        wanted = kmc3(room, 27, names)
+        for slices in ("2", "7"):
+            room.counts(wanted, "count", "-k27", "--slices", slices, "--quiet", *names)
+        # the files cut apart, and listed together
+        for number, name in enumerate(names):
+            room.counts(b"", "cut", "-k27", "--slices", "2", "--force", "-o", "part%d" % number, name)
+        for it in range(2):
+            room.counts(b"", "list", "-o", "dump.%d" % it, *("part%d.%d" % (number, it) for number in range(len(names))))
+        room.counts(wanted, "merge", "--min", "1", "--cap", "none", "dump.0", "dump.1")
+
+
+def test_the_dump_of_sequences_is_kmc_3s(room):
+    for names in packages(SEQUENCES):
+        for k in (13, 40):
+            wanted = kmc3(room, k, names, "-fm", 1)
+            assert wanted.count(b"\n") > 1000
+            room.counts(wanted, "count", "-k", str(k), "--min", "1", *names)
+            room.counts(wanted, "count", "-k", str(k), "--min", "1", "--slices", "3", "--quiet", *names)
 
 
 def unpacked(room, names):
@@ -77,7 +101,7 @@ def pairs(text):
 
 
 def test_reads_of_a_genome_with_its_size(room):
-    place = "/usr/share/doc/bowtie2/examples/reference/lambda_virus.fa.gz"
+    place = BOWTIE2 + "reference/lambda_virus.fa.gz"
     if not os.path.exists(place):
         raise Skipped("no example genome is installed (Debian's package bowtie2-examples)")
     ran = room.run("count", "-k31", "--min", "1", "--cap", "none", "--max", str(MOST), place)

@@ -4,25 +4,26 @@ import os
 import random
 import signal
 import subprocess
+import threading
 import time
 
-from room import COMMAND, READS, alive, content, descendants
+from room import COMMAND, LONG, READS, alive, content, descendants, program, wait_for, wait_until
 
 MOMENTS = 20
 
 
-def interrupted(room, words, number, after):
-    """Starts the command, sends it a signal after so many seconds: its status, and which of its children still run."""
-    # without what this machine adds to Python's own start, which a signal ends with Python's words
-    child = subprocess.Popen([COMMAND[0], "-S", *COMMAND[1:], *words], cwd=room.folder, env=room.environment, stdin=subprocess.DEVNULL,
-                             stdout=subprocess.DEVNULL, stderr=subprocess.PIPE, start_new_session=True)
-    time.sleep(after)
+def started(room, words, **others):
+    """The command, at work."""
+    return subprocess.Popen([*COMMAND, *words], cwd=room.folder, env=room.environment, stdin=subprocess.DEVNULL, stdout=subprocess.DEVNULL,
+                            stderr=subprocess.PIPE, **others)
+
+
+def interrupted(child, number):
+    """Sends the command a signal: its status, what it told, and which of its children still run."""
     family = descendants(child.pid)
     child.send_signal(number)
-    status = child.wait(timeout=60)
-    with child.stderr:
-        told = child.stderr.read().decode()
-    return status, alive(family), told
+    told = child.communicate(timeout=LONG)[1].decode()
+    return child.returncode, told, alive(family)
 
 
 def seconds_of(room, words):
@@ -41,33 +42,56 @@ def test_control_c_at_twenty_moments(room):
     times = [seconds_of(room, words) for words in kinds]
     os.remove(room.path("dump"))
     os.remove(room.path("dump.gz"))
-    before, statuses = room.files(), []
+    before = room.files()
     for number in range(MOMENTS):
         which = number % len(kinds)
-        status, left, told = interrupted(room, kinds[which], signal.SIGINT, source.uniform(0.1, 1.0) * times[which])
+        child = started(room, kinds[which], start_new_session=True)
+        time.sleep(source.uniform(0.1, 1.0) * times[which])
+        status, told, left = interrupted(child, signal.SIGINT)
         assert left == set(), "%s still run" % left
-        # before Python has come to the command, a signal ends it as it ends Python
+        # before Python has come to the command, a signal ends it as it ends Python; and it may be done before
+        assert status in (0, 130, -signal.SIGINT), status
         assert told == "" or status == -signal.SIGINT and told.endswith("KeyboardInterrupt\n"), told
-        if status == 0:  # it was done before
+        if status == 0:
             for name in ("dump", "dump.gz"):
                 if os.path.exists(room.path(name)):
                     os.remove(room.path(name))
         assert room.files() == before, (status, room.files() - before)
-        statuses.append(status)
-    assert set(statuses) <= {0, 130, -signal.SIGINT} and statuses.count(130) >= MOMENTS // 3, statuses
+
+
+def test_control_c_while_reads_still_come(room):
+    for it in ("kmc_cut", "kmc_list", "kmc_merge"):
+        program(it)
+    room.write("packed.gz", gzip.compress(content(READS), 1))
+    os.mkfifo(room.path("pipe"))
+    kinds = (["count", "packed.gz", "pipe", "-o", "dump.gz"], ["count", "pipe", "-o", "dump"], ["histogram", "pipe", "-o", "dump"],
+             ["count", "-q", "--slices", "2", "pipe", "-o", "dump"])
+    before, source = room.files(), random.Random(8)
+    for number in range(3 * len(kinds)):
+        text = (content(READS) * 40)[:source.randrange(1, 40 * len(content(READS)))]
+        given = threading.Event()
+
+        def give():
+            with open(room.path("pipe"), "wb", buffering=0) as pipe:
+                for place in range(0, len(text), 1 << 16):
+                    pipe.write(text[place:place + (1 << 16)])
+                given.set()
+                ended.wait()
+        ended = threading.Event()
+        writer = threading.Thread(target=give, daemon=True)
+        writer.start()
+        child = started(room, kinds[number % len(kinds)])
+        wait_until(lambda: given.is_set() or child.poll() is not None, "the reader")
+        status, told, left = interrupted(child, signal.SIGINT)
+        ended.set()
+        writer.join()
+        assert (status, told, left) == (130, "", set()), (status, told, left)
+        assert room.files() == before, room.files() - before
 
 
 def hanging(room):
-    """A kmc that writes some of the dump and then hangs, with a child of its own."""
-    room.stand_in("#!/bin/sh\nprintf 'ACGT\\t2\\n'; touch begun; exec sleep 100\n")
-
-
-def wait_for(room, name):
-    for _ in range(500):
-        if os.path.exists(room.path(name)):
-            return
-        time.sleep(0.02)
-    raise AssertionError("%s does not come" % name)
+    """A kmc that writes some of the dump and then hangs."""
+    room.stand_in("#!/bin/sh\nprintf 'ACGT\\t2\\n'; : > begun; exec sleep 10000\n")
 
 
 def test_each_signal_has_its_status(room):
@@ -75,37 +99,34 @@ def test_each_signal_has_its_status(room):
     room.write("reads.gz", gzip.compress(content(READS)))
     for number in (signal.SIGINT, signal.SIGTERM, signal.SIGHUP):
         for words in (["count", READS, "-o", "dump"], ["count", "reads.gz", "-o", "dump.gz"], ["histogram", READS]):
-            child = subprocess.Popen([*COMMAND, *words], cwd=room.folder, env=room.environment, stdout=subprocess.DEVNULL, stderr=subprocess.PIPE)
+            child = started(room, words)
             wait_for(room, "begun")
-            family = descendants(child.pid)
-            child.send_signal(number)
-            told = child.communicate(timeout=60)[1]
-            assert (child.returncode, told) == (128 + number, b""), (child.returncode, told)
-            assert family and alive(family) == set()
+            assert descendants(child.pid)
+            assert interrupted(child, number) == (128 + number, "", set())
             os.remove(room.path("begun"))
             assert sorted(os.listdir(room.folder)) == ["bin", "reads.gz", "tmp"], os.listdir(room.folder)
 
 
 def test_children_end_with_a_command_that_is_killed(room):
     hanging(room)
-    child = subprocess.Popen([*COMMAND, "count", READS, "-o", "dump"], cwd=room.folder, env=room.environment)
+    child = started(room, ["count", READS, "-o", "dump"])
     wait_for(room, "begun")
     family = descendants(child.pid)
     child.kill()
-    child.wait()
-    for _ in range(100):
-        if not alive(family):
-            break
-        time.sleep(0.05)
-    assert family and not alive(family)
+    child.communicate(timeout=LONG)
+    assert family
+    wait_until(lambda: not alive(family), "the children's end")
     assert not os.path.exists(room.path("dump"))
 
 
 def test_a_signal_that_is_ignored_stays_so(room):
-    room.stand_in("#!/bin/sh\ntouch begun; cat > /dev/null; sleep 1; printf 'ACGT\\t2\\n'\n")
-    child = subprocess.Popen([*COMMAND, "count", READS, "-o", "dump"], cwd=room.folder, env=room.environment, stderr=subprocess.PIPE,
-                             preexec_fn=lambda: signal.signal(signal.SIGHUP, signal.SIG_IGN))
-    wait_for(room, "begun")
-    child.send_signal(signal.SIGHUP)
-    assert child.communicate(timeout=60)[1] == b"" and child.returncode == 0
-    assert content(room.path("dump")) == b"ACGT\t2\n"
+    room.stand_in("#!/bin/sh\n: > begun; until [ -e sent ]; do sleep 0.02; done; cat > /dev/null; printf 'ACGT\\t2\\n'\n")
+    for number in (signal.SIGHUP, signal.SIGINT):
+        child = started(room, ["count", READS, "-o", "dump"], preexec_fn=lambda number=number: signal.signal(number, signal.SIG_IGN))
+        wait_for(room, "begun")
+        child.send_signal(number)
+        room.write("sent", b"")
+        assert child.communicate(timeout=LONG)[1] == b"" and child.returncode == 0
+        assert content(room.path("dump")) == b"ACGT\t2\n"
+        for name in ("begun", "sent", "dump"):
+            os.remove(room.path(name))

@@ -5,11 +5,16 @@ import select
 import subprocess
 import sys
 
-from room import COMMAND, READS, content, program, wanted_dump
+from room import COMMAND, LONG, READS, content, program, wanted_dump
 
 
-def on_terminal(room, *words, stdin=subprocess.DEVNULL, stdout=subprocess.PIPE):
-    """Runs the command with standard error on a terminal: its status, what it wrote and what the terminal was shown."""
+# what kmc is to wait for at each of its steps, in the slow one below: that the terminal was shown this
+STEPS = ("left", "counting", "writing: ")
+
+
+def on_terminal(room, *words, stdin=subprocess.DEVNULL, stdout=subprocess.PIPE, steps=STEPS):
+    """Runs the command with standard error on a terminal: its status, what it wrote and what the terminal was shown. Once that was shown
+    one of the steps, a file of the step's number is made."""
     main, end = pty.openpty()
     given = end if stdin == "terminal" else stdin
     with subprocess.Popen([*COMMAND, *words], cwd=room.folder, env=room.environment, stdin=given, stdout=stdout, stderr=end) as child:
@@ -25,16 +30,23 @@ def on_terminal(room, *words, stdin=subprocess.DEVNULL, stdout=subprocess.PIPE):
                     streams.remove(it)
                 elif it == main:
                     shown += block
+                    for number, step in enumerate(steps):
+                        if step.encode() in shown:
+                            room.write(str(number), b"")
                 else:
                     written += block
     os.close(main)
+    for number in range(len(steps)):
+        if os.path.exists(room.path(str(number))):
+            os.remove(room.path(str(number)))
     return child.returncode, written, shown.decode()
 
 
 def slow(room):
-    """A kmc that takes its time over reading, counting and writing."""
-    room.stand_in("#!" + sys.executable + "\nimport os, time\nos.read(0, 20000)\ntime.sleep(2)\n"
-                  "while os.read(0, 20000):\n    pass\ntime.sleep(0.7)\nos.write(1, b'ACGT\\t2\\n')\ntime.sleep(0.7)\n")
+    """A kmc that takes its time over reading, counting and writing: as long as it takes the terminal to show it."""
+    room.stand_in("#!" + sys.executable + "\nimport os, sys, time\nend = time.monotonic() + %d\ndef shown(step):\n    while not os.path.exists(step):\n"
+                  "        time.sleep(0.02)\n        if time.monotonic() > end:\n            sys.exit('the terminal is not shown ' + step)\n"
+                  "os.read(0, 20000)\nshown('0')\nwhile os.read(0, 20000):\n    pass\nshown('1')\nos.write(1, b'ACGT\\t2\\n')\nshown('2')\n" % LONG)
 
 
 def test_progress_is_shown_on_a_terminal(room):
@@ -42,7 +54,7 @@ def test_progress_is_shown_on_a_terminal(room):
     room.write("reads", content(READS))
     status, written, shown = on_terminal(room, "count", "reads", "-o", "dump")
     assert (status, written) == (0, b""), shown
-    for part in ("one run of kmc", "reading: ", " of 41.5 kB (", "left", "/s", "counting: all 41.5 kB read", "writing: ", "41.5 kB read, done in 0:0"):
+    for part in ("one run of kmc", "reading: ", " of 41.5 kB (", "left", "/s", "counting: all 41.5 kB read", "writing: ", "41.5 kB read, done in "):
         assert part in shown, "%s is not shown: %r" % (part, shown)
 
 
@@ -51,7 +63,7 @@ def test_each_step_of_slices_is_shown(room):
         program(it)
     status, written, shown = on_terminal(room, "count", "-k25", "--slices", "2", READS)
     assert (status, written) == (0, wanted_dump()), shown
-    for part in ("2 slices, one after the other", "cutting: ", "slice 1 of 2, ", "slice 2 of 2, ", "merging: ", "done in 0:0"):
+    for part in ("2 slices, one after the other", "cutting: ", "slice 1 of 2, ", "slice 2 of 2, ", "merging: ", "done in "):
         assert part in shown, "%s is not shown: %r" % (part, shown)
     status, _, shown = on_terminal(room, "count", "-k25", "--slices", "2", "--quiet", READS)
     assert (status, shown) == (0, ""), shown
@@ -61,15 +73,16 @@ def test_progress_of_packed_files_and_pipes(room):
     import gzip
     slow(room)
     room.write("a.gz", gzip.compress(content(READS)))
-    status, _, shown = on_terminal(room, "count", "a.gz", READS, "-o", "dump")
+    status, _, shown = on_terminal(room, "count", "a.gz", READS, "-o", "dump", steps=("reading: ", "counting", "writing: "))
     assert status == 0 and "reading: " in shown and " of 45" in shown and "counting" in shown, shown
     with subprocess.Popen(["cat", READS], stdout=subprocess.PIPE) as cat:
-        status, _, shown = on_terminal(room, "count", "-", "-o", "dump", stdin=cat.stdout)
+        status, _, shown = on_terminal(room, "count", "-", "-o", "dump", stdin=cat.stdout, steps=("reading: ", "reading: ", "writing: "))
     assert status == 0 and "reading: " in shown and "%" not in shown, shown
 
 
 def test_no_progress_elsewhere(room):
-    slow(room)
+    # time enough to show it
+    room.stand_in("#!/bin/sh\ncat > /dev/null; sleep 0.7; printf 'ACGT\\t2\\n'\n")
     for words in (["count", READS, "-o", "dump"], ["histogram", READS]):
         ran = room.run(*words)
         assert (ran.status, ran.err) == (0, ""), ran

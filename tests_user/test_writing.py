@@ -75,7 +75,7 @@ def small_disk(room, size):
     try:
         yield room.path("disk")
     finally:
-        subprocess.run(["umount", room.path("disk")], check=True)
+        subprocess.run(["umount", "-l", room.path("disk")], check=True)
 
 
 def test_a_full_disk_is_told_and_left_as_it_was(room):

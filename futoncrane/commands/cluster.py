@@ -2,6 +2,7 @@
 functions are sent to the workers by value."""
 import importlib.util
 import os
+import site
 import subprocess
 import sys
 
@@ -12,6 +13,7 @@ SYSTEM = "/usr/bin/python3"
 
 def interpreter():
     """The Python that has dask.distributed: this one, else the system's."""
+    site.main()  # the packages of this Python, which the command was begun without
     if importlib.util.find_spec("distributed") is None and os.access(SYSTEM, os.X_OK):
         if subprocess.run([SYSTEM, "-c", "import distributed"], stderr=subprocess.DEVNULL).returncode == 0:
             return SYSTEM
