@@ -1,20 +1,21 @@
 #!/bin/sh
 # What `futoncrane count` takes beside the program alone: one plain file against `kmc < file`, and one gzip file against `pigz -dc | kmc` and
-# `gzip -dc | kmc`. Prints a Markdown table: the best wall time of each, the processor time of that run, and ours as a part of the other.
+# `gzip -dc | kmc`. Prints a Markdown table: the least wall time of each, the least processor time, and ours as a part of the other.
 #
-# usage: bench/feeding.sh [READS [TURNS]]      (1500000 reads of 100, three turns)
+# usage: bench/feeding.sh [READS [TURNS]]      (1500000 reads of 100: 0.3 GB; five turns)
 #
 # Wants GNU time and gzip; pigz where it is installed. The programs run in turn, with as many threads as there are processors. The dumps are
 # compared. The files are made in a folder of $TMPDIR or /tmp, which is removed at the end.
 set -eu
 top=$(cd "$(dirname "$0")/.." && pwd)
 reads=${1:-1500000}
-turns=${2:-3}
+turns=${2:-5}
 threads=$(nproc)
 [ "$threads" -le 16 ] || threads=16
 kmc="$top/kmc -k31 -cx9223372036854775808 -sp$threads -sr$threads"
-# the interpreter itself: what stands before it in PATH may be a script that looks for it
-futoncrane="$(python3 -c 'import sys; print(sys.executable)') $top/futoncrane/futoncrane count -k 31"
+# the interpreter itself is first in PATH: what stands before it may be a script that looks for it
+PATH=$(python3 -c 'import os, sys; print(os.path.dirname(os.path.realpath(sys.executable)))'):$PATH
+futoncrane="$top/futoncrane/futoncrane count -k 31"
 work=$(mktemp -d)
 trap 'rm -rf "$work"' EXIT
 cd "$work"
@@ -27,9 +28,9 @@ timed() {
     if [ -f wanted ]; then cmp wanted dump; else mv dump wanted; fi
 }
 
-# best NAME: the wall and the processor seconds of the run with the least wall time
+# best NAME: the least wall and the least processor seconds of its runs
 best() {
-    sort -n "$1.times" | awk 'NR == 1 { printf "%.2f %.2f", $1, $2 + $3 }'
+    awk 'NR == 1 || $1 < wall { wall = $1 } NR == 1 || $2 + $3 < work { work = $2 + $3 } END { printf "%.2f %.2f", wall, work }' "$1.times"
 }
 
 unpackers=gzip
@@ -37,6 +38,7 @@ if command -v pigz > /dev/null; then unpackers='pigz gzip'; fi
 # a folder that has no pigz, so that futoncrane takes gzip
 mkdir no_pigz
 ln -s "$(command -v gzip)" no_pigz/gzip
+ln -s "$(command -v python3)" no_pigz/python3
 turn=0
 while [ "$turn" -lt "$turns" ]; do
     timed plain_alone "$kmc < reads.fastq"
