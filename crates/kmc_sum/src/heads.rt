@@ -4,13 +4,14 @@
 ghost use Rattle.std.specs.Prelude.{◌≡◌, ◌≢◌, ℕ, ◌+◌, ◌*◌, ◌<◌, ◌≤◌, ◌↔◌, IsTrue, length};
 ghost use Rattle.kmc_sum.specs.Heads.{rank, head_at, IsWinner, IsTree};
 
-/// The next line of a source: its packed word and count. A source that has ended is not live.
+/// The next line of a source: its packed word and count. A source that has ended is not live. In this order no field has its
+/// place in a result where an error has a part of one, so that each is handed on as a whole.
 #[derive(Clone, Copy)]
 pub struct Head {
-    pub live: bool,
-    pub packed: u128,
-    pub count: u64,
     pub source: usize,
+    pub live: bool,
+    pub count: u64,
+    pub packed: u128,
 }
 
 /// Whether the first stands before the second, or at one place with it. It has no branch, since none could be foretold.
