@@ -6,7 +6,7 @@ use crate::spelling::awaits_value;
 use std::alloc::{AllocError, Global};
 
 /// The words, with an option in long form and the value behind it as one word, as `--k=31`.
-pub fn joined_words(alloc: Global, words: Vec<String>) -> Result<Vec<String>, AllocError>
+pub(crate) fn joined_words(alloc: Global, words: Vec<String>) -> Result<Vec<String>, AllocError>
     ensures { IfOk result (λ r. map string_bytes r.items ≡ joined (map string_bytes words.items)) }
 {
     let mut out = Vec::new(alloc);

@@ -9,6 +9,4 @@ mod sorting;
 mod spelling;
 
 pub use cutting::{CutRequest, CutRequestError, MOST_SLICES, cut_request};
-pub use joining::joined_words;
 pub use listing::{ListRequest, ListRequestError, MOST_FILES, list_request};
-pub use sorting::{SortedWords, sorted_words};

@@ -8,7 +8,7 @@ use std::alloc::{AllocError, Global};
 
 /// Names of files, numbers of slices, and all other words, each in their order, and whether files may be written over.
 #[derive(Drop)]
-pub struct SortedWords {
+pub(crate) struct SortedWords {
     pub names: Vec<String>,
     pub slices: Vec<String>,
     pub others: Vec<String>,
@@ -16,7 +16,7 @@ pub struct SortedWords {
 }
 
 /// The words by what they are, with an option in long form and the value behind it as one word.
-pub fn sorted_words(alloc: Global, words: Vec<String>) -> Result<SortedWords, AllocError>
+pub(crate) fn sorted_words(alloc: Global, words: Vec<String>) -> Result<SortedWords, AllocError>
     ensures { IfOk result (AreSorted (joined (map string_bytes words.items))) }
 {
     sorted(alloc, joined_words(alloc, words)?)

@@ -7,7 +7,7 @@ use Rattle.kmc_dump.proofs.write.write_lists.Goals as goal
 pub returns-in-Ok-clause-lines : goal.returns-in-Ok-clause-lines
 returns-in-Ok-clause-lines g c =
     let all = joined (packs c.args.lists.now) in
-    c.in_ok-total.ensures ∙ sym (length_permutation all (whole c.args.lists.now) (in_order_moves all))
+    c.in_ok-total.ensures.total ∙ sym (length_permutation all (whole c.args.lists.now) (in_order_moves all))
 
 pub returns-in_err-buffers-clause-silent : goal.returns-in_err-buffers-clause-silent
 returns-in_err-buffers-clause-silent g c = search rules
