@@ -1,6 +1,7 @@
 -- A text that is read in rounds.
 use Rattle.std.specs.Prelude.{◌≡◌, ◌⊎◌, ℕ, ◌+◌, ◌-◌, ◌<◌, ◌≤◌, Bool, true, false, List, [], ◌++◌, length, Option, None, Result, Ok, Err}
-use Rattle.std.specs.List.{flat_map}
+use Rattle.std.specs.List.{concat, flat_map}
+use Rattle.std.specs.Io.BufRead.{strip_last}
 use Rattle.std.specs.Io.KnownBytes.{Consumes, IsAtEnd}
 use Rattle.kmc_device.specs.Device.{GaveAll}
 use Rattle.kmc_reads.specs.declared.error.ReadsError.{ReadsError}
@@ -8,7 +9,8 @@ use Rattle.kmc_reads.specs.declared.format.Format.{Format}
 use Rattle.kmc_reads.specs.Cuts.{AreCut}
 use Rattle.kmc_reads.specs.Reads.{reads_of}
 use Rattle.kmc_reads.specs.Stages.{fault}
-use Rattle.kmc_reads.specs.Standing.{FeederState, StandsCut}
+use Rattle.kmc_reads.specs.Lines.{carriage_return}
+use Rattle.kmc_reads.specs.Standing.{FeederState, StandsCut, IsSomewhere, open_symbols}
 use Rattle.kmc_base.specs.Pieces.{pieces}
 use Rattle.kmc_record.specs.Shapes.{Sizes}
 use Rattle.kmc_store.specs.Bins.{BinList}
@@ -40,6 +42,23 @@ IsFedBy overlap format old new before after text taken v (Err Read) = Unit {0}
 IsFedBy overlap format old new before after text taken v (Err Write) = Unit {0}
 IsFedBy overlap format old new before after text taken v (Err (Input e)) = IsRefused format old new text e
 IsFedBy overlap format old new before after text taken v (Err TooLong) = IsFed overlap format old new before after text taken v
+
+-- fewer than so many reads wait in the feeder, with fewer than so many symbols, and an open read has fewer that can be handed out
+pub record HasRoom (reads symbols : ℕ) (v : FeederState) : Type 0 where
+  pub waiting : (overlap : ℕ) (format : Format) (text : List ℕ) (taken : List (List ℕ)) (s : StandsCut overlap format text taken v)
+      → (length s.rows < reads) × (length (concat s.rows) < symbols)
+  pub open_read : (at : IsSomewhere v.scan) → length (open_symbols at.spot.stage at.spot.read (strip_last carriage_return at.front)) < symbols
+
+-- what was fed last, at most so many bytes, came to a feeder that had room, or to that of the beginning: a round that is full takes nothing
+pub record IsFilled (reads symbols piece : ℕ) (overlap : ℕ) (format : Format) (text : List ℕ) (taken : List (List ℕ)) (old new : FeederState)
+    : Type 0 where
+  pub earlier : FeederState
+  pub front : List ℕ
+  pub last : List ℕ
+  pub before : StandsCut overlap format (text ++ front) taken earlier
+  pub after : StandsCut overlap format ((text ++ front) ++ last) taken new
+  pub most : length last ≤ piece
+  pub room : (earlier ≡ old) ⊎ HasRoom reads symbols earlier
 
 -- how many reads gave bytes, at most so many, and how many calls failed, by the cause of a refusal
 abbrev pub AreCountsOf : ℕ → ℕ → ℕ → ℕ → ℕ → RunError → Type 0

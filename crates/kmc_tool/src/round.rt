@@ -1,9 +1,9 @@
 //! A round of reads, read and fed piece by piece.
-ghost use Rattle.std.specs.Prelude.{◌≡◌, ℕ, ◌+◌, ◌-◌, ◌^◌, ◌<◌, ◌≤◌, List, false, OnOk, IsErrOf, Ok};
+ghost use Rattle.std.specs.Prelude.{◌≡◌, ℕ, ◌+◌, ◌-◌, ◌^◌, ◌<◌, ◌≤◌, ◌++◌, List, length, false, OnOk, IsErrOf, Ok};
 ghost use Rattle.std.specs.Io.KnownBytes.{IsAtEnd};
 ghost use Rattle.kmc_reads.specs.declared.format.Format.{Format};
 ghost use Rattle.kmc_reads.specs.Standing.{StandsCut};
-ghost use Rattle.kmc_tool.specs.Rounds.{IsFedBy, AreCounts};
+ghost use Rattle.kmc_tool.specs.Rounds.{IsFedBy, IsFilled, AreCounts};
 
 use crate::error::RunError;
 use kmc_device::Counted;
@@ -28,6 +28,11 @@ fn read_and_feed<R: Read>(reader: &mut Counted<R>, feeder: &mut Feeder) -> Resul
         → IsFedBy overlap format (R.remaining reader.old.inner)
         (R.remaining reader.new.inner) reader.old.reads reader.new.reads text taken feeder.new result }
     ensures at_end { result ≡ Ok false → IsAtEnd (R.remaining reader.new.inner) }
+    ensures piece { (overlap : ℕ) (format : Format) (text : List ℕ) (taken : List (List ℕ))
+        → StandsCut overlap format text taken feeder.old
+        → OnOk result
+        ((last : List ℕ) × (length last ≤ PIECE)
+        × StandsCut overlap format (text ++ last) taken feeder.new) }
     ensures short { IsErrOf result RunError.TooLong → ⊥ }
 {
     fault_stays();
@@ -47,9 +52,9 @@ fn read_and_feed<R: Read>(reader: &mut Counted<R>, feeder: &mut Feeder) -> Resul
     }
 }
 
-/// Reads and feeds until so many reads wait, or their symbols or those of an open read fill a round, or the text ends. The answer is whether
-/// it goes on. No read is made once `most` of them gave bytes: then the input is too long. A faulty text is refused with its first
-/// fault, as soon as the line is read that has it.
+/// Reads and feeds until so many reads wait, or their symbols or those of an open read fill a round, or the text ends. The answer is
+/// whether it goes on. A round that is full takes nothing more. No read is made once `most` of them gave bytes: then the input is
+/// too long. A faulty text is refused with its first fault, as soon as the line is read that has it.
 pub fn fill_round<R: Read>(
     reader: &mut Counted<R>,
     feeder: &mut Feeder,
@@ -64,6 +69,10 @@ pub fn fill_round<R: Read>(
         → IsFedBy overlap format (R.remaining reader.old.inner)
         (R.remaining reader.new.inner) reader.old.reads reader.new.reads text taken feeder.new result }
     ensures at_end { result ≡ Ok false → IsAtEnd (R.remaining reader.new.inner) }
+    ensures filled { (overlap : ℕ) (format : Format) (text : List ℕ) (taken : List (List ℕ))
+        → StandsCut overlap format text taken feeder.old
+        → OnOk result
+        (IsFilled reads ROUND PIECE overlap format text taken feeder.old feeder.new) }
 {
     for _ in 0..1u64 << 32 {
         if reader.reads() >= most {

@@ -1,12 +1,15 @@
-use Rattle.std.proofs.Common.{◌+◌, ◌++◌, Ok, true, false, refl, sym, subst, ◌∙◌, arith}
+use Rattle.std.proofs.Common.{inl, inr, ◌+◌, ◌++◌, Ok, true, false, refl, sym, subst, ◌∙◌, arith}
 use Rattle.kmc_tool.specs.Rounds.{AreCounts, IsFedBy}
 use Rattle.kmc_tool.specs.Lemmas.Causes.{same_err}
 use Rattle.kmc_tool.specs.Lemmas.Fed.{fed_none, fed_on, fed_by}
+use Rattle.kmc_tool.specs.declared.round.TheConstants.{PIECE, ROUND}
+use Rattle.kmc_tool.proofs.Filled.{filled, not_full}
 use Rattle.kmc_tool.proofs.round.fill_round.Goals as goal
 
 pub loop-init : goal.loop-init
 loop-init g c = record {
   most = c.requires.reads;
+  room = inl refl;
   way = record {
     kept = refl;
     many = omega arith;
@@ -23,6 +26,13 @@ loop-preserved g c =
     (Ok b)) c.if-not-more.false c.in_ok-more.ensures.counts in
     record {
       most = omega (arith, h.2, c.if-reads-most.false, c.reads.ensures);
+      room = inr (record {
+        waiting = λ overlap format text taken s. (
+          omega (arith, c.waiting.ensures.cut overlap format text taken s, c.if-waiting-reads.false),
+          omega (arith, c.waiting_symbols.ensures.cut overlap format text taken s, c.if-waiting_symbols-ge-ROUND.false),
+        );
+        open_read = λ at. omega (arith, c.open_symbols.ensures at, c.if-open_symbols-ge-ROUND.false);
+      });
       way = record {
         kept = h.0 ∙ way.kept;
         many = omega (arith, h.1, way.many);
@@ -50,3 +60,20 @@ returns-then-waiting-reads-clause-fed g c = λ overlap format text taken s.
     let f = c.loop.invariant.way.fed overlap format text taken s in
     fed_by overlap format _ _ _ c.args.reader.now.reads c.loop.reader.reads c.read_and_feed.new.reader.reads text taken c.loop.feeder c.read_and_feed.new.feeder (Ok true) f
     (c.in_ok-more.ensures.fed overlap format _ taken f.stands)
+
+pub returns-then-not-more-clause-filled : goal.returns-then-not-more-clause-filled
+returns-then-not-more-clause-filled g c = λ overlap format text taken s.
+    let f = c.loop.invariant.way.fed overlap format text taken s in
+    filled c.args.reads ROUND PIECE overlap format _ _ _ _ text taken c.args.feeder.now c.loop.feeder f c.loop.invariant.room
+    c.read_and_feed.new.feeder (c.in_ok-more.ensures.piece overlap format _ taken f.stands)
+
+pub returns-then-waiting-reads-clause-filled : goal.returns-then-waiting-reads-clause-filled
+returns-then-waiting-reads-clause-filled g c = λ overlap format text taken s.
+    let f = c.loop.invariant.way.fed overlap format text taken s in
+    filled c.args.reads ROUND PIECE overlap format _ _ _ _ text taken c.args.feeder.now c.loop.feeder f c.loop.invariant.room
+    c.read_and_feed.new.feeder (c.in_ok-more.ensures.piece overlap format _ taken f.stands)
+
+pub returns-clause-filled : goal.returns-clause-filled
+returns-clause-filled g c = λ overlap format text taken s.
+    not_full c.args.reads ROUND PIECE overlap format _ _ _ _ text taken c.args.feeder.now c.loop.feeder
+    (c.loop.invariant.way.fed overlap format text taken s) c.loop.invariant.room

@@ -1,4 +1,4 @@
-use Rattle.std.proofs.Common.{rules, ◌≡◌, ◌≢◌, ◌<◌, ◌+◌, length, take}
+use Rattle.std.proofs.Common.{rules, arith, ◌≡◌, ◌≢◌, ◌<◌, ◌+◌, length, take}
 use Rattle.kmc_reads.specs.declared.error.ReadsError.TheVariants.{Memory}
 use Rattle.kmc_tool.specs.Lemmas.Fed.{reads_many, refused_for_good}
 use Rattle.kmc_tool.proofs.round.read_and_feed.Goals as goal
@@ -22,3 +22,7 @@ returns-else-eq-clause-fed g c = λ overlap format text taken s.
 
 pub returns-in-Err-clause-counts : goal.returns-in-Err-clause-counts
 returns-in-Err-clause-counts g c = search rules
+
+pub returns-in-Ok-feed-clause-piece : goal.returns-in-Ok-feed-clause-piece
+returns-in-Ok-feed-clause-piece g c = λ overlap format text taken s.
+    (take c.in-Ok.n c.read.new.buf, omega (arith, c.in-Ok.ensures.bound), c.in-Ok-feed.ensures.cut overlap format text taken s)
