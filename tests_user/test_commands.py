@@ -183,7 +183,7 @@ def test_doctor_finds_all_well(room):
     for name in ("kmc_merge", "kmc_cut", "kmc_list"):
         program(name)
     ran = room.run("doctor")
-    assert ran.status == 0 and ran.out.endswith(b"\nall is well\n") and ran.err == "", ran
+    assert ran.status == 0 and ran.out.endswith(b"\nall is well\n") and ran.err == "" and b"\ndistributed  " in ran.out, ran
     room.environment["PATH"] = room.temporary
     ran = room.run("doctor")
     assert ran.status == 0 and b"gzip, by this Python" in ran.out, ran

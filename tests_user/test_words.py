@@ -88,7 +88,11 @@ def test_bash_completes(room):
 
 def test_zsh_reads_its_completion(room):
     need("zsh")
-    assert subprocess.run(["zsh", "-n", os.path.join(TOP, "futoncrane", "completions", "_futoncrane")]).returncode == 0
+    folder = os.path.join(TOP, "futoncrane", "completions")
+    assert subprocess.run(["zsh", "-n", os.path.join(folder, "_futoncrane")]).returncode == 0
+    ran = subprocess.run(["zsh", "-f", "-c", 'fpath=("$1" $fpath); autoload -Uz compinit; compinit -u -D; echo $_comps[futoncrane]; autoload +X _futoncrane',
+                          "zsh", folder], env=dict(room.environment, HOME=room.folder), stdout=subprocess.PIPE, stderr=subprocess.PIPE)
+    assert (ran.returncode, ran.stdout, ran.stderr) == (0, b"_futoncrane\n", b""), ran
 
 
 def test_pages_have_no_fault(room):

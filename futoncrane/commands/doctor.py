@@ -11,6 +11,7 @@ import tempfile
 
 from futoncrane import memory, packing, places, shared
 from futoncrane.children import Children
+from futoncrane.commands import cluster
 from futoncrane.faults import Fault, Misuse, reason
 from futoncrane.output import Output, say
 from futoncrane.run import open_inputs, run
@@ -119,6 +120,8 @@ def tell_programs():
     for name, use in HELPERS:
         path = shutil.which(name)
         say("%-12s %s" % (name, "%s (%s)" % (path, version_of(path)) if path else "not installed (for %s)" % use))
+    python = cluster.interpreter()
+    say("%-12s %s" % ("distributed", "of %s" % python if python else "not installed (for cluster)"))
     return is_whole
 
 
