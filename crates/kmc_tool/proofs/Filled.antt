@@ -1,5 +1,5 @@
 -- Rounds that are filled.
-use Rattle.std.proofs.Common.{◌≡◌, ◌⊎◌, ℕ, ◌+◌, ◌≤◌, List, [], ◌++◌, length, Option, sym, subst, append-nil, arith}
+use Rattle.std.proofs.Common.{◌≡◌, ◌⊎◌, ℕ, ◌≤◌, List, [], ◌++◌, length, Option, sym, subst, append-nil, arith}
 use Rattle.kmc_reads.specs.declared.format.Format.{Format}
 use Rattle.kmc_reads.specs.Standing.{FeederState, StandsCut}
 use Rattle.kmc_tool.specs.Rounds.{HasRoom, IsFed, IsFilled}
