@@ -5,7 +5,7 @@ use Rattle.kmc_tool.specs.Rounds.{AreCounts, AreCountsOf, HoldsPieces, IsFedBy}
 use Rattle.kmc_settings.specs.Shape.{shape_of}
 use Rattle.kmc_tool.specs.declared.error.RunError.TheVariants.{Memory}
 use Rattle.kmc_tool.specs.Lemmas.Causes.{passed_on}
-use Rattle.kmc_tool.specs.Lemmas.Fed.{risen, counts_on, fed_on, fed_by, fed_cause, last_bins, last_counts, last_input, memory_on, taken_fed}
+use Rattle.kmc_tool.specs.Lemmas.Fed.{unfaulted, risen, counts_on, fed_on, fed_by, fed_cause, last_bins, last_counts, last_input, memory_on, taken_fed}
 use Rattle.kmc_tool.proofs.rounds.bins_of_input.Goals as goal
 
 pub returns-in_err-more-clause-cause : goal.returns-in_err-more-clause-cause
@@ -136,3 +136,13 @@ loop-preserved g c =
             c.in_ok-stored.was (c.feed_round-stored.ensures.holds st.taken st.holds);
       };
     }
+
+pub returns-clause-cause : goal.returns-clause-cause
+returns-clause-cause g c =
+    let inv = c.loop.invariant in let st = inv.stored in
+    (
+      st.fed.bytes,
+      st.fed.given,
+      omega (arith, st.fed.many, inv.many, c.loop-test.false, c.requires.most),
+      unfaulted (c.args.params.now.k - 1) c.args.params.now.format st.fed.bytes st.taken c.loop.feeder st.fed.stands,
+    )
