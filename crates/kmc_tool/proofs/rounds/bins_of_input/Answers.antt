@@ -139,8 +139,7 @@ loop-preserved g c =
 
 pub returns-clause-cause : goal.returns-clause-cause
 returns-clause-cause g c =
-    let inv = c.loop.invariant in let st = inv.stored in
-    (
+    let inv = c.loop.invariant in let st = inv.stored in (
       st.fed.bytes,
       st.fed.given,
       omega (arith, st.fed.many, inv.many, c.loop-test.false, c.requires.most),
