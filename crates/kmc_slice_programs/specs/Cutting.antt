@@ -1,5 +1,5 @@
 -- What the program that cuts reads does.
-use Rattle.std.specs.Prelude.{◌≡◌, ◌⊎◌, ℕ, List, [], Option, Result, Ok, Err, length}
+use Rattle.std.specs.Prelude.{◌≡◌, ◌⊎◌, ℕ, List, Option, Result, Ok, Err, length}
 use Rattle.kmc_settings.specs.declared.params.Params.{Params}
 use Rattle.kmc_settings.specs.declared.setting.Setting.{Setting}
 use Rattle.kmc_settings.specs.Shape.{shape_of}

@@ -1,3 +1,4 @@
 pub mod Asking
 pub mod Cutting
 pub mod Listing
+pub mod Messages

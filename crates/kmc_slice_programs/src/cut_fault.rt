@@ -1,7 +1,9 @@
 //! What a fault of the cutting shows its user: one line on standard error, and the exit status.
-ghost use Rattle.std.specs.Prelude.{◌≡◌};
+ghost use Rattle.std.specs.Prelude.{◌≡◌, Some};
 ghost use Rattle.kmc_slice_programs.specs.Cutting.{status_of};
+ghost use Rattle.kmc_slice_programs.specs.Messages.{message_of_cut};
 
+use crate::texts::{NoCut, NoReads};
 use kmc_slice_files::CreateFault;
 use kmc_slice_options::CutRequestError;
 use kmc_slices::CutError;
@@ -45,10 +47,15 @@ pub struct CutMessage<'a> {
 }
 
 impl fmt::Display for CutMessage<'_> {
+    ghost output = { λ m. Some (message_of_cut m.prefix.now m.fault) };
+
     fn fmt<W: fmt::Write>(&self, f: &mut fmt::Formatter<W>) -> fmt::Result {
         let prefix = self.prefix;
         match self.fault {
-            CutFault::Request(error) => write!(f, "{error}"),
+            CutFault::Request(error) => {
+                let why = NoCut(error);
+                write!(f, "{why}")
+            }
             CutFault::NotMade(CreateFault::File(s)) => {
                 write!(
                     f,
@@ -56,10 +63,16 @@ impl fmt::Display for CutMessage<'_> {
                 )
             }
             CutFault::NotMade(CreateFault::Memory) => write!(f, "kmc_cut: out of memory"),
+            CutFault::Cut(CutError::Memory) => write!(f, "kmc_cut: out of memory"),
+            CutFault::Cut(CutError::Read) => write!(f, "kmc_cut: read failed"),
             CutFault::Cut(CutError::Write(s)) => {
                 write!(f, "kmc_cut: {prefix}.{s}: cannot be written")
             }
-            CutFault::Cut(error) => write!(f, "kmc_cut: {error}"),
+            CutFault::Cut(CutError::Input(error)) => {
+                let why = NoReads(error);
+                write!(f, "kmc_cut: {why}")
+            }
+            CutFault::Cut(CutError::TooLong) => write!(f, "kmc_cut: input too long"),
         }
     }
 }

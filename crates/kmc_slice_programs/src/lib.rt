@@ -8,6 +8,7 @@ mod cutting;
 mod gathering;
 mod list_fault;
 mod listing;
+mod texts;
 
 pub use cut_fault::{CutFault, CutMessage};
 pub use cutting::{cut_program, cut_words};

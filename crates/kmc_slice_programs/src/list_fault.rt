@@ -1,13 +1,13 @@
 //! What a fault of the listing shows its user: one line on standard error, and the exit status.
-ghost use Rattle.std.specs.Prelude.{◌≡◌, ◌≢◌, not, true};
+ghost use Rattle.std.specs.Prelude.{◌≡◌, ◌≢◌, Some, map, not, string_bytes, true};
 ghost use Rattle.kmc_slice_programs.specs.Listing.{status_of};
+ghost use Rattle.kmc_slice_programs.specs.Messages.{message_of_list, name_at};
 ghost use Rattle.kmc_slice_programs.specs.declared.list_fault.ListFault.TheVariants.{Dump};
 
-use kmc_record::PartError;
+use crate::texts::{Foreign, NoList};
 use kmc_slice_files::SliceFault;
 use kmc_slice_options::ListRequestError;
 use kmc_slices::ListError;
-use kmc_store::BinFault;
 use std::fmt;
 
 /// Why the program ends without its dump. The files are numbered from 0, in the order of the words.
@@ -61,41 +61,24 @@ pub struct ListMessage<'a> {
 }
 
 /// The name of a file, as it was given.
-fn name_of(files: &[String], i: usize) -> &str {
+fn name_of(files: &[String], i: usize) -> &str
+    ensures { result.now ≡ name_at (map string_bytes files.now) i }
+{
     match files.get(i) {
         Some(name) => name.as_str(),
         None => "",
     }
 }
 
-/// A bin that is at fault.
-#[derive(Drop)]
-struct Foreign {
-    fault: BinFault,
-}
-
-impl fmt::Display for Foreign {
-    fn fmt<W: fmt::Write>(&self, f: &mut fmt::Formatter<W>) -> fmt::Result {
-        let bin = self.fault.bin;
-        match self.fault.why {
-            PartError::Damaged(_, offset) => {
-                write!(f, "bin {bin}: the record at byte {offset} is damaged")
-            }
-            PartError::WrongBin(offset) => {
-                write!(
-                    f,
-                    "bin {bin}: the record at byte {offset} has words of another bin"
-                )
-            }
-            PartError::Memory => write!(f, "out of memory"),
-        }
-    }
-}
-
 impl fmt::Display for ListMessage<'_> {
+    ghost output = { λ m. Some (message_of_list (map string_bytes m.files.now) m.fault) };
+
     fn fmt<W: fmt::Write>(&self, f: &mut fmt::Formatter<W>) -> fmt::Result {
         match self.fault {
-            ListFault::Request(error) => write!(f, "{error}"),
+            ListFault::Request(error) => {
+                let why = NoList(error);
+                write!(f, "{why}")
+            }
             ListFault::NotOpened(i) => {
                 let name = name_of(self.files, i);
                 write!(f, "kmc_list: {name}: cannot be opened")
@@ -105,7 +88,7 @@ impl fmt::Display for ListMessage<'_> {
                 write!(f, "kmc_list: {name}: {fault}")
             }
             ListFault::Dump(ListError::Foreign(fault)) => {
-                let what = Foreign { fault };
+                let what = Foreign(fault);
                 write!(f, "kmc_list: {what}")
             }
             ListFault::Dump(ListError::Memory) => write!(f, "kmc_list: out of memory"),

@@ -1,0 +1,80 @@
+-- What a user is shown of a fault.
+use Rattle.std.specs.Prelude.{ℕ, List, [], ◌++◌, codes, decimal, slice_index_or}
+use Rattle.kmc_reads.specs.declared.error.ReadsError.{ReadsError}
+use Rattle.kmc_reads.specs.declared.error.ReadsError.TheVariants as reads
+use Rattle.kmc_record.specs.declared.fault.PartError.{PartError}
+use Rattle.kmc_record.specs.declared.fault.PartError.TheVariants.{Damaged, WrongBin, Memory as NoMemory}
+use Rattle.kmc_options.specs.Names.{name_of}
+use Rattle.kmc_settings.specs.Words.{Word}
+use Rattle.kmc_store.specs.declared.judging.BinFault.{BinFault}
+use Rattle.kmc_slice_files.specs.Messages.{text_of_slice_fault}
+use Rattle.kmc_slice_files.specs.declared.opening.CreateFault.TheVariants as create
+use Rattle.kmc_slice_options.specs.declared.cutting.CutRequestError.{CutRequestError}
+use Rattle.kmc_slice_options.specs.declared.cutting.CutRequestError.TheVariants as no_cut
+use Rattle.kmc_slice_options.specs.declared.listing.ListRequestError.{ListRequestError}
+use Rattle.kmc_slice_options.specs.declared.listing.ListRequestError.TheVariants as no_list
+use Rattle.kmc_slices.specs.declared.error.CutError.{CutError}
+use Rattle.kmc_slices.specs.declared.error.CutError.TheVariants as cut
+use Rattle.kmc_slices.specs.declared.listing.ListError.TheVariants as list
+use Rattle.kmc_slice_programs.specs.declared.cut_fault.CutFault.{CutFault}
+use Rattle.kmc_slice_programs.specs.declared.cut_fault.CutFault.TheVariants.{Request, NotMade, Cut}
+use Rattle.kmc_slice_programs.specs.declared.list_fault.ListFault.{ListFault}
+use Rattle.kmc_slice_programs.specs.declared.list_fault.ListFault.TheVariants.{Request as ListRequest, NotOpened, File, Dump}
+
+-- the name of a file, as it was given
+abbrev pub name_at : List Word → ℕ → Word
+name_at files i = slice_index_or files i []
+
+abbrev pub text_of_no_cut : CutRequestError → List ℕ
+text_of_no_cut no_cut.Usage = codes "usage: kmc_cut [-fa|-fq|-fm] [-k<len>] [-p<len>] [-n<bins>] [-sp<n>] -slices<S> [--force] <prefix>"
+text_of_no_cut (no_cut.OutOfRange s) = codes "kmc_cut: value of -" ++ name_of s ++ codes " is out of range"
+text_of_no_cut no_cut.Slices = codes "kmc_cut: value of -slices is out of range"
+text_of_no_cut no_cut.Memory = codes "kmc_cut: out of memory"
+
+abbrev pub text_of_no_list : ListRequestError → List ℕ
+text_of_no_list no_list.Usage = codes "usage: kmc_list [-ci<n>] [-cx<n>] [-cs<n>] [-sr<n>] [-b] <file> .."
+text_of_no_list (no_list.OutOfRange s) = codes "kmc_list: value of -" ++ name_of s ++ codes " is out of range"
+text_of_no_list no_list.Memory = codes "kmc_list: out of memory"
+
+-- why a text is no list of reads: `line 3: bad plus line`
+abbrev pub text_of_reads_error : ReadsError → List ℕ
+text_of_reads_error reads.Memory = codes "out of memory"
+text_of_reads_error (reads.BadHeader line) = codes "line " ++ decimal line ++ codes ": bad header"
+text_of_reads_error (reads.BadPlus line) = codes "line " ++ decimal line ++ codes ": bad plus line"
+text_of_reads_error (reads.QualityLength line) = codes "line " ++ decimal line ++ codes ": quality length differs"
+text_of_reads_error (reads.Truncated line) = codes "line " ++ decimal line ++ codes ": record cut short"
+
+-- why the records of a bin are none of that bin
+abbrev pub text_of_part_error : ℕ → PartError → List ℕ
+text_of_part_error bin (Damaged fault offset) = codes "bin " ++ decimal bin ++ codes ": the record at byte " ++ decimal offset ++ codes " is damaged"
+text_of_part_error bin (WrongBin offset) =
+    codes "bin " ++ decimal bin ++ codes ": the record at byte " ++ decimal offset ++ codes " has words of another bin"
+text_of_part_error bin NoMemory = codes "out of memory"
+
+abbrev pub text_of_bin_fault : BinFault → List ℕ
+text_of_bin_fault e = text_of_part_error e.bin e.why
+
+-- the reads were not cut to the files that begin with the prefix
+abbrev pub text_of_cut_error : Word → CutError → List ℕ
+text_of_cut_error prefix cut.Memory = codes "kmc_cut: out of memory"
+text_of_cut_error prefix cut.Read = codes "kmc_cut: read failed"
+text_of_cut_error prefix (cut.Write s) = codes "kmc_cut: " ++ prefix ++ codes "." ++ decimal s ++ codes ": cannot be written"
+text_of_cut_error prefix (cut.Input e) = codes "kmc_cut: " ++ text_of_reads_error e
+text_of_cut_error prefix cut.TooLong = codes "kmc_cut: input too long"
+
+-- the line that tells of a fault of the cutting: `kmc_cut: a.3: cannot be written`
+abbrev pub message_of_cut : Word → CutFault → List ℕ
+message_of_cut prefix (Request e) = text_of_no_cut e
+message_of_cut prefix (NotMade (create.File s)) =
+    codes "kmc_cut: " ++ prefix ++ codes "." ++ decimal s ++ codes ": cannot be made; one that is there is written over with --force alone"
+message_of_cut prefix (NotMade create.Memory) = codes "kmc_cut: out of memory"
+message_of_cut prefix (Cut e) = text_of_cut_error prefix e
+
+-- the line that tells of a fault of the listing: `kmc_list: a.3: behind frame 12, at byte 40960: the file was cut short`
+abbrev pub message_of_list : List Word → ListFault → List ℕ
+message_of_list files (ListRequest e) = text_of_no_list e
+message_of_list files (NotOpened i) = codes "kmc_list: " ++ name_at files i ++ codes ": cannot be opened"
+message_of_list files (File i e) = codes "kmc_list: " ++ name_at files i ++ codes ": " ++ text_of_slice_fault e
+message_of_list files (Dump (list.Foreign e)) = codes "kmc_list: " ++ text_of_bin_fault e
+message_of_list files (Dump list.Memory) = codes "kmc_list: out of memory"
+message_of_list files (Dump list.Write) = codes "kmc_list: cannot write"
