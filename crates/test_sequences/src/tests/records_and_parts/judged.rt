@@ -60,7 +60,7 @@ fn assert_judged(
     let want = plain_words(rt, alloc, shape, bin, body);
     let made = match Part::from_body(0, bin, shape, body.to_vec(alloc)?) {
         Ok(part) => Ok(part.words()),
-        Err((fault, _)) => Err(fault),
+        Err((fault, _body)) => Err(fault),
     };
     assert!(rt; made == want, "{body:?} in {bin}");
     Ok(())
