@@ -1,6 +1,6 @@
 -- What an exit status tells.
 use Rattle.std.proofs.Common.{◌≡◌, List, Result, Ok, Err, inl, inr, refl, arith}
-use Rattle.std.specs.Prelude.{OnOk}
+use Rattle.std.specs.Prelude.{IfErr, OnOk}
 use Rattle.kmc_settings.specs.Words.{Word}
 use Rattle.kmc_settings.specs.declared.setting.Setting.{Setting}
 use Rattle.kmc_slice_options.specs.Requests.{AsksForCut, AsksForList, IsCutRequest, IsOutOfRange}
@@ -41,3 +41,8 @@ never_none (Cut e) is = omega (arith, is)
 pub done : (r : Result (Unit {0}) CutFault) (P : Type 0) → OnOk r P → cutting.status_of_answer r ≡ 0 → P
 done (Ok u) P h is = h
 done (Err fault) P h is = absurd (never_none fault is)
+
+-- with status 1 there was one
+pub failed : (r : Result (Unit {0}) CutFault) (P : CutFault → Type 0) → IfErr r P → cutting.status_of_answer r ≡ 1 → (fault : CutFault) × P fault
+failed (Ok u) P h is = absurd (omega (arith, is))
+failed (Err fault) P h is = (fault, h)

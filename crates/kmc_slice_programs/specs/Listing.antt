@@ -6,12 +6,16 @@ use Rattle.kmc_device.specs.Line.{text_of}
 use Rattle.kmc_settings.specs.declared.params.Params.{Params}
 use Rattle.kmc_settings.specs.declared.setting.Setting.{Setting}
 use Rattle.kmc_settings.specs.Words.{Word}
+use Rattle.kmc_store.specs.Outside.{IsBinFault}
+use Rattle.kmc_store.specs.declared.judging.BinFault.{BinFault}
 use Rattle.kmc_tool.specs.Stages.{IsDumpOfBins}
+use Rattle.kmc_slice_files.specs.Whole.{IsSliceFault}
 use Rattle.kmc_slice_files.specs.declared.slice.SliceFault.{SliceFault}
 use Rattle.kmc_slice_options.specs.Requests.{AsksForList, IsOutOfRange}
 use Rattle.kmc_slice_options.specs.declared.listing.ListRequestError.TheVariants.{Usage, OutOfRange, Memory}
-use Rattle.kmc_slices.specs.Gathered.{AreGathered, Records}
-use Rattle.kmc_slices.specs.declared.listing.ListError.TheVariants.{Memory as NoMemory}
+use Rattle.kmc_slices.specs.Gathered.{AreGathered, IsFirstFault, Records}
+use Rattle.kmc_slices.specs.declared.listing.ListError.{ListError}
+use Rattle.kmc_slices.specs.declared.listing.ListError.TheVariants.{Foreign, Memory as NoMemory}
 use Rattle.kmc_slice_programs.specs.declared.list_fault.ListFault.{ListFault}
 use Rattle.kmc_slice_programs.specs.declared.list_fault.ListFault.TheVariants.{Request, NotOpened, File, Dump}
 
@@ -35,13 +39,41 @@ pub record LeavesFront (files : ℕ) (params : Params) (old new : Option (List �
   pub are : AreListed files params pairs
   pub out : AppendsFront old new (text_of pairs)
 
--- a fault of the file of this number, or of memory while it was read
-abbrev pub IsFileFault : ℕ → ListFault → Type 0
-IsFileFault i fault = (fault ≡ Dump NoMemory) ⊎ ((fault ≡ NotOpened i) ⊎ ((e : SliceFault) × (fault ≡ File i e)))
+-- a fault of the first file, or of memory for the records
+abbrev pub IsOfFirst : ListFault → Type 0
+IsOfFirst fault =
+    (fault ≡ Dump NoMemory) ⊎ ((fault ≡ NotOpened 0)
+    ⊎ ((e : SliceFault) × (fault ≡ File 0 e) × (old new : Option (List ℕ)) × IsFirstFault old new e))
+
+-- a fault of the file of this number, behind files that gave these records
+abbrev pub IsOfNext : ℕ → Records → ListFault → Type 0
+IsOfNext i r fault =
+    (fault ≡ NotOpened i)
+    ⊎ ((e : SliceFault) × (fault ≡ File i e) × (old new : Option (List ℕ)) × IsSliceFault r.shape r.slices r.slice old new r.bodies e)
+
+-- so many files gave the records of one slice, and the next one is at fault
+pub record IsBehind (i : ℕ) (fault : ListFault) : Type 0 where
+  pub readings : List (Option (List ℕ) × Option (List ℕ))
+  pub many : length readings ≡ i
+  pub records : Records
+  pub gathered : AreGathered readings records
+  pub next : IsOfNext i records fault
 
 -- a fault of one of so many files
 abbrev pub IsOfFiles : ℕ → ListFault → Type 0
-IsOfFiles n fault = (i : ℕ) × (i < n) × IsFileFault i fault
+IsOfFiles n fault = IsOfFirst fault ⊎ ((i : ℕ) × (i < n) × IsBehind i fault)
+
+-- so many files gave the records of one slice, of which a bin is at fault, or memory or a write failed
+pub record IsUnlisted (files : ℕ) (e : ListError) : Type 0 where
+  pub readings : List (Option (List ℕ) × Option (List ℕ))
+  pub many : length readings ≡ files
+  pub records : Records
+  pub gathered : AreGathered readings records
+  pub foreign : (fault : BinFault) → e ≡ Foreign fault → IsBinFault records.shape records.bodies fault
+
+-- why so many files were not listed: one of them is at fault, or the records of all
+abbrev pub IsListFault : ℕ → ListFault → Type 0
+IsListFault n fault = IsOfFiles n fault ⊎ ((e : ListError) × (fault ≡ Dump e) × IsUnlisted n e)
 
 -- the words ask for nothing: they are no usage, or an option is out of its range
 abbrev pub AsksForNothing : List Word → Type 0

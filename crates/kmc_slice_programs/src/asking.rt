@@ -1,9 +1,9 @@
 //! What the words ask for beside the work: help and the version.
-ghost use Rattle.std.specs.Prelude.{◌≡◌, ◌-◌, ◌^◌, ◌<◌, ◌≤◌, MatchOption, map, string_bytes, true, false};
+ghost use Rattle.std.specs.Prelude.{◌≡◌, ◌-◌, ◌^◌, ◌<◌, ◌≤◌, MatchOption, OnOk, OnErr, map, string_bytes, true, false};
 ghost use Rattle.std.specs.Process.{exit_status};
-ghost use Rattle.kmc_slice_programs.specs.Asking.{has_word, is_asked};
+ghost use Rattle.kmc_slice_programs.specs.Asking.{has_word, is_asked, text_asked, Shows, ShowsFront};
 
-use kmc_device::{Counted, write_text};
+use kmc_device::{Counted, WriteFault, write_text};
 use std::io::Write;
 use std::process::ExitCode;
 
@@ -27,7 +27,8 @@ fn has_word(words: &[String], word: &str) -> bool
 /// The text that the words ask for: help before the version.
 pub(crate) fn asked_text(words: &[String], help: &'static str) -> Option<&'static str>
     ensures { MatchOption result (is_asked (map string_bytes words.now) ≡ false)
-        (λ text. is_asked (map string_bytes words.now) ≡ true) }
+        (λ text. (is_asked (map string_bytes words.now) ≡ true)
+        × (text.now ≡ text_asked help.now (map string_bytes words.now))) }
 {
     if has_word(words, "--help") {
         return Some(help);
@@ -38,12 +39,27 @@ pub(crate) fn asked_text(words: &[String], help: &'static str) -> Option<&'stati
     None
 }
 
+/// Writes the text and flushes the device.
+fn written<W: Write>(text: &str, writer: &mut Counted<W>) -> Result<(), WriteFault>
+    requires { writer.old.failures < 2 ^ 64 - 1 }
+    ensures ok { OnOk result (Shows W.contents text.now writer.old writer.new) }
+    ensures failed { OnErr result (ShowsFront W.contents text.now writer.old writer.new) }
+{
+    write_text(writer, text.as_bytes())?;
+    match writer.flush() {
+        Ok(()) => Ok(()),
+        Err(_) => Err(WriteFault),
+    }
+}
+
 /// Shows a text that is asked for. The exit status is 0 where it was written, and else 1.
 pub(crate) fn shown<W: Write>(text: &str, writer: &mut Counted<W>) -> ExitCode
     requires { writer.old.failures < 2 ^ 64 - 1 }
-    ensures { exit_status result ≤ 1 }
+    ensures done { exit_status result ≡ 0 → Shows W.contents text.now writer.old writer.new }
+    ensures failed { exit_status result ≡ 1 → ShowsFront W.contents text.now writer.old writer.new }
+    ensures statuses { exit_status result ≤ 1 }
 {
-    match write_text(writer, text.as_bytes()) {
+    match written(text, writer) {
         Ok(()) => ExitCode::from(0),
         Err(_) => ExitCode::from(FAILED),
     }

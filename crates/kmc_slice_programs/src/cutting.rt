@@ -1,12 +1,13 @@
 //! The program that cuts reads into slices.
-ghost use Rattle.std.specs.Prelude.{◌≡◌, ◌≢◌, ◌+◌, ◌-◌, ◌^◌, ◌<◌, ◌≤◌, List, map, string_bytes, false, IfErr, OnOk};
+ghost use Rattle.std.specs.Prelude.{◌≡◌, ◌≢◌, ◌+◌, ◌-◌, ◌^◌, ◌<◌, ◌≤◌, ◌⊎◌, List, map, string_bytes, true, false, IfErr, OnOk};
 ghost use Rattle.std.specs.Process.{exit_status};
 ghost use Rattle.kmc_settings.specs.Words.{Word};
 ghost use Rattle.kmc_slice_options.specs.Requests.{IsCutRequest};
 ghost use Rattle.kmc_slice_options.specs.declared.cutting.CutRequest.{CutRequest};
 ghost use Rattle.kmc_slice_options.specs.declared.cutting.CutRequestError.{CutRequestError};
-ghost use Rattle.kmc_slice_programs.specs.Asking.{is_asked};
-ghost use Rattle.kmc_slice_programs.specs.Cutting.{AsksForNoCut, WroteFiles, status_of_answer};
+ghost use Rattle.kmc_slice_programs.specs.Asking.{is_asked, text_asked, Shows, ShowsFront};
+ghost use Rattle.kmc_slice_programs.specs.Cutting.{AsksForNoCut, FailsToCut, IsCutFault, WroteFiles, status_of_answer};
+ghost use Rattle.kmc_slice_programs.specs.declared.cutting.TheConstants.{HELP};
 
 use crate::asking::{asked_text, shown};
 use crate::cut_fault::{CutFault, CutMessage};
@@ -48,6 +49,7 @@ fn cut<T: Threads + Wait + Sync + Files + Alloc<A = Global>, R: Read>(
         (R.remaining reader.old.inner) (R.remaining reader.new.inner)
         × (reader.new.failures ≡ reader.old.failures)) }
     ensures sound { IfErr result (λ e. (r : CutRequestError) → e ≢ CutFault.Request r) }
+    ensures fault { IfErr result (IsCutFault R.remaining request.now.params request.now.slices reader.old reader.new) }
 {
     let mut writers = match create_files(
         rt,
@@ -99,8 +101,16 @@ pub fn cut_words<T: Threads + Wait + Sync + Files + Eprint + Alloc<A = Global>, 
         → (r : CutRequest) × IsCutRequest (map string_bytes words.items) r
         × WroteFiles r.params r.slices (R.remaining reader.old.inner) (R.remaining reader.new.inner)
         × (reader.new.failures ≡ reader.old.failures) }
+    ensures failed { exit_status result ≡ 1 → is_asked (map string_bytes words.items) ≡ false
+        → FailsToCut R.remaining (map string_bytes words.items) reader.old reader.new }
     ensures misused { exit_status result ≡ 2 → AsksForNoCut (map string_bytes words.items)
         × (reader.new ≡ reader.old) × (writer.new ≡ writer.old) }
+    ensures unasked { is_asked (map string_bytes words.items) ≡ false → writer.new ≡ writer.old }
+    ensures unread { is_asked (map string_bytes words.items) ≡ true → reader.new ≡ reader.old }
+    ensures shown { exit_status result ≡ 0 → is_asked (map string_bytes words.items) ≡ true
+        → Shows W.contents (text_asked HELP.now (map string_bytes words.items)) writer.old writer.new }
+    ensures unshown { exit_status result ≡ 1 → is_asked (map string_bytes words.items) ≡ true
+        → ShowsFront W.contents (text_asked HELP.now (map string_bytes words.items)) writer.old writer.new }
     ensures statuses { exit_status result ≤ 2 }
 {
     if let Some(text) = asked_text(&words, HELP) {
@@ -124,7 +134,13 @@ pub fn cut_program<
     ensures done { exit_status result ≡ 0 → (words : List Word) × (is_asked words ≡ false
         → (r : CutRequest) × IsCutRequest words r
         × WroteFiles r.params r.slices (R.remaining reader.old.inner) (R.remaining reader.new.inner)
-        × (reader.new.failures ≡ reader.old.failures)) }
+        × (reader.new.failures ≡ reader.old.failures))
+        × (is_asked words ≡ true → Shows W.contents (text_asked HELP.now words) writer.old writer.new) }
+    ensures failed { exit_status result ≡ 1 → ((reader.new ≡ reader.old) × (writer.new ≡ writer.old))
+        ⊎ ((words : List Word)
+        × (is_asked words ≡ false → FailsToCut R.remaining words reader.old reader.new × (writer.new ≡ writer.old))
+        × (is_asked words ≡ true → ShowsFront W.contents (text_asked HELP.now words) writer.old writer.new
+        × (reader.new ≡ reader.old))) }
     ensures misused { exit_status result ≡ 2 → (reader.new ≡ reader.old) × (writer.new ≡ writer.old) }
     ensures statuses { exit_status result ≤ 2 }
 {

@@ -1,7 +1,7 @@
 //! The files of one slice, opened one after the other.
 ghost use Rattle.std.specs.Prelude.{◌≡◌, ◌≤◌, ◌<◌, ◌∷◌, ◌++◌, [], ℕ, List, Option, length, IfOk, IfErr, OnOk};
 ghost use Rattle.kmc_slices.specs.Gathered.{AreGathered};
-ghost use Rattle.kmc_slice_programs.specs.Listing.{IsFileFault, IsOfFiles};
+ghost use Rattle.kmc_slice_programs.specs.Listing.{IsOfFiles, IsOfFirst, IsOfNext};
 
 use crate::list_fault::ListFault;
 use kmc_device::Counted;
@@ -28,7 +28,7 @@ fn first_file<T: Files + Alloc<A = Global>>(
 ) -> Result<SliceRecords, ListFault>
     requires { 1 ≤ length files.now }
     ensures ok { IfOk result (λ records. (old new : Option (List ℕ)) × AreGathered ((old, new) ∷ []) records) }
-    ensures fault { IfErr result (IsFileFault 0) }
+    ensures fault { IfErr result IsOfFirst }
 {
     let mut reader = opened(rt, files, 0)?;
     match SliceRecords::begin(rt.alloc(), &mut reader) {
@@ -48,7 +48,7 @@ fn next_file<T: Files>(
     requires { i < length files.now }
     ensures ok { (readings : List (Option (List ℕ) × Option (List ℕ))) → AreGathered readings records.old
         → OnOk result ((old new : Option (List ℕ)) × AreGathered (readings ++ (old, new) ∷ []) records.new) }
-    ensures fault { IfErr result (IsFileFault i) }
+    ensures fault { IfErr result (IsOfNext i records.old) }
 {
     let mut reader = opened(rt, files, i)?;
     match records.add(&mut reader) {

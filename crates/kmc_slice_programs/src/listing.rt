@@ -1,12 +1,13 @@
 //! The program that lists a slice.
-ghost use Rattle.std.specs.Prelude.{◌≡◌, ◌≢◌, ◌≤◌, ◌-◌, ◌^◌, ◌<◌, ◌⊎◌, List, length, map, string_bytes, false, IfOk, IfErr, IsErrOf};
+ghost use Rattle.std.specs.Prelude.{◌≡◌, ◌≢◌, ◌≤◌, ◌-◌, ◌^◌, ◌<◌, ◌⊎◌, List, length, map, string_bytes, true, false, IfOk, IfErr, IsErrOf};
 ghost use Rattle.std.specs.Process.{exit_status};
 ghost use Rattle.kmc_settings.specs.Words.{Word};
 ghost use Rattle.kmc_slice_options.specs.Requests.{IsListRequest};
 ghost use Rattle.kmc_slice_options.specs.declared.listing.ListRequest.{ListRequest};
 ghost use Rattle.kmc_slice_options.specs.declared.listing.ListRequestError.{ListRequestError};
-ghost use Rattle.kmc_slice_programs.specs.Asking.{is_asked};
-ghost use Rattle.kmc_slice_programs.specs.Listing.{AsksForNothing, IsListed, LeavesFront, status_of_answer};
+ghost use Rattle.kmc_slice_programs.specs.Asking.{is_asked, text_asked, Shows, ShowsFront};
+ghost use Rattle.kmc_slice_programs.specs.Listing.{AsksForNothing, IsListed, IsListFault, LeavesFront, status_of_answer};
+ghost use Rattle.kmc_slice_programs.specs.declared.listing.TheConstants.{HELP};
 
 use crate::asking::{asked_text, shown};
 use crate::gathering::gather_files;
@@ -51,6 +52,7 @@ fn listed<T: Threads + Sync + Files + Alloc<A = Global>, W: Write>(
         → LeavesFront (length files.now) params.now
         (W.contents writer.old.inner) (W.contents writer.new.inner) }
     ensures sound { IfErr result (λ e. (r : ListRequestError) → e ≢ ListFault.Request r) }
+    ensures fault { IfErr result (IsListFault (length files.now)) }
 {
     let records = gather_files(rt, files)?;
     match list_records(rt, rt.alloc(), records, params, writer) {
@@ -116,6 +118,10 @@ pub fn list_words<T: Threads + Sync + Files + Eprint + Alloc<A = Global>, W: Wri
         × IsListed (length r.files.items) r.params (W.contents writer.old.inner) (W.contents writer.new.inner)
         × (writer.new.failures ≡ writer.old.failures) }
     ensures misused { exit_status result ≡ 2 → AsksForNothing (map string_bytes words.items) × (writer.new ≡ writer.old) }
+    ensures shown { exit_status result ≡ 0 → is_asked (map string_bytes words.items) ≡ true
+        → Shows W.contents (text_asked HELP.now (map string_bytes words.items)) writer.old writer.new }
+    ensures unshown { exit_status result ≡ 1 → is_asked (map string_bytes words.items) ≡ true
+        → ShowsFront W.contents (text_asked HELP.now (map string_bytes words.items)) writer.old writer.new }
     ensures failed { exit_status result ≡ 1 → is_asked (map string_bytes words.items) ≡ false
         → (writer.new ≡ writer.old) ⊎ ((r : ListRequest) × IsListRequest (map string_bytes words.items) r
         × LeavesFront (length r.files.items) r.params (W.contents writer.old.inner) (W.contents writer.new.inner)) }
@@ -139,7 +145,12 @@ pub fn list_program<T: Threads + Sync + Files + Env + Eprint + Alloc<A = Global>
     ensures done { exit_status result ≡ 0 → (words : List Word) × (is_asked words ≡ false
         → (r : ListRequest) × IsListRequest words r
         × IsListed (length r.files.items) r.params (W.contents writer.old.inner) (W.contents writer.new.inner)
-        × (writer.new.failures ≡ writer.old.failures)) }
+        × (writer.new.failures ≡ writer.old.failures))
+        × (is_asked words ≡ true → Shows W.contents (text_asked HELP.now words) writer.old writer.new) }
+    ensures failed { exit_status result ≡ 1 → (writer.new ≡ writer.old) ⊎ ((words : List Word)
+        × (is_asked words ≡ false → (writer.new ≡ writer.old) ⊎ ((r : ListRequest) × IsListRequest words r
+        × LeavesFront (length r.files.items) r.params (W.contents writer.old.inner) (W.contents writer.new.inner)))
+        × (is_asked words ≡ true → ShowsFront W.contents (text_asked HELP.now words) writer.old writer.new)) }
     ensures misused { exit_status result ≡ 2 → writer.new ≡ writer.old }
     ensures statuses { exit_status result ≤ 2 }
 {

@@ -1,5 +1,5 @@
-use Rattle.std.proofs.Common.{map, string_bytes, Err, refl, sym, ap, ◌∙◌}
-use Rattle.kmc_slice_programs.proofs.Statuses.{asks_for_no_cut, done}
+use Rattle.std.proofs.Common.{map, string_bytes, Err, inl, inr, refl, sym, ap, ◌∙◌}
+use Rattle.kmc_slice_programs.proofs.Statuses.{asks_for_no_cut, done, failed}
 use Rattle.kmc_slice_programs.proofs.cutting.cut_words.Goals as goal
 
 pub returns-in-Ok-clause-done : goal.returns-in-Ok-clause-done
@@ -14,3 +14,11 @@ returns-in-Err-clause-misused g c = λ status. (
   refl,
   refl,
 )
+
+pub returns-in-Ok-clause-failed : goal.returns-in-Ok-clause-failed
+returns-in-Ok-clause-failed g c = λ status _.
+    let why = failed c.cut.result _ c.cut.ensures.fault (sym c.ended.ensures ∙ status) in
+    inr (c.in-Ok.request, c.in-Ok.ensures.asked, why.0, why.1)
+
+pub returns-in-Err-clause-failed : goal.returns-in-Err-clause-failed
+returns-in-Err-clause-failed g c = λ status _. inl refl
