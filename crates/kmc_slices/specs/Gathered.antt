@@ -1,11 +1,12 @@
 -- What is read of the files of one slice.
 use Rattle.std.specs.Prelude.{◌≡◌, ℕ, ◌<◌, List, [], length, replicate, Option}
+use Rattle.std.specs.Io.KnownBytes.{Consumes}
 use Rattle.std.specs.List.{AllZip, flat_map}
 use Rattle.kmc_device.specs.Device.{GaveAll}
 use Rattle.kmc_record.specs.Shapes.{Sizes}
 use Rattle.kmc_store.specs.Bins.{body_at}
 use Rattle.kmc_slice_files.specs.Frames.{Frame, AreFrames, body_of}
-use Rattle.kmc_slice_files.specs.Files.{IsSlicing, file_bytes}
+use Rattle.kmc_slice_files.specs.Files.{IsSlicing, header_bytes, file_bytes}
 use Rattle.kmc_slice_files.specs.Headers.{IsHeaderFault}
 use Rattle.kmc_slice_files.specs.Whole.{IsFaultBehind, SliceTells}
 use Rattle.kmc_slice_files.specs.declared.slice.SliceFault.{SliceFault}
@@ -44,6 +45,10 @@ abbrev pub IsFirstFault : Option (List ℕ) → Option (List ℕ) → SliceFault
 IsFirstFault old new (Header e) = IsHeaderFault old new e
 IsFirstFault old new (Other h) = ⊥
 IsFirstFault old new (Behind e) = (shape : Sizes) × (S s : ℕ) × IsFaultBehind shape S s old new (replicate shape.n []) e
+
+-- the header of a slice was read, and nothing behind it
+abbrev pub GaveHeader : Option (List ℕ) → Option (List ℕ) → Type 0
+GaveHeader old new = (shape : Sizes) × (S s : ℕ) × IsSlicing shape S s × Consumes old new (header_bytes shape S s)
 
 -- what the reader's number of failures tells
 abbrev pub Tells : ℕ → ℕ → GatherError → Type 0

@@ -78,6 +78,7 @@ pub fn list_records<T: Threads + Sync, W: io::Write>(
     ensures kept { IfOk result (λ lines. writer.new.failures ≡ writer.old.failures) }
     ensures foreign { (fault : BinFault) → IsErrOf result (Foreign fault)
         → IsBinFault records.shape records.bodies fault }
+    ensures judged { IsErrOf result Memory → (words : List ℕ) × AreBins records.shape records.bodies words }
     ensures front { IsErrOf result Write → (pairs : List (List ℕ × ℕ))
         × IsDumpOfBins params.now.strands records.shape.k params.now.limits records.bodies pairs
         × AppendsFront (W.contents writer.old.inner) (W.contents writer.new.inner) (text_of pairs) }

@@ -1,5 +1,5 @@
 -- What a merge answers.
-use Rattle.std.specs.Prelude.{◌≡◌, ℕ, ⊤, List, Option, Result, IfOk, IfErr, OnOk, OnErr}
+use Rattle.std.specs.Prelude.{◌≡◌, ℕ, List, Option, Result, IfOk, IfErr, OnOk, OnErr}
 use Rattle.kmc_count.specs.declared.limits.Limits.{Limits}
 use Rattle.kmc_device.specs.Device.{Watched, RisesByOne}
 use Rattle.kmc_sum.specs.Listed.{IsLength}
@@ -9,11 +9,11 @@ use Rattle.kmc_sum.specs.State.{IsBegun, IsSumWritten}
 use Rattle.kmc_sum.specs.declared.error.SumError.{SumError}
 use Rattle.kmc_sum.specs.declared.error.SumError.TheVariants.{Source, Write, Memory, TooLong}
 
--- why a merge was given up: of the readers' bytes at the start and now, and of their failures and the writer's, before and now
+-- why a merge was given up (for want of memory before anything is read or written): of the readers' bytes at the start and now, and of their failures and the writer's, before and now
 abbrev pub IsCause : List (Option (List ℕ)) → List (Option (List ℕ)) → List ℕ → List ℕ → ℕ → ℕ → SumError → Type 0
 IsCause starts nows olds news old new (Source e) = (k : ℕ) × IsLength k × IsFaultOf k starts nows olds news e.source e.fault
 IsCause starts nows olds news old new Write = RisesByOne old new
-IsCause starts nows olds news old new Memory = ⊤
+IsCause starts nows olds news old new Memory = (nows ≡ starts) × (news ≡ olds) × (new ≡ old)
 IsCause starts nows olds news old new TooLong = (k : ℕ) × IsLength k × HaveTooMany k starts nows
 
 -- a merge of readers, which had these bytes at its start, into a writer, each before and after, by its answer
