@@ -61,6 +61,54 @@ def test_each_byte_left_out_doubled_or_changed_is_refused(room):
                 refused(room, "other")
 
 
+def check_word(seed, body):
+    """MurmurHash64A, as docs/DEFINITIONS.md has it."""
+    factor, whole = 0xC6A4A7935BD1E995, 1 << 64
+    state = seed ^ len(body) * factor % whole
+    for place in range(0, len(body) - 7, 8):
+        word = int.from_bytes(body[place:place + 8], "little") * factor % whole
+        word = (word ^ word >> 47) * factor % whole
+        state = (state ^ word) * factor % whole
+    rest = body[len(body) // 8 * 8:]
+    if rest:
+        state = (state ^ int.from_bytes(rest, "little")) * factor % whole
+    state = (state ^ state >> 47) * factor % whole
+    return state ^ state >> 47
+
+
+def framed(number, body):
+    return struct.pack("<HHIQ", number, 0, len(body), check_word(number, body)) + body
+
+
+def test_records_of_another_bin_are_told_with_their_place(room):
+    program("kmc_list")
+    whole = worked_file()
+    # the records of ACGT, which is a word of bin 6, and of GTAC, a word of bin 2
+    first, second = b"\0\x1b", b"\0\xb1"
+    header, end = whole[:28], struct.pack("<HHIQ", 65535, 0, 0, 2)
+    assert header + framed(2, second) + framed(6, first + first) + end == whole
+    for bodies, told in (((first, first), "bin 2: the record at byte 0 has words of another bin"), ((second, first + second), "bin 6: the record at byte 2 has words of another bin"),
+                         ((second[:1], second), "bin 2: the record at byte 0 is damaged"), ((second, first + first[:1]), "bin 6: the record at byte 2 is damaged")):
+        room.write("a", header + framed(2, bodies[0]) + framed(6, bodies[1]) + end)
+        done = subprocess.run([program("kmc_list"), "-ci1", "a"], cwd=room.folder, stdin=subprocess.DEVNULL, stdout=subprocess.PIPE, stderr=subprocess.PIPE,
+                              timeout=LONG, check=False)
+        assert (done.returncode, done.stdout, done.stderr.decode()) == (1, b"", "kmc_list: %s\n" % told), done
+
+
+def test_the_file_that_is_not_made_or_not_written_is_named(room):
+    room.write("a.1", "mine")
+    for words, told in (([], "kmc_cut: a.1: cannot be made; one that is there is written over with --force alone\n"), (["--force"], "kmc_cut: a.2: cannot be written\n")):
+        done = subprocess.run([program("kmc_cut"), "-slices3", *words, "a"], cwd=room.folder, input=content(READS), stdout=subprocess.PIPE, stderr=subprocess.PIPE,
+                              timeout=LONG, check=False)
+        assert (done.returncode, done.stdout, done.stderr.decode()) == (1, b"", told), done
+        # a device that is full stands where the next cut writes its last file
+        for number in range(3):
+            if os.path.exists(room.path("a.%d" % number)) and number != 1:
+                os.remove(room.path("a.%d" % number))
+        os.symlink("/dev/full", room.path("a.2"))
+        assert content(room.path("a.1")) == b"mine" or words
+
+
 def peak(words, room, source):
     """The status of a program, what it told, and the bytes of memory that it took at most. Its input is an open file."""
     # a process of its own, since what is asked for is the greatest of all children

@@ -200,3 +200,20 @@ fn the_calls_that_wait_answer_at_once_where_they_can(rt: HostRuntime) -> Result<
     assert!(rt; last == (None, Some(1)));
     Ok(())
 }
+
+/// Two lanes that have parts: a reader takes from the one and then from the other.
+#[test]
+fn a_reader_goes_round_the_lanes(rt: HostRuntime) -> Result<(), Fail> {
+    let (lanes, mut writers, mut readers) = Lanes::<u8>::new(rt.alloc(), shape!(2, 2, 1))?;
+    let mut reader = readers.pop().expect(&rt, "a reader");
+    let mut second = writers.pop().expect(&rt, "a writer");
+    let mut first = writers.pop().expect(&rt, "a writer");
+    let a = lanes.try_put(&mut first, 5, &NoGate).ok();
+    let b = lanes.try_put(&mut first, 6, &NoGate).ok();
+    let c = lanes.try_put(&mut second, 7, &NoGate).ok();
+    assert!(rt; a == Some(0) && b == Some(1) && c == Some(0));
+    let one = got(lanes.try_take(&mut reader, &NoGate)).expect(&rt, "a part");
+    let two = got(lanes.try_take(&mut reader, &NoGate)).expect(&rt, "a part");
+    assert!(rt; one.0 != two.0);
+    Ok(())
+}

@@ -170,15 +170,24 @@ fn slices_merged_are_one_run(rt: HostRuntime) {
     }
 }
 
+/// Asserts it where each of 512 bins is a slice, of reads in so many parts.
+fn assert_bins<R: Abort + Threads + Wait + Sync>(rt: &R, alloc: Global, many: usize, k: usize) {
+    let mut dice = Dice { state: 9 };
+    let reads = reads_of(alloc, &mut dice, 12).expect(rt, "memory");
+    let text = fasta(alloc, &reads, 1, 0).expect(rt, "memory");
+    let params = settings(rt, k, 512, Strands::Joined, 1);
+    let parts = parts_of(rt, alloc, &reads, many, 512, &params);
+    assert_dump(rt, alloc, &text, &parts, 512, &params);
+}
+
 #[test]
 fn slices_of_one_bin_each_merged_are_one_run(rt: HostRuntime) {
-    let alloc = rt.alloc();
-    let mut dice = Dice { state: 9 };
-    let reads = reads_of(alloc, &mut dice, 12).expect(&rt, "memory");
-    let text = fasta(alloc, &reads, 1, 0).expect(&rt, "memory");
-    let params = settings(&rt, 25, 512, Strands::Joined, 1);
-    let parts = parts_of(&rt, alloc, &reads, 1, 512, &params);
-    assert_dump(&rt, alloc, &text, &parts, 512, &params);
+    for k in [1, 25, 31, 32, 33, 64] {
+        assert_bins(&rt, rt.alloc(), 1, k);
+    }
+    for many in [2, 7] {
+        assert_bins(&rt, rt.alloc(), many, 25);
+    }
 }
 
 /// A read that is cut to pieces as it comes: 1,000 symbols, over and over.
