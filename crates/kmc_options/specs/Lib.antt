@@ -3,3 +3,4 @@ pub mod Glued
 pub mod CommandLine
 pub mod Options
 pub mod Parsed
+pub mod Messages

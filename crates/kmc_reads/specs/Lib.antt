@@ -9,3 +9,4 @@ pub mod Rows
 pub mod Stages
 pub mod Standing
 pub mod Laws
+pub mod Messages

@@ -1,6 +1,7 @@
 //! What the words of a command line ask of the program that cuts.
-ghost use Rattle.std.specs.Prelude.{◌≡◌, IfOk, IsErrOf, MatchOption, ℕ, map, string_bytes};
+ghost use Rattle.std.specs.Prelude.{◌≡◌, IfOk, IsErrOf, MatchOption, ℕ, map, string_bytes, Some};
 ghost use Rattle.kmc_settings.specs.declared.setting.Setting.{Setting};
+ghost use Rattle.kmc_slice_options.specs.Messages.{text_of_no_cut};
 ghost use Rattle.kmc_slice_options.specs.Requests.{AsksForCut, IsCutRequest, IsNumberOfSlices, IsOutOfRange};
 ghost use Rattle.kmc_slice_options.specs.declared.cutting.CutRequestError.TheVariants.{Memory};
 
@@ -9,7 +10,8 @@ use crate::spelling::{any_begins_with, slices_text};
 use kmc_options::{Named, ParamsError, settings};
 use kmc_settings::{Params, Setting, number};
 use std::alloc::{AllocError, Global};
-use thiserror::Error;
+use std::error::Error;
+use std::fmt;
 
 /// The most slices that reads are cut into.
 pub const MOST_SLICES: u64 = 1000;
@@ -30,22 +32,39 @@ pub struct CutRequest {
 }
 
 /// Why the words ask for no cut. Usage is judged first, then KMC's options in the order of kmc, then the slices.
-#[derive(Clone, Copy, Debug, PartialEq, Eq, Error)]
+#[derive(Clone, Copy, Debug, PartialEq, Eq)]
 pub enum CutRequestError {
     /// A word is no option of this program, an option is given twice or without its value, or there is not one prefix and one number
     /// of slices.
-    #[error("usage: kmc_cut [-fa|-fq|-fm] [-k<len>] [-p<len>] [-n<bins>] [-sp<n>] -slices<S> [--force] <prefix>")]
     Usage,
     /// The value of this option is no number, or out of its range.
-    #[error("kmc_cut: value of -{} is out of range", .0.name())]
     OutOfRange(Setting),
     /// The number of slices is no number, or it is not from 1 to 1000, or there are fewer bins.
-    #[error("kmc_cut: value of -slices is out of range")]
     Slices,
     /// Memory was refused.
-    #[error("kmc_cut: out of memory")]
     Memory,
 }
+
+impl fmt::Display for CutRequestError {
+    ghost output = { λ e. Some (text_of_no_cut e) };
+
+    fn fmt<W: fmt::Write>(&self, f: &mut fmt::Formatter<W>) -> fmt::Result {
+        match self {
+            CutRequestError::Usage => write!(
+                f,
+                "usage: kmc_cut [-fa|-fq|-fm] [-k<len>] [-p<len>] [-n<bins>] [-sp<n>] -slices<S> [--force] <prefix>"
+            ),
+            CutRequestError::OutOfRange(setting) => {
+                let name = setting.name();
+                write!(f, "kmc_cut: value of -{name} is out of range")
+            }
+            CutRequestError::Slices => write!(f, "kmc_cut: value of -slices is out of range"),
+            CutRequestError::Memory => write!(f, "kmc_cut: out of memory"),
+        }
+    }
+}
+
+impl Error for CutRequestError {}
 
 impl From<AllocError> for CutRequestError {
     ghost from_gives = { λ _ e. e ≡ Memory };

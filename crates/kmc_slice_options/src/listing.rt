@@ -1,6 +1,7 @@
 //! What the words of a command line ask of the program that lists.
-ghost use Rattle.std.specs.Prelude.{◌≡◌, IfOk, IsErrOf, map, string_bytes};
+ghost use Rattle.std.specs.Prelude.{◌≡◌, IfOk, IsErrOf, map, string_bytes, Some};
 ghost use Rattle.kmc_settings.specs.declared.setting.Setting.{Setting};
+ghost use Rattle.kmc_slice_options.specs.Messages.{text_of_no_list};
 ghost use Rattle.kmc_slice_options.specs.Requests.{AsksForList, IsListRequest, IsOutOfRange};
 ghost use Rattle.kmc_slice_options.specs.declared.listing.ListRequestError.TheVariants.{Memory};
 
@@ -9,7 +10,8 @@ use crate::spelling::any_begins_with;
 use kmc_options::{Named, ParamsError, settings};
 use kmc_settings::{Params, Setting};
 use std::alloc::{AllocError, Global};
-use thiserror::Error;
+use std::error::Error;
+use std::fmt;
 
 /// The most files of one slice.
 pub const MOST_FILES: usize = 100_000;
@@ -28,18 +30,35 @@ pub struct ListRequest {
 }
 
 /// Why the words ask for no list. Usage is judged first, then the options in the order of kmc.
-#[derive(Clone, Copy, Debug, PartialEq, Eq, Error)]
+#[derive(Clone, Copy, Debug, PartialEq, Eq)]
 pub enum ListRequestError {
     /// A word is no option of this program, an option is given twice or without its value, or there is no file or more than 100,000.
-    #[error("usage: kmc_list [-ci<n>] [-cx<n>] [-cs<n>] [-sr<n>] [-b] <file> ..")]
     Usage,
     /// The value of this option is no number, or out of its range.
-    #[error("kmc_list: value of -{} is out of range", .0.name())]
     OutOfRange(Setting),
     /// Memory was refused.
-    #[error("kmc_list: out of memory")]
     Memory,
 }
+
+impl fmt::Display for ListRequestError {
+    ghost output = { λ e. Some (text_of_no_list e) };
+
+    fn fmt<W: fmt::Write>(&self, f: &mut fmt::Formatter<W>) -> fmt::Result {
+        match self {
+            ListRequestError::Usage => write!(
+                f,
+                "usage: kmc_list [-ci<n>] [-cx<n>] [-cs<n>] [-sr<n>] [-b] <file> .."
+            ),
+            ListRequestError::OutOfRange(setting) => {
+                let name = setting.name();
+                write!(f, "kmc_list: value of -{name} is out of range")
+            }
+            ListRequestError::Memory => write!(f, "kmc_list: out of memory"),
+        }
+    }
+}
+
+impl Error for ListRequestError {}
 
 impl From<AllocError> for ListRequestError {
     ghost from_gives = { λ _ e. e ≡ Memory };

@@ -3,7 +3,6 @@ ghost use Rattle.std.specs.Prelude.{◌≡◌, Some};
 ghost use Rattle.kmc_slice_programs.specs.Cutting.{status_of};
 ghost use Rattle.kmc_slice_programs.specs.Messages.{message_of_cut};
 
-use crate::texts::{NoCut, NoReads};
 use kmc_slice_files::CreateFault;
 use kmc_slice_options::CutRequestError;
 use kmc_slices::CutError;
@@ -52,10 +51,7 @@ impl fmt::Display for CutMessage<'_> {
     fn fmt<W: fmt::Write>(&self, f: &mut fmt::Formatter<W>) -> fmt::Result {
         let prefix = self.prefix;
         match self.fault {
-            CutFault::Request(error) => {
-                let why = NoCut(error);
-                write!(f, "{why}")
-            }
+            CutFault::Request(error) => write!(f, "{error}"),
             CutFault::NotMade(CreateFault::File(s)) => {
                 write!(
                     f,
@@ -68,10 +64,7 @@ impl fmt::Display for CutMessage<'_> {
             CutFault::Cut(CutError::Write(s)) => {
                 write!(f, "kmc_cut: {prefix}.{s}: cannot be written")
             }
-            CutFault::Cut(CutError::Input(error)) => {
-                let why = NoReads(error);
-                write!(f, "kmc_cut: {why}")
-            }
+            CutFault::Cut(CutError::Input(error)) => write!(f, "kmc_cut: {error}"),
             CutFault::Cut(CutError::TooLong) => write!(f, "kmc_cut: input too long"),
         }
     }

@@ -5,10 +5,10 @@
 mod asking;
 mod cut_fault;
 mod cutting;
+mod foreign;
 mod gathering;
 mod list_fault;
 mod listing;
-mod texts;
 
 pub use cut_fault::{CutFault, CutMessage};
 pub use cutting::{cut_program, cut_words};

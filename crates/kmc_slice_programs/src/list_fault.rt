@@ -4,7 +4,7 @@ ghost use Rattle.kmc_slice_programs.specs.Listing.{status_of};
 ghost use Rattle.kmc_slice_programs.specs.Messages.{message_of_list, name_at};
 ghost use Rattle.kmc_slice_programs.specs.declared.list_fault.ListFault.TheVariants.{Dump};
 
-use crate::texts::{Foreign, NoList};
+use crate::foreign::Foreign;
 use kmc_slice_files::SliceFault;
 use kmc_slice_options::ListRequestError;
 use kmc_slices::ListError;
@@ -75,10 +75,7 @@ impl fmt::Display for ListMessage<'_> {
 
     fn fmt<W: fmt::Write>(&self, f: &mut fmt::Formatter<W>) -> fmt::Result {
         match self.fault {
-            ListFault::Request(error) => {
-                let why = NoList(error);
-                write!(f, "{why}")
-            }
+            ListFault::Request(error) => write!(f, "{error}"),
             ListFault::NotOpened(i) => {
                 let name = name_of(self.files, i);
                 write!(f, "kmc_list: {name}: cannot be opened")

@@ -1,30 +1,43 @@
 //! Why a run gave up.
-ghost use Rattle.std.specs.Prelude.{◌≡◌};
+ghost use Rattle.std.specs.Prelude.{◌≡◌, Some};
+ghost use Rattle.kmc_tool.specs.Messages.{text_of_run_error};
 ghost use Rattle.kmc_tool.specs.declared.error.RunError.TheVariants.{Memory};
 
 use kmc_reads::ReadsError;
 use std::alloc::AllocError;
-use thiserror::Error;
+use std::error::Error;
+use std::fmt;
 
 /// Why a run gave up. Of several causes the one that is met first is answered.
-#[derive(Clone, Copy, Debug, PartialEq, Eq, Error)]
+#[derive(Clone, Copy, Debug, PartialEq, Eq)]
 pub enum RunError {
     /// A growth or the start of a thread was refused.
-    #[error("out of memory")]
     Memory,
     /// A read failed, of whatever kind.
-    #[error("read failed")]
     Read,
     /// A write or the flush failed, or a write took nothing of what was left.
-    #[error("write failed")]
     Write,
     /// The text is no list of reads; never for want of memory.
-    #[error("{0}")]
     Input(ReadsError),
     /// 2^32 reads gave bytes.
-    #[error("input too long")]
     TooLong,
 }
+
+impl fmt::Display for RunError {
+    ghost output = { λ e. Some (text_of_run_error e) };
+
+    fn fmt<W: fmt::Write>(&self, f: &mut fmt::Formatter<W>) -> fmt::Result {
+        match self {
+            RunError::Memory => write!(f, "out of memory"),
+            RunError::Read => write!(f, "read failed"),
+            RunError::Write => write!(f, "write failed"),
+            RunError::Input(error) => write!(f, "{error}"),
+            RunError::TooLong => write!(f, "input too long"),
+        }
+    }
+}
+
+impl Error for RunError {}
 
 impl From<AllocError> for RunError {
     ghost from_gives = { λ _ e. e ≡ Memory };

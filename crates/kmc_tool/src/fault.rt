@@ -1,5 +1,6 @@
 //! What a fault shows its user: one line on standard error, and the exit status.
-ghost use Rattle.std.specs.Prelude.{◌≡◌, ◌≢◌, not, true};
+ghost use Rattle.std.specs.Prelude.{◌≡◌, ◌≢◌, not, true, Some};
+ghost use Rattle.kmc_tool.specs.Messages.{message_of};
 ghost use Rattle.kmc_tool.specs.declared.fault.Fault.TheVariants.{Options, Run};
 
 use crate::error::RunError;
@@ -47,6 +48,8 @@ impl Fault {
 }
 
 impl fmt::Display for Fault {
+    ghost output = { λ fault. Some (message_of fault) };
+
     fn fmt<W: fmt::Write>(&self, f: &mut fmt::Formatter<W>) -> fmt::Result {
         match self {
             Fault::Options(error) => write!(f, "{error}"),
