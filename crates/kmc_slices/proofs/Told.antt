@@ -1,52 +1,55 @@
 -- Refusals of the reading, as they are told.
 use Rattle.std.proofs.Common.{◌≡◌, ◌≢◌, ℕ, ◌-◌, ◌≤◌, List, [], ◌++◌, Option, Result, Ok, Err, IfErr, inr, sym, subst, arith, append_assoc, length-append}
 use Rattle.std.specs.Io.KnownBytes.{IsAtEnd}
+use Rattle.kmc_reads.specs.declared.error.ReadsError.{ReadsError}
+use Rattle.kmc_reads.specs.declared.error.ReadsError.TheVariants as reads
 use Rattle.kmc_reads.specs.declared.format.Format.{Format}
+use Rattle.kmc_reads.specs.Reads.{reads_of}
 use Rattle.kmc_reads.specs.Standing.{FeederState, StandsCut}
 use Rattle.kmc_record.specs.Shapes.{Sizes}
-use Rattle.kmc_tool.specs.declared.error.RunError.{RunError}
-use Rattle.kmc_tool.specs.declared.error.RunError.TheVariants as run
-use Rattle.kmc_tool.specs.Rounds.{AreCountsOf, IsFed, IsFedBy, IsInputError, IsLastError}
+use Rattle.kmc_tool.specs.declared.error.InputError.{InputError}
+use Rattle.kmc_tool.specs.declared.error.InputError.TheVariants as input
+use Rattle.kmc_tool.specs.Errors.{input_error}
+use Rattle.kmc_tool.specs.Rounds.{AreCountsOf, IsFed, IsFedBy, IsInputError}
 use Rattle.kmc_tool.specs.Lemmas.Fed.{consumes_on, refused_on}
 use Rattle.kmc_slices.specs.declared.error.CutError.{CutError}
 use Rattle.kmc_slices.specs.declared.error.CutError.TheVariants.{Memory, Read, Write, Input, TooLong}
 use Rattle.kmc_slices.specs.Cut.{AreReadCounts, AreWriteCounts, IsCutError, IsLastCutError, IsToldAs}
 use Rattle.kmc_slices.specs.Rounds.{AreRounds}
 
-pub not_write : (most before after failed fails : ℕ) (e : RunError) → AreCountsOf most before after failed fails e → e ≢ run.Write
-not_write most before after failed fails e counts is = subst (AreCountsOf most before after failed fails) is counts
-
-pub told_counts : (most before after failed fails : ℕ) (e : RunError) (c : CutError) → IsToldAs e c → AreCountsOf most before after failed fails e
+pub told_counts : (most before after failed fails : ℕ) (e : InputError) (c : CutError) → IsToldAs e c → AreCountsOf most before after failed fails e
     → AreReadCounts most before after failed fails c
-told_counts most before after failed fails run.Memory c is h = subst (AreReadCounts most before after failed fails) (sym is) h
-told_counts most before after failed fails run.Read c is h = subst (AreReadCounts most before after failed fails) (sym is) h
-told_counts most before after failed fails run.Write c is h = absurd is
-told_counts most before after failed fails (run.Input e) c is h = subst (AreReadCounts most before after failed fails) (sym is) h
-told_counts most before after failed fails run.TooLong c is h = subst (AreReadCounts most before after failed fails) (sym is) h
+told_counts most before after failed fails input.Memory c is h = subst (AreReadCounts most before after failed fails) (sym is) h
+told_counts most before after failed fails input.Read c is h = subst (AreReadCounts most before after failed fails) (sym is) h
+told_counts most before after failed fails (input.Faulty e) c is h = subst (AreReadCounts most before after failed fails) (sym is) h
+told_counts most before after failed fails input.TooLong c is h = subst (AreReadCounts most before after failed fails) (sym is) h
 
-pub told_cause : (format : Format) (most : ℕ) (old new : Option (List ℕ)) (e : RunError) (c : CutError) → IsToldAs e c
+pub told_cause : (format : Format) (most : ℕ) (old new : Option (List ℕ)) (e : InputError) (c : CutError) → IsToldAs e c
     → IsInputError format most old new e
     → IsCutError format most old new c
-told_cause format most old new run.Memory c is h = subst (IsCutError format most old new) (sym is) tt
-told_cause format most old new run.Read c is h = subst (IsCutError format most old new) (sym is) tt
-told_cause format most old new run.Write c is h = absurd is
-told_cause format most old new (run.Input e) c is h = subst (IsCutError format most old new) (sym is) h
-told_cause format most old new run.TooLong c is h = subst (IsCutError format most old new) (sym is) h
+told_cause format most old new input.Memory c is h = subst (IsCutError format most old new) (sym is) tt
+told_cause format most old new input.Read c is h = subst (IsCutError format most old new) (sym is) tt
+told_cause format most old new (input.Faulty e) c is h = subst (IsCutError format most old new) (sym is) h
+told_cause format most old new input.TooLong c is h = subst (IsCutError format most old new) (sym is) h
 
-pub told_last : (format : Format) (text : List ℕ) (e : RunError) (c : CutError) → IsToldAs e c → IsLastError format text e
-    → IsLastCutError format text c
-told_last format text run.Memory c is h = subst (IsLastCutError format text) (sym is) tt
-told_last format text run.Read c is h = absurd h
-told_last format text run.Write c is h = absurd is
-told_last format text (run.Input e) c is h = subst (IsLastCutError format text) (sym is) h
-told_last format text run.TooLong c is h = absurd h
+pub told_last : (format : Format) (text : List ℕ) (e : ReadsError) (i : InputError) (c : CutError) → i ≡ input_error e → IsToldAs i c
+    → (e ≢ reads.Memory → reads_of format text ≡ Err e) → IsLastCutError format text c
+told_last format text reads.Memory i c same is h =
+    subst (IsLastCutError format text) (sym (subst (λ j. IsToldAs j c) same is)) tt
+told_last format text (reads.BadHeader n) i c same is h =
+    subst (IsLastCutError format text) (sym (subst (λ j. IsToldAs j c) same is)) (h (λ e. absurd (cc)))
+told_last format text (reads.BadPlus n) i c same is h =
+    subst (IsLastCutError format text) (sym (subst (λ j. IsToldAs j c) same is)) (h (λ e. absurd (cc)))
+told_last format text (reads.QualityLength n) i c same is h =
+    subst (IsLastCutError format text) (sym (subst (λ j. IsToldAs j c) same is)) (h (λ e. absurd (cc)))
+told_last format text (reads.Truncated n) i c same is h =
+    subst (IsLastCutError format text) (sym (subst (λ j. IsToldAs j c) same is)) (h (λ e. absurd (cc)))
 
-pub told_writes : (olds news : List ℕ) (e : RunError) (c : CutError) → IsToldAs e c → news ≡ olds → AreWriteCounts olds news c
-told_writes olds news run.Memory c is same = subst (AreWriteCounts olds news) (sym is) same
-told_writes olds news run.Read c is same = subst (AreWriteCounts olds news) (sym is) same
-told_writes olds news run.Write c is same = absurd is
-told_writes olds news (run.Input e) c is same = subst (AreWriteCounts olds news) (sym is) same
-told_writes olds news run.TooLong c is same = subst (AreWriteCounts olds news) (sym is) same
+pub told_writes : (olds news : List ℕ) (e : InputError) (c : CutError) → IsToldAs e c → news ≡ olds → AreWriteCounts olds news c
+told_writes olds news input.Memory c is same = subst (AreWriteCounts olds news) (sym is) same
+told_writes olds news input.Read c is same = subst (AreWriteCounts olds news) (sym is) same
+told_writes olds news (input.Faulty e) c is same = subst (AreWriteCounts olds news) (sym is) same
+told_writes olds news input.TooLong c is same = subst (AreWriteCounts olds news) (sym is) same
 
 -- the numbers and the cause where the last round was not cut
 pub last_counts : {A : Type 0} (format : Format) (text : List ℕ) (most before after failed fails : ℕ) (r : Result A CutError) → fails ≡ failed
@@ -98,11 +101,10 @@ taken_since overlap format old mid new a b c text taken more v w f g = record {
 -- and the reading was refused
 pub refused_since : (overlap : ℕ) (format : Format) (old mid new : Option (List ℕ)) (a b c : ℕ) (text : List ℕ) (taken more : List (List ℕ))
     (v w : FeederState)
-    (e : RunError) (f : IsFed overlap format old mid a b text taken v) → IsFedBy overlap format mid new b c (text ++ f.bytes) more w (Err e)
+    (e : InputError) (f : IsFed overlap format old mid a b text taken v) → IsFedBy overlap format mid new b c (text ++ f.bytes) more w (Err e)
     → IsFedBy overlap format old new a c text more w (Err e)
-refused_since overlap format old mid new a b c text taken more v w run.Memory f g = tt
-refused_since overlap format old mid new a b c text taken more v w run.Read f g = tt
-refused_since overlap format old mid new a b c text taken more v w run.Write f g = tt
-refused_since overlap format old mid new a b c text taken more v w (run.Input e) f g = refused_on overlap format old mid new a b text taken v e f g
-refused_since overlap format old mid new a b c text taken more v w run.TooLong f g =
+refused_since overlap format old mid new a b c text taken more v w input.Memory f g = tt
+refused_since overlap format old mid new a b c text taken more v w input.Read f g = tt
+refused_since overlap format old mid new a b c text taken more v w (input.Faulty e) f g = refused_on overlap format old mid new a b text taken v e f g
+refused_since overlap format old mid new a b c text taken more v w input.TooLong f g =
     taken_since overlap format old mid new a b c text taken more v w f g

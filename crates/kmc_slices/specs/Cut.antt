@@ -12,8 +12,8 @@ use Rattle.kmc_settings.specs.Shape.{shape_of}
 use Rattle.kmc_store.specs.Bins.{AreBins}
 use Rattle.kmc_slice_files.specs.Files.{IsSliceFile}
 use Rattle.kmc_slice_files.specs.Writes.{AreFiles, HasFailed, held_at}
-use Rattle.kmc_tool.specs.declared.error.RunError.{RunError}
-use Rattle.kmc_tool.specs.declared.error.RunError.TheVariants as run
+use Rattle.kmc_tool.specs.declared.error.InputError.{InputError}
+use Rattle.kmc_tool.specs.declared.error.InputError.TheVariants as input
 use Rattle.kmc_tool.specs.Rounds.{HoldsPieces, IsRefused}
 use Rattle.kmc_slices.specs.declared.error.CutError.{CutError}
 use Rattle.kmc_slices.specs.declared.error.CutError.TheVariants.{Memory, Read, Write, Input, TooLong}
@@ -43,13 +43,12 @@ pub record BeganSlices (format : Format) (shape : Sizes) (limit S : ℕ) (old ne
   pub holds : HoldAllInput format shape limit old new bodies
   pub fronts : (s : ℕ) → s < S → (text : List ℕ) × IsSliceFile shape S s bodies text × AppendsFront (held_at olds s) (held_at news s) text
 
--- how a refusal of a run is told; no run that reads alone fails by a write
-abbrev pub IsToldAs : RunError → CutError → Type 0
-IsToldAs run.Memory e = e ≡ Memory
-IsToldAs run.Read e = e ≡ Read
-IsToldAs run.Write e = ⊥
-IsToldAs (run.Input fault) e = e ≡ Input fault
-IsToldAs run.TooLong e = e ≡ TooLong
+-- how a refusal of the reading is told
+abbrev pub IsToldAs : InputError → CutError → Type 0
+IsToldAs input.Memory e = e ≡ Memory
+IsToldAs input.Read e = e ≡ Read
+IsToldAs (input.Faulty fault) e = e ≡ Input fault
+IsToldAs input.TooLong e = e ≡ TooLong
 
 -- how many reads gave bytes, at most so many, and how many calls of the reader failed, by the cause of a refusal
 abbrev pub AreReadCounts : ℕ → ℕ → ℕ → ℕ → ℕ → CutError → Type 0

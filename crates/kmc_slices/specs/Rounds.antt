@@ -12,7 +12,7 @@ use Rattle.kmc_slices.specs.Slices.{Part, IsCutTo, all_reads, whole_bodies}
 use Rattle.kmc_reads.specs.declared.format.Format.{Format}
 use Rattle.kmc_reads.specs.Standing.{FeederState}
 use Rattle.kmc_record.specs.Shapes.{Sizes}
-use Rattle.kmc_tool.specs.declared.error.RunError.{RunError}
+use Rattle.kmc_tool.specs.declared.error.InputError.{InputError}
 use Rattle.kmc_tool.specs.Rounds.{IsFed, IsFedBy, HoldsPieces}
 
 -- the bins hold the reads of one round, which stand behind those that were taken before, and the feeder took what the reader gave meanwhile
@@ -24,7 +24,7 @@ pub record IsRound (shape : Sizes) (limit : ℕ) (format : Format) (old new : Op
 
 -- a round gave no bins: the text is refused, or what was fed before the reader failed, gave too much or memory was refused
 pub record IsRoundError (overlap : ℕ) (format : Format) (old new : Option (List ℕ)) (before after : ℕ) (text : List ℕ)
-    (taken : List (List ℕ)) (v : FeederState) (e : RunError) : Type 0 where
+    (taken : List (List ℕ)) (v : FeederState) (e : InputError) : Type 0 where
   pub round : List (List ℕ)
   pub fed : IsFedBy overlap format old new before after text (taken ++ round) v (Err e)
 

@@ -14,7 +14,7 @@ use kmc_partqueue::Gate;
 use kmc_reads::Feeder;
 use kmc_store::Bins;
 use kmc_store::laws::empty_bins_hold_no_reads;
-use kmc_tool::{Dealing, fill_round, last_round, round_of};
+use kmc_tool::{Dealing, InputError, fill_round, last_round, round_of};
 use std::io::{Read, Write};
 use std::sync::Wait;
 use std::thread::Threads;
@@ -56,7 +56,7 @@ fn cut_last_round<T: Threads + Wait + Sync, W: Write, G: Gate + Sync>(
     let bins = Bins::new(dealing.alloc, dealing.params.shape())?;
     let bins = match last_round(rt, bins, feeder, dealing) {
         Ok(bins) => bins,
-        Err(e) => return Err(told(e)),
+        Err(e) => return Err(told(InputError::from(e))),
     };
     match write_bins(writers, counts, &bins) {
         Ok(()) => Ok(()),

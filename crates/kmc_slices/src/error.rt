@@ -1,10 +1,10 @@
 //! Why reads were not cut to the files of slices.
-ghost use Rattle.std.specs.Prelude.{◌≡◌, ◌≢◌};
+ghost use Rattle.std.specs.Prelude.{◌≡◌};
 ghost use Rattle.kmc_slices.specs.Cut.{IsToldAs};
 ghost use Rattle.kmc_slices.specs.declared.error.CutError.TheVariants.{Memory};
 
 use kmc_reads::ReadsError;
-use kmc_tool::RunError;
+use kmc_tool::InputError;
 use std::alloc::AllocError;
 
 /// Why reads were not cut to the files of slices. Of several causes the one that is met first is answered.
@@ -30,16 +30,14 @@ impl From<AllocError> for CutError {
     }
 }
 
-/// How a refusal of the reading, which is none of a write, is told.
-pub(crate) fn told(e: RunError) -> CutError
-    requires { e ≢ RunError.Write }
+/// How a refusal of the reading is told.
+pub(crate) fn told(e: InputError) -> CutError
     ensures { IsToldAs e result }
 {
     match e {
-        RunError::Memory => CutError::Memory,
-        RunError::Read => CutError::Read,
-        RunError::Write => unreachable!(),
-        RunError::Input(fault) => CutError::Input(fault),
-        RunError::TooLong => CutError::TooLong,
+        InputError::Memory => CutError::Memory,
+        InputError::Read => CutError::Read,
+        InputError::Faulty(fault) => CutError::Input(fault),
+        InputError::TooLong => CutError::TooLong,
     }
 }

@@ -12,7 +12,7 @@ use kmc_partqueue::Gate;
 use kmc_reads::Feeder;
 use kmc_store::Bins;
 use kmc_store::laws::empty_bins_hold_no_reads;
-use kmc_tool::{Dealing, RunError, feed_round};
+use kmc_tool::{Dealing, InputError, feed_round};
 use std::io::Read;
 use std::sync::Wait;
 use std::thread::Threads;
@@ -25,7 +25,7 @@ pub(crate) fn next_bins<T: Threads + Wait + Sync, R: Read, G: Gate + Sync>(
     reader: &mut Counted<R>,
     feeder: &mut Feeder,
     most: u64,
-) -> Result<(Bins, bool), RunError>
+) -> Result<(Bins, bool), InputError>
     requires failures { reader.old.failures < 2 ^ 64 - 1 }
     requires reads { reader.old.reads ≤ most }
     ensures shape { IfOk result (λ p. p.0.shape ≡ shape_of dealing.now.params) }

@@ -15,8 +15,8 @@ use Rattle.kmc_base.specs.Pieces.{pieces}
 use Rattle.kmc_record.specs.Shapes.{Sizes}
 use Rattle.kmc_store.specs.Bins.{BinList}
 use Rattle.kmc_store.specs.Holds.{HoldsReads}
-use Rattle.kmc_tool.specs.declared.error.RunError.{RunError}
-use Rattle.kmc_tool.specs.declared.error.RunError.TheVariants.{Memory, Read, Write, Input, TooLong}
+use Rattle.kmc_tool.specs.declared.error.InputError.{InputError}
+use Rattle.kmc_tool.specs.declared.error.InputError.TheVariants.{Memory, Read, Faulty, TooLong}
 
 -- the reader gave bytes, at least one a read that was counted, and the feeder, which stood at this text, took them: of its reads, some maybe cut,
 -- these were taken
@@ -35,12 +35,11 @@ pub record IsRefused (format : Format) (old new : Option (List ℕ)) (text : Lis
   pub for_good : ((rest : List ℕ) → reads_of format ((text ++ bytes) ++ rest) ≡ Err e) ⊎ IsAtEnd new
 
 -- what was fed, by the answer: all that was read, or what is refused with it
-abbrev pub IsFedBy : ℕ → Format → Option (List ℕ) → Option (List ℕ) → ℕ → ℕ → List ℕ → List (List ℕ) → FeederState → Result Bool RunError → Type 0
+abbrev pub IsFedBy : ℕ → Format → Option (List ℕ) → Option (List ℕ) → ℕ → ℕ → List ℕ → List (List ℕ) → FeederState → Result Bool InputError → Type 0
 IsFedBy overlap format old new before after text taken v (Ok more) = IsFed overlap format old new before after text taken v
 IsFedBy overlap format old new before after text taken v (Err Memory) = Unit {0}
 IsFedBy overlap format old new before after text taken v (Err Read) = Unit {0}
-IsFedBy overlap format old new before after text taken v (Err Write) = Unit {0}
-IsFedBy overlap format old new before after text taken v (Err (Input e)) = IsRefused format old new text e
+IsFedBy overlap format old new before after text taken v (Err (Faulty e)) = IsRefused format old new text e
 IsFedBy overlap format old new before after text taken v (Err TooLong) = IsFed overlap format old new before after text taken v
 
 -- fewer than so many reads wait in the feeder, with fewer than so many symbols, and an open read has fewer that can be handed out
@@ -61,15 +60,14 @@ pub record IsFilled (reads symbols piece : ℕ) (overlap : ℕ) (format : Format
   pub room : (earlier ≡ old) ⊎ HasRoom reads symbols earlier
 
 -- how many reads gave bytes, at most so many, and how many calls failed, by the cause of a refusal
-abbrev pub AreCountsOf : ℕ → ℕ → ℕ → ℕ → ℕ → RunError → Type 0
+abbrev pub AreCountsOf : ℕ → ℕ → ℕ → ℕ → ℕ → InputError → Type 0
 AreCountsOf most before after failed fails Memory = (fails ≡ failed) × (before ≤ after) × (after ≤ most)
 AreCountsOf most before after failed fails Read = (fails ≡ failed + 1) × (before ≤ after) × (after < most)
-AreCountsOf most before after failed fails Write = ⊥
-AreCountsOf most before after failed fails (Input e) = (fails ≡ failed) × (before ≤ after) × (after ≤ most)
+AreCountsOf most before after failed fails (Faulty e) = (fails ≡ failed) × (before ≤ after) × (after ≤ most)
 AreCountsOf most before after failed fails TooLong = (fails ≡ failed) × (before ≤ after) × (after ≡ most)
 
 -- the same by an answer, which is whether the text goes on
-abbrev pub AreCounts : ℕ → ℕ → ℕ → ℕ → ℕ → Result Bool RunError → Type 0
+abbrev pub AreCounts : ℕ → ℕ → ℕ → ℕ → ℕ → Result Bool InputError → Type 0
 AreCounts most before after failed fails (Ok true) = (fails ≡ failed) × (before < after) × (after ≤ most)
 AreCounts most before after failed fails (Ok false) = (fails ≡ failed) × (before ≤ after) × (after < most)
 AreCounts most before after failed fails (Err e) = AreCountsOf most before after failed fails e
@@ -89,18 +87,9 @@ pub record HoldsInput (format : Format) (shape : Sizes) (limit : ℕ) (old new :
   pub shaped : bins.shape ≡ shape
   pub holds : HoldsPieces shape limit cuts bins.bodies
 
--- why the last round gave no bins
-abbrev pub IsLastError : Format → List ℕ → RunError → Type 0
-IsLastError format text Memory = Unit {0}
-IsLastError format text Read = ⊥
-IsLastError format text Write = ⊥
-IsLastError format text (Input e) = reads_of format text ≡ Err e
-IsLastError format text TooLong = ⊥
-
 -- why an input gave no bins: it is refused, or so many reads gave bytes, which have no fault
-abbrev pub IsInputError : Format → ℕ → Option (List ℕ) → Option (List ℕ) → RunError → Type 0
+abbrev pub IsInputError : Format → ℕ → Option (List ℕ) → Option (List ℕ) → InputError → Type 0
 IsInputError format most old new Memory = Unit {0}
 IsInputError format most old new Read = Unit {0}
-IsInputError format most old new Write = ⊥
-IsInputError format most old new (Input e) = IsRefused format old new [] e
+IsInputError format most old new (Faulty e) = IsRefused format old new [] e
 IsInputError format most old new TooLong = (bytes : List ℕ) × Consumes old new bytes × (most ≤ length bytes) × (fault format bytes ≡ None)

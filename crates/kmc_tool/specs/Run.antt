@@ -18,8 +18,9 @@ use Rattle.kmc_reads.specs.declared.error.ReadsError.{ReadsError}
 use Rattle.kmc_reads.specs.declared.error.ReadsError.TheVariants.{Memory as NoMemory}
 use Rattle.kmc_settings.specs.declared.params.Params.{Params}
 use Rattle.kmc_tool.specs.Rounds.{AreCountsOf, IsInputError, IsRefused}
+use Rattle.kmc_tool.specs.declared.error.InputError.{InputError}
 use Rattle.kmc_tool.specs.declared.error.RunError.{RunError}
-use Rattle.kmc_tool.specs.declared.error.RunError.TheVariants.{Memory, Read, Write, Input, TooLong}
+use Rattle.kmc_tool.specs.declared.error.RunError.TheVariants.{Read, Write, Input, TooLong}
 
 -- the pairs are the dump of the direct count of the reads of all that a reader gave
 pub record IsDumpOfInput (format : Format) (strands : Strands) (k : ℕ) (limits : Limits) (old new : Option (List ℕ)) (pairs : List (List ℕ × ℕ)) : Type 0 where
@@ -38,17 +39,9 @@ pub record IsDumpOf (format : Format) (bytes : List ℕ) (strands : Strands) (k 
   pub is_text : text ≡ text_of pairs
   pub is_count : lines ≡ length pairs
 
--- what a refusal of the writing leaves behind, by its cause
-abbrev pub IsWriteError : Type 0 → Type 0 → Type 0 → RunError → Type 0
-IsWriteError untouched failed front Memory = untouched
-IsWriteError untouched failed front Read = ⊥
-IsWriteError untouched failed front Write = failed × front
-IsWriteError untouched failed front (Input e) = ⊥
-IsWriteError untouched failed front TooLong = ⊥
-
 -- lists of bins that are the dump of all that a reader gave, of which at most so many reads gave bytes; or why there are none
 pub record IsCountedInput {R : Type 0} (remaining : R → Option (List ℕ)) (params : Params) (most : ℕ) (reader read : Watched R)
-    (answer : Result BinLists RunError) : Type 0 where
+    (answer : Result BinLists InputError) : Type 0 where
   pub merge : IfOk answer (λ lists. CanBeMerged params.k (lists_of lists))
   pub dump : IfOk answer (λ lists. IsDumpOfInput params.format params.strands params.k params.limits (remaining reader.inner) (remaining read.inner)
       (spelled params.k (whole (lists_of lists))))

@@ -2,7 +2,7 @@
 ghost use Rattle.std.specs.Prelude.{◌+◌, ◌-◌, ◌^◌, ◌<◌, ◌≤◌};
 ghost use Rattle.kmc_tool.specs.Run.{IsCountedInput};
 
-use crate::error::RunError;
+use crate::error::InputError;
 use crate::laws::{cut_reads_are_counted, held_reads_are_counted};
 use crate::listing::stage_two;
 use crate::rounds::bins_of_input;
@@ -29,7 +29,7 @@ pub fn count_input<T: Threads + Wait + Sync, R: Read>(
     alloc: Global,
     reader: &mut Counted<R>,
     params: &Params,
-) -> Result<BinLists, RunError>
+) -> Result<BinLists, InputError>
     requires failures { reader.old.failures < 2 ^ 64 - 1 }
     requires reads { reader.old.reads + 2 ^ 32 < 2 ^ 64 }
     ensures { IsCountedInput R.remaining params.now (2 ^ 32) reader.old reader.new result }
@@ -46,7 +46,7 @@ pub fn count_input_with<T: Threads + Wait + Sync, R: Read, G: Gate + Sync>(
     params: &Params,
     gate: &G,
     max_reads: u64,
-) -> Result<BinLists, RunError>
+) -> Result<BinLists, InputError>
     requires failures { reader.old.failures < 2 ^ 64 - 1 }
     requires reads { reader.old.reads + max_reads < 2 ^ 64 }
     requires most { max_reads ≤ 2 ^ 32 }

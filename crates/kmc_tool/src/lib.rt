@@ -20,7 +20,7 @@ mod storing;
 
 pub use arguments::{count, program, program_of};
 pub use dealing::Dealing;
-pub use error::RunError;
+pub use error::{InputError, RunError};
 pub use fault::Fault;
 pub use input::{MOST_READS, PIECE_SYMBOLS, count_input, count_input_with};
 pub use listing::{lists_of_bins, stage_two};

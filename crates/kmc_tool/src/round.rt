@@ -5,10 +5,10 @@ ghost use Rattle.kmc_reads.specs.declared.format.Format.{Format};
 ghost use Rattle.kmc_reads.specs.Standing.{StandsCut};
 ghost use Rattle.kmc_tool.specs.Rounds.{IsFedBy, IsFilled, AreCounts};
 
-use crate::error::RunError;
+use crate::error::InputError;
 use kmc_device::Counted;
 use kmc_reads::laws::fault_stays;
-use kmc_reads::{Feeder, ReadsError};
+use kmc_reads::Feeder;
 use std::io::Read;
 
 /// A read asks for at most so many bytes.
@@ -18,7 +18,7 @@ const PIECE: usize = 65536;
 const ROUND: usize = 1 << 24;
 
 /// One read goes to the feeder. The answer is whether it gave bytes.
-fn read_and_feed<R: Read>(reader: &mut Counted<R>, feeder: &mut Feeder) -> Result<bool, RunError>
+fn read_and_feed<R: Read>(reader: &mut Counted<R>, feeder: &mut Feeder) -> Result<bool, InputError>
     requires failures { reader.old.failures < 2 ^ 64 - 1 }
     requires reads { reader.old.reads < 2 ^ 64 - 1 }
     ensures counts { AreCounts (reader.old.reads
@@ -33,23 +33,16 @@ fn read_and_feed<R: Read>(reader: &mut Counted<R>, feeder: &mut Feeder) -> Resul
         → OnOk result
         ((last : List ℕ) × (length last ≤ PIECE)
         × StandsCut overlap format (text ++ last) taken feeder.new) }
-    ensures short { IsErrOf result RunError.TooLong → ⊥ }
+    ensures short { IsErrOf result InputError.TooLong → ⊥ }
 {
     fault_stays();
     let mut piece = [0u8; PIECE];
     let n = match reader.read(&mut piece) {
         Ok(n) => n,
-        Err(_) => return Err(RunError::Read),
+        Err(_) => return Err(InputError::Read),
     };
-    match feeder.feed(&piece[..n]) {
-        Ok(()) => Ok(n > 0),
-        Err(e) => {
-            if e == ReadsError::Memory {
-                return Err(RunError::Memory);
-            }
-            Err(RunError::Input(e))
-        }
-    }
+    feeder.feed(&piece[..n])?;
+    Ok(n > 0)
 }
 
 /// Reads and feeds until so many reads wait, or their symbols or those of an open read fill a round, or the text ends. The answer is
@@ -60,7 +53,7 @@ pub fn fill_round<R: Read>(
     feeder: &mut Feeder,
     most: u64,
     reads: usize,
-) -> Result<bool, RunError>
+) -> Result<bool, InputError>
     requires failures { reader.old.failures < 2 ^ 64 - 1 }
     requires reads { reader.old.reads ≤ most }
     ensures counts { AreCounts most reader.old.reads reader.new.reads reader.old.failures reader.new.failures result }
@@ -76,7 +69,7 @@ pub fn fill_round<R: Read>(
 {
     for _ in 0..1u64 << 32 {
         if reader.reads() >= most {
-            return Err(RunError::TooLong);
+            return Err(InputError::TooLong);
         }
         let more = read_and_feed(reader, feeder)?;
         if !more {

@@ -1,15 +1,15 @@
 //! The reads of a text, a round at a time, into bins: a round is cut in threads while the caller's thread reads on.
-ghost use Rattle.std.specs.Prelude.{◌≡◌, ◌≢◌, ℕ, ◌+◌, ◌-◌, ◌*◌, ◌^◌, ◌<◌, ◌≤◌, min, List, ◌++◌, false, IfOk, IfErr, OnOk, Ok};
+ghost use Rattle.std.specs.Prelude.{◌≡◌, ◌≢◌, ℕ, ◌+◌, ◌-◌, ◌*◌, ◌^◌, ◌<◌, ◌≤◌, min, List, ◌++◌, false, IfOk, IfErr, OnOk, Ok, Err};
 ghost use Rattle.std.specs.Io.KnownBytes.{IsAtEnd};
 ghost use Rattle.kmc_reads.specs.declared.format.Format.{Format};
 ghost use Rattle.kmc_reads.specs.Cuts.{AreCut};
 ghost use Rattle.kmc_reads.specs.Reads.{reads_of};
 ghost use Rattle.kmc_reads.specs.Standing.{StandsCut};
-ghost use Rattle.kmc_tool.specs.Rounds.{IsFedBy, AreCounts, AreCountsOf, HoldsPieces, HoldsInput, IsLastError, IsInputError};
+ghost use Rattle.kmc_tool.specs.Rounds.{IsFedBy, AreCounts, AreCountsOf, HoldsPieces, HoldsInput, IsInputError};
 ghost use Rattle.kmc_settings.specs.Shape.{shape_of};
 
 use crate::dealing::{Dealing, store_round};
-use crate::error::RunError;
+use crate::error::InputError;
 use crate::round::fill_round;
 use kmc_device::Counted;
 use kmc_partqueue::Gate;
@@ -42,7 +42,7 @@ pub fn feed_round<T: Threads + Wait + Sync, R: Read, G: Gate + Sync>(
     reader: &mut Counted<R>,
     feeder: &mut Feeder,
     most: u64,
-) -> (Result<(), AllocError>, Result<bool, RunError>)
+) -> (Result<(), AllocError>, Result<bool, InputError>)
     requires shape { bins.old.shape ≡ shape_of dealing.now.params }
     requires failures { reader.old.failures < 2 ^ 64 - 1 }
     requires reads { reader.old.reads ≤ most }
@@ -72,7 +72,7 @@ pub fn feed_round<T: Threads + Wait + Sync, R: Read, G: Gate + Sync>(
                 (HoldsPieces (shape_of dealing.entry.now.params) dealing.entry.now.limit
                 (held ++ round.entry.now) bins.exit.now.bodies) }
         { store_round(rt, bins, round, dealing) },
-        &mut || -> Result<bool, RunError>
+        &mut || -> Result<bool, InputError>
             requires failures { reader.now.failures < 2 ^ 64 - 1 }
             requires reads { reader.now.reads ≤ most }
             ensures counts { AreCounts most reader.entry.now.reads reader.exit.now.reads reader.entry.now.failures reader.exit.now.failures result }
@@ -94,7 +94,7 @@ pub fn last_round<T: Threads + Wait + Sync, G: Gate + Sync>(
     bins: Bins,
     feeder: Feeder,
     dealing: &Dealing<'_, G>,
-) -> Result<Bins, RunError>
+) -> Result<Bins, ReadsError>
     requires { bins.shape ≡ shape_of dealing.now.params }
     ensures shape { IfOk result (λ b. b.shape ≡ shape_of dealing.now.params) }
     ensures holds { (format : Format) (text : List ℕ) (taken held : List (List ℕ))
@@ -106,17 +106,11 @@ pub fn last_round<T: Threads + Wait + Sync, G: Gate + Sync>(
         × HoldsPieces (shape_of dealing.now.params) dealing.now.limit (held ++ last) b.bodies) }
     ensures cause { (format : Format) (text : List ℕ) (taken : List (List ℕ))
         → StandsCut (dealing.now.params.k - 1) format text taken feeder
-        → IfErr result (IsLastError format text) }
-    ensures silent { IfErr result (λ e. e ≢ RunError.Write) }
+        → IfErr result (λ e. e ≢ ReadsError.Memory → reads_of format text ≡ Err e) }
 {
     let reads = match feeder.finish() {
         Ok(reads) => reads,
-        Err((e, _)) => {
-            if e == ReadsError::Memory {
-                return Err(RunError::Memory);
-            }
-            return Err(RunError::Input(e));
-        }
+        Err((e, _)) => return Err(e),
     };
     let mut bins = bins;
     store_round(rt, &mut bins, &reads, dealing)?;
@@ -134,7 +128,7 @@ pub fn bins_of_input<T: Threads + Wait + Sync, R: Read, G: Gate + Sync>(
     gate: &G,
     max_reads: u64,
     limit: usize,
-) -> Result<Bins, RunError>
+) -> Result<Bins, InputError>
     requires failures { reader.old.failures < 2 ^ 64 - 1 }
     requires reads { reader.old.reads + max_reads < 2 ^ 64 }
     requires most { max_reads ≤ 2 ^ 32 }
@@ -165,12 +159,12 @@ pub fn bins_of_input<T: Threads + Wait + Sync, R: Read, G: Gate + Sync>(
     let mut more = fill_round(reader, &mut feeder, most, round_of(params))?;
     for _ in 0..1u64 << 32 {
         if !more {
-            return last_round(rt, bins, feeder, &dealing);
+            return Ok(last_round(rt, bins, feeder, &dealing)?);
         }
         let round = feeder.take_open(alloc, params.k - 1)?;
         let (stored, fed) = feed_round(rt, &mut bins, &round, &dealing, reader, &mut feeder, most);
         more = fed?;
         stored?;
     }
-    Err(RunError::TooLong)
+    Err(InputError::TooLong)
 }

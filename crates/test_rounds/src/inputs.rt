@@ -5,7 +5,7 @@ use kmc_partqueue::NoGate;
 use kmc_reads::{Format, ReadsError, read_all, slices_of};
 use kmc_settings::Params;
 use kmc_store::Bins;
-use kmc_tool::{PIECE_SYMBOLS, RunError, bins_of_input, stage_one};
+use kmc_tool::{InputError, PIECE_SYMBOLS, bins_of_input, stage_one};
 use std::alloc::Global;
 use std::process::Abort;
 use std::sync::Wait;
@@ -27,7 +27,7 @@ fn bins_of<R: Abort + Threads + Wait + Sync>(
     failing: u64,
     params: &Params,
     max_reads: u64,
-) -> (Result<Bins, RunError>, u64, u64) {
+) -> (Result<Bins, InputError>, u64, u64) {
     assert!(rt; 1 <= piece && max_reads <= 1 << 32);
     let mut reader = Counted::new(PieceReader::new(text, piece, failing));
     let answer = bins_of_input(
@@ -119,7 +119,7 @@ fn assert_failed<R: Abort + Threads + Wait + Sync>(
     let (answer, failures, reads) = bins_of(rt, alloc, FASTQ, 7, failing, params, 1 << 32);
     assert_eq!(rt;
         (answer.err(), failures, reads.saturating_add(1)),
-        (Some(RunError::Read), 1, failing)
+        (Some(InputError::Read), 1, failing)
     );
 }
 
@@ -137,7 +137,7 @@ fn assert_reads<R: Abort + Threads + Wait + Sync>(
     alloc: Global,
     params: &Params,
     most: u64,
-    refusal: Option<RunError>,
+    refusal: Option<InputError>,
     made: u64,
 ) {
     let (answer, _, reads) = bins_of(rt, alloc, FASTQ, 1, 0, params, most);
@@ -154,7 +154,7 @@ fn too_many_reads_are_too_long(rt: HostRuntime) {
             rt.alloc(),
             &params,
             most,
-            Some(RunError::TooLong),
+            Some(InputError::TooLong),
             most,
         );
     }
@@ -172,7 +172,7 @@ fn assert_refused<R: Abort + Threads + Wait + Sync>(
 ) {
     for piece in [1, 7, 1000] {
         let (answer, failures, _) = bins_of(rt, alloc, text, piece, 0, params, 1 << 32);
-        assert_eq!(rt; (answer.err(), failures), (Some(RunError::Input(fault)), 0));
+        assert_eq!(rt; (answer.err(), failures), (Some(InputError::Faulty(fault)), 0));
     }
 }
 

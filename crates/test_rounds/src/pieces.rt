@@ -10,7 +10,7 @@ use kmc_plain::{count_direct, write_dump};
 use kmc_reads::{Format, read_all};
 use kmc_settings::Params;
 use kmc_store::Bins;
-use kmc_tool::{RunError, bins_of_input, stage_two};
+use kmc_tool::{InputError, bins_of_input, stage_two};
 use std::alloc::{AllocError, Global};
 use std::process::Abort;
 use std::sync::Wait;
@@ -26,7 +26,7 @@ fn bins_in_pieces<R: Abort + Threads + Wait + Sync>(
     piece: usize,
     params: &Params,
     limit: usize,
-) -> Result<Bins, RunError>
+) -> Result<Bins, InputError>
     ensures { IfOk result (λ bins. bins.shape ≡ shape_of params.now) }
 {
     assert!(rt; 1 <= piece && params.k <= limit);

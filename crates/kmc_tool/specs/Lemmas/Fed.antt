@@ -1,7 +1,8 @@
 -- Bytes that a feeder took, a read after the other.
-use Rattle.std.proofs.Common.{◌≡◌, ◌⊎◌, inl, inr, ℕ, zero, suc, ◌+◌, ◌-◌, ◌<◌, ◌≤◌, Bool, true, false, List, [], ◌++◌, Option, Some, None, Result, Ok, Err, IfOk, IfErr, refl, sym, ap, subst, ◌∙◌, append_assoc, append-nil, length-append, arith}
+use Rattle.std.proofs.Common.{◌≡◌, ◌≢◌, ◌⊎◌, inl, inr, ℕ, zero, suc, ◌+◌, ◌-◌, ◌<◌, ◌≤◌, Bool, true, false, List, [], ◌++◌, Option, Some, None, Result, Ok, Err, IfOk, IfErr, refl, sym, ap, subst, ◌∙◌, append_assoc, append-nil, length-append, arith}
 use Rattle.std.specs.Io.KnownBytes.{Consumes, IsAtEnd}
 use Rattle.kmc_reads.specs.declared.error.ReadsError.{ReadsError}
+use Rattle.kmc_reads.specs.declared.error.ReadsError.TheVariants as reads
 use Rattle.kmc_reads.specs.declared.format.Format.{Format}
 use Rattle.kmc_reads.specs.Cuts.{AreCut}
 use Rattle.kmc_reads.specs.Laws.{FaultStays}
@@ -11,9 +12,10 @@ use Rattle.kmc_reads.specs.Stages.{fault, fault_from, first_spot}
 use Rattle.kmc_reads.specs.Standing.{FeederState, StandsCut}
 use Rattle.kmc_record.specs.Shapes.{Sizes}
 use Rattle.kmc_store.specs.Bins.{BinList}
-use Rattle.kmc_tool.specs.declared.error.RunError.{RunError}
-use Rattle.kmc_tool.specs.declared.error.RunError.TheVariants.{Memory, Read, Write, Input, TooLong}
-use Rattle.kmc_tool.specs.Rounds.{IsFed, IsFedBy, IsRefused, AreCounts, AreCountsOf, HoldsPieces, HoldsInput, IsLastError, IsInputError}
+use Rattle.kmc_tool.specs.Errors.{input_error}
+use Rattle.kmc_tool.specs.declared.error.InputError.{InputError}
+use Rattle.kmc_tool.specs.declared.error.InputError.TheVariants.{Memory, Read, Faulty, TooLong}
+use Rattle.kmc_tool.specs.Rounds.{IsFed, IsFedBy, IsRefused, AreCounts, AreCountsOf, HoldsPieces, HoldsInput, IsInputError}
 
 pub consumes_none : (old : Option (List ℕ)) → Consumes old old []
 consumes_none None = tt
@@ -77,13 +79,12 @@ refused_for_good format old new text bytes e law given faulty = record {
 
 -- whatever was answered after that
 pub fed_by : (overlap : ℕ) (format : Format) (old mid new : Option (List ℕ)) (a b c : ℕ) (text : List ℕ) (taken : List (List ℕ)) (v w : FeederState)
-    (r : Result Bool RunError) (f : IsFed overlap format old mid a b text taken v)
+    (r : Result Bool InputError) (f : IsFed overlap format old mid a b text taken v)
     → IsFedBy overlap format mid new b c (text ++ f.bytes) taken w r → IsFedBy overlap format old new a c text taken w r
 fed_by overlap format old mid new a b c text taken v w (Ok more) f g = fed_on overlap format old mid new a b c text taken v w f g
 fed_by overlap format old mid new a b c text taken v w (Err Memory) f g = tt
 fed_by overlap format old mid new a b c text taken v w (Err Read) f g = tt
-fed_by overlap format old mid new a b c text taken v w (Err Write) f g = tt
-fed_by overlap format old mid new a b c text taken v w (Err (Input e)) f g = refused_on overlap format old mid new a b text taken v e f g
+fed_by overlap format old mid new a b c text taken v w (Err (Faulty e)) f g = refused_on overlap format old mid new a b text taken v e f g
 fed_by overlap format old mid new a b c text taken v w (Err TooLong) f g = fed_on overlap format old mid new a b c text taken v w f g
 
 -- a read that was counted gave a byte at least
@@ -119,12 +120,11 @@ risen most before after failed fails true c = record { kept = c.0; least = omega
 risen most before after failed fails false c = record { kept = c.0; least = c.1; below = omega (arith, c.2); some = λ e. cc; under = λ _. c.2 }
 
 -- the numbers of a refusal after earlier rounds
-pub counts_on : (e : RunError) (most before mid after failed between fails : ℕ) → before ≤ mid → between ≡ failed
+pub counts_on : (e : InputError) (most before mid after failed between fails : ℕ) → before ≤ mid → between ≡ failed
     → AreCountsOf most mid after between fails e → AreCountsOf most before after failed fails e
 counts_on Memory most before mid after failed between fails less same c = (c.0 ∙ same, omega (arith, c.1, less), c.2)
 counts_on Read most before mid after failed between fails less same c = (c.0 ∙ ap (λ n. n + 1) same, omega (arith, c.1, less), c.2)
-counts_on Write most before mid after failed between fails less same c = c
-counts_on (Input e) most before mid after failed between fails less same c = (c.0 ∙ same, omega (arith, c.1, less), c.2)
+counts_on (Faulty e) most before mid after failed between fails less same c = (c.0 ∙ same, omega (arith, c.1, less), c.2)
 counts_on TooLong most before mid after failed between fails less same c = (c.0 ∙ same, omega (arith, c.1, less), c.2)
 
 -- the numbers where memory is refused after one more round
@@ -135,13 +135,12 @@ memory_on most mid after between fails more before failed bound counts less same
 
 module _ (overlap : ℕ) (format : Format) (most : ℕ) (old new : Option (List ℕ)) where
   -- a refusal of the reader or the feeder
-  pub fed_cause : (before after failed fails : ℕ) (taken : List (List ℕ)) (v : FeederState) (e : RunError)
+  pub fed_cause : (before after failed fails : ℕ) (taken : List (List ℕ)) (v : FeederState) (e : InputError)
       → IsFedBy overlap format old new before after [] taken v (Err e)
       → AreCountsOf (before + most) before after failed fails e → IsInputError format most old new e
   fed_cause before after failed fails taken v Memory f c = tt
   fed_cause before after failed fails taken v Read f c = tt
-  fed_cause before after failed fails taken v Write f c = absurd c
-  fed_cause before after failed fails taken v (Input e) f c = f
+  fed_cause before after failed fails taken v (Faulty e) f c = f
   fed_cause before after failed fails taken v TooLong f c = (
     f.bytes,
     f.given,
@@ -150,44 +149,34 @@ module _ (overlap : ℕ) (format : Format) (most : ℕ) (old new : Option (List 
   )
 
   -- a refusal of the last round
-  pub last_counts : {A : Type 0} (bound before after failed fails : ℕ) (text : List ℕ) (r : Result A RunError)
-      → fails ≡ failed → before ≤ after → after ≤ bound
-      → IfErr r (IsLastError format text) → IfErr r (AreCountsOf bound before after failed fails)
-  last_counts bound before after failed fails text (Ok bins) same least below h = tt
-  last_counts bound before after failed fails text (Err Memory) same least below h = (same, least, below)
-  last_counts bound before after failed fails text (Err Read) same least below h = absurd h
-  last_counts bound before after failed fails text (Err Write) same least below h = absurd h
-  last_counts bound before after failed fails text (Err (Input e)) same least below h = (same, least, below)
-  last_counts bound before after failed fails text (Err TooLong) same least below h = absurd h
-
-  pub last_input : {A : Type 0} (before after : ℕ) (taken : List (List ℕ)) (v : FeederState) (r : Result A RunError)
+  pub last_input : (before after : ℕ) (taken : List (List ℕ)) (v : FeederState) (e : ReadsError)
       (f : IsFed overlap format old new before after [] taken v) → IsAtEnd new
-      → IfErr r (IsLastError format f.bytes) → IfErr r (IsInputError format most old new)
-  last_input before after taken v (Ok bins) f end h = tt
-  last_input before after taken v (Err Memory) f end h = tt
-  last_input before after taken v (Err Read) f end h = tt
-  last_input before after taken v (Err Write) f end h = h
-  last_input before after taken v (Err (Input e)) f end h = record { bytes = f.bytes; given = f.given; refused = h; for_good = inr end }
-  last_input before after taken v (Err TooLong) f end h = absurd h
+      → (e ≢ reads.Memory → reads_of format f.bytes ≡ Err e) → IsInputError format most old new (input_error e)
+  last_input before after taken v reads.Memory f end h = tt
+  last_input before after taken v (reads.BadHeader n) f end h = record { bytes = f.bytes; given = f.given; refused = h (λ is. absurd (cc)); for_good = inr end }
+  last_input before after taken v (reads.BadPlus n) f end h = record { bytes = f.bytes; given = f.given; refused = h (λ is. absurd (cc)); for_good = inr end }
+  last_input before after taken v (reads.QualityLength n) f end h =
+      record { bytes = f.bytes; given = f.given; refused = h (λ is. absurd (cc)); for_good = inr end }
+  last_input before after taken v (reads.Truncated n) f end h = record { bytes = f.bytes; given = f.given; refused = h (λ is. absurd (cc)); for_good = inr end }
 
--- the bins of the last round
-pub last_bins : (format : Format) (shape : Sizes) (limit : ℕ) (old new : Option (List ℕ)) (before after : ℕ) (taken : List (List ℕ))
-    (v : FeederState) (r : Result BinList RunError) (f : IsFed (shape.k - 1) format old new before after [] taken v) → IsAtEnd new
-    → IfOk r (λ b. b.shape ≡ shape)
-    → IfOk r (λ b. (reads last : List (List ℕ)) × (reads_of format f.bytes ≡ Ok reads) × AreCut (shape.k - 1) reads (taken ++ last)
-    × HoldsPieces shape limit (taken ++ last) b.bodies)
-    → IfOk r (HoldsInput format shape limit old new)
-last_bins format shape limit old new before after taken v (Ok bins) f end shaped h = record {
-  bytes = f.bytes;
-  given = (f.given, end);
-  reads = h.0;
-  are_reads = h.2;
-  cuts = taken ++ h.1;
-  cut = h.3;
-  shaped = shaped;
-  holds = h.4;
-}
-last_bins format shape limit old new before after taken v (Err e) f end shaped h = tt
+-- the numbers of a refusal that is none of the reader
+pub text_counts : (most before after failed fails : ℕ) (e : ReadsError) → fails ≡ failed → before ≤ after → after ≤ most
+    → AreCountsOf most before after failed fails (input_error e)
+text_counts most before after failed fails reads.Memory same least below = (same, least, below)
+text_counts most before after failed fails (reads.BadHeader n) same least below = (same, least, below)
+text_counts most before after failed fails (reads.BadPlus n) same least below = (same, least, below)
+text_counts most before after failed fails (reads.QualityLength n) same least below = (same, least, below)
+text_counts most before after failed fails (reads.Truncated n) same least below = (same, least, below)
+
+-- a read that the feeder refuses
+pub fed_refused : (overlap : ℕ) (format : Format) (old new : Option (List ℕ)) (before after : ℕ) (text : List ℕ) (taken : List (List ℕ))
+    (v : FeederState) (e : ReadsError) → (e ≢ reads.Memory → IsRefused format old new text e)
+    → IsFedBy overlap format old new before after text taken v (Err (input_error e))
+fed_refused overlap format old new before after text taken v reads.Memory h = tt
+fed_refused overlap format old new before after text taken v (reads.BadHeader n) h = h (λ is. absurd (cc))
+fed_refused overlap format old new before after text taken v (reads.BadPlus n) h = h (λ is. absurd (cc))
+fed_refused overlap format old new before after text taken v (reads.QualityLength n) h = h (λ is. absurd (cc))
+fed_refused overlap format old new before after text taken v (reads.Truncated n) h = h (λ is. absurd (cc))
 
 -- the reads that were ended were taken
 abbrev pub taken_fed : (overlap : ℕ) (format : Format) (old new : Option (List ℕ)) (a b : ℕ) (taken more : List (List ℕ)) (v w : FeederState)

@@ -17,7 +17,7 @@ returns-in_err-bins-clause-left g c = λ taken olds before.
     (length c.args.writers.now) olds taken _ c.args.counts.now before)
 
 pub returns-in-Err-clause-cause : goal.returns-in-Err-clause-cause
-returns-in-Err-clause-cause g c = λ format text taken s. told_last format text c.in-Err.e c.told.result c.told.ensures
+returns-in-Err-clause-cause g c = λ format text taken s. told_last format text c.in-Err.e c.from.result c.told.result c.from.ensures c.told.ensures
     (c.in-Err.ensures.cause format text taken s)
 
 pub returns-in-Err-clause-left : goal.returns-in-Err-clause-left

@@ -3,9 +3,10 @@ use Rattle.kmc_store.specs.Bins.{BinList, empty_bins}
 use Rattle.kmc_store.specs.Holds.{HoldsReads}
 use Rattle.kmc_tool.specs.Rounds.{AreCounts, AreCountsOf, HoldsPieces, IsFedBy}
 use Rattle.kmc_settings.specs.Shape.{shape_of}
-use Rattle.kmc_tool.specs.declared.error.RunError.TheVariants.{Memory}
+use Rattle.kmc_tool.specs.declared.error.InputError.TheVariants.{Memory}
+use Rattle.kmc_tool.specs.Errors.{input_error}
 use Rattle.kmc_tool.specs.Lemmas.Causes.{passed_on}
-use Rattle.kmc_tool.specs.Lemmas.Fed.{unfaulted, risen, counts_on, fed_on, fed_by, fed_cause, last_bins, last_counts, last_input, memory_on, taken_fed}
+use Rattle.kmc_tool.specs.Lemmas.Fed.{unfaulted, risen, counts_on, fed_on, fed_by, fed_cause, last_input, memory_on, taken_fed, text_counts}
 use Rattle.kmc_tool.proofs.rounds.bins_of_input.Goals as goal
 
 pub returns-in_err-more-clause-cause : goal.returns-in_err-more-clause-cause
@@ -45,26 +46,33 @@ loop-init g c =
 pub returns-then-not-more-clause-ok : goal.returns-then-not-more-clause-ok
 returns-then-not-more-clause-ok g c =
     let st = c.loop.invariant.stored in let p = c.args.params.now in
-    last_bins p.format (shape_of p) c.args.limit _ _ c.args.reader.now.reads c.loop.reader.reads st.taken c.loop.feeder c.last_round.result
-    st.fed (c.loop.invariant.ended c.if-not-more.true) c.last_round.ensures.shape
-    (c.last_round.ensures.holds p.format st.fed.bytes st.taken st.taken st.fed.stands st.holds)
+    let last = c.in_ok-last_round.ensures.holds p.format st.fed.bytes st.taken st.taken st.fed.stands st.holds in
+    record {
+      bytes = st.fed.bytes;
+      given = (st.fed.given, c.loop.invariant.ended c.if-not-more.true);
+      reads = last.0;
+      are_reads = last.2;
+      cuts = st.taken ++ last.1;
+      cut = last.3;
+      shaped = c.in_ok-last_round.ensures.shape;
+      holds = last.4;
+    }
 
-pub returns-then-not-more-clause-counts : goal.returns-then-not-more-clause-counts
-returns-then-not-more-clause-counts g c =
-    let inv = c.loop.invariant in let st = inv.stored in
+pub returns-in_err-last_round-clause-counts : goal.returns-in_err-last_round-clause-counts
+returns-in_err-last_round-clause-counts g c =
+    let inv = c.loop.invariant in let e = c.in_err-last_round.field-0.0 in let to = c.from_residual-in_err-last_round in
     let old = c.args.reader.now in let new = c.loop.reader in
-    last_counts (c.args.params.now.k - 1) c.args.params.now.format c.args.max_reads
-    (g.R.Read.remaining old.inner) (g.R.Read.remaining new.inner)
-    (old.reads + c.args.max_reads) old.reads new.reads old.failures new.failures st.fed.bytes c.last_round.result
-    inv.kept (omega (arith, inv.many)) (omega (arith, inv.below, c.reads.ensures))
-    (c.last_round.ensures.cause c.args.params.now.format st.fed.bytes st.taken st.fed.stands)
+    passed_on _ to.result (input_error e) to.ensures.1
+    (text_counts (old.reads + c.args.max_reads) old.reads new.reads old.failures new.failures e inv.kept (omega (arith, inv.many))
+    (omega (arith, inv.below, c.reads.ensures)))
 
-pub returns-then-not-more-clause-cause : goal.returns-then-not-more-clause-cause
-returns-then-not-more-clause-cause g c =
-    let inv = c.loop.invariant in let st = inv.stored in
-    last_input (c.args.params.now.k - 1) c.args.params.now.format c.args.max_reads _ _ c.args.reader.now.reads c.loop.reader.reads
-    st.taken c.loop.feeder c.last_round.result st.fed (inv.ended c.if-not-more.true)
-    (c.last_round.ensures.cause c.args.params.now.format st.fed.bytes st.taken st.fed.stands)
+pub returns-in_err-last_round-clause-cause : goal.returns-in_err-last_round-clause-cause
+returns-in_err-last_round-clause-cause g c =
+    let inv = c.loop.invariant in let st = inv.stored in let e = c.in_err-last_round.field-0.0 in let to = c.from_residual-in_err-last_round in
+    let p = c.args.params.now in
+    passed_on _ to.result (input_error e) to.ensures.1
+    (last_input (p.k - 1) p.format c.args.max_reads _ _ c.args.reader.now.reads c.loop.reader.reads st.taken c.loop.feeder e st.fed
+    (inv.ended c.if-not-more.true) (c.in_err-last_round.ensures.cause p.format st.fed.bytes st.taken st.fed.stands))
 
 pub returns-in_err-more-2-clause-counts : goal.returns-in_err-more-2-clause-counts
 returns-in_err-more-2-clause-counts g c =

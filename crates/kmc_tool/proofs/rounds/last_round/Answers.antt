@@ -14,5 +14,4 @@ returns-clause-holds g c = λ format text taken held s h.
 
 pub returns-in-Err-clause-cause : goal.returns-in-Err-clause-cause
 returns-in-Err-clause-cause g c = λ format text taken s.
-    let other : c.in-Err.e ≢ Memory = search rules in
-    (c.in-Err.ensures.cut_refused (c.args.dealing.now.params.k - 1) format text taken s other).0
+    λ other. (c.in-Err.ensures.cut_refused (c.args.dealing.now.params.k - 1) format text taken s other).0
