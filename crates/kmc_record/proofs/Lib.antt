@@ -6,6 +6,7 @@ pub mod Written
 pub mod Parcels
 pub mod Chunks
 pub mod Belonging
+mod Turned
 pub mod Filling
 pub mod Laying
 pub mod PackedBytes

@@ -7,7 +7,7 @@ ghost use Rattle.kmc_record.specs.Record.{IsSpelled};
 ghost use Rattle.kmc_record.specs.Parts.{Parcel, grown, empty_part, IsPart};
 ghost use Rattle.kmc_record.specs.Bodies.{IsFirstError};
 
-use crate::belong::count_words;
+use crate::belong::count_known;
 use crate::fault::PartError;
 use crate::shape::Shape;
 use crate::spell::push_record_of;
@@ -52,7 +52,7 @@ impl Part {
         ensures first { IfErr result (λ e. IsFirstError bin shape e.0 body.items) }
         ensures back { IfErr result (λ e. e.1.items ≡ body.items) }
     {
-        match count_words(&body, bin, shape) {
+        match count_known(&body, bin, shape, &mut []) {
             Ok(words) => Ok(Part {
                 chunk,
                 bin,

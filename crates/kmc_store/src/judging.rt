@@ -42,8 +42,9 @@ fn count_row(
     ensures fault { IfErr result (IsFaultIn shape (map (λ b. b.items) bodies.now) from to) }
 {
     let mut words = Vec::with_capacity(alloc, to - from)?;
+    let mut room: Vec<u128> = Vec::new(alloc);
     for bin in from..to {
-        let count = match count_words(&bodies[bin], bin, shape) {
+        let count = match count_words(&bodies[bin], bin, shape, &mut room) {
             Ok(count) => count,
             Err(why) => return Err(BinFault { bin, why }),
         };

@@ -7,13 +7,13 @@ use Rattle.kmc_record.specs.Bodies.{Belong}
 use Rattle.kmc_record.proofs.Belonging.{records_of_part, part_more}
 use Rattle.kmc_record.proofs.Spelled.{AreBytes, bytes_each}
 use Rattle.kmc_record.proofs.Whole.{bytes_drop, first_codes, first_spelled, first_read, length_first}
-use Rattle.kmc_record.proofs.belong.count_words.Goals as goal
+use Rattle.kmc_record.proofs.belong.count_known.Goals as goal
 
 same_codes : (n : ℕ) (bs : List ℕ) → take n (codes_in (take (1 + (n + 3) / 4 - 1) (drop 1 bs))) ≡ first_codes n bs
 same_codes n bs = let same : 1 + (n + 3) / 4 - 1 ≡ (n + 3) / 4 = omega arith in ap (λ m. take n (codes_in (take m (drop 1 bs)))) same
 
-pub returns-then-not-belongs-clause-first : goal.returns-then-not-belongs-clause-first
-returns-then-not-belongs-clause-first c =
+pub returns-then-not-is_of_bin-clause-first : goal.returns-then-not-is_of_bin-clause-first
+returns-then-not-is_of_bin-clause-first c =
     let shape = c.args.shape in
     let body = c.args.body.now in
     let offset = c.loop-offset.offset in
@@ -33,7 +33,7 @@ returns-then-not-belongs-clause-first c =
         is = sym is ∙ first_read k n rest are c.in-Ok.ensures.count c.in-Ok.ensures.inside c.in-Ok.ensures.rest
             ∙ (λ i. spelling (same i) codes ++ drop (1 + size_of n) rest);
         other = λ h.
-            let t = c.belongs.ensures.1 (subst (λ (w : List ℕ). Belong c.args.bin shape (windows shape.k w)) (sym (same_codes n rest)) h) in
+            let t = c.is_of_bin.ensures.is.1 (subst (λ (w : List ℕ). Belong c.args.bin shape (windows shape.k w)) (sym (same_codes n rest)) h) in
             cc;
       },
     )
@@ -52,8 +52,8 @@ loop-offset-preserved c =
     let codes = first_codes n rest in
     let long : length rest ≡ length body - offset = ap length is ∙ length-drop offset body in
     let behind : length (drop (1 + size_of n) rest) ≡ length rest - (1 + size_of n) = length-drop (1 + size_of n) rest in
-    let yes : IsTrue c.belongs.result = search (rules, c.if-not-belongs.false) in
-    let belong = subst (λ (w : List ℕ). Belong c.args.bin shape (windows shape.k w)) (same_codes n rest) (c.belongs.ensures.0 yes) in
+    let yes : IsTrue c.is_of_bin.result = search (rules, c.if-not-is_of_bin.false) in
+    let belong = subst (λ (w : List ℕ). Belong c.args.bin shape (windows shape.k w)) (same_codes n rest) (c.is_of_bin.ensures.is.0 yes) in
     let spelled = first_spelled k n rest are c.in-Ok.ensures.count c.in-Ok.ensures.inside in
     record {
       inside = omega (arith, long, c.in-Ok.ensures.inside);
@@ -63,4 +63,5 @@ loop-offset-preserved c =
           (omega (arith, long, behind, c.in-Ok.ensures.inside)) belong
           (omega (arith, length_windows shape.k codes, length_first n rest c.in-Ok.ensures.inside, same))
           (omega (arith, c.saturating_add-words.ensures));
+      known = c.is_of_bin.ensures.known;
     }
