@@ -15,7 +15,7 @@ use std::io::Read;
 const PIECE: usize = 65536;
 
 /// A round is full with so many symbols, however few its reads are.
-const ROUND: usize = 1 << 24;
+const ROUND: usize = 1 << 23;
 
 /// One read goes to the feeder. The answer is whether it gave bytes.
 fn read_and_feed<R: Read>(reader: &mut Counted<R>, feeder: &mut Feeder) -> Result<bool, InputError>
