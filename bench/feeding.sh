@@ -2,14 +2,14 @@
 # What `futoncrane count` takes beside the program alone: one plain file against `kmc < file`, and one gzip file against `pigz -dc | kmc` and
 # `gzip -dc | kmc`. Prints a Markdown table: the least wall time of each, the least processor time, and ours as a part of the other.
 #
-# usage: bench/feeding.sh [READS [TURNS]]      (1500000 reads of 100: 0.3 GB; five turns)
+# usage: bench/feeding.sh [READS [TURNS]]      (1500000 reads of 100: 0.3 GB; nine turns)
 #
 # Wants GNU time and gzip; pigz where it is installed. The programs run in turn, with as many threads as there are processors. The dumps are
 # compared. The files are made in a folder of $TMPDIR or /tmp, which is removed at the end.
 set -eu
 top=$(cd "$(dirname "$0")/.." && pwd)
 reads=${1:-1500000}
-turns=${2:-5}
+turns=${2:-9}
 threads=$(nproc)
 [ "$threads" -le 16 ] || threads=16
 kmc="$top/kmc -k31 -cx9223372036854775808 -sp$threads -sr$threads"
