@@ -55,7 +55,8 @@ const FACTOR: u64 = 0x9e37_79b9_7f4a_7c15;
 
 /// The place of a number among so many.
 fn place_of(number: u128, places: usize) -> usize {
-    let mixed = ((number >> 64) as u64 ^ number as u64).wrapping_mul(FACTOR);
+    let low = (number % (1 << 64)) as u64;
+    let mixed = ((number >> 64) as u64 ^ low).wrapping_mul(FACTOR);
     ((u128::from(mixed) * places as u128) >> 64) as usize
 }
 
@@ -91,6 +92,7 @@ fn belongs_again(
     requires size { length bytes.now ≡ size_of symbols }
     requires least { shape.k ≤ symbols }
     requires most { symbols ≤ MOST_KEY_SYMBOLS }
+    requires within { shape.m ≤ shape.k }
     requires known { AreKnown bin shape known.old }
     ensures is { IsTrue result
         ↔ Belong bin shape (windows shape.k (take symbols (codes_in bytes.now))) }
@@ -119,6 +121,7 @@ fn is_of_bin(
     requires size { length bytes.now ≡ size_of symbols }
     requires least { shape.k ≤ symbols }
     requires most { symbols ≤ shape.k + 255 }
+    requires within { shape.m ≤ shape.k }
     requires known { AreKnown bin shape known.old }
     ensures is { IsTrue result
         ↔ Belong bin shape (windows shape.k (take symbols (codes_in bytes.now))) }
