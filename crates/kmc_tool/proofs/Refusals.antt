@@ -9,7 +9,7 @@ use Rattle.kmc_tool.specs.declared.error.InputError.TheVariants.{Memory, Read, F
 use Rattle.kmc_tool.specs.declared.error.RunError.{RunError}
 use Rattle.kmc_tool.specs.declared.error.RunError.TheVariants as run
 
-back : RunError → InputError
+abbrev back : RunError → InputError
 back run.Memory = Memory
 back run.Read = Read
 back run.Write = Memory

@@ -7,8 +7,8 @@ ghost use Rattle.kmc_tool.specs.Rounds.{IsFedBy, IsFilled, AreCounts};
 
 use crate::error::InputError;
 use kmc_device::Counted;
-use kmc_reads::laws::fault_stays;
 use kmc_reads::Feeder;
+use kmc_reads::laws::fault_stays;
 use std::io::Read;
 
 /// A read asks for at most so many bytes.

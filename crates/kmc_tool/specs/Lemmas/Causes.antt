@@ -1,8 +1,7 @@
 -- What holds of a refusal, at the cause that it has.
-use Rattle.std.proofs.Common.{◌≡◌, ◌≢◌, ℕ, ◌≤◌, List, ap, refl, sym, subst, arith}
-use Rattle.std.specs.Prelude.{Option, Result, Ok, Err, IfErr, IfOk, OnOk, IsErrAnd}
-use Rattle.kmc_reads.specs.declared.format.Format.{Format}
-use Rattle.kmc_tool.specs.Rounds.{AreCountsOf, IsInputError}
+use Rattle.std.proofs.Common.{◌≡◌, ◌≢◌, ℕ, ◌≤◌, ap, refl, sym, subst, arith}
+use Rattle.std.specs.Prelude.{Result, Ok, Err, IfErr, IfOk, OnOk, IsErrAnd}
+use Rattle.kmc_tool.specs.Rounds.{AreCountsOf}
 use Rattle.kmc_tool.specs.declared.error.InputError.{InputError}
 use Rattle.kmc_tool.specs.declared.error.InputError.TheVariants.{Memory, Read, Faulty, TooLong}
 

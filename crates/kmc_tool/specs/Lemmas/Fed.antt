@@ -1,10 +1,9 @@
 -- Bytes that a feeder took, a read after the other.
-use Rattle.std.proofs.Common.{◌≡◌, ◌≢◌, ◌⊎◌, inl, inr, ℕ, zero, suc, ◌+◌, ◌-◌, ◌<◌, ◌≤◌, Bool, true, false, List, [], ◌++◌, Option, Some, None, Result, Ok, Err, IfOk, IfErr, refl, sym, ap, subst, ◌∙◌, append_assoc, append-nil, length-append, arith}
+use Rattle.std.proofs.Common.{◌≡◌, ◌≢◌, ◌⊎◌, inl, inr, ℕ, zero, suc, ◌+◌, ◌-◌, ◌<◌, ◌≤◌, Bool, true, false, List, [], ◌++◌, Option, Some, None, Result, Ok, Err, refl, sym, ap, subst, ◌∙◌, append_assoc, append-nil, length-append, arith}
 use Rattle.std.specs.Io.KnownBytes.{Consumes, IsAtEnd}
 use Rattle.kmc_reads.specs.declared.error.ReadsError.{ReadsError}
 use Rattle.kmc_reads.specs.declared.error.ReadsError.TheVariants as reads
 use Rattle.kmc_reads.specs.declared.format.Format.{Format}
-use Rattle.kmc_reads.specs.Cuts.{AreCut}
 use Rattle.kmc_reads.specs.Laws.{FaultStays}
 use Rattle.kmc_reads.specs.Reads.{reads_of}
 use Rattle.kmc_reads.specs.Pieces.{whole_from}
@@ -15,7 +14,7 @@ use Rattle.kmc_store.specs.Bins.{BinList}
 use Rattle.kmc_tool.specs.Errors.{input_error}
 use Rattle.kmc_tool.specs.declared.error.InputError.{InputError}
 use Rattle.kmc_tool.specs.declared.error.InputError.TheVariants.{Memory, Read, Faulty, TooLong}
-use Rattle.kmc_tool.specs.Rounds.{IsFed, IsFedBy, IsRefused, AreCounts, AreCountsOf, HoldsPieces, HoldsInput, IsInputError}
+use Rattle.kmc_tool.specs.Rounds.{IsFed, IsFedBy, IsRefused, AreCounts, AreCountsOf, HoldsPieces, IsInputError}
 
 pub consumes_none : (old : Option (List ℕ)) → Consumes old old []
 consumes_none None = tt

@@ -1,4 +1,4 @@
-use Rattle.std.proofs.Common.{◌≡◌, ℕ, List, map, sym, ap, subst, ◌∙◌, refl, Err}
+use Rattle.std.proofs.Common.{◌≡◌, ℕ, List, sym, ap, subst, ◌∙◌, refl, Err}
 use Rattle.kmc_record.specs.Shapes.{Sizes, IsShape}
 use Rattle.kmc_dump.specs.Bodies.{AreListsOfBodies}
 use Rattle.kmc_dump.specs.Lists.{lists_of}

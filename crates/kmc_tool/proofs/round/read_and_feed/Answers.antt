@@ -5,8 +5,8 @@ use Rattle.kmc_tool.specs.Lemmas.Causes.{same_err}
 use Rattle.kmc_tool.specs.Lemmas.Fed.{fed_refused, reads_many, refused_for_good}
 use Rattle.kmc_tool.proofs.round.read_and_feed.Goals as goal
 
-pub returns-in_ok-feed-clause-fed : goal.returns-in_ok-feed-clause-fed
-returns-in_ok-feed-clause-fed g c = λ overlap format text taken s.
+pub returns-clause-fed : goal.returns-clause-fed
+returns-clause-fed g c = λ overlap format text taken s.
     let more : 0 < c.in-Ok.n → c.read.new.self.reads ≡ c.args.reader.now.reads + 1 = λ some. (c.in-Ok.ensures.counted some).0 c.requires.reads in
     record {
       bytes = take c.in-Ok.n c.read.new.buf;
@@ -27,6 +27,6 @@ returns-in_err-feed-clause-fed g c = λ overlap format text taken s.
 pub returns-in-Err-clause-counts : goal.returns-in-Err-clause-counts
 returns-in-Err-clause-counts g c = search rules
 
-pub returns-in_ok-feed-clause-piece : goal.returns-in_ok-feed-clause-piece
-returns-in_ok-feed-clause-piece g c = λ overlap format text taken s.
+pub returns-clause-piece : goal.returns-clause-piece
+returns-clause-piece g c = λ overlap format text taken s.
     (take c.in-Ok.n c.read.new.buf, omega (arith, c.in-Ok.ensures.bound), c.in_ok-feed.ensures.cut overlap format text taken s)

@@ -1,5 +1,4 @@
-use Rattle.std.proofs.Common.{◌≢◌, ◌-◌, rules}
-use Rattle.kmc_reads.specs.declared.error.ReadsError.TheVariants.{Memory}
+use Rattle.std.proofs.Common.{◌-◌}
 use Rattle.kmc_tool.proofs.rounds.last_round.Goals as goal
 
 pub returns-clause-holds : goal.returns-clause-holds

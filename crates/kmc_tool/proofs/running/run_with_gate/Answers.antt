@@ -1,4 +1,4 @@
-use Rattle.std.proofs.Common.{◌≡◌, ◌≢◌, length, refl, sym, ap, subst, ◌∙◌, arith}
+use Rattle.std.proofs.Common.{◌≢◌, ◌+◌, Err, length, refl, sym, ap, subst, ◌∙◌, arith}
 use Rattle.std.proofs.lemmas.List.{length-map}
 use Rattle.kmc_reads.specs.declared.error.ReadsError.TheVariants as reads
 use Rattle.kmc_reads.specs.Reads.{reads_of}
@@ -19,8 +19,8 @@ pub returns-in_err-lists : goal.returns-in_err-lists
 returns-in_err-lists g c =
     let told = c.in_err-lists.ensures in
     let e = c.in_err-lists.field-0.0 in
-    let r = c.from_residual-in_err-lists.result in
-    let same = c.from_residual-in_err-lists.ensures.1 in
+    let r = c.from_residual.result in
+    let same = c.from_residual.ensures.1 in
     let format = c.args.params.now.format in
     let old = c.args.reader.now in let new = c.count_input_with.new.reader in
     let given = g.R.Read.remaining old.inner in
@@ -63,18 +63,18 @@ returns-in_err-lines g c =
       read_failed = λ is. absurd (no_read e (cause_of r (write_error e) run.Read same is));
       write_failed = λ is.
           let at = is_write e (cause_of r (write_error e) run.Write same is) in (
-            (told.failed at).0 c.requires.writer,
+            (told.failed (ap Err at)).0 c.requires.writer,
             input.bytes,
             text_of pairs,
             length pairs,
             input.given,
             is_dump_of input refl,
-            told.front at,
+            told.front (ap Err at),
           );
       input = λ fault is. absurd (no_input e fault (cause_of r (write_error e) (run.Input fault) same is));
       faulty = passed_on (λ x. x ≢ run.Input reads.Memory) r (write_error e) same (no_input e reads.Memory);
       long = λ is. absurd (no_length e (cause_of r (write_error e) run.TooLong same is));
-      silent = passed_on _ r (write_error e) same (λ other. told.silent (is_memory e other));
+      silent = passed_on _ r (write_error e) same (λ other. told.silent (ap Err (is_memory e other)));
       reader_kept = passed_on _ r (write_error e) same (λ _. sound.0);
       reads_most = omega (arith, sound.2);
     }
