@@ -1,3 +1,4 @@
 pub mod Spelling
 pub mod Words
 pub mod Requests
+pub mod Messages

@@ -6,10 +6,9 @@ ghost use Rattle.kmc_slice_options.specs.declared.cutting.CutRequestError.TheVar
 
 use crate::sorting::{SortedWords, only, sorted_words};
 use crate::spelling::{any_begins_with, slices_text};
-use kmc_options::{Named, ParamsError, settings};
+use kmc_options::{ParamsError, settings};
 use kmc_settings::{Params, Setting, number};
 use std::alloc::{AllocError, Global};
-use thiserror::Error;
 
 /// The most slices that reads are cut into.
 pub const MOST_SLICES: u64 = 1000;
@@ -30,20 +29,16 @@ pub struct CutRequest {
 }
 
 /// Why the words ask for no cut. Usage is judged first, then KMC's options in the order of kmc, then the slices.
-#[derive(Clone, Copy, Debug, PartialEq, Eq, Error)]
+#[derive(Clone, Copy, Debug, PartialEq, Eq)]
 pub enum CutRequestError {
     /// A word is no option of this program, an option is given twice or without its value, or there is not one prefix and one number
     /// of slices.
-    #[error("usage: kmc_cut [-fa|-fq|-fm] [-k<len>] [-p<len>] [-n<bins>] [-sp<n>] -slices<S> [--force] <prefix>")]
     Usage,
     /// The value of this option is no number, or out of its range.
-    #[error("kmc_cut: value of -{} is out of range", .0.name())]
     OutOfRange(Setting),
     /// The number of slices is no number, or it is not from 1 to 1000, or there are fewer bins.
-    #[error("kmc_cut: value of -slices is out of range")]
     Slices,
     /// Memory was refused.
-    #[error("kmc_cut: out of memory")]
     Memory,
 }
 

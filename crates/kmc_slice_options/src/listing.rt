@@ -6,10 +6,9 @@ ghost use Rattle.kmc_slice_options.specs.declared.listing.ListRequestError.TheVa
 
 use crate::sorting::{SortedWords, sorted_words};
 use crate::spelling::any_begins_with;
-use kmc_options::{Named, ParamsError, settings};
+use kmc_options::{ParamsError, settings};
 use kmc_settings::{Params, Setting};
 use std::alloc::{AllocError, Global};
-use thiserror::Error;
 
 /// The most files of one slice.
 pub const MOST_FILES: usize = 100_000;
@@ -28,16 +27,13 @@ pub struct ListRequest {
 }
 
 /// Why the words ask for no list. Usage is judged first, then the options in the order of kmc.
-#[derive(Clone, Copy, Debug, PartialEq, Eq, Error)]
+#[derive(Clone, Copy, Debug, PartialEq, Eq)]
 pub enum ListRequestError {
     /// A word is no option of this program, an option is given twice or without its value, or there is no file or more than 100,000.
-    #[error("usage: kmc_list [-ci<n>] [-cx<n>] [-cs<n>] [-sr<n>] [-b] <file> ..")]
     Usage,
     /// The value of this option is no number, or out of its range.
-    #[error("kmc_list: value of -{} is out of range", .0.name())]
     OutOfRange(Setting),
     /// Memory was refused.
-    #[error("kmc_list: out of memory")]
     Memory,
 }
 
