@@ -1,3 +1,4 @@
 pub mod Device
+pub mod Room
 pub mod Line
 pub mod Lemmas

@@ -1,7 +1,7 @@
 -- What a command line in long form says: the command that reads it, and what stands for each
 -- option.
-use Rattle.std.specs.Prelude.{◌++◌, ◌==◌, ◌&&◌, ℕ, Bool, true, false, List, [], Option, Some, None, map, length}
-use Rattle.std.specs.Prelude.{if◌then◌else◌, nat_le, option_and_then, codes}
+use Rattle.std.specs.Prelude.{◌++◌, ◌==◌, ℕ, Bool, true, false, List, [], Option, Some, None, map, length}
+use Rattle.std.specs.Prelude.{if◌then◌else◌, codes}
 use Rattle.std.specs.Option.{option_map_or}
 use Rattle.std.specs.Str.{bytes_eq}
 use Rattle.clap.specs.Faults.{fault_of}
@@ -13,10 +13,9 @@ use Rattle.kmc_base.specs.declared.strands.Strands.{Strands}
 use Rattle.kmc_base.specs.declared.strands.Strands.TheVariants.{Apart, Joined}
 use Rattle.kmc_reads.specs.declared.format.Format.{Format}
 use Rattle.kmc_reads.specs.declared.format.Format.TheVariants.{Fasta, Fastq}
-use Rattle.kmc_settings.specs.Words.{Word, number_of}
+use Rattle.kmc_settings.specs.Words.{Word}
 use Rattle.kmc_options.specs.Names.{flag_name, flags, name_of, settings}
-use Rattle.kmc_settings.specs.Settings.{bounds_of}
-use Rattle.kmc_settings.specs.declared.setting.Bounds.{Bounds}
+use Rattle.kmc_settings.specs.Settings.{bounds_of, chosen}
 use Rattle.kmc_options.specs.declared.named.Flag.{Flag}
 use Rattle.kmc_options.specs.declared.named.Flag.TheVariants.{B, Fa, Fm, Fq}
 use Rattle.kmc_settings.specs.declared.setting.Setting.{Setting}
@@ -64,14 +63,6 @@ is_set rows f = option_map_or (bytes_eq (codes "true")) (first_of (flag_name f) 
 
 abbrev pub given_text : List Row → Setting → Option Word
 given_text rows s = first_of (name_of s) rows
-
-abbrev pub within : Bounds → ℕ → Option ℕ
-within b n = if nat_le b.least n && nat_le n b.most then Some n else None
-
--- the number that is given, if it is in range, and the default where none is given
-abbrev pub chosen : Bounds → Option Word → Option ℕ
-chosen b None = Some b.default
-chosen b (Some text) = option_and_then (within b) (number_of text)
 
 -- the number of an option; none where what is given for it is out of range
 abbrev pub value_of : List Row → Setting → Option ℕ

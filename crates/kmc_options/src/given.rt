@@ -1,10 +1,10 @@
 //! From the matches of a command line to the settings of a run.
-ghost use Rattle.std.specs.Prelude.{◌≡◌, IfSome, MatchResult, Some, None, option_map};
+ghost use Rattle.std.specs.Prelude.{◌≡◌, MatchResult, Some, None, option_map};
 ghost use Rattle.clap.specs.Words.{first_of, found_of, rows_of};
-ghost use Rattle.kmc_options.specs.CommandLine.{chosen, format_of, is_set, strands_of, value_of};
+ghost use Rattle.kmc_options.specs.CommandLine.{format_of, is_set, strands_of, value_of};
 ghost use Rattle.kmc_options.specs.Options.{AreGiven, Faults};
 ghost use Rattle.kmc_settings.specs.Kept.{HasUsualQueue};
-ghost use Rattle.kmc_settings.specs.Settings.{bounds_of, IsFor};
+ghost use Rattle.kmc_settings.specs.Settings.{IsFor};
 ghost use Rattle.kmc_options.specs.declared.error.ParamsError.TheVariants.{OutOfRange, Usage};
 
 use crate::error::ParamsError;
@@ -13,7 +13,7 @@ use clap::ArgMatches;
 use kmc_base::Strands;
 use kmc_count::Limits;
 use kmc_reads::Format;
-use kmc_settings::{Params, Setting, number};
+use kmc_settings::{Params, Setting};
 
 /// The settings, or the first fault in the order of [`OPTIONS`](crate::named::OPTIONS) after the format's.
 pub fn given(matches: &ArgMatches<'_>) -> Result<Params, ParamsError>
@@ -53,26 +53,9 @@ fn value(matches: &ArgMatches<'_>, setting: Setting) -> Result<u64, ParamsError>
         (λ e. (value_of (rows_of (found_of matches.now)) setting ≡ None)
         × (e ≡ OutOfRange setting)) }
 {
-    match chosen(setting, given_text(matches, setting.name())) {
+    match setting.chosen(given_text(matches, setting.name())) {
         Some(number) => Ok(number),
         None => Err(ParamsError::OutOfRange(setting)),
-    }
-}
-
-/// The number that the text gives the option: one or more ASCII digits that write a number in the
-/// option's range, and its default where there is no text. Otherwise `None`.
-fn chosen(setting: Setting, text: Option<&str>) -> Option<u64>
-    ensures value { result ≡ chosen (bounds_of setting) (option_map (λ t. t.now) text.entry) }
-    ensures in_range { IfSome result (IsFor setting) }
-{
-    let Some(text) = text else {
-        return Some(setting.bounds().default);
-    };
-    let number = number(text)?;
-    if setting.takes(number) {
-        Some(number)
-    } else {
-        None
     }
 }
 

@@ -1,15 +1,16 @@
 -- Bodies of one bin, record by record.
-use Rattle.std.proofs.Common.{◌≡◌, ℕ, ◌+◌, ◌-◌, ◌<◌, ◌≤◌, List, ◌++◌, length, take, drop, refl, sym, ap, subst, ◌∙◌, arith, length-append, append_assoc}
+use Rattle.std.proofs.Common.{◌≡◌, ℕ, ◌+◌, ◌-◌, ◌<◌, ◌≤◌, All, List, ◌++◌, get_or, length, take, drop, refl, sym, ap, subst, ◌∙◌, arith, length-append, append_assoc}
 use Rattle.std.proofs.lemmas.List.{take_at, take-append-drop}
 use Rattle.kmc_base.specs.Words.{windows}
-use Rattle.kmc_record.specs.Record.{spelling, IsSpelled}
+use Rattle.kmc_record.specs.Record.{spelling, IsSpelled, codes_in, size_of}
 use Rattle.kmc_record.specs.Shapes.{Sizes}
 use Rattle.kmc_record.specs.Parts.{Parcel, IsPart, capped}
-use Rattle.kmc_record.specs.Bodies.{AreRecordsOfBin, Belong, IsFirstError}
+use Rattle.kmc_record.specs.Bodies.{AreRecordsOfBin, BeginsWithOtherBin, Belong, IsFirstError}
 use Rattle.kmc_record.specs.Faults.{HasFault}
 use Rattle.kmc_record.specs.declared.fault.RecordFault.{RecordFault}
 use Rattle.kmc_record.specs.declared.fault.PartError.TheVariants.{Damaged}
 use Rattle.kmc_record.proofs.Parcels.{part_grown}
+use Rattle.kmc_record.proofs.Whole.{begins_there, first_codes, rest_at, spelled_there}
 
 pub records_of_part : (bin : ℕ) (shape : Sizes) (body : List ℕ) (words : ℕ) → IsPart bin shape body words → AreRecordsOfBin bin shape body
 records_of_part bin shape body words h = record { super_kmers = h.super_kmers; records = h.records; belong = h.belong }
@@ -19,6 +20,20 @@ module _ (bin : ℕ) (shape : Sizes) (k offset : ℕ) (body : List ℕ) (same : 
     (front : AreRecordsOfBin bin shape (take offset body)) where
   pub damaged_at : (fault : RecordFault) → HasFault k fault (drop offset body) → IsFirstError bin shape (Damaged fault offset) body
   damaged_at fault h = (inside, front, subst (λ j. HasFault j fault (drop offset body)) same h)
+
+-- a record was found there, a word of which belongs to another bin
+pub other_there : (bin : ℕ) (shape : Sizes) (k n offset : ℕ) (body : List ℕ) → ((i : ℕ) → get_or body i 0 < 256)
+    → n ≡ get_or (rest_at offset body) 0 0 + k → 1 + size_of n ≤ length (rest_at offset body)
+    → All (λ c. c ≡ 0) (drop n (codes_in (take (size_of n) (drop 1 (rest_at offset body))))) → k ≡ shape.k
+    → (Belong bin shape (windows shape.k (first_codes n (rest_at offset body))) → ⊥) → BeginsWithOtherBin bin shape (drop offset body)
+other_there bin shape k n offset body each count inside clean same other = record {
+  codes = first_codes n (rest_at offset body);
+  rest = drop (1 + size_of n) (rest_at offset body);
+  spelled = subst (λ j. IsSpelled j (first_codes n (rest_at offset body))) same (spelled_there k n offset body each count inside clean);
+  is = subst (λ j. drop offset body ≡ spelling j (first_codes n (rest_at offset body)) ++ drop (1 + size_of n) (rest_at offset body)) same
+      (begins_there k n offset body each count inside clean);
+  other = other;
+}
 
 front_joined : (body w rest : List ℕ) (offset next : ℕ) → offset ≤ length body → drop offset body ≡ w ++ rest → next ≡ length body - length rest
     → take next body ≡ take offset body ++ w

@@ -1,6 +1,6 @@
 -- Whole records, one after the other.
 use Rattle.std.proofs.Common.{◌≡◌, ℕ, zero, suc, ◌+◌, ◌-◌, ◌<◌, ◌≤◌, List, [], ◌∷◌, ◌++◌, length, map, get_or, take, drop, All, refl, sym, ap, subst, ◌∙◌, arith, append_assoc, append-nil, length-drop}
-use Rattle.std.proofs.lemmas.List.{length-take-le, take-append-drop, map-append}
+use Rattle.std.proofs.lemmas.List.{length-take-le, take_rest, take-append-drop, map-append}
 use Rattle.std.proofs.Math.Seq.{take-add}
 use Rattle.std.specs.List.{flat_map, AllByRecursion}
 use Rattle.kmc_base.specs.declared.strands.Strands.{Strands}
@@ -9,9 +9,9 @@ use Rattle.kmc_base.specs.Lemmas.Rolling.{codes_front}
 use Rattle.kmc_base.specs.Strands.{keys}
 use Rattle.kmc_record.specs.Record.{packed_codes, spelling, IsSpelled, IsBodyOf, codes_in, size_of}
 use Rattle.kmc_record.specs.RecordWords.{record_keys}
-use Rattle.kmc_record.specs.Refusals.{BeginsRecord}
+use Rattle.kmc_record.specs.Refusals.{StopsAtRecord}
 use Rattle.kmc_record.specs.Lemmas.Codes.{length_codes, are_codes}
-use Rattle.kmc_record.proofs.Spelled.{AreBytes, zeros_each, packed_back}
+use Rattle.kmc_record.proofs.Spelled.{AreBytes, bytes_each, zeros_each, packed_back}
 
 -- ---- one record more
 
@@ -81,29 +81,61 @@ pub first_read : (k n : ℕ) (bytes : List ℕ) → AreBytes bytes → n ≡ get
 first_read k n bytes are count inside rest =
     sym (take-append-drop (1 + size_of n) bytes) ∙ ap (λ (t : List ℕ). t ++ drop (1 + size_of n) bytes) (spelled_is k n bytes are count inside rest)
 
--- the bytes begin with the record that was found there
-pub begins_here : (k n : ℕ) (rest bytes : List ℕ) → rest ≡ bytes → AreBytes bytes → n ≡ get_or rest 0 0 + k → 1 + size_of n ≤ length rest
-    → All (λ c. c ≡ 0) (drop n (codes_in (take (size_of n) (drop 1 rest)))) → BeginsRecord k bytes
-begins_here k n rest bytes is are count inside clean =
-    let bytes_of_rest : AreBytes rest = subst AreBytes (sym is) are in
-    record {
-      codes = first_codes n rest;
-      rest = drop (1 + size_of n) rest;
-      spelled = first_spelled k n rest bytes_of_rest count inside;
-      is = sym is ∙ first_read k n rest bytes_of_rest count inside clean;
-    }
+-- the bytes of a body from a place on
+abbrev pub rest_at : ℕ → List ℕ → List ℕ
+rest_at offset body = take (length body - offset) (drop offset body)
 
-pub next_body : (k n offset next : ℕ) (ss : List (List ℕ)) (body rest : List ℕ) → AreBytes body → rest ≡ drop offset body → IsBodyOf k ss
-    (take offset body) → next ≡ offset + (1 + size_of n)
-    → n ≡ get_or rest 0 0 + k → 1 + size_of n ≤ length rest
-    → All (λ c. c ≡ 0) (drop n (codes_in (take (size_of n) (drop 1 rest)))) → IsBodyOf k (ss ++ first_codes n rest ∷ []) (take next body)
-next_body k n offset next ss body rest are is before there count inside clean =
-    let bytes : AreBytes rest = subst AreBytes (sym is) (bytes_drop offset body are) in
-    let split : take next body ≡ take offset body ++ take (1 + size_of n) rest =
-    ap (λ m. take m body) there ∙ take-add offset (1 + size_of n) body ∙ ap (λ (t : List ℕ). take offset body ++ take (1 + size_of n) t) (sym is) in
-    subst (IsBodyOf k (ss ++ first_codes n rest ∷ [])) (sym split)
-    (body_push k ss (first_codes n rest) (take offset body) (take (1 + size_of n) rest) before (first_spelled k n rest bytes count inside)
-    (spelled_is k n rest bytes count inside clean))
+-- a record of n symbols was found at a place of a body
+module _ (k n offset : ℕ) (body : List ℕ) (each : (i : ℕ) → get_or body i 0 < 256) (count : n ≡ get_or (rest_at offset body) 0 0 + k)
+    (inside : 1 + size_of n ≤ length (rest_at offset body))
+    (clean : All (λ c. c ≡ 0) (drop n (codes_in (take (size_of n) (drop 1 (rest_at offset body)))))) where
+  is_rest : rest_at offset body ≡ drop offset body
+  is_rest = take_rest body offset
+
+  are_bytes : AreBytes (rest_at offset body)
+  are_bytes = subst AreBytes (sym is_rest) (bytes_drop offset body (bytes_each body each))
+
+  pub spelled_there : IsSpelled k (first_codes n (rest_at offset body))
+  spelled_there = first_spelled k n (rest_at offset body) are_bytes count inside
+
+  pub begins_there : drop offset body ≡ spelling k (first_codes n (rest_at offset body)) ++ drop (1 + size_of n) (rest_at offset body)
+  begins_there = sym is_rest ∙ first_read k n (rest_at offset body) are_bytes count inside clean
+
+  -- memory was wanted for it
+  pub stops_there : (ss : List (List ℕ)) → offset < length body → IsBodyOf k ss (take offset body) → StopsAtRecord k body
+  stops_there ss less whole = record {
+    offset = offset;
+    inside = less;
+    before = ss;
+    whole = whole;
+    here = record {
+      codes = first_codes n (rest_at offset body);
+      rest = drop (1 + size_of n) (rest_at offset body);
+      spelled = spelled_there;
+      is = begins_there;
+    };
+  }
+
+  pub rest_long : length (rest_at offset body) ≡ length body - offset
+  rest_long = ap length is_rest ∙ length-drop offset body
+
+  pub next_inside : offset + (1 + size_of n) ≤ length body
+  next_inside = omega (arith, inside, rest_long)
+
+  pub next_body : (next : ℕ) (ss : List (List ℕ)) → IsBodyOf k ss (take offset body) → next ≡ offset + (1 + size_of n)
+      → IsBodyOf k (ss ++ first_codes n (rest_at offset body) ∷ []) (take next body)
+  next_body next ss before there =
+      let rest = rest_at offset body in
+      let split : take next body ≡ take offset body ++ take (1 + size_of n) rest =
+      ap (λ m. take m body) there ∙ take-add offset (1 + size_of n) body
+      ∙ ap (λ (t : List ℕ). take offset body ++ take (1 + size_of n) t) (sym is_rest) in
+      subst (IsBodyOf k (ss ++ first_codes n rest ∷ [])) (sym split)
+      (body_push k ss (first_codes n rest) (take offset body) (take (1 + size_of n) rest) before spelled_there
+      (spelled_is k n rest are_bytes count inside clean))
+
+-- the codes of the bytes behind the first
+pub same_codes : (n : ℕ) (bytes : List ℕ) → take n (codes_in (take (1 + size_of n - 1) (drop 1 bytes))) ≡ first_codes n bytes
+same_codes n bytes = let same : 1 + size_of n - 1 ≡ size_of n = omega arith in ap (λ m. take n (codes_in (take m (drop 1 bytes)))) same
 
 pub next_keys : (strands : Strands) (k : ℕ) (ss : List (List ℕ)) (s : List ℕ) (old new whole : List ℕ) → old ≡ whole ++ map pack (record_keys strands k ss)
     → new ≡ old ++ map pack (keys strands k s) → new ≡ whole ++ map pack (record_keys strands k (ss ++ s ∷ []))

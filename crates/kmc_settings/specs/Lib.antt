@@ -1,5 +1,5 @@
+pub mod Words
 pub mod Settings
 pub mod Ranges
 pub mod Kept
 pub mod Shape
-pub mod Words

@@ -1,5 +1,6 @@
--- Which numbers the settings of a run may have.
-use Rattle.std.specs.Prelude.{ℕ, ◌≤◌, ◌^◌}
+-- Which numbers the settings of a run may have, and which one a word gives.
+use Rattle.std.specs.Prelude.{◌&&◌, ℕ, ◌≤◌, ◌^◌, Option, Some, None, if◌then◌else◌, nat_le, option_and_then}
+use Rattle.kmc_settings.specs.Words.{Word, number_of}
 use Rattle.kmc_settings.specs.declared.setting.Bounds.{Bounds}
 use Rattle.kmc_settings.specs.declared.setting.Setting.{Setting}
 use Rattle.kmc_settings.specs.declared.setting.Setting.TheVariants.{K, P, N, Ci, Cx, Cs, Sp, Sr}
@@ -18,3 +19,12 @@ bounds_of Sr = record { least = 1; most = 16; default = 2 }
 -- the setting may have this number
 abbrev pub IsFor : Setting → ℕ → Type 0
 IsFor s n = ((bounds_of s).least ≤ n) × (n ≤ (bounds_of s).most)
+
+-- the number, where it is in range
+abbrev pub within : Bounds → ℕ → Option ℕ
+within b n = if nat_le b.least n && nat_le n b.most then Some n else None
+
+-- the number that a text gives, where it is one and in range, and the default where there is no text
+abbrev pub chosen : Bounds → Option Word → Option ℕ
+chosen b None = Some b.default
+chosen b (Some text) = option_and_then (within b) (number_of text)

@@ -1,5 +1,5 @@
 -- Words of a command line, by their bytes.
-use Rattle.std.specs.Prelude.{◌&&◌, ℕ, List, Option, Some, None, length, drop}
+use Rattle.std.specs.Prelude.{◌&&◌, ℕ, Bool, not, List, [], Option, Some, None, is_some, length, drop, codes, slice_index_or}
 use Rattle.std.specs.Prelude.{if◌then◌else◌, nat_eq, nat_lt}
 use Rattle.std.specs.Char.{is_ascii_digit}
 use Rattle.std.specs.List.{list_all, starts_with}
@@ -13,6 +13,14 @@ Word = List ℕ
 abbrev pub rest_after : Word → Word → Option Word
 rest_after prefix word =
     if starts_with nat_eq word prefix then Some (drop (length prefix) word) else None
+
+-- a word that begins with a hyphen is no name of a file
+abbrev pub is_file_name : Word → Bool
+is_file_name word = not (is_some (rest_after (codes "-") word))
+
+-- the name of a file, as it was given
+abbrev pub name_at : List Word → ℕ → Word
+name_at files i = slice_index_or files i []
 
 -- one or more ASCII digits, with leading zeros or without
 abbrev pub number_of : Word → Option ℕ

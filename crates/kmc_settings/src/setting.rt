@@ -1,6 +1,7 @@
 //! The numbers that a run is told, and their ranges.
-ghost use Rattle.std.specs.Prelude.{◌≡◌, ◌↔◌, IsTrue};
+ghost use Rattle.std.specs.Prelude.{◌≡◌, ◌↔◌, IsTrue, IfSome, option_map};
 
+use crate::digits::number;
 use kmc_base::MAX_K;
 use kmc_count::GREATEST_COUNT;
 use kmc_partcore::MAX_WRITERS;
@@ -53,7 +54,7 @@ impl Bounds {
 }
 
 impl Setting {
-    ghost use Rattle.kmc_settings.specs.Settings.{bounds_of, IsFor};
+    ghost use Rattle.kmc_settings.specs.Settings.{bounds_of, chosen, IsFor};
 
     /// The numbers that the setting may have, and its default.
     pub fn bounds(self) -> Bounds
@@ -76,5 +77,22 @@ impl Setting {
     {
         let bounds = self.bounds();
         bounds.least <= number && number <= bounds.most
+    }
+
+    /// The number that the text gives the setting: one or more ASCII digits that write a number in the setting's range, and its
+    /// default where there is no text. Otherwise `None`.
+    pub fn chosen(self, text: Option<&str>) -> Option<u64>
+        ensures value { result ≡ chosen (bounds_of self) (option_map (λ t. t.now) text.entry) }
+        ensures in_range { IfSome result (IsFor self) }
+    {
+        let Some(text) = text else {
+            return Some(self.bounds().default);
+        };
+        let number = number(text)?;
+        if self.takes(number) {
+            Some(number)
+        } else {
+            None
+        }
     }
 }

@@ -1,5 +1,5 @@
 -- Texts that go to the writers, one after the other.
-use Rattle.std.proofs.Common.{◌≡◌, ℕ, zero, suc, ◌+◌, ◌<◌, ◌≤◌, ◌^◌, ◌⊎◌, inl, inr, Result, Ok, Err, OnOk, List, [], ◌++◌, length, map, get_or, set, Option, None, refl, sym, ap, subst, ◌∙◌, arith}
+use Rattle.std.proofs.Common.{◌≡◌, ℕ, zero, suc, ◌+◌, ◌<◌, ◌≤◌, ◌^◌, ◌⊎◌, inl, inr, List, [], ◌++◌, length, map, get_or, set, Option, None, refl, sym, ap, subst, ◌∙◌, arith}
 use Rattle.std.specs.Io.KnownBytes.{Appends}
 use Rattle.std.proofs.KnownBytes.{Appends-nil}
 use Rattle.std.proofs.lemmas.Bool.{cases_eq, cases_lt}
@@ -98,10 +98,6 @@ zero_below l b inside before t below = go (cases_eq t b) (cases_lt t b)
     go (inl e) any = ap (λ x. get_or (set l b 0) x 0) e ∙ get_or-set_same l b 0 0 inside
     go (inr differ) (inl lt) = get_or-set_other l b t 0 0 differ ∙ before t lt
     go (inr differ) (inr ge) = absurd (differ (omega (arith, below, ge)))
-
-pub on_ok_then : {A E : Type 0} (r : Result A E) (P Q : Type 0) → (P → Q) → OnOk r P → OnOk r Q
-on_ok_then (Ok x) P Q f h = f h
-on_ok_then (Err x) P Q f h = tt
 
 -- nothing stands in no bodies
 none_at : (b : ℕ) → body_at [] b ≡ []

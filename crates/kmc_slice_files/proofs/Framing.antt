@@ -1,11 +1,11 @@
 -- Frames of bins on the writers of their slices.
-use Rattle.std.proofs.Common.{◌≡◌, ◌≢◌, ℕ, ◌+◌, ◌-◌, ◌%◌, ◌<◌, ◌≤◌, ◌^◌, ◌⊎◌, inl, inr, Bool, cond, eqb, ltb, min, List, [], ◌∷◌, ◌++◌, length, take, drop, map, get_or, set, Option, None, refl, sym, ap, subst, ◌∙◌, arith, length-append}
+use Rattle.std.proofs.Common.{◌≡◌, ◌≢◌, ℕ, ◌+◌, ◌-◌, ◌%◌, ◌<◌, ◌≤◌, ◌^◌, ◌⊎◌, inl, inr, Bool, cond, eqb, ltb, min, List, [], ◌∷◌, ◌++◌, length, take, drop, map, get_or, set, Option, None, refl, sym, ap, subst, ◌∙◌, arith, length-append, length-drop}
 use Rattle.std.specs.List.{filter, flat_map}
 use Rattle.std.specs.Io.KnownBytes.{Appends}
 use Rattle.std.proofs.KnownBytes.{Appends-trans, Appends-nil}
 use Rattle.std.proofs.lemmas.Bool.{cases_eq, cases_lt, eq-eqb, ne_eqb, lt-ltb, le-ltb}
 use Rattle.std.proofs.lemmas.Grind.{flat_map-append}
-use Rattle.std.proofs.lemmas.List.{append-nil, get_or-set_same, get_or-set_other, length-map, get_or-map, map-set}
+use Rattle.std.proofs.lemmas.List.{append-nil, length-take-le, get_or-set_same, get_or-set_other, length-map, get_or-map, map-set}
 use Rattle.std.proofs.Math.Seq.{take-add, map-set_same}
 use Rattle.kmc_device.specs.Device.{Watched, AppendsFront, RisesByOne}
 use Rattle.kmc_device.specs.Lemmas.Devices.{front_after, front_of}
@@ -40,6 +40,17 @@ no_body b i (f ∷ fs) differ of =
     ap (λ (t : Bool). flat_map (λ (g : Frame). g.body) (cond t (f ∷ filter (λ (g : Frame). eqb g.bin i) fs)
     (filter (λ (g : Frame). eqb g.bin i) fs))) (ne_eqb f.bin i (λ e. differ (sym of.0.bin ∙ e)))
     ∙ no_body b i fs differ of.1
+
+-- the next bytes of a body
+abbrev pub piece_at : List ℕ → ℕ → ℕ → List ℕ
+piece_at body done more = take (done + more - done) (drop done body)
+
+pub piece_is : (body : List ℕ) (done more : ℕ) → piece_at body done more ≡ take more (drop done body)
+piece_is body done more = let size : done + more - done ≡ more = omega arith in ap (λ n. take n (drop done body)) size
+
+pub piece_long : (body : List ℕ) (done more : ℕ) → more ≤ length body - done → length (piece_at body done more) ≡ more
+piece_long body done more few =
+    ap length (piece_is body done more) ∙ length-take-le more (drop done body) (omega (arith, few, length-drop done body))
 
 -- one more piece of a bin is out
 pub bin_more : (b : ℕ) (body piece : List ℕ) (done more n : ℕ) (a c d : Option (List ℕ)) → 1 ≤ more → more ≤ 2 ^ 20 → done + more ≤ length body
@@ -208,6 +219,16 @@ module _ (n S b : ℕ) (bodies : List (List ℕ)) (olds mids : List (Option (Lis
 pub head_front : (a b : Option (List ℕ)) (h head body : List ℕ) → h ≡ head → AppendsFront a b h → AppendsFront a b (head ++ body)
 head_front a b h head body e front = front_of a b head body (subst (AppendsFront a b) e front)
 
+-- no writer failed since the first, and so each may fail
+pub may_fail : {T : Type 0} (writers firsts : List (Watched T)) (was : Watched T) (s : ℕ) → length writers ≡ length firsts
+    → map (λ (w : Watched T). w.failures) writers ≡ map (λ (w : Watched T). w.failures) firsts → s < length firsts
+    → ((t : ℕ) → t < length firsts → get_or (map (λ (w : Watched T). w.failures) firsts) t 0 < 2 ^ 64 - 1)
+    → (get_or writers s was).failures < 2 ^ 64 - 1
+may_fail {T} writers firsts was s wide same inside few =
+    let here = get_or-map (λ (w : Watched T). w.failures) writers s was 0 (omega (arith, wide, inside)) in
+    let before = ap (λ (l : List ℕ). get_or l s 0) same in
+    omega (arith, here, before, few s inside)
+
 module _ {T : Type 0} (hold : Watched T → Option (List ℕ)) (writers : List (Watched T)) (was new : Watched T) (s : ℕ) (inside : s < length writers)
   where
     abbrev was_here : Watched T
@@ -216,7 +237,7 @@ module _ {T : Type 0} (hold : Watched T → Option (List ℕ)) (writers : List (
     held_was : held_at (map hold writers) s ≡ hold was_here
     held_was = get_or-map hold writers s was None inside
 
-    pub failures_was : get_or (map (λ (w : Watched T). w.failures) writers) s 0 ≡ was_here.failures
+    failures_was : get_or (map (λ (w : Watched T). w.failures) writers) s 0 ≡ was_here.failures
     failures_was = get_or-map (λ (w : Watched T). w.failures) writers s was 0 inside
 
     pub same_failures : new.failures ≡ was_here.failures → map (λ (w : Watched T). w.failures) (set writers s new) ≡ map

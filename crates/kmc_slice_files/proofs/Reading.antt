@@ -3,37 +3,20 @@ use Rattle.std.proofs.Common.{◌≡◌, ℕ, zero, suc, ◌+◌, ◌-◌, ◌<�
 use Rattle.std.specs.Int.{w16, w32, w64, from_le_bytes}
 use Rattle.std.specs.List.{range_with_len, AllByRecursion}
 use Rattle.std.specs.Io.KnownBytes.{Consumes, IsAtEnd}
-use Rattle.std.proofs.KnownBytes.{Consumes-trans, Consumes-nil}
-use Rattle.std.proofs.lemmas.List.{ext_get_or, length-take-le, append-nil, take_at}
+use Rattle.std.proofs.KnownBytes.{Consumes-trans}
+use Rattle.std.proofs.lemmas.List.{ext_get_or, take_at}
 use Rattle.std.proofs.lemmas.List.FromFn.{get_or-map-range_with_len, length-map-range_with_len}
 use Rattle.std.proofs.lemmas.Nat.{le_bytes_2, le_bytes_4, le_bytes_8}
-use Rattle.kmc_device.specs.Lemmas.Lines.{put_then_take}
-use Rattle.kmc_slice_files.specs.Room.{CameBehind}
+use Rattle.kmc_device.specs.Room.{CameBehind}
 use Rattle.kmc_slice_files.specs.Reads.{GaveSome}
 use Rattle.kmc_slice_files.specs.Frames.{spare_head}
 use Rattle.kmc_slice_files.specs.declared.read.Head.{Head}
-use borrow.Rule.Slice.PartMut.{put_mid}
 
 -- a list of so many numbers, place by place
 pub by_places : (l : List ℕ) (n : ℕ) → length l ≡ n → l ≡ map (λ i. get_or l i 0) (range_with_len 0 n)
 by_places l n long =
     ext_get_or 0 l (map (λ i. get_or l i 0) (range_with_len 0 n)) (long ∙ sym (length-map-range_with_len (λ i. get_or l i 0) 0 n))
     (λ i inside. sym (get_or-map-range_with_len (λ j. get_or l j 0) 0 n i i 0 (omega (arith, long)) (omega arith)))
-
-pub none_came : (a : Option (List ℕ)) (to : ℕ) (room : List ℕ) → CameBehind a a to to room room
-none_came a to room = record { bytes = []; gave = Consumes-nil a; many = omega arith; stand = sym (append-nil (take to room)) }
-
--- some more came
-pub more_came : (a b c : Option (List ℕ)) (to end n : ℕ) (before room out : List ℕ) → end ≤ length room → length out ≡ length room - end
-    → n ≤ length out
-    → CameBehind a b to end before room → Consumes b c (take n out) → CameBehind a c to (end + n) before (put_mid end (length room - end) room out)
-more_came a b c to end n before room out within long most came now = record {
-  bytes = came.bytes ++ take n out;
-  gave = Consumes-trans a b c came.bytes (take n out) came.gave now;
-  many = omega (arith, came.many, length-append came.bytes (take n out), length-take-le n out most);
-  stand = put_then_take room out end n (length room - end) within long (omega (arith, most, long)) ∙ ap (λ (l : List ℕ). l ++ take n out) came.stand
-      ∙ append_assoc (take to before) came.bytes (take n out);
-}
 
 pub below : (l : List ℕ) → AllByRecursion (λ b. b < 256) l → (i : ℕ) → get_or l i 0 < 256
 below [] h i = omega arith
@@ -63,14 +46,17 @@ head_is h bytes long small bin spare size check =
     (below (get_or bytes 8 0 ∷ get_or bytes 9 0 ∷ get_or bytes 10 0 ∷ get_or bytes 11 0 ∷ get_or bytes 12 0 ∷ get_or bytes 13 0 ∷ get_or bytes 14 0 ∷
     get_or bytes 15 0 ∷ []) (small 8, (small 9, (small 10, (small 11, (small 12, (small 13, (small 14, (small 15, tt))))))))) check p)
 
-pub front_of_wide : (items zs : List ℕ) (n from : ℕ) → from ≡ length items → from ≤ n → take from (take n items ++ zs) ≡ items
+front_of_wide : (items zs : List ℕ) (n from : ℕ) → from ≡ length items → from ≤ n → take from (take n items ++ zs) ≡ items
 front_of_wide items zs n from is most = ap (λ (l : List ℕ). take from (l ++ zs)) (take_all n items (omega (arith, is)))
     ∙ take_at items zs from (sym is)
 
 -- a piece of a body came
-module _ (a b c : Option (List ℕ)) (start body items wide room : List ℕ) (left long piece from end : ℕ) (size : length body + left ≡ long)
-    (stand : items ≡ start ++ body) (gave : Consumes a b body)
-    (behind : from ≡ length items) (front : take from wide ≡ items) (most : piece ≤ left) (came : CameBehind b c from end wide room) where
+module _ (a b c : Option (List ℕ)) (start body items wide spare room : List ℕ) (left long piece from end : ℕ) (size : length body + left ≡ long)
+    (stand : items ≡ start ++ body) (gave : Consumes a b body) (behind : from ≡ length items) (spread : wide ≡ take (from + piece) items ++ spare)
+    (most : piece ≤ left) (came : CameBehind b c from end wide room) where
+  front : take from wide ≡ items
+  front = ap (take from) spread ∙ front_of_wide items spare (from + piece) from behind (omega arith)
+
   abbrev pub all_bytes : List ℕ
   all_bytes = body ++ came.bytes
 

@@ -1,6 +1,8 @@
 -- What a head and a body say of the text that begins with them.
-use Rattle.std.proofs.Common.{◌≡◌, ℕ, zero, suc, ◌-◌, ◌%◌, ◌<◌, ◌^◌, List, [], ◌∷◌, ◌++◌, length, take, drop, get_or, refl, sym, ap, subst, ◌∙◌, arith, append_assoc, length-append, take_all}
-use Rattle.std.proofs.lemmas.List.{drop_at}
+use Rattle.std.proofs.Common.{◌≡◌, ℕ, zero, suc, ◌-◌, ◌%◌, ◌<◌, ◌^◌, List, [], ◌∷◌, ◌++◌, length, take, drop, get_or, set, refl, sym, ap, subst, ◌∙◌, arith, append_assoc, length-append, take_all}
+use Rattle.std.specs.declared.alloc.Global.{Global}
+use Rattle.std.specs.declared.vec.Vec.{Vec}
+use Rattle.std.proofs.lemmas.List.{drop_at, get_or-set_same}
 use Rattle.kmc_record.specs.Parts.{capped}
 use Rattle.kmc_slice_files.specs.Frames.{Frame, frame, IsFrame, check_of, spare_head, head_bytes, frame_bytes, end_bytes, NO_BIN}
 use Rattle.kmc_slice_files.specs.Reads.{IsHeadOf, BeginsNothing, SaysFrame, SaysEnd}
@@ -91,13 +93,22 @@ less_begins n S s count bytes few = record {
 }
 
 -- behind what stood there
-pub tail_is : (all old body : List ℕ) (from : ℕ) → all ≡ old ++ body → from ≡ length old → take (length all - from) (drop from all) ≡ body
+tail_is : (all old body : List ℕ) (from : ℕ) → all ≡ old ++ body → from ≡ length old → take (length all - from) (drop from all) ≡ body
 tail_is all old body from e is =
     let behind : drop from all ≡ body = ap (drop from) e ∙ drop_at old body from (sym is) in
     ap (take (length all - from)) behind ∙ take_all (length all - from) body (omega (arith, ap length e, is, length-append old body))
 
 -- inside a list the default does not matter
-pub same_place : {X : Type 0} (xs : List X) (i : ℕ) (d e : X) → i < length xs → get_or xs i d ≡ get_or xs i e
+same_place : {X : Type 0} (xs : List X) (i : ℕ) (d e : X) → i < length xs → get_or xs i d ≡ get_or xs i e
 same_place [] i d e inside = absurd (omega (arith, inside))
 same_place (x ∷ xs) zero d e inside = refl
 same_place (x ∷ xs) (suc i) d e inside = same_place xs i d e (omega (arith, inside))
+
+-- behind what a body had stands what came, where the body was looked up more than once
+pub came_behind : (bodies : List (Vec ℕ Global)) (b : ℕ) (new d e f : Vec ℕ Global) (all came : List ℕ) (from : ℕ) → b < length bodies
+    → from ≡ (get_or bodies b d).len → all ≡ (get_or (set bodies b new) b f).items → new.items ≡ (get_or bodies b e).items ++ came
+    → take (length all - from) (drop from all) ≡ came
+came_behind bodies b new d e f all came from inside is at now =
+    let long : from ≡ length (get_or bodies b e).items =
+    is ∙ (get_or bodies b d).ok.0 ∙ ap (λ (v : Vec ℕ Global). length v.items) (same_place bodies b d e inside) in
+    tail_is all (get_or bodies b e).items came from (at ∙ ap (λ (v : Vec ℕ Global). v.items) (get_or-set_same bodies b new f inside) ∙ now) long

@@ -4,7 +4,6 @@ pub mod Files
 pub mod Headers
 pub mod Laws
 pub mod Writes
-pub mod Room
 pub mod Reads
 pub mod Opening
 pub mod Whole

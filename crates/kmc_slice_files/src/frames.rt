@@ -8,8 +8,7 @@ ghost use Rattle.kmc_slice_files.specs.Whole.{TookAll, GaveFrames, IsEndFault, I
 use crate::frame::HEAD;
 use crate::header::{HEADER, Slicing};
 use crate::read::{FrameFault, PIECE, read_frame};
-use crate::room::{ReadFault, read_behind};
-use kmc_device::Counted;
+use kmc_device::{Counted, ReadFault, fill_behind};
 use std::io::Read;
 
 /// How many frames stand before a frame, and the byte of the file at which it begins, as far as a `u64` tells.
@@ -91,7 +90,7 @@ fn end_of<R: Read>(reader: &mut Counted<R>) -> Result<(), FramesFault>
     ensures device { IfErr result (FileTells reader.old.failures reader.new.failures) }
 {
     let mut more = [0; 1];
-    match read_behind(reader, &mut more, 0) {
+    match fill_behind(reader, &mut more, 0) {
         Ok(0) => Ok(()),
         Ok(_) => Err(FramesFault::Behind),
         Err(ReadFault) => Err(FramesFault::Next(FrameFault::Read)),

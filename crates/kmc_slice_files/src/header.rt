@@ -6,8 +6,7 @@ ghost use Rattle.kmc_slice_files.specs.Files.{IsSlicing, slicing_bytes, header_b
 ghost use Rattle.kmc_slice_files.specs.Headers.{IsTold, IsOutOfRange, IsSlicingOf, IsRefused, IsHeaderFault, HeaderTells};
 
 use crate::check::check_word;
-use crate::room::{ReadFault, read_behind};
-use kmc_device::{Counted, WriteFault, write_text};
+use kmc_device::{Counted, ReadFault, WriteFault, fill_behind, write_text};
 use kmc_record::{LEAST_P, Shape};
 use std::io::{Read, Write};
 
@@ -170,7 +169,7 @@ pub fn read_header<R: Read>(reader: &mut Counted<R>) -> Result<Slicing, HeaderFa
     ensures device { IfErr result (HeaderTells reader.old.failures reader.new.failures) }
 {
     let mut bytes = [0; HEADER];
-    let end = read_behind(reader, &mut bytes, 0)?;
+    let end = fill_behind(reader, &mut bytes, 0)?;
     if end < HEADER {
         return Err(HeaderFault::Short);
     }

@@ -14,7 +14,6 @@ pub mod laws;
 mod messages;
 mod opening;
 mod read;
-mod room;
 mod round;
 mod slice;
 

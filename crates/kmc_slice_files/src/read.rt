@@ -5,8 +5,7 @@ ghost use Rattle.kmc_slice_files.specs.Reads.{IsHeadOf, TookNext, GaveSome, IsSa
 
 use crate::check::frame_check;
 use crate::frame::{HEAD, MOST_BODY, NO_BIN};
-use crate::room::{ReadFault, read_behind};
-use kmc_device::Counted;
+use kmc_device::{Counted, ReadFault, fill_behind};
 use std::io::Read;
 
 /// Memory for a body is asked for in pieces of so many bytes, as they come.
@@ -82,7 +81,7 @@ fn read_body<R: Read>(
             Ok(()) => {}
             Err(_) => return Err(FrameFault::Memory),
         }
-        let end = read_behind(reader, out.as_mut_slice(), from)?;
+        let end = fill_behind(reader, out.as_mut_slice(), from)?;
         if end < from + piece {
             return Err(FrameFault::Short);
         }
@@ -112,7 +111,7 @@ fn read_head<R: Read>(reader: &mut Counted<R>) -> Result<Head, FrameFault>
     ensures device { IfErr result (TellsOfReader reader.old.failures reader.new.failures) }
 {
     let mut bytes = [0; HEAD];
-    let end = read_behind(reader, &mut bytes, 0)?;
+    let end = fill_behind(reader, &mut bytes, 0)?;
     if end < HEAD {
         return Err(FrameFault::Short);
     }

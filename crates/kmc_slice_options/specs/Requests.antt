@@ -1,12 +1,12 @@
 -- What words ask of the programs that cut and list.
 use Rattle.std.specs.Prelude.{◌≡◌, ◌≤◌, ◌∷◌, ℕ, Bool, true, false, List, [], Some, length, map, is_some, option_and_then, string_bytes, codes}
 use Rattle.std.specs.List.{filter, list_any}
-use Rattle.kmc_settings.specs.Words.{Word, rest_after, number_of}
+use Rattle.kmc_settings.specs.Words.{Word, rest_after, number_of, is_file_name}
 use Rattle.kmc_settings.specs.declared.setting.Setting.{Setting}
 use Rattle.kmc_options.specs.CommandLine.{found}
 use Rattle.kmc_options.specs.Glued.{long_forms}
 use Rattle.kmc_options.specs.Options.{AreGiven, HasProgramQueue, first_out_of_range, is_taken}
-use Rattle.kmc_slice_options.specs.Spelling.{is_name, is_slices, is_other, is_force, slices_text}
+use Rattle.kmc_slice_options.specs.Spelling.{is_slices, is_other, is_force, slices_text}
 use Rattle.kmc_slice_options.specs.Words.{joined}
 use Rattle.kmc_slice_options.specs.declared.cutting.CutRequest.{CutRequest}
 use Rattle.kmc_slice_options.specs.declared.listing.ListRequest.{ListRequest}
@@ -39,7 +39,7 @@ pub record IsNumberOfSlices (word : Word) (bins n : ℕ) : Type 0 where
 
 -- the words are a prefix, a number of slices and options of the program that cuts
 pub record AsksForCut (words : List Word) : Type 0 where
-  pub names : length (filter is_name (joined words)) ≡ 1
+  pub names : length (filter is_file_name (joined words)) ≡ 1
   pub slices : length (filter is_slices (joined words)) ≡ 1
   pub own : list_any (begins_with_one of_listing) (filter is_other (joined words)) ≡ false
   pub taken : is_taken (options_of words) ≡ true
@@ -47,7 +47,7 @@ pub record AsksForCut (words : List Word) : Type 0 where
 -- this is what the words ask for
 pub record IsCutRequest (words : List Word) (r : CutRequest) : Type 0 where
   pub asks : AsksForCut words
-  pub prefix : filter is_name (joined words) ≡ string_bytes r.prefix ∷ []
+  pub prefix : filter is_file_name (joined words) ≡ string_bytes r.prefix ∷ []
   pub word : Word
   pub slices_word : filter is_slices (joined words) ≡ word ∷ []
   pub slices : IsNumberOfSlices word r.params.n r.slices
@@ -65,8 +65,8 @@ most_files = 100000
 
 -- the words are names of files and options of the program that lists
 pub record AsksForList (words : List Word) : Type 0 where
-  pub some : 1 ≤ length (filter is_name (joined words))
-  pub few : length (filter is_name (joined words)) ≤ most_files
+  pub some : 1 ≤ length (filter is_file_name (joined words))
+  pub few : length (filter is_file_name (joined words)) ≤ most_files
   pub slices : length (filter is_slices (joined words)) ≡ 0
   pub force : list_any is_force (joined words) ≡ false
   pub own : list_any (begins_with_one of_cutting) (filter is_other (joined words)) ≡ false
@@ -75,5 +75,5 @@ pub record AsksForList (words : List Word) : Type 0 where
 -- this is what the words ask for
 pub record IsListRequest (words : List Word) (r : ListRequest) : Type 0 where
   pub asks : AsksForList words
-  pub files : map string_bytes r.files.items ≡ filter is_name (joined words)
+  pub files : map string_bytes r.files.items ≡ filter is_file_name (joined words)
   pub given : AreGiven (found (options_of words)) r.params

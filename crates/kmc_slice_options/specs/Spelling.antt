@@ -2,11 +2,7 @@
 use Rattle.std.specs.Prelude.{◌&&◌, ◌∷◌, Bool, List, [], Option, if◌then◌else◌, nat_eq, not, is_some, codes}
 use Rattle.std.specs.List.{list_any}
 use Rattle.std.specs.Str.{bytes_eq}
-use Rattle.kmc_settings.specs.Words.{Word, rest_after}
-
--- a word that begins with a hyphen is no name of a file
-abbrev pub is_name : Word → Bool
-is_name word = not (is_some (rest_after (codes "-") word))
+use Rattle.kmc_settings.specs.Words.{Word, is_file_name, rest_after}
 
 -- what the word gives as the number of slices: glued, as KMC glues, or in long form
 abbrev pub slices_text : Word → Option Word
@@ -20,7 +16,7 @@ is_force word = bytes_eq word (codes "--force")
 
 -- every other word is one of KMC's options, or nothing
 abbrev pub is_other : Word → Bool
-is_other word = not (is_name word) && (not (is_slices word) && not (is_force word))
+is_other word = not (is_file_name word) && (not (is_slices word) && not (is_force word))
 
 -- the words in long form behind which no value follows
 abbrev pub plain_words : List Word

@@ -1,17 +1,14 @@
 //! What the words of a command line ask of the program that cuts.
-ghost use Rattle.std.specs.Prelude.{◌≡◌, IfOk, IsErrOf, MatchOption, ℕ, map, string_bytes, Some};
+ghost use Rattle.std.specs.Prelude.{◌≡◌, IfOk, IsErrOf, MatchOption, ℕ, map, string_bytes};
 ghost use Rattle.kmc_settings.specs.declared.setting.Setting.{Setting};
-ghost use Rattle.kmc_slice_options.specs.Messages.{text_of_no_cut};
 ghost use Rattle.kmc_slice_options.specs.Requests.{AsksForCut, IsCutRequest, IsNumberOfSlices, IsOutOfRange};
 ghost use Rattle.kmc_slice_options.specs.declared.cutting.CutRequestError.TheVariants.{Memory};
 
 use crate::sorting::{SortedWords, only, sorted_words};
 use crate::spelling::{any_begins_with, slices_text};
-use kmc_options::{Named, ParamsError, settings};
+use kmc_options::{ParamsError, settings};
 use kmc_settings::{Params, Setting, number};
 use std::alloc::{AllocError, Global};
-use std::error::Error;
-use std::fmt;
 
 /// The most slices that reads are cut into.
 pub const MOST_SLICES: u64 = 1000;
@@ -44,27 +41,6 @@ pub enum CutRequestError {
     /// Memory was refused.
     Memory,
 }
-
-impl fmt::Display for CutRequestError {
-    ghost output = { λ e. Some (text_of_no_cut e) };
-
-    fn fmt<W: fmt::Write>(&self, f: &mut fmt::Formatter<W>) -> fmt::Result {
-        match self {
-            CutRequestError::Usage => write!(
-                f,
-                "usage: kmc_cut [-fa|-fq|-fm] [-k<len>] [-p<len>] [-n<bins>] [-sp<n>] -slices<S> [--force] <prefix>"
-            ),
-            CutRequestError::OutOfRange(setting) => {
-                let name = setting.name();
-                write!(f, "kmc_cut: value of -{name} is out of range")
-            }
-            CutRequestError::Slices => write!(f, "kmc_cut: value of -slices is out of range"),
-            CutRequestError::Memory => write!(f, "kmc_cut: out of memory"),
-        }
-    }
-}
-
-impl Error for CutRequestError {}
 
 impl From<AllocError> for CutRequestError {
     ghost from_gives = { λ _ e. e ≡ Memory };

@@ -5,6 +5,7 @@
 mod cutting;
 mod joining;
 mod listing;
+mod messages;
 mod sorting;
 mod spelling;
 

@@ -1,17 +1,14 @@
 //! What the words of a command line ask of the program that lists.
-ghost use Rattle.std.specs.Prelude.{◌≡◌, IfOk, IsErrOf, map, string_bytes, Some};
+ghost use Rattle.std.specs.Prelude.{◌≡◌, IfOk, IsErrOf, map, string_bytes};
 ghost use Rattle.kmc_settings.specs.declared.setting.Setting.{Setting};
-ghost use Rattle.kmc_slice_options.specs.Messages.{text_of_no_list};
 ghost use Rattle.kmc_slice_options.specs.Requests.{AsksForList, IsListRequest, IsOutOfRange};
 ghost use Rattle.kmc_slice_options.specs.declared.listing.ListRequestError.TheVariants.{Memory};
 
 use crate::sorting::{SortedWords, sorted_words};
 use crate::spelling::any_begins_with;
-use kmc_options::{Named, ParamsError, settings};
+use kmc_options::{ParamsError, settings};
 use kmc_settings::{Params, Setting};
 use std::alloc::{AllocError, Global};
-use std::error::Error;
-use std::fmt;
 
 /// The most files of one slice.
 pub const MOST_FILES: usize = 100_000;
@@ -39,26 +36,6 @@ pub enum ListRequestError {
     /// Memory was refused.
     Memory,
 }
-
-impl fmt::Display for ListRequestError {
-    ghost output = { λ e. Some (text_of_no_list e) };
-
-    fn fmt<W: fmt::Write>(&self, f: &mut fmt::Formatter<W>) -> fmt::Result {
-        match self {
-            ListRequestError::Usage => write!(
-                f,
-                "usage: kmc_list [-ci<n>] [-cx<n>] [-cs<n>] [-sr<n>] [-b] <file> .."
-            ),
-            ListRequestError::OutOfRange(setting) => {
-                let name = setting.name();
-                write!(f, "kmc_list: value of -{name} is out of range")
-            }
-            ListRequestError::Memory => write!(f, "kmc_list: out of memory"),
-        }
-    }
-}
-
-impl Error for ListRequestError {}
 
 impl From<AllocError> for ListRequestError {
     ghost from_gives = { λ _ e. e ≡ Memory };

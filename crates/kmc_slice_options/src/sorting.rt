@@ -3,7 +3,8 @@ ghost use Rattle.std.specs.Prelude.{◌≡◌, ◌≢◌, ◌∷◌, [], IfOk, M
 ghost use Rattle.kmc_slice_options.specs.Words.{AreSorted, joined};
 
 use crate::joining::joined_words;
-use crate::spelling::{is_force, is_name, is_slices};
+use crate::spelling::{is_force, is_slices};
+use kmc_settings::is_file_name;
 use std::alloc::{AllocError, Global};
 
 /// Names of files, numbers of slices, and all other words, each in their order, and whether files may be written over.
@@ -31,7 +32,7 @@ fn sorted(alloc: Global, words: Vec<String>) -> Result<SortedWords, AllocError>
     let mut others = Vec::new(alloc);
     let mut force = false;
     for word in words {
-        if is_name(&word) {
+        if is_file_name(&word) {
             names.push(word)?;
         } else if is_slices(&word) {
             slices.push(word)?;

@@ -2,17 +2,10 @@
 ghost use Rattle.std.specs.Prelude.{◌≡◌, map, nat_eq, option_map, string_bytes};
 ghost use Rattle.std.specs.List.{list_any};
 ghost use Rattle.std.specs.Str.{bytes_eq};
-ghost use Rattle.kmc_slice_options.specs.Spelling.{awaits_value, is_name, is_slices, is_force, slices_text};
+ghost use Rattle.kmc_slice_options.specs.Spelling.{awaits_value, is_slices, is_force, slices_text};
 ghost use Rattle.kmc_slice_options.specs.Requests.{begins_with_one};
 
 use kmc_settings::rest_after;
-
-/// Whether the word names a file: it does not begin with a hyphen.
-pub fn is_name(word: &str) -> bool
-    ensures { result ≡ is_name word.now }
-{
-    rest_after("-", word).is_none()
-}
 
 /// What the word gives as the number of slices, glued or in long form.
 pub fn slices_text(word: &str) -> Option<&str>

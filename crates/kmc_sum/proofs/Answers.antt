@@ -4,6 +4,7 @@ use Rattle.std.specs.Result.{IsErrAnd}
 use Rattle.std.specs.Prelude.{IfErr}
 use Rattle.kmc_count.specs.declared.limits.Limits.{Limits}
 use Rattle.kmc_device.specs.Device.{Watched}
+use Rattle.kmc_device.specs.Lemmas.Devices.{on_ok_then}
 use Rattle.kmc_sum.specs.Answer.{IsCause, IsMergeAnswer}
 use Rattle.kmc_sum.specs.Refusals.{HasFailed, IsFaultOf, IsFirstFault}
 use Rattle.kmc_sum.specs.Sources.{failures_of, lefts_of}
@@ -12,7 +13,6 @@ use Rattle.kmc_sum.specs.declared.error.LineFault.{LineFault}
 use Rattle.kmc_sum.specs.declared.error.SumError.{SumError}
 use Rattle.kmc_sum.specs.declared.error.SourceFault.{SourceFault}
 use Rattle.kmc_sum.specs.declared.error.SourceFault.TheVariants.{Line, Read}
-use Rattle.kmc_sum.proofs.Merges.{on_ok_then}
 
 -- an error that a `?` hands on
 pub handed_on : {T E : Type 0} (r : Result T E) (e : E) (P : E → Type 0) → IsErrAnd r (λ x. x ≡ e) → P e → IfErr r P

@@ -1,5 +1,5 @@
 -- The texts of sources, and the dump of their sum.
-use Rattle.std.proofs.Common.{◌≡◌, ℕ, suc, ◌+◌, ◌*◌, ◌<◌, ◌≤◌, List, [], ◌∷◌, length, get_or, map, Option, refl, sym, subst, ◌∙◌, arith, append-nil, Result, Ok, Err, OnOk}
+use Rattle.std.proofs.Common.{◌≡◌, ℕ, suc, ◌+◌, ◌*◌, ◌<◌, ◌≤◌, List, [], ◌∷◌, length, get_or, map, Option, refl, sym, subst, ◌∙◌, arith, append-nil}
 use Rattle.std.proofs.KnownBytes.{Appends-nil}
 use Rattle.std.proofs.lemmas.List.{length-map, get_or-map}
 use Rattle.std.specs.List.{AllZip}
@@ -83,7 +83,3 @@ sources_built left readers k nows rooms heads built lists leaves long are = reco
       source_like k (left_at starts i) _ _ _ _ _ _ _ _ refl refl (sym
       (leaves (length starts + i) (omega (arith, long, length-map readers left)))) refl (are.each i room inside);
 }
-
-pub on_ok_then : {A E : Type 0} (r : Result A E) (P Q : Type 0) → (P → Q) → OnOk r P → OnOk r Q
-on_ok_then (Ok x) P Q f h = f h
-on_ok_then (Err e) P Q f h = tt

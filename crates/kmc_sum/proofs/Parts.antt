@@ -1,21 +1,18 @@
 -- The dumps of parts of reads, summed.
-use Rattle.std.proofs.Common.{◌≡◌, ℕ, zero, suc, ◌+◌, ◌≤◌, ◌^◌, inl, inr, Bool, true, false, cond, List, [], ◌∷◌, ◌++◌, length, refl, sym, ap, subst, ◌∙◌, arith, zero-add, add-zero}
+use Rattle.std.proofs.Common.{◌≡◌, ℕ, zero, suc, ◌+◌, ◌≤◌, ◌^◌, List, [], ◌∷◌, ◌++◌, length, refl, sym, subst, ◌∙◌, arith}
 use Rattle.std.specs.List.{AllByRecursion, count_by, range_with_len}
-use Rattle.std.specs.List.Sorted.{IsStrictlySortedBy}
-use Rattle.std.specs.declared.cmp.Ordering.TheVariants.{Less}
 use Rattle.std.proofs.lemmas.List.Sums.{sum_by-cons, sum_by-append}
-use Rattle.kmc_base.specs.Words.{kmer_cmp}
 use Rattle.kmc_base.specs.Places.{word_at}
 use Rattle.kmc_base.specs.declared.strands.Strands.{Strands}
 use Rattle.kmc_count.specs.declared.limits.Limits.{Limits}
-use Rattle.kmc_count.specs.Occurrences.{same_word, is_key_of, count_of}
+use Rattle.kmc_count.specs.Occurrences.{is_key_of, count_of}
 use Rattle.kmc_count.specs.Dump.{IsListed, shown, words_of, IsDump}
 use Rattle.kmc_count.specs.Merge.{joined}
-use Rattle.kmc_count.specs.Lemmas.Listing.{same_is, same_itself}
-use Rattle.kmc_count.specs.Lemmas.Members.{Has, has_contains, below_has}
-use Rattle.kmc_count.specs.Lemmas.OneDump.{listed_has, not_below_itself, Below}
+use Rattle.kmc_count.specs.Lemmas.Members.{has_contains}
+use Rattle.kmc_count.specs.Lemmas.OneDump.{listed_has}
 use Rattle.kmc_sum.specs.Sum.{listed_count, sum_of}
 use Rattle.kmc_sum.specs.Laws.{ListsEach, AreDumpsOfParts}
+use Rattle.kmc_sum.specs.Lemmas.Listed.{none_listed, numbered}
 
 module _ (strands : Strands) (k : ℕ) where
   pub counts_add : (reads others : List (List ℕ)) (x : List ℕ) → count_of strands k (reads ++ others) x
@@ -24,32 +21,6 @@ module _ (strands : Strands) (k : ℕ) where
       (range_with_len 0 (length read))) reads others
 
 module _ (x : List ℕ) where
-  pub listed_more : (p : List ℕ × ℕ) (ps : List (List ℕ × ℕ)) → listed_count (p ∷ ps) x ≡ cond (same_word p.0 x) p.1 0 + listed_count ps x
-  listed_more p ps = sum_by-cons (λ (q : List ℕ × ℕ). cond (same_word q.0 x) q.1 0) p ps
-
-  -- a word below all of these has no number
-  pub none_listed : (ps : List (List ℕ × ℕ)) → (Has x (words_of ps) → ⊥) → listed_count ps x ≡ 0
-  none_listed [] none = refl
-  none_listed (p ∷ ps) none = go (same_word p.0 x) refl (none_listed ps (λ m. none (inr m)))
-    where
-      go : (b : Bool) → same_word p.0 x ≡ b → listed_count ps x ≡ 0 → listed_count (p ∷ ps) x ≡ 0
-      go true e more = absurd (none (inl (same_is p.0 x e)))
-      go false e more = listed_more p ps ∙ (λ i. cond (e i) p.1 0 + more i)
-
-  -- the word of a pair has its number
-  numbered : (c : List ℕ → ℕ) (ps : List (List ℕ × ℕ)) → AllByRecursion (λ p. p.1 ≡ c p.0) ps → IsStrictlySortedBy kmer_cmp (words_of ps) → Has x
-      (words_of ps) → listed_count ps x ≡ c x
-  unfolding IsStrictlySortedBy
-  numbered c [] is up m = absurd m
-  numbered c (p ∷ ps) is up (inl e) =
-      let none = none_listed ps (λ m. not_below_itself x (subst (λ w. kmer_cmp w x ≡ Less) e (below_has Below p.0 x (words_of ps) up.0 m))) in
-      listed_more p ps ∙ (λ i. cond (same_word (e i) x) p.1 0 + none i) ∙ ap (λ b. cond b p.1 0 + 0) (same_itself x) ∙ add-zero p.1 ∙ is.0 ∙ ap c e
-  numbered c (p ∷ ps) is up (inr m) = go (same_word p.0 x) refl (numbered c ps is.1 up.1 m)
-    where
-      go : (b : Bool) → same_word p.0 x ≡ b → listed_count ps x ≡ c x → listed_count (p ∷ ps) x ≡ c x
-      go true e more = absurd (not_below_itself x (subst (λ w. kmer_cmp w x ≡ Less) (same_is p.0 x e) (below_has Below p.0 x (words_of ps) up.0 m)))
-      go false e more = listed_more p ps ∙ (λ i. cond (e i) p.1 0 + more i) ∙ zero-add (c x)
-
   -- the dump in which each count is listed gives a word its count
   pub counted : (c : List ℕ → ℕ) (l : Limits) (ps : List (List ℕ × ℕ)) → ListsEach l → c x ≤ 2 ^ 63 → IsDump c l ps → listed_count ps x ≡ c x
   counted c l ps every few dump = go (c x) refl
@@ -61,8 +32,8 @@ module _ (x : List ℕ) where
           (here, shows qs h.1)
 
       go : (n : ℕ) → c x ≡ n → listed_count ps x ≡ c x
-      go zero e = none_listed ps (λ m. let some = listed_has c l ps x dump.each m in omega (arith, some.0, e)) ∙ sym e
-      go (suc n) e = numbered c ps (shows ps dump.each) dump.rising (has_contains x (words_of ps)
+      go zero e = none_listed x ps (λ m. let some = listed_has c l ps x dump.each m in omega (arith, some.0, e)) ∙ sym e
+      go (suc n) e = numbered x c ps (shows ps dump.each) dump.rising (has_contains x (words_of ps)
           (dump.all x (omega (arith, e), omega (arith, e, every.ci), omega (arith, every.cx, few))))
 
 module _ (strands : Strands) (k : ℕ) (every : Limits) (each : ListsEach every) (x : List ℕ) where

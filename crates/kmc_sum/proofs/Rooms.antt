@@ -4,9 +4,8 @@ use Rattle.std.proofs.KnownBytes.{Consumes-nil, Consumes-trans, Consumes-kept}
 use Rattle.std.proofs.lemmas.List.{length-take-le, drop-take, drop-drop, with_items_is}
 use Rattle.std.specs.Vec.{with_items}
 use Rattle.std.specs.Global.{Global}
-use Rattle.std.specs.Io.KnownBytes.{Consumes, Keeps}
-use borrow.Rule.Slice.PartMut.{put_mid}
-use Rattle.kmc_device.specs.Lemmas.Lines.{put_then_take}
+use Rattle.std.specs.Io.KnownBytes.{Keeps}
+use Rattle.kmc_device.specs.Room.{CameBehind}
 use Rattle.kmc_sum.specs.Source.{GoesOn}
 
 pub goes_nowhere : (a : Option (List ℕ)) (xs ys : List ℕ) → ys ≡ xs → GoesOn a a xs ys
@@ -19,15 +18,10 @@ goes_trans a b c xs ys zs p q = record {
   are = q.are ∙ ap (λ (l : List ℕ). l ++ q.bytes) p.are ∙ append_assoc xs p.bytes q.bytes;
 }
 
--- what was read stands behind what was there
-pub read_more : (a b : Option (List ℕ)) (bytes buf : List ℕ) (to n : ℕ) → to ≤ length bytes → length buf ≡ length bytes - to → n ≤ length buf
-    → Consumes a b (take n buf)
-    → GoesOn a b (take to bytes) (take (to + n) (put_mid to (length bytes - to) bytes buf))
-read_more a b bytes buf to n inside size few gave = record {
-  bytes = take n buf;
-  gave = gave;
-  are = put_then_take bytes buf to n (length bytes - to) inside size (omega arith);
-}
+-- what came stands behind what was there
+pub goes_behind : (a b : Option (List ℕ)) (to end : ℕ) (before after : List ℕ) → CameBehind a b to end before after
+    → GoesOn a b (take to before) (take end after)
+goes_behind a b to end before after came = record { bytes = came.bytes; gave = came.gave; are = came.stand }
 
 -- a room whose bytes stand at its front
 pub at_front : (from to : ℕ) (bytes : List ℕ) → from ≡ 0 → take (to - from) (drop from bytes) ≡ take to bytes

@@ -15,3 +15,4 @@ pub mod Request
 pub mod Program
 pub mod Messages
 pub mod Laws
+pub mod Lemmas

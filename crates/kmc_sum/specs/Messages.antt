@@ -1,6 +1,6 @@
 -- What a user is shown of a fault, and the exit status.
-use Rattle.std.specs.Prelude.{ℕ, List, [], ◌++◌, Result, Ok, Err, codes, decimal, slice_index_or}
-use Rattle.kmc_settings.specs.Words.{Word}
+use Rattle.std.specs.Prelude.{ℕ, List, ◌++◌, Result, Ok, Err, codes, decimal}
+use Rattle.kmc_settings.specs.Words.{Word, name_at}
 use Rattle.kmc_sum.specs.Request.{prefix_of}
 use Rattle.kmc_sum.specs.declared.error.LineFault.{LineFault}
 use Rattle.kmc_sum.specs.declared.error.LineFault.TheVariants.{Malformed, OtherLength, NotRising}
@@ -11,10 +11,6 @@ use Rattle.kmc_sum.specs.declared.request.RequestError.{RequestError}
 use Rattle.kmc_sum.specs.declared.request.RequestError.TheVariants.{Usage, OutOfRange}
 use Rattle.kmc_sum.specs.declared.fault.Fault.{Fault}
 use Rattle.kmc_sum.specs.declared.fault.Fault.TheVariants.{Request, NotOpened, Sum}
-
--- the name of a file, as it was given
-abbrev pub name_at : List Word → ℕ → Word
-name_at files source = slice_index_or files source []
 
 abbrev pub text_of_line_fault : LineFault → List ℕ
 text_of_line_fault Malformed = codes "is no line of a dump"

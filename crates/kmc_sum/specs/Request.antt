@@ -1,9 +1,8 @@
 -- What the words of a command line ask a merge for.
-use Rattle.std.specs.Prelude.{◌≡◌, ◌≤◌, ◌&&◌, ◌||◌, ℕ, Bool, true, not, List, [], ◌∷◌, Option, Some, None, find, is_some, length, codes}
-use Rattle.std.specs.Prelude.{if◌then◌else◌, nat_le, option_and_then}
+use Rattle.std.specs.Prelude.{◌≡◌, ◌≤◌, ◌||◌, ℕ, Bool, true, not, List, [], ◌∷◌, Option, Some, None, find, is_some, length, codes}
 use Rattle.std.specs.List.{list_all, filter, filter_map}
-use Rattle.kmc_settings.specs.Words.{Word, rest_after, number_of}
-use Rattle.kmc_settings.specs.Settings.{bounds_of}
+use Rattle.kmc_settings.specs.Words.{Word, is_file_name, rest_after}
+use Rattle.kmc_settings.specs.Settings.{bounds_of, chosen}
 use Rattle.kmc_settings.specs.declared.setting.Bounds.{Bounds}
 use Rattle.kmc_settings.specs.declared.setting.Setting.{Setting}
 use Rattle.kmc_settings.specs.declared.setting.Setting.TheVariants.{Ci as LeastListed, Cx as GreatestListed, Cs as GreatestShown}
@@ -29,10 +28,6 @@ setting_of Ci = LeastListed
 setting_of Cx = GreatestListed
 setting_of Cs = GreatestShown
 
--- a word that begins with a hyphen is no name of a file
-abbrev pub is_file : Word → Bool
-is_file word = not (is_some (rest_after (codes "-") word))
-
 -- one of the three options, glued to its value
 abbrev pub is_option : Word → Bool
 is_option word = is_some (rest_after (codes "-ci") word) || is_some (rest_after (codes "-cx") word) || is_some (rest_after (codes "-cs") word)
@@ -43,21 +38,17 @@ given name words = filter_map (rest_after name) words
 
 -- no word is unknown, no option is given twice, and there is a file and no more than are taken
 pub record IsTaken (most : ℕ) (words : List Word) : Type 0 where
-  pub known : list_all (λ word. is_file word || is_option word) words ≡ true
-  pub some : 1 ≤ length (filter is_file words)
-  pub few : length (filter is_file words) ≤ most
+  pub known : list_all (λ word. is_file_name word || is_option word) words ≡ true
+  pub some : 1 ≤ length (filter is_file_name words)
+  pub few : length (filter is_file_name words) ≤ most
   pub ci : length (given (codes "-ci") words) ≤ 1
   pub cx : length (given (codes "-cx") words) ≤ 1
   pub cs : length (given (codes "-cs") words) ≤ 1
 
--- the number, where it is in range
-abbrev pub within : Bounds → ℕ → Option ℕ
-within b n = if nat_le b.least n && nat_le n b.most then Some n else None
-
 -- the number that is given, where it is one and in range, and the default where none is given
 abbrev pub number_given : Bounds → List Word → Option ℕ
-number_given b [] = Some b.default
-number_given b (text ∷ more) = option_and_then (within b) (number_of text)
+number_given b [] = chosen b None
+number_given b (text ∷ more) = chosen b (Some text)
 
 -- the number of an option; none where what is given for it is no number or out of range
 abbrev pub value_of : List Word → LimitOption → Option ℕ
@@ -71,7 +62,7 @@ first_out_of_range words = find (λ o. not (is_some (value_of words o))) limit_o
 -- with the defaults of `kmc` where the options leave them out
 pub record IsRequest (most : ℕ) (words : List Word) (limits : Limits) (files : List Word) : Type 0 where
   pub taken : IsTaken most words
-  pub files_are : files ≡ filter is_file words
+  pub files_are : files ≡ filter is_file_name words
   pub ci : value_of words Ci ≡ Some limits.ci
   pub cx : value_of words Cx ≡ Some limits.cx
   pub cs : value_of words Cs ≡ Some limits.cs

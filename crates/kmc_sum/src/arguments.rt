@@ -15,20 +15,12 @@ use crate::merging::{MOST_SOURCES, merge};
 use crate::request::{RequestError, asked_for};
 use kmc_count::Limits;
 use kmc_device::Counted;
+use kmc_settings::arguments;
 use std::alloc::Global;
+use std::fs;
 use std::io::{Read, Write};
 use std::process::ExitCode;
 use std::rt::{Env, Files};
-use std::{env, fs};
-
-/// The process's arguments behind the program's name. Arguments that cannot be read are no usage.
-fn arguments<T: Env + Alloc<A = Global>>(rt: &T) -> Result<Vec<String>, Fault> {
-    let Ok(mut arguments) = env::args(rt) else {
-        return Err(Fault::Request(RequestError::Usage));
-    };
-    let _program = arguments.next();
-    Ok(arguments.collect(rt.alloc())?)
-}
 
 /// Shows a fault of the files, unless it is a write to a closed pipe, and gives the exit status: 0 where there is no fault. A
 /// line that cannot be written changes nothing of the status.
@@ -157,7 +149,8 @@ pub fn program<T: Files + Env + Eprint + Alloc<A = Global>, W: Write>(
     ensures statuses { exit_status result ≤ 2 }
 {
     match arguments(rt) {
-        Ok(words) => sum_files(rt, words, writer),
-        Err(fault) => ended(rt, &[], Err(fault), false),
+        Ok(Some(words)) => sum_files(rt, words, writer),
+        Ok(None) => ended(rt, &[], Err(Fault::Request(RequestError::Usage)), false),
+        Err(error) => ended(rt, &[], Err(Fault::from(error)), false),
     }
 }

@@ -1,8 +1,10 @@
 //! Why a merge is given up.
 ghost use Rattle.std.specs.Prelude.{◌≡◌, Some};
 ghost use Rattle.kmc_sum.specs.Messages.{text_of_line_fault, text_of_source_fault};
+ghost use Rattle.kmc_sum.specs.declared.error.SourceFault.TheVariants.{Read};
 ghost use Rattle.kmc_sum.specs.declared.error.SumError.TheVariants.{Source};
 
+use kmc_device::ReadFault;
 use std::fmt;
 
 /// How a line is at fault.
@@ -36,6 +38,14 @@ pub enum SourceFault {
     Read,
     /// Its first line at fault, numbered from 1, and how that line is.
     Line(u64, LineFault),
+}
+
+impl From<ReadFault> for SourceFault {
+    ghost from_gives = { λ _ e. e ≡ Read };
+
+    fn from(_: ReadFault) -> SourceFault {
+        SourceFault::Read
+    }
 }
 
 impl fmt::Display for SourceFault {

@@ -1,11 +1,12 @@
 //! What a fault shows its user: one line on standard error, and the exit status.
 ghost use Rattle.std.specs.Prelude.{◌≡◌, ◌≢◌, Some, map, not, string_bytes, true};
-ghost use Rattle.kmc_sum.specs.Messages.{message_of, name_at, status_of};
+ghost use Rattle.kmc_sum.specs.Messages.{message_of, status_of};
 ghost use Rattle.kmc_sum.specs.declared.error.SumError.TheVariants.{Memory};
 ghost use Rattle.kmc_sum.specs.declared.fault.Fault.TheVariants.{Sum};
 
 use crate::error::SumError;
 use crate::request::RequestError;
+use kmc_settings::name_at;
 use std::alloc::AllocError;
 use std::fmt;
 
@@ -64,16 +65,6 @@ pub struct Message<'a> {
     pub fault: Fault,
 }
 
-/// The name of a file, as it was given.
-fn name_of(files: &[String], source: usize) -> &str
-    ensures { result.now ≡ name_at (map string_bytes files.now) source }
-{
-    match files.get(source) {
-        Some(name) => name.as_str(),
-        None => "",
-    }
-}
-
 impl fmt::Display for Message<'_> {
     ghost output = { λ m. Some (message_of (map string_bytes m.files.now) m.fault) };
 
@@ -81,11 +72,11 @@ impl fmt::Display for Message<'_> {
         match self.fault {
             Fault::Request(error) => write!(f, "{error}"),
             Fault::NotOpened(source) => {
-                let name = name_of(self.files, source);
+                let name = name_at(self.files, source);
                 write!(f, "kmc_merge: {name}: cannot be opened")
             }
             Fault::Sum(SumError::Source(error)) => {
-                let name = name_of(self.files, error.source);
+                let name = name_at(self.files, error.source);
                 let fault = error.fault;
                 write!(f, "kmc_merge: {name}: {fault}")
             }

@@ -4,11 +4,12 @@ ghost use Rattle.std.specs.List.{list_all, filter};
 ghost use Rattle.kmc_settings.specs.Settings.{bounds_of, IsFor};
 ghost use Rattle.kmc_sum.specs.declared.options.LimitOption.TheVariants.{Ci, Cx, Cs};
 ghost use Rattle.kmc_sum.specs.Messages.{text_of_request_error};
-ghost use Rattle.kmc_sum.specs.Request.{is_file, is_option, given, texts_of, number_given, setting_of, value_of, IsRequest, IsTaken, Explains};
+ghost use Rattle.kmc_settings.specs.Words.{is_file_name};
+ghost use Rattle.kmc_sum.specs.Request.{is_option, given, texts_of, number_given, setting_of, value_of, IsRequest, IsTaken, Explains};
 
 use crate::options::LimitOption;
 use kmc_count::Limits;
-use kmc_settings::{number, rest_after};
+use kmc_settings::{is_file_name, rest_after};
 use std::fmt;
 
 /// What is asked for: the dump of the sum of these files within these limits.
@@ -46,13 +47,6 @@ impl fmt::Display for RequestError {
     }
 }
 
-/// Whether the word names a file: it does not begin with a hyphen.
-fn is_file(word: &str) -> bool
-    ensures { result ≡ is_file word.now }
-{
-    rest_after("-", word).is_none()
-}
-
 /// Whether the word is one of the options, glued to its value.
 fn is_option(word: &str) -> bool
     ensures { result ≡ is_option word.now }
@@ -64,11 +58,11 @@ fn is_option(word: &str) -> bool
 
 /// Whether each word names a file or is an option.
 fn are_known(words: &[String]) -> bool
-    ensures { result ≡ list_all (λ word. is_file word || is_option word)
+    ensures { result ≡ list_all (λ word. is_file_name word || is_option word)
         (map string_bytes words.now) }
 {
     for word in words {
-        if !is_file(word) && !is_option(word) {
+        if !is_file_name(word) && !is_option(word) {
             return false;
         }
     }
@@ -103,23 +97,19 @@ fn value(option: LimitOption, text: Option<&str>) -> Result<u64, RequestError>
         (λ e. (number_given (bounds_of (setting_of option))
         (texts_of (option_map (λ t. t.now) text.entry)) ≡ None) × (e ≡ RequestError.OutOfRange option)) }
 {
-    let setting = option.setting();
-    let Some(text) = text else {
-        return Ok(setting.bounds().default);
-    };
-    match number(text) {
-        Some(number) if setting.takes(number) => Ok(number),
-        _ => Err(RequestError::OutOfRange(option)),
+    match option.setting().chosen(text) {
+        Some(number) => Ok(number),
+        None => Err(RequestError::OutOfRange(option)),
     }
 }
 
 /// How many words name files.
 fn count_files(words: &[String]) -> usize
-    ensures { result ≡ length (filter is_file (map string_bytes words.now)) }
+    ensures { result ≡ length (filter is_file_name (map string_bytes words.now)) }
 {
     let mut count = 0;
     for word in words {
-        if is_file(word) {
+        if is_file_name(word) {
             count += 1;
         }
     }
@@ -154,6 +144,6 @@ pub fn asked_for(words: Vec<String>, most: usize) -> Result<Request, RequestErro
 {
     let limits = limits_of(&words, most)?;
     let mut files = words;
-    files.retain(|word| is_file(word));
+    files.retain(|word| is_file_name(word));
     Ok(Request { limits, files })
 }

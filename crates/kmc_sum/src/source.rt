@@ -1,6 +1,6 @@
 //! A source of lines: a reader, and a room for the bytes that it gave and that are not yet judged, a piece at a time.
 ghost use Rattle.std.specs.Prelude.{◌≡◌, ◌≢◌, ℕ, ◌+◌, ◌-◌, ◌^◌, ◌<◌, ◌≤◌, ◌++◌, [], List, length, take, drop, min, OnOk, OnErr, IfOk, IfErr, IsErrOf, MatchOption, Option, IfSome, None};
-ghost use Rattle.std.specs.Io.KnownBytes.{IsAtEnd, Keeps};
+ghost use Rattle.std.specs.Io.KnownBytes.{IsAtEnd};
 ghost use Rattle.kmc_device.specs.Device.{RisesByOne};
 ghost use Rattle.kmc_sum.specs.Line.{IsLineOf};
 ghost use Rattle.kmc_sum.specs.Faults.{BeginsNoLine, GaveFront, IsFaultAt, line_after};
@@ -12,7 +12,7 @@ ghost use Rattle.kmc_sum.specs.Source.{unread, IsRoom, IsEnough, GoesOn};
 use crate::error::{LineFault, SourceFault};
 use crate::line::{Line, line_at};
 use kmc_base::MAX_K;
-use kmc_device::Counted;
+use kmc_device::{Counted, read_behind};
 use std::alloc::{AllocError, Global};
 use std::io::Read;
 
@@ -53,29 +53,6 @@ fn shift(bytes: &mut [u8], from: usize, to: usize)
     ensures { take (to - from) bytes.new ≡ take (to - from) (drop from bytes.old) }
 {
     bytes.copy_within(from..to, 0);
-}
-
-/// Reads behind the first `to` bytes, and says where what is read ends. It ends at `to` only where nothing is left.
-fn read_behind<R: Read>(
-    reader: &mut Counted<R>,
-    bytes: &mut [u8],
-    to: usize,
-) -> Result<usize, SourceFault>
-    requires { to < length bytes.old }
-    ensures ok { IfOk result (λ end. (to ≤ end) × (end ≤ length bytes.new)
-        × (end ≡ to → IsAtEnd (R.remaining reader.new.inner))
-        × GoesOn (R.remaining reader.old.inner) (R.remaining reader.new.inner) (take to bytes.old)
-        (take end bytes.new)) }
-    ensures kept { OnOk result (reader.new.failures ≡ reader.old.failures) }
-    ensures failed { OnErr result (RisesByOne reader.old.failures reader.new.failures) }
-    ensures read { IfErr result (λ e. e ≡ SourceFault.Read) }
-    ensures bytes { OnErr result
-        (Keeps (R.remaining reader.old.inner) (R.remaining reader.new.inner)) }
-{
-    match reader.read(&mut bytes[to..]) {
-        Ok(n) => Ok(to + n),
-        Err(_) => Err(SourceFault::Read),
-    }
 }
 
 /// Reads until enough bytes for a line are there, or nothing is left.

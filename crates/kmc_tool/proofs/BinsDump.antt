@@ -1,10 +1,10 @@
 -- From the dumps of bins to one.
-use Rattle.std.proofs.Common.{◌≡◌, ℕ, ◌≤◌, List, [], ◌∷◌, map, subst, arith}
+use Rattle.std.proofs.Common.{◌≡◌, ℕ, List, [], ◌∷◌, map, subst, arith}
 use Rattle.std.specs.Prelude.{slice_index}
 use Rattle.std.specs.List.{AllZip}
 use Rattle.kmc_base.specs.declared.strands.Strands.{Strands}
 use Rattle.kmc_record.specs.declared.fault.RecordFault.{RecordFault}
-use Rattle.kmc_record.specs.Shapes.{Sizes}
+use Rattle.kmc_record.specs.Shapes.{Sizes, IsShape}
 use Rattle.kmc_record.specs.Record.{IsBodyOf}
 use Rattle.kmc_record.specs.RecordWords.{record_keys}
 use Rattle.kmc_record.specs.Parts.{IsPart}
@@ -51,8 +51,8 @@ pub record AreCounted (strands : Strands) (k : ℕ) (l : Limits) (bodies : List 
   pub dumps : AreDumps l (map (record_keys strands k) super_kmers) lists
   pub apart : AreApart (map (record_keys strands k) super_kmers)
 
-module _ (share : BinsShareNoKey) (keyed : DumpsOfBodiesAreOfKeys) (strands : Strands) (l : Limits) (shape : Sizes) (some : 1 ≤ shape.m)
-    (within : shape.m ≤ shape.k) where
+module _ (share : BinsShareNoKey) (keyed : DumpsOfBodiesAreOfKeys) (strands : Strands) (l : Limits) (shape : Sizes)
+    (bounds : IsShape shape.k shape.m shape.n) where
   counted : (given bodies : List (List ℕ)) (words : List ℕ) (lists : List (List (List ℕ × ℕ))) → AreBins shape bodies words → given ≡ bodies
       → AreDumpsOfBodies strands shape.k l given lists → AreCounted strands shape.k l bodies lists
   counted given bodies words lists are same dumped =
@@ -62,14 +62,15 @@ module _ (share : BinsShareNoKey) (keyed : DumpsOfBodiesAreOfKeys) (strands : St
         super_kmers = all.0;
         records = all.1;
         dumps = keyed strands shape.k l bodies all.0 lists dumps all.1;
-        apart = share strands shape bodies words all.0 some within are all.1;
+        apart = share strands shape bodies words all.0 bounds.some_m bounds.within are all.1;
       }
 
   -- the lists of bins can be merged, and their whole is the dump of all bins
-  pub listed : PackedDumpsAreOne → (given bodies : List (List ℕ)) (words : List ℕ) (lists : List Listed) → AreBins shape bodies words → given ≡ bodies
-      → AreListsOfBodies strands shape.k l given lists
+  pub listed : PackedDumpsAreOne → (k : ℕ) (given bodies : List (List ℕ)) (words : List ℕ) (lists : List Listed) → k ≡ shape.k
+      → AreBins shape bodies words → given ≡ bodies → AreListsOfBodies strands k l given lists
       → CanBeMerged shape.k lists × IsDumpOfBins strands shape.k l bodies (spelled shape.k (whole lists))
-  listed packed given bodies words lists are same h =
+  listed packed k given bodies words lists one are same lists_are =
+      let h = subst (λ n. AreListsOfBodies strands n l given lists) one lists_are in
       let done = counted given bodies words (map pairs_of lists) are same h.dumps in
       let made = packed l shape.k (map (record_keys strands shape.k) done.super_kmers) lists h.each done.dumps done.apart in
       (made.0, record { super_kmers = done.super_kmers; records = done.records; dump = made.1 })

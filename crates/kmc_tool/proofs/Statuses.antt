@@ -1,5 +1,5 @@
 -- What an exit status says of an answer.
-use Rattle.std.proofs.Common.{◌≡◌, ◌≢◌, ◌≤◌, ◌⊎◌, ℕ, inl, inr, refl, subst, arith}
+use Rattle.std.proofs.Common.{◌≡◌, ◌≢◌, ◌≤◌, ◌⊎◌, ℕ, inl, inr, refl, arith}
 use Rattle.std.specs.Prelude.{Result, Ok, Err, IfErr, IfOk, IsErrOf}
 use Rattle.kmc_tool.specs.Status.{status_of_answer}
 use Rattle.kmc_tool.specs.declared.fault.Fault.{Fault}
@@ -13,9 +13,6 @@ pub only_misuse : (r : Result ℕ Fault) → status_of_answer r ≡ 2 → (e : P
 only_misuse (Ok lines) h = absurd (omega arith)
 only_misuse (Err (Options e)) h = (e, refl)
 only_misuse (Err (Run e)) h = absurd (omega arith)
-
-pub of_err : {A E : Type 0} (P : E → Type 0) (r : Result A E) (e : E) → r ≡ Err e → IfErr r P → P e
-of_err P r e is h = subst (λ x. IfErr x P) is h
 
 pub at_most_2 : (r : Result ℕ Fault) → status_of_answer r ≤ 2
 at_most_2 (Ok lines) = omega arith

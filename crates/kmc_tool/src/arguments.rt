@@ -17,8 +17,8 @@ use crate::running::run;
 use kmc_device::Counted;
 use kmc_options::{ParamsError, settings};
 use kmc_reads::ReadsError;
-use std::alloc::Global;
-use std::env;
+use kmc_settings::arguments;
+use std::alloc::{AllocError, Global};
 use std::io::{Read, Write};
 use std::process::ExitCode;
 use std::rt::Env;
@@ -94,15 +94,6 @@ fn ended(rt: &impl Eprint, answer: Result<u64, Fault>, pipe_closed: bool) -> Exi
     }
 }
 
-/// The process's arguments behind the program's name. Arguments that cannot be read are no usage.
-fn arguments<T: Env + Alloc<A = Global>>(rt: &T) -> Result<Vec<String>, ParamsError> {
-    let Ok(mut arguments) = env::args(rt) else {
-        return Err(ParamsError::Usage);
-    };
-    let _program = arguments.next();
-    Ok(arguments.collect(rt.alloc())?)
-}
-
 /// The program over the words behind its name: counts the reads of the reader by the settings that they give, and writes
 /// their dump; a fault is shown in one line on standard error, but for a write to a pipe whose other end is closed, of which
 /// the status alone tells. The exit status is 0 where the dump was written and no device failed, 2 where the words are at
@@ -128,7 +119,8 @@ pub fn program_of<T: Threads + Wait + Sync + Eprint + Alloc<A = Global>, R: Read
     ended(rt, answer, writer.is_pipe_closed())
 }
 
-/// The whole program: [`program_of`] over the process's arguments. No contract says which words the process was given.
+/// The whole program: [`program_of`] over the process's arguments. Where they cannot be read, they are no usage. No contract says
+/// which words the process was given.
 pub fn program<T: Threads + Wait + Sync + Env + Eprint + Alloc<A = Global>, R: Read, W: Write>(
     rt: &T,
     reader: &mut Counted<R>,
@@ -146,7 +138,8 @@ pub fn program<T: Threads + Wait + Sync + Env + Eprint + Alloc<A = Global>, R: R
     ensures statuses { exit_status result ≤ 2 }
 {
     match arguments(rt) {
-        Ok(argv) => program_of(rt, argv, reader, writer),
-        Err(error) => ended(rt, Err(Fault::from(error)), false),
+        Ok(Some(argv)) => program_of(rt, argv, reader, writer),
+        Ok(None) => ended(rt, Err(Fault::Options(ParamsError::Usage)), false),
+        Err(AllocError) => ended(rt, Err(Fault::Options(ParamsError::Memory)), false),
     }
 }

@@ -10,7 +10,7 @@ use Rattle.std.proofs.lemmas.List.Elements.{filter-append}
 use Rattle.kmc_record.specs.Shapes.{Sizes, IsShape}
 use Rattle.kmc_store.specs.Bins.{body_at}
 use Rattle.kmc_slice_files.specs.Frames.{Frame, AreFrames, frame_bytes, frames_bytes, head_bytes, end_bytes, NO_BIN, body_of}
-use Rattle.kmc_slice_files.specs.Files.{header_bytes, file_bytes}
+use Rattle.kmc_slice_files.specs.Files.{header_bytes, file_bytes, IsSliceFile}
 use Rattle.kmc_slice_files.specs.Writes.{held_at, EachGot, AreFramed, AreOpen, AreFiles}
 
 pub frames_more : (n S s : ℕ) (fs gs : List Frame) → AreFrames n S s fs → AreFrames n S s gs → AreFrames n S s (fs ++ gs)
@@ -59,23 +59,34 @@ round_joined shape S before bodies joined olds mids news counts counted begun ro
       (frames_bytes (round.fs s)) (begun.written s inside) (round.written s inside));
 }
 
+-- a file with its end
+module _ (shape : Sizes) (S : ℕ) (bodies : List (List ℕ)) (olds mids : List (Option (List ℕ))) (counts : List ℕ)
+    (sizes : IsShape shape.k shape.m shape.n) (few : S < 2 ^ 16) (begun : AreOpen shape S bodies olds mids counts) (s : ℕ) (inside : s < S) where
+  abbrev pub ended : List ℕ
+  ended = file_bytes shape S s (begun.fs s)
+
+  pub ended_is : IsSliceFile shape S s bodies ended
+  ended_is = record {
+    slicing = record { sizes = sizes; some = omega (arith, inside); most = few; within = inside };
+    fs = begun.fs s;
+    has = begun.has s inside;
+    is = refl;
+  }
+
+  pub ended_by : (header_bytes shape S s ++ frames_bytes (begun.fs s)) ++ end_bytes (get_or counts s 0) ≡ ended
+  ended_by =
+      let ends : end_bytes (get_or counts s 0) ≡ end_bytes (length (begun.fs s)) = ap (λ n. head_bytes NO_BIN 0 n) (omega (arith, begun.many s inside)) in
+      append_assoc (header_bytes shape S s) (frames_bytes (begun.fs s)) (end_bytes (get_or counts s 0))
+      ∙ ap (λ (l : List ℕ). header_bytes shape S s ++ (frames_bytes (begun.fs s) ++ l)) ends
+
 -- files with their ends are whole
 pub files_ended : (shape : Sizes) (S : ℕ) (bodies : List (List ℕ)) (olds mids news : List (Option (List ℕ))) (counts : List ℕ)
     → IsShape shape.k shape.m shape.n → S < 2 ^ 16 → AreOpen shape S bodies olds mids counts
     → EachGot (λ s. end_bytes (get_or counts s 0)) S mids news → AreFiles shape S bodies olds news
-files_ended shape S bodies olds mids news counts sizes few begun got s inside =
-    let fs = begun.fs s in
-    let ends : end_bytes (get_or counts s 0) ≡ end_bytes (length fs) = ap (λ n. head_bytes NO_BIN 0 n) (omega (arith, begun.many s inside)) in (
-      file_bytes shape S s fs,
-      record {
-        slicing = record { sizes = sizes; some = omega (arith, inside); most = few; within = inside };
-        fs = fs;
-        has = begun.has s inside;
-        is = refl;
-      },
-      subst (Appends (held_at olds s) (held_at news s))
-          (append_assoc (header_bytes shape S s) (frames_bytes fs) (end_bytes (get_or counts s 0))
-          ∙ ap (λ (l : List ℕ). header_bytes shape S s ++ (frames_bytes fs ++ l)) ends)
-          (Appends-trans (held_at olds s) (held_at mids s) (held_at news s) (header_bytes shape S s ++ frames_bytes fs)
-          (end_bytes (get_or counts s 0)) (begun.written s inside) (got s inside)),
-    )
+files_ended shape S bodies olds mids news counts sizes few begun got s inside = (
+  ended shape S bodies olds mids counts sizes few begun s inside,
+  ended_is shape S bodies olds mids counts sizes few begun s inside,
+  subst (Appends (held_at olds s) (held_at news s)) (ended_by shape S bodies olds mids counts sizes few begun s inside)
+      (Appends-trans (held_at olds s) (held_at mids s) (held_at news s) (header_bytes shape S s ++ frames_bytes (begun.fs s))
+      (end_bytes (get_or counts s 0)) (begun.written s inside) (got s inside)),
+)

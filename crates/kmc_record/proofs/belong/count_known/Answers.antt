@@ -1,41 +1,25 @@
-use Rattle.std.proofs.Common.{rules, ◌≡◌, ℕ, IsTrue, ◌+◌, ◌-◌, ◌/◌, ◌++◌, List, length, take, drop, sym, ap, subst, ◌∙◌, arith, length-drop}
-use Rattle.std.proofs.lemmas.List.{take_rest}
+use Rattle.std.proofs.Common.{rules, ◌≡◌, ◌<◌, ℕ, IsTrue, ◌+◌, ◌-◌, List, get_or, length, take, drop, sym, subst, arith, length-drop}
 use Rattle.kmc_base.specs.Words.{windows}
 use Rattle.kmc_base.specs.Lemmas.Windows.{length_windows}
-use Rattle.kmc_record.specs.Record.{spelling, IsSpelled, codes_in, size_of}
+use Rattle.kmc_record.specs.Record.{size_of}
 use Rattle.kmc_record.specs.Bodies.{Belong}
-use Rattle.kmc_record.proofs.Belonging.{records_of_part, part_more}
-use Rattle.kmc_record.proofs.Spelled.{AreBytes, bytes_each}
-use Rattle.kmc_record.proofs.Whole.{bytes_drop, first_codes, first_spelled, first_read, length_first}
+use Rattle.kmc_record.proofs.Belonging.{records_of_part, other_there, part_more}
+use Rattle.kmc_record.proofs.Whole.{begins_there, first_codes, length_first, next_inside, rest_at, rest_long, same_codes, spelled_there}
 use Rattle.kmc_record.proofs.belong.count_known.Goals as goal
-
-same_codes : (n : ℕ) (bs : List ℕ) → take n (codes_in (take (1 + (n + 3) / 4 - 1) (drop 1 bs))) ≡ first_codes n bs
-same_codes n bs = let same : 1 + (n + 3) / 4 - 1 ≡ (n + 3) / 4 = omega arith in ap (λ m. take n (codes_in (take m (drop 1 bs)))) same
 
 pub returns-then-not-is_of_bin-clause-first : goal.returns-then-not-is_of_bin-clause-first
 returns-then-not-is_of_bin-clause-first c =
     let shape = c.args.shape in
-    let body = c.args.body.now in
-    let offset = c.loop-offset.offset in
-    let k = c.k-k.result in
     let n = c.in-Ok.symbols in
-    let rest = take (length body - offset) (drop offset body) in
-    let is : rest ≡ drop offset body = take_rest body offset in
-    let are : AreBytes rest = subst AreBytes (sym is) (bytes_drop offset body (bytes_each body (λ i. omega (arith, c.type_inv.body i)))) in
-    let same : k ≡ shape.k = c.k-k.ensures.is in
-    let codes = first_codes n rest in (
+    let found = c.in-Ok.ensures in
+    let front = take c.loop-offset.offset c.args.body.now in (
       c.loop-offset-test.true,
-      records_of_part c.args.bin shape (take offset body) c.loop-offset.words c.loop-offset.invariant.part,
-      record {
-        codes = codes;
-        rest = drop (1 + size_of n) rest;
-        spelled = subst (λ j. IsSpelled j codes) same (first_spelled k n rest are c.in-Ok.ensures.count c.in-Ok.ensures.inside);
-        is = sym is ∙ first_read k n rest are c.in-Ok.ensures.count c.in-Ok.ensures.inside c.in-Ok.ensures.rest
-            ∙ (λ i. spelling (same i) codes ++ drop (1 + size_of n) rest);
-        other = λ h.
-            let t = c.is_of_bin.ensures.is.1 (subst (λ (w : List ℕ). Belong c.args.bin shape (windows shape.k w)) (sym (same_codes n rest)) h) in
-            cc;
-      },
+      records_of_part c.args.bin shape front c.loop-offset.words c.loop-offset.invariant.part,
+      other_there c.args.bin shape c.k-k.result n c.loop-offset.offset c.args.body.now (λ i. omega (arith, c.type_inv.body i)) found.count found.inside
+          found.rest c.k-k.ensures.is (λ h.
+          let t = c.is_of_bin.ensures.is.1 (subst (λ (w : List ℕ). Belong c.args.bin shape (windows shape.k w))
+          (sym (same_codes n (rest_at c.loop-offset.offset c.args.body.now))) h) in
+          cc),
     )
 
 pub loop-offset-preserved : goal.loop-offset-preserved
@@ -45,23 +29,21 @@ loop-offset-preserved c =
     let offset = c.loop-offset.offset in
     let k = c.k-k.result in
     let n = c.in-Ok.symbols in
-    let rest = take (length body - offset) (drop offset body) in
-    let is : rest ≡ drop offset body = take_rest body offset in
-    let are : AreBytes rest = subst AreBytes (sym is) (bytes_drop offset body (bytes_each body (λ i. omega (arith, c.type_inv.body i)))) in
-    let same : k ≡ shape.k = c.k-k.ensures.is in
-    let codes = first_codes n rest in
-    let long : length rest ≡ length body - offset = ap length is ∙ length-drop offset body in
+    let rest = rest_at offset body in
+    let found = c.in-Ok.ensures in
+    let bytes : (i : ℕ) → get_or body i 0 < 256 = λ i. omega (arith, c.type_inv.body i) in
+    let long = rest_long k n offset body bytes found.count found.inside found.rest in
     let behind : length (drop (1 + size_of n) rest) ≡ length rest - (1 + size_of n) = length-drop (1 + size_of n) rest in
     let yes : IsTrue c.is_of_bin.result = search (rules, c.if-not-is_of_bin.false) in
     let belong = subst (λ (w : List ℕ). Belong c.args.bin shape (windows shape.k w)) (same_codes n rest) (c.is_of_bin.ensures.is.0 yes) in
-    let spelled = first_spelled k n rest are c.in-Ok.ensures.count c.in-Ok.ensures.inside in
     record {
-      inside = omega (arith, long, c.in-Ok.ensures.inside);
-      part = part_more c.args.bin shape body (drop (1 + size_of n) rest) codes k offset _ c.loop-offset.words (n + 1 - k)
-          c.saturating_add-words.result same c.loop-offset.invariant.part c.loop-offset.invariant.inside spelled
-          (sym is ∙ first_read k n rest are c.in-Ok.ensures.count c.in-Ok.ensures.inside c.in-Ok.ensures.rest)
-          (omega (arith, long, behind, c.in-Ok.ensures.inside)) belong
-          (omega (arith, length_windows shape.k codes, length_first n rest c.in-Ok.ensures.inside, same))
+      inside = next_inside k n offset body bytes found.count found.inside found.rest;
+      part = part_more c.args.bin shape body (drop (1 + size_of n) rest) (first_codes n rest) k offset _ c.loop-offset.words (n + 1 - k)
+          c.saturating_add-words.result c.k-k.ensures.is c.loop-offset.invariant.part c.loop-offset.invariant.inside
+          (spelled_there k n offset body bytes found.count found.inside found.rest)
+          (begins_there k n offset body bytes found.count found.inside found.rest)
+          (omega (arith, long, behind, found.inside)) belong
+          (omega (arith, length_windows shape.k (first_codes n rest), length_first n rest found.inside, c.k-k.ensures.is))
           (omega (arith, c.saturating_add-words.ensures));
       known = c.is_of_bin.ensures.known;
     }

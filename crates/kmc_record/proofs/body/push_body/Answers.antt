@@ -1,12 +1,10 @@
-use Rattle.std.proofs.Common.{◌≡◌, ℕ, ◌+◌, ◌-◌, ◌/◌, ◌++◌, List, [], ◌∷◌, refl, length, map, take, drop, ap, ◌∙◌, arith, length-drop, rules}
-use Rattle.std.proofs.lemmas.List.{take_rest}
+use Rattle.std.proofs.Common.{◌≡◌, ℕ, ◌+◌, ◌++◌, List, [], ◌∷◌, refl, map, ap, ◌∙◌, arith, rules}
 use Rattle.std.proofs.lemmas.Grind.{common_steps}
 use Rattle.kmc_base.specs.Packed.{pack}
 use Rattle.kmc_base.specs.Strands.{keys}
 use Rattle.kmc_base.specs.Weights.{weighted}
-use Rattle.kmc_record.specs.Record.{codes_in}
-use Rattle.kmc_record.proofs.Spelled.{AreBytes, bytes_each}
-use Rattle.kmc_record.proofs.Whole.{begins_here, bytes_drop, next_body, next_keys, first_codes}
+use Rattle.kmc_record.specs.Record.{size_of}
+use Rattle.kmc_record.proofs.Whole.{first_codes, next_body, next_inside, next_keys, rest_at, same_codes, stops_there}
 use Rattle.kmc_record.proofs.body.push_body.Goals as goal
 
 -- words that are counted once, with no bits for that
@@ -18,42 +16,28 @@ once_each (n ∷ ns) =
 
 pub returns-in_err-push_record-clause-memory : goal.returns-in_err-push_record-clause-memory
 returns-in_err-push_record-clause-memory g c = λ is.
-    let body = c.args.body.now in
-    let offset = c.loop-offset.offset in
-    let n = c.in-Ok.symbols in
-    let there : take (length body - offset) (drop offset body) ≡ drop offset body = take_rest body offset in
-    let are : AreBytes (drop offset body) = bytes_drop offset body (bytes_each body (λ i. omega (arith, c.type_inv.body i))) in
-    let h = c.loop-offset.invariant.records in
-    record {
-      offset = offset;
-      inside = c.loop-offset-test.true;
-      before = h.0;
-      whole = h.1;
-      here = begins_here c.args.k n _ (drop offset body) there are c.in-Ok.ensures.count c.in-Ok.ensures.inside c.in-Ok.ensures.rest;
-    }
+    let found = c.in-Ok.ensures in
+    stops_there c.args.k c.in-Ok.symbols c.loop-offset.offset c.args.body.now (λ i. omega (arith, c.type_inv.body i)) found.count found.inside
+    found.rest c.loop-offset.invariant.records.0 c.loop-offset-test.true c.loop-offset.invariant.records.1
 
 pub loop-offset-preserved : goal.loop-offset-preserved
 loop-offset-preserved g c =
-    let num = g.W.Word.number in
     let body = c.args.body.now in
     let offset = c.loop-offset.offset in
     let n = c.in-Ok.symbols in
-    let size = (n + 3) / 4 in
-    let rest = take (length body - offset) (drop offset body) in
-    let is : rest ≡ drop offset body = take_rest body offset in
-    let long : length rest ≡ length body - offset = ap length is ∙ length-drop offset body in
+    let found = c.in-Ok.ensures in
+    let codes = first_codes n (rest_at offset body) in
+    let keys_of : List ℕ → List ℕ = λ w. map pack (keys c.args.strands c.args.k w) in
     let h = c.loop-offset.invariant.records in
-    let same : 1 + size - 1 ≡ size = omega arith in
     record {
-      inside = omega (arith, long, c.in-Ok.ensures.inside);
+      inside = next_inside c.args.k n offset body (λ i. omega (arith, c.type_inv.body i)) found.count found.inside found.rest;
       records = (
-        h.0 ++ first_codes n rest ∷ [],
-        next_body c.args.k n offset _ h.0 body rest (bytes_each body (λ i. omega (arith, c.type_inv.body i))) is h.1
-            (λ _. offset + (1 + size)) c.in-Ok.ensures.count c.in-Ok.ensures.inside c.in-Ok.ensures.rest,
-        next_keys c.args.strands c.args.k h.0 (first_codes n rest) _ _ (map num c.args.words.now.items) h.2
-            (c.in_ok-push_record.ensures ∙ ap (λ m. map num c.loop-offset.words.items ++ map (weighted 0 1)
-            (map pack (keys c.args.strands c.args.k (take n (codes_in (take m (drop 1 rest))))))) same
-            ∙ ap (λ (t : List ℕ). map num c.loop-offset.words.items ++ t) (once_each _)),
+        h.0 ++ codes ∷ [],
+        next_body c.args.k n offset body (λ i. omega (arith, c.type_inv.body i)) found.count found.inside found.rest _ h.0 h.1
+            (λ _. offset + (1 + size_of n)),
+        next_keys c.args.strands c.args.k h.0 codes _ _ (map g.W.Word.number c.args.words.now.items) h.2
+            (c.in_ok-push_record.ensures ∙ ap (λ (w : List ℕ). map g.W.Word.number c.loop-offset.words.items ++ map (weighted 0 1) (keys_of w))
+            (same_codes n (rest_at offset body)) ∙ ap (λ (t : List ℕ). map g.W.Word.number c.loop-offset.words.items ++ t) (once_each (keys_of codes))),
       );
     }
 

@@ -1,19 +1,16 @@
-use Rattle.std.proofs.Common.{◌≡◌, ℕ, ◌+◌, ◌-◌, ◌/◌, ◌++◌, List, take, drop, ap, sym, subst, ◌∙◌, arith}
+use Rattle.std.proofs.Common.{◌≡◌, ℕ, ◌+◌, ◌-◌, ◌/◌, ◌++◌, List, drop, sym, subst, ◌∙◌, arith}
 use Rattle.std.proofs.lemmas.List.{take_rest}
 use Rattle.kmc_split.specs.SuperKmer.{IsSuperKmer}
-use Rattle.kmc_record.specs.Record.{spelling, IsSpelled, codes_in, size_of}
+use Rattle.kmc_record.specs.Record.{spelling, IsSpelled, size_of}
 use Rattle.std.specs.Prelude.{Result, Ok, Err, IfErr}
 use Rattle.std.specs.Result.{IsErrAnd}
 use Rattle.kmc_record.specs.declared.fault.RecordError.{RecordError}
 use Rattle.kmc_record.specs.declared.fault.RecordError.TheVariants.{Memory}
 use Rattle.kmc_record.specs.Refusals.{BeginsRecord, IsRefused}
 use Rattle.kmc_record.proofs.Spelled.{bytes_each}
-use Rattle.kmc_record.proofs.Whole.{first_codes, first_spelled, first_read}
+use Rattle.kmc_record.proofs.Whole.{first_codes, first_spelled, first_read, same_codes}
 use Rattle.kmc_record.proofs.Written.{spelled_super_kmer}
 use Rattle.kmc_record.proofs.decoding.decode.Goals as goal
-
-same_codes : (n : ℕ) (bs : List ℕ) → take n (codes_in (take (1 + (n + 3) / 4 - 1) (drop 1 bs))) ≡ first_codes n bs
-same_codes n bs = let same : 1 + (n + 3) / 4 - 1 ≡ (n + 3) / 4 = omega arith in ap (λ m. take n (codes_in (take m (drop 1 bs)))) same
 
 -- memory was refused where a record stands
 no_memory : {A : Type 0} (k : ℕ) (bytes : List ℕ) (r : Result A RecordError) → IsErrAnd r (λ e. e ≡ Memory) → BeginsRecord k bytes → IfErr r

@@ -1,4 +1,4 @@
-use Rattle.std.proofs.Common.{◌≡◌, ℕ, ◌+◌, ◌*◌, ◌-◌, ◌/◌, ◌<◌, ◌≤◌, min, List, length, take, map, vec_len, vec_capacity, ap, sym, ◌∙◌, arith}
+use Rattle.std.proofs.Common.{◌≡◌, ℕ, ◌+◌, ◌*◌, ◌-◌, ◌/◌, ◌^◌, ◌<◌, ◌≤◌, min, List, length, take, map, vec_len, vec_capacity, ap, sym, ◌∙◌, arith}
 use Rattle.std.proofs.lemmas.List.{length-take-le, get_or-take}
 use Rattle.kmc_base.specs.Lemmas.Packs.{AreCodes}
 use Rattle.kmc_base.specs.Lemmas.Rolling.{codes_front, roll_start, step_at, byte_step, fits_at}
@@ -15,6 +15,11 @@ within bs n h = omega (arith, length_codes bs)
 
 small : (bs : List ℕ) (n : ℕ) → AreCodes (take n (codes_in bs))
 small bs n = codes_front n (codes_in bs) (are_codes bs)
+
+-- a word and its weight fit in one
+beside : (k bits most top : ℕ) → 1 ≤ k → 2 * k + bits ≤ 2 * most → top ≡ 4 ^ (k - 1)
+    → (j : ℕ) × (1 ≤ j) × (2 * j + bits ≤ 2 * most) × (4 * top ≤ 4 ^ j)
+beside k bits most top some room is = (k, some, room, top_room k top some is)
 
 pub front-init : goal.front-init
 front-init g c = roll_start c.args.rule.k (take c.args.symbols (codes_in c.args.bytes.now)) _ _ c.zero-forward.ensures c.ones-back.ensures
@@ -205,28 +210,13 @@ returns g c =
     (omega arith) c.rest.invariant
 
 pub push_code-requires-clause-beside : goal.push_code-requires-clause-beside
-push_code-requires-clause-beside g c = (
-  c.args.rule.k,
-  c.args.rule.within.0,
-  c.requires.beside,
-  top_room c.args.rule.k
-      (g.W.Word.number c.top-top.result) c.args.rule.within.0 c.top-top.ensures,
-)
+push_code-requires-clause-beside g c =
+    beside c.args.rule.k c.args.weight.bits g.W.Word.most (g.W.Word.number c.top-top.result) c.args.rule.within.0 c.requires.beside c.top-top.ensures
 
 pub push_code-requires-in-codes-clause-beside : goal.push_code-requires-in-codes-clause-beside
-push_code-requires-in-codes-clause-beside g c = (
-  c.args.rule.k,
-  c.args.rule.within.0,
-  c.requires.beside,
-  top_room c.args.rule.k
-      (g.W.Word.number c.top-top.result) c.args.rule.within.0 c.top-top.ensures,
-)
+push_code-requires-in-codes-clause-beside g c =
+    beside c.args.rule.k c.args.weight.bits g.W.Word.most (g.W.Word.number c.top-top.result) c.args.rule.within.0 c.requires.beside c.top-top.ensures
 
 pub push_code-requires-in-rest-clause-beside : goal.push_code-requires-in-rest-clause-beside
-push_code-requires-in-rest-clause-beside g c = (
-  c.args.rule.k,
-  c.args.rule.within.0,
-  c.requires.beside,
-  top_room c.args.rule.k
-      (g.W.Word.number c.top-top.result) c.args.rule.within.0 c.top-top.ensures,
-)
+push_code-requires-in-rest-clause-beside g c =
+    beside c.args.rule.k c.args.weight.bits g.W.Word.most (g.W.Word.number c.top-top.result) c.args.rule.within.0 c.requires.beside c.top-top.ensures

@@ -1,46 +1,34 @@
-use Rattle.std.proofs.Common.{◌≡◌, ◌<◌, length, map, get_or, ap, ◌∙◌, arith}
+use Rattle.std.proofs.Common.{◌<◌, length, get_or, ◌∙◌, arith}
 use Rattle.std.proofs.lemmas.List.{length-set}
 use Rattle.kmc_device.specs.Device.{Watched}
 use Rattle.kmc_slice_files.specs.Frames.{end_bytes}
-use Rattle.kmc_slice_files.proofs.Framing.{failures_was, same_failures, writer_failed}
+use Rattle.kmc_slice_files.proofs.Framing.{may_fail, same_failures, writer_failed}
 use Rattle.kmc_slice_files.proofs.Each.{writer_got, writer_begun}
 use Rattle.kmc_slice_files.proofs.files.end_files.Goals as goal
 
-pub end_file-requires : goal.end_file-requires
-end_file-requires g c =
-    let inv = c.loop-s.invariant in
-    let inside : c.loop-s.s < length c.args.writers.now = c.loop-s-test.true in
-    let was = failures_was (λ (w : Watched g.row.W.Denot). g.W.Write.contents w.inner) c.loop-s.writers c.index-writers-s.result
-    c.index-writers-s.result c.loop-s.s (omega (arith, inside, inv.wide)) in
-    let same : get_or (map (λ (w : Watched g.row.W.Denot). w.failures) c.loop-s.writers) c.loop-s.s 0 ≡ get_or
-    (map (λ (w : Watched g.row.W.Denot). w.failures) c.args.writers.now) c.loop-s.s 0 = ap (λ l. get_or l c.loop-s.s 0) inv.same in
-    omega (arith, was, same, c.requires.failures c.loop-s.s inside)
-
 pub returns-in-Err-clause-failed : goal.returns-in-Err-clause-failed
 returns-in-Err-clause-failed g c =
-    let inside : c.loop-s.s < length c.loop-s.writers = omega (arith, c.loop-s-test.true, c.loop-s.invariant.wide) in
     writer_failed (λ (w : Watched g.row.W.Denot). g.W.Write.contents w.inner) c.loop-s.writers c.index-writers-s.result c.end_file.new.writer
-    c.loop-s.s inside
-    (map (λ (w : Watched g.row.W.Denot). w.failures) c.args.writers.now) c.loop-s.invariant.same c.in-Err.ensures.failed
+    c.loop-s.s (omega (arith, c.loop-s-test.true, c.loop-s.invariant.wide)) _ c.loop-s.invariant.same c.in-Err.ensures.failed
 
-pub returns-in-Err-clause-begun : goal.returns-in-Err-clause-begun
-returns-in-Err-clause-begun g c =
-    let inside : c.loop-s.s < length c.loop-s.writers = omega (arith, c.loop-s-test.true, c.loop-s.invariant.wide) in
-    writer_begun (λ (w : Watched g.row.W.Denot). g.W.Write.contents w.inner) (λ t. end_bytes (get_or c.args.counts.now t 0)) c.loop-s.s
-    (map (λ (w : Watched g.row.W.Denot). g.W.Write.contents w.inner) c.args.writers.now) c.loop-s.writers c.index-writers-s.result
-    c.end_file.new.writer inside
-    c.loop-s.invariant.got (length c.args.writers.now) c.in-Err.ensures.front
+pub end_file-requires : goal.end_file-requires
+end_file-requires g c =
+    may_fail c.loop-s.writers c.args.writers.now c.index-writers-s.result c.loop-s.s c.loop-s.invariant.wide c.loop-s.invariant.same
+    c.loop-s-test.true c.requires.failures
 
 pub loop-s-preserved : goal.loop-s-preserved
 loop-s-preserved g c =
-    let inv = c.loop-s.invariant in
-    let s = c.loop-s.s in
-    let inside : s < length c.loop-s.writers = omega (arith, c.loop-s-test.true, inv.wide) in
+    let inside : c.loop-s.s < length c.loop-s.writers = omega (arith, c.loop-s-test.true, c.loop-s.invariant.wide) in
     record {
-      wide = length-set c.loop-s.writers s c.end_file.new.writer ∙ inv.wide;
+      wide = length-set c.loop-s.writers c.loop-s.s c.end_file.new.writer ∙ c.loop-s.invariant.wide;
       same = same_failures (λ (w : Watched g.row.W.Denot). g.W.Write.contents w.inner) c.loop-s.writers c.index-writers-s.result
-          c.end_file.new.writer s inside c.in-Ok.ensures.kept ∙ inv.same;
-      got = writer_got (λ (w : Watched g.row.W.Denot). g.W.Write.contents w.inner) (λ t. end_bytes (get_or c.args.counts.now t 0)) s
-          (map (λ (w : Watched g.row.W.Denot). g.W.Write.contents w.inner) c.args.writers.now) c.loop-s.writers c.index-writers-s.result
-          c.end_file.new.writer inside inv.got c.in-Ok.ensures.ok;
+          c.end_file.new.writer c.loop-s.s inside c.in-Ok.ensures.kept ∙ c.loop-s.invariant.same;
+      got = writer_got (λ (w : Watched g.row.W.Denot). g.W.Write.contents w.inner) (λ t. end_bytes (get_or c.args.counts.now t 0)) c.loop-s.s _
+          c.loop-s.writers c.index-writers-s.result c.end_file.new.writer inside c.loop-s.invariant.got c.in-Ok.ensures.ok;
     }
+
+pub returns-in-Err-clause-begun : goal.returns-in-Err-clause-begun
+returns-in-Err-clause-begun g c =
+    writer_begun (λ (w : Watched g.row.W.Denot). g.W.Write.contents w.inner) (λ t. end_bytes (get_or c.args.counts.now t 0)) c.loop-s.s _
+    c.loop-s.writers c.index-writers-s.result c.end_file.new.writer (omega (arith, c.loop-s-test.true, c.loop-s.invariant.wide))
+    c.loop-s.invariant.got (length c.args.writers.now) c.in-Err.ensures.front

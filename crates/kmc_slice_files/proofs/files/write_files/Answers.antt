@@ -1,5 +1,6 @@
 use Rattle.std.proofs.Common.{length, arith}
-use Rattle.kmc_slice_files.proofs.Each.{on_ok_then, one_round}
+use Rattle.kmc_device.specs.Lemmas.Devices.{on_ok_then}
+use Rattle.kmc_slice_files.proofs.Each.{one_round}
 use Rattle.kmc_slice_files.proofs.files.write_files.Goals as goal
 
 pub write_round-requires-clause-bins : goal.write_round-requires-clause-bins

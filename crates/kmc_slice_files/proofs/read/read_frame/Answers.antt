@@ -3,10 +3,10 @@ use Rattle.std.specs.declared.vec.Vec.{Vec}
 use Rattle.std.specs.declared.alloc.Global.{Global}
 use Rattle.std.specs.Io.KnownBytes.{Consumes}
 use Rattle.std.proofs.KnownBytes.{Consumes-trans}
-use Rattle.std.proofs.lemmas.List.{map-set, get_or-map, get_or-set_same}
+use Rattle.std.proofs.lemmas.List.{map-set, get_or-map}
 use Rattle.kmc_device.specs.Lemmas.Devices.{on_err}
 use Rattle.kmc_slice_files.specs.Frames.{check_of, frame}
-use Rattle.kmc_slice_files.proofs.Taking.{neither_begins, damaged_begins, is_frame, frame_is, tail_is, same_place}
+use Rattle.kmc_slice_files.proofs.Taking.{neither_begins, damaged_begins, is_frame, frame_is, came_behind}
 use Rattle.kmc_slice_files.proofs.Faults.{on_error, head_fault, body_fault, held_front, held_body}
 use Rattle.kmc_slice_files.proofs.read.read_frame.Goals as goal
 
@@ -43,15 +43,9 @@ pub returns-then-frame_check-head-clause-ok : goal.returns-then-frame_check-head
 returns-then-frame_check-head-clause-ok g c =
     let took = c.in_ok-head.ensures.ok in
     let came = c.in_ok-read_body-in-Body.ensures.ok in
-    let old = get_or c.args.bodies.now c.in-Body.bin c.index-bodies-bin-in-Body.result in
-    let from : c.len-from.result ≡ length old.items =
-    c.len-from.ensures ∙ (get_or c.args.bodies.now c.in-Body.bin c.index-bodies-bin.result).ok.0
-    ∙ ap (λ (v : Vec ℕ Global). length v.items) (same_place c.args.bodies.now c.in-Body.bin c.index-bodies-bin.result
-    c.index-bodies-bin-in-Body.result c.in-Body.ensures.within) in
-    let stands : c.deref.result.now ≡ old.items ++ came.0 =
-    c.deref.ensures.value ∙ ap (λ (v : Vec ℕ Global). v.items) (get_or-set_same c.args.bodies.now c.in-Body.bin c.read_body.new.out
-    c.index-bodies-bin-in-Body-2.result c.in-Body.ensures.within) ∙ came.2 in
-    let tail = tail_is c.deref.result.now old.items came.0 c.len-from.result stands from in
+    let tail = came_behind c.args.bodies.now c.in-Body.bin c.read_body.new.out c.index-bodies-bin.result c.index-bodies-bin-in-Body.result
+    c.index-bodies-bin-in-Body-2.result c.deref.result.now came.0 c.len-from.result c.in-Body.ensures.within c.len-from.ensures c.deref.ensures.value
+    came.2 in
     let checked : check_of c.in_ok-head.head.bin came.0 ≡ c.in_ok-head.head.check = ap (check_of c.in_ok-head.head.bin) (sym tail)
     ∙ sym c.frame_check.ensures ∙ c.if-frame_check-head.true in
     let says = c.in-Body.ensures in
@@ -74,17 +68,11 @@ returns-then-frame_check-head-clause-ok g c =
 
 pub returns-else-frame_check-head-clause-fault : goal.returns-else-frame_check-head-clause-fault
 returns-else-frame_check-head-clause-fault g c =
-    let took = c.in_ok-head.ensures.ok in
     let came = c.in_ok-read_body-in-Body.ensures.ok in
-    let old = get_or c.args.bodies.now c.in-Body.bin c.index-bodies-bin-in-Body.result in
-    let from : c.len-from.result ≡ length old.items =
-    c.len-from.ensures ∙ (get_or c.args.bodies.now c.in-Body.bin c.index-bodies-bin.result).ok.0
-    ∙ ap (λ (v : Vec ℕ Global). length v.items) (same_place c.args.bodies.now c.in-Body.bin c.index-bodies-bin.result
-    c.index-bodies-bin-in-Body.result c.in-Body.ensures.within) in
-    let stands : c.deref.result.now ≡ old.items ++ came.0 =
-    c.deref.ensures.value ∙ ap (λ (v : Vec ℕ Global). v.items) (get_or-set_same c.args.bodies.now c.in-Body.bin c.read_body.new.out
-    c.index-bodies-bin-in-Body-2.result c.in-Body.ensures.within) ∙ came.2 in
-    let tail = tail_is c.deref.result.now old.items came.0 c.len-from.result stands from in
+    let tail = came_behind c.args.bodies.now c.in-Body.bin c.read_body.new.out c.index-bodies-bin.result c.index-bodies-bin-in-Body.result
+    c.index-bodies-bin-in-Body-2.result c.deref.result.now came.0 c.len-from.result c.in-Body.ensures.within c.len-from.ensures c.deref.ensures.value
+    came.2 in
+    let took = c.in_ok-head.ensures.ok in
     record {
       bytes = took.bytes ++ came.0;
       gave = Consumes-trans _ _ _ took.bytes came.0 took.gave came.3;

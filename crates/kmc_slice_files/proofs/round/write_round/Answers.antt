@@ -5,7 +5,7 @@ use Rattle.std.specs.declared.alloc.Global.{Global}
 use Rattle.kmc_device.specs.Device.{Watched}
 use Rattle.kmc_store.specs.Bins.{body_at}
 use Rattle.kmc_slice_files.specs.Writes.{AreFramed, IsBinWritten}
-use Rattle.kmc_slice_files.proofs.Framing.{none_framed, failures_was, same_failures, writer_failed, writers_framed, writers_begun}
+use Rattle.kmc_slice_files.proofs.Framing.{none_framed, may_fail, same_failures, writer_failed, writers_framed, writers_begun}
 use Rattle.kmc_slice_files.proofs.round.write_round.Goals as goal
 
 pub loop-b-init : goal.loop-b-init
@@ -18,29 +18,20 @@ loop-b-init g c = record {
 
 pub write_bin-requires : goal.write_bin-requires
 write_bin-requires g c =
-    let inv = c.loop-b.invariant in
-    let s = c.loop-b.b % length c.args.writers.now in
-    let inside : s < length c.args.writers.now = omega (arith, c.requires.some) in
-    let was = failures_was (λ (w : Watched g.row.W.Denot). g.W.Write.contents w.inner) c.loop-b.writers c.index-writers-s.result
-    c.index-writers-s.result s (omega (arith, inside, inv.wide)) in
-    let same : get_or (map (λ (w : Watched g.row.W.Denot). w.failures) c.loop-b.writers) s 0 ≡ get_or
-    (map (λ (w : Watched g.row.W.Denot). w.failures) c.args.writers.now) s 0 = ap (λ (l : List ℕ). get_or l s 0) inv.same in
-    omega (arith, was, same, c.requires.failures s inside)
+    may_fail c.loop-b.writers c.args.writers.now c.index-writers-s.result (c.loop-b.b % length c.args.writers.now) c.loop-b.invariant.wide
+    c.loop-b.invariant.same (omega (arith, c.requires.some)) c.requires.failures
 
 pub returns-in-Err-clause-failed : goal.returns-in-Err-clause-failed
 returns-in-Err-clause-failed g c =
-    let inside : c.loop-b.b % length c.args.writers.now < length c.loop-b.writers = omega (arith, c.requires.some, c.loop-b.invariant.wide) in
     writer_failed (λ (w : Watched g.row.W.Denot). g.W.Write.contents w.inner) c.loop-b.writers c.index-writers-s.result c.write_bin.new.writer
-    (c.loop-b.b % length c.args.writers.now) inside (map (λ (w : Watched g.row.W.Denot). w.failures) c.args.writers.now) c.loop-b.invariant.same
+    (c.loop-b.b % length c.args.writers.now) (omega (arith, c.requires.some, c.loop-b.invariant.wide)) _ c.loop-b.invariant.same
     c.in-Err.ensures.failed
 
 pub returns-in-Err-clause-begun : goal.returns-in-Err-clause-begun
 returns-in-Err-clause-begun g c =
-    let inside : c.loop-b.b % length c.args.writers.now < length c.loop-b.writers = omega (arith, c.requires.some, c.loop-b.invariant.wide) in
     writers_begun (λ (w : Watched g.row.W.Denot). g.W.Write.contents w.inner) c.loop-b.writers c.index-writers-s.result c.write_bin.new.writer
-    (c.loop-b.b % length c.args.writers.now) inside _ _ _ _ _ _ _ c.loop-b.invariant.framed c.loop-b-test.true refl c.loop-b.invariant.wide
-    c.loop-b.invariant.counted
-    c.in-Err.ensures.front
+    (c.loop-b.b % length c.args.writers.now) (omega (arith, c.requires.some, c.loop-b.invariant.wide)) _ _ _ _ _ _ _ c.loop-b.invariant.framed
+    c.loop-b-test.true refl c.loop-b.invariant.wide c.loop-b.invariant.counted c.in-Err.ensures.front
 
 pub loop-b-preserved : goal.loop-b-preserved
 loop-b-preserved g c =

@@ -12,26 +12,22 @@ fault_passed_on from (Err d) e P Q on was h made = subst Q (sym made) (on e (sub
 
 pub returns-in_err-more-clause-fault : goal.returns-in_err-more-clause-fault
 returns-in_err-more-clause-fault g t c =
-    let a = c.args in
-    let bs = a.bodies.now in
-    let bodies = map (λ (b : Vec ℕ Global). b.items) bs in
-    let at = a.from + c.share.result in
-    let judged : IsJudgedRow a.shape bs a.from at c.join_mut-one.result.0 = search (rules, c.join_mut-one.ensures) in
-    let first = subst (IsJudgedRow a.shape bs a.from at) c.in_ok-words.was judged in
-    let other : IsJudgedRow a.shape bs at a.to c.join_mut-one.result.1 = search (rules, c.join_mut-one.ensures) in
+    let a = c.args in let at = a.from + c.share.result in
+    let one : IsJudgedRow a.shape a.bodies.now a.from at c.join_mut-one.result.0 = search (rules, c.join_mut-one.ensures) in
+    let other : IsJudgedRow a.shape a.bodies.now at a.to c.join_mut-one.result.1 = search (rules, c.join_mut-one.ensures) in
+    let bodies = map (λ (b : Vec ℕ Global). b.items) a.bodies.now in
     fault_passed_on c.join_mut-one.result.1 c.from_residual-in_err-more.result _ (IsFaultIn a.shape bodies at a.to) (IsFaultIn a.shape bodies a.from a.to)
-    (back_fault a.shape bodies a.from at a.to c.in_ok-words.words.items first.ok) c.in_err-more.was other.fault
+    (back_fault a.shape bodies a.from at a.to c.in_ok-words.words.items
+    (subst (IsJudgedRow a.shape a.bodies.now a.from at) c.in_ok-words.was one).ok) c.in_err-more.was other.fault
     c.from_residual-in_err-more.ensures.1
 
 pub returns-clause-ok : goal.returns-clause-ok
 returns-clause-ok g t c =
-    let a = c.args in
-    let bs = a.bodies.now in
-    let bodies = map (λ (b : Vec ℕ Global). b.items) bs in
-    let at = a.from + c.share.result in
-    let judged : IsJudgedRow a.shape bs a.from at c.join_mut-one.result.0 = search (rules, c.join_mut-one.ensures) in
-    let first = subst (IsJudgedRow a.shape bs a.from at) c.in_ok-words.was judged in
-    let other : IsJudgedRow a.shape bs at a.to c.join_mut-one.result.1 = search (rules, c.join_mut-one.ensures) in
-    let second = subst (IsJudgedRow a.shape bs at a.to) c.in_ok-more.was other in
+    let a = c.args in let at = a.from + c.share.result in
+    let one : IsJudgedRow a.shape a.bodies.now a.from at c.join_mut-one.result.0 = search (rules, c.join_mut-one.ensures) in
+    let other : IsJudgedRow a.shape a.bodies.now at a.to c.join_mut-one.result.1 = search (rules, c.join_mut-one.ensures) in
+    let first = subst (IsJudgedRow a.shape a.bodies.now a.from at) c.in_ok-words.was one in
+    let second = subst (IsJudgedRow a.shape a.bodies.now at a.to) c.in_ok-more.was other in
+    let bodies = map (λ (b : Vec ℕ Global). b.items) a.bodies.now in
     subst (AreCounted a.shape bodies a.from a.to) (sym c.in_ok-append.ensures.items)
     (both_counted a.shape bodies a.from at a.to c.in_ok-words.words.items first.ok c.in_ok-more.more.items second.ok)

@@ -4,24 +4,18 @@ use Rattle.kmc_sum.proofs.line.letters.Goals as goal
 
 pub returns-clause-fits : goal.returns-clause-fits
 returns-clause-fits c =
-    let first = c.half_letters-first.ensures in
-    let second = c.half_letters-second.ensures in
-    (halves_are c.args.bytes.now c.half_letters-first.result.0 c.half_letters-second.result.0 _ _ _ _ c.from-2.ensures c.from-3.ensures first.most
-    second.most first.letters second.letters).fits
+    (halves_are c.args.bytes.now c.half_letters-first.result.0 c.half_letters-second.result.0 _ _ _ _ c.from-2.ensures c.from-3.ensures
+    c.half_letters-first.ensures.most c.half_letters-second.ensures.most c.half_letters-first.ensures.letters c.half_letters-second.ensures.letters).fits
 
 pub returns-clause-word : goal.returns-clause-word
 returns-clause-word c =
-    let first = c.half_letters-first.ensures in
-    let second = c.half_letters-second.ensures in
-    (halves_are c.args.bytes.now c.half_letters-first.result.0 c.half_letters-second.result.0 _ _ _ _ c.from-2.ensures c.from-3.ensures first.most
-    second.most first.letters second.letters).word
+    (halves_are c.args.bytes.now c.half_letters-first.result.0 c.half_letters-second.result.0 _ _ _ _ c.from-2.ensures c.from-3.ensures
+    c.half_letters-first.ensures.most c.half_letters-second.ensures.most c.half_letters-first.ensures.letters c.half_letters-second.ensures.letters).word
 
 pub returns-clause-each : goal.returns-clause-each
 returns-clause-each c =
-    let first = c.half_letters-first.ensures in
-    let second = c.half_letters-second.ensures in
-    (halves_are c.args.bytes.now c.half_letters-first.result.0 c.half_letters-second.result.0 _ _ _ _ c.from-2.ensures c.from-3.ensures first.most
-    second.most first.letters second.letters).each
+    (halves_are c.args.bytes.now c.half_letters-first.result.0 c.half_letters-second.result.0 _ _ _ _ c.from-2.ensures c.from-3.ensures
+    c.half_letters-first.ensures.most c.half_letters-second.ensures.most c.half_letters-first.ensures.letters c.half_letters-second.ensures.letters).each
 
 pub returns-clause-ends : goal.returns-clause-ends
 returns-clause-ends c = no_more c.args.bytes.now c.half_letters-first.result.0 c.half_letters-second.result.0 c.half_letters-second.ensures.ends

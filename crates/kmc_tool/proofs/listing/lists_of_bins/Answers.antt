@@ -1,4 +1,4 @@
-use Rattle.std.proofs.Common.{◌≡◌, ℕ, List, sym, ap, subst, ◌∙◌, refl, Err}
+use Rattle.std.proofs.Common.{◌≡◌, ℕ, List, sym, ap, subst, ◌∙◌, Err}
 use Rattle.kmc_record.specs.Shapes.{Sizes, IsShape}
 use Rattle.kmc_dump.specs.Bodies.{AreListsOfBodies}
 use Rattle.kmc_dump.specs.Lists.{lists_of}
@@ -22,22 +22,12 @@ returns-in-Ok-clause-each g c =
 
 pub returns-in-Ok-clause-merge : goal.returns-in-Ok-clause-merge
 returns-in-Ok-clause-merge g c =
-    let bins = c.args.bins in
-    let bounds = subst (λ (s : Sizes). IsShape s.k s.m s.n) c.shape.ensures.is c.k-k.ensures.shape in
-    let same : c.k-k.result ≡ bins.shape.k = c.k-k.ensures.is ∙ ap (λ s. s.k) c.shape.ensures.is in
-    let own = subst (λ k. AreListsOfBodies c.args.strands k c.args.limits.now bins.bodies (lists_of c.in-Ok.lists)) same
-    (subst (λ (t : List (List ℕ)). AreListsOfBodies c.args.strands c.k-k.result c.args.limits.now t (lists_of c.in-Ok.lists))
-    c.into_bodies-bodies.ensures.are c.in-Ok.ensures.ok) in
-    (listed c.bins_share_no_key.ensures c.dumps_of_bodies_are_of_keys.ensures c.args.strands c.args.limits.now bins.shape bounds.some_m bounds.within
-    c.packed_dumps_are_one.ensures bins.bodies bins.bodies bins.words (lists_of c.in-Ok.lists) c.into_bodies-bodies.ensures.kept refl own).0
+    (listed c.bins_share_no_key.ensures c.dumps_of_bodies_are_of_keys.ensures c.args.strands c.args.limits.now c.args.bins.shape
+    (subst (λ (s : Sizes). IsShape s.k s.m s.n) c.shape.ensures.is c.k-k.ensures.shape) c.packed_dumps_are_one.ensures _ _ _ _ _
+    (c.k-k.ensures.is ∙ ap (λ s. s.k) c.shape.ensures.is) c.into_bodies-bodies.ensures.kept c.into_bodies-bodies.ensures.are c.in-Ok.ensures.ok).0
 
 pub returns-in-Ok-clause-all : goal.returns-in-Ok-clause-all
 returns-in-Ok-clause-all g c =
-    let bins = c.args.bins in
-    let bounds = subst (λ (s : Sizes). IsShape s.k s.m s.n) c.shape.ensures.is c.k-k.ensures.shape in
-    let same : c.k-k.result ≡ bins.shape.k = c.k-k.ensures.is ∙ ap (λ s. s.k) c.shape.ensures.is in
-    let own = subst (λ k. AreListsOfBodies c.args.strands k c.args.limits.now bins.bodies (lists_of c.in-Ok.lists)) same
-    (subst (λ (t : List (List ℕ)). AreListsOfBodies c.args.strands c.k-k.result c.args.limits.now t (lists_of c.in-Ok.lists))
-    c.into_bodies-bodies.ensures.are c.in-Ok.ensures.ok) in
-    (listed c.bins_share_no_key.ensures c.dumps_of_bodies_are_of_keys.ensures c.args.strands c.args.limits.now bins.shape bounds.some_m bounds.within
-    c.packed_dumps_are_one.ensures bins.bodies bins.bodies bins.words (lists_of c.in-Ok.lists) c.into_bodies-bodies.ensures.kept refl own).1
+    (listed c.bins_share_no_key.ensures c.dumps_of_bodies_are_of_keys.ensures c.args.strands c.args.limits.now c.args.bins.shape
+    (subst (λ (s : Sizes). IsShape s.k s.m s.n) c.shape.ensures.is c.k-k.ensures.shape) c.packed_dumps_are_one.ensures _ _ _ _ _
+    (c.k-k.ensures.is ∙ ap (λ s. s.k) c.shape.ensures.is) c.into_bodies-bodies.ensures.kept c.into_bodies-bodies.ensures.are c.in-Ok.ensures.ok).1

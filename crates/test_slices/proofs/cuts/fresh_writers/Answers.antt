@@ -1,20 +1,12 @@
-use Rattle.std.proofs.Common.{◌≡◌, ◌++◌, ◌∷◌, [], List, ℕ, get_or, map, length, ap, ◌∙◌, arith, length-append}
-use Rattle.std.proofs.lemmas.List.{map-append}
+use Rattle.std.proofs.Common.{ap, arith}
 use Rattle.kmc_device.specs.Device.{Watched}
 use Rattle.test_support.specs.declared.devices.NarrowWriter.{NarrowWriter}
-use Rattle.kmc_slice_files.specs.Lemmas.Fresh.{zero_more}
+use Rattle.kmc_slice_files.specs.Lemmas.Fresh.{fresh_more, one_more}
 use Rattle.test_slices.proofs.cuts.fresh_writers.Goals as goal
 
 pub loop-preserved : goal.loop-preserved
-loop-preserved c =
-    let f = λ (w : Watched NarrowWriter). w.failures in
-    let old = c.loop.writers.items in
-    let items : c.push.new.self.items ≡ old ++ c.new-in-loop.result ∷ [] = c.in_ok-push.ensures.items in
-    let inv = c.loop.invariant in
-    record {
-      many = omega (arith, ap length items, length-append old (c.new-in-loop.result ∷ []), inv.many);
-      fresh = λ i.
-          ap (λ (l : List ℕ). get_or l i 0) (ap (map f) items ∙ map-append f old (c.new-in-loop.result ∷ [])
-          ∙ ap (λ (n : ℕ). map f old ++ n ∷ []) (ap f c.new-in-loop.ensures))
-          ∙ zero_more (map f old) inv.fresh i;
-    }
+loop-preserved c = record {
+  many = omega (arith, one_more c.loop.writers.items c.push.new.self.items c.new-in-loop.result c.in_ok-push.ensures.items, c.loop.invariant.many);
+  fresh = fresh_more c.loop.writers.items c.push.new.self.items c.new-in-loop.result c.in_ok-push.ensures.items
+      (ap (λ (w : Watched NarrowWriter). w.failures) c.new-in-loop.ensures) c.loop.invariant.fresh;
+}
