@@ -1,6 +1,7 @@
 use Rattle.std.proofs.Common.{◌++◌, sym, ap, subst, ◌∙◌}
-use Rattle.std.proofs.lemmas.Result.{IfOk-weaker}
+use Rattle.std.proofs.lemmas.Result.{IfOk-weaker, on_err_weaker}
 use Rattle.kmc_reads.specs.Standing.{FeederState, StandsCut, Hands, At}
+use Rattle.kmc_reads.proofs.Feeding.{stands_still}
 use Rattle.kmc_reads.proofs.StandsCut.{cut_taken}
 use Rattle.kmc_reads.proofs.feeder.Feeder.take_open.Goals as goal
 
@@ -12,3 +13,7 @@ returns-clause-stands c = λ format text taken s.
     (λ reads. StandsCut c.args.overlap format text (taken ++ reads) next)
     (λ reads h. cut_taken c.args.overlap format text taken c.args.self.now s reads next h (ap (λ v. v.refusal) c.self.view_is ∙ s.sound))
     (c.take_open.ensures.taken s.rows s.spot s.front at)
+
+pub returns-clause-waiting : goal.returns-clause-waiting
+returns-clause-waiting c = λ rows spot front at.
+    c.take_open.ensures.taken rows spot front (subst (λ t. At rows spot front t) (sym (ap (λ v. v.scan) c.self.view_is)) at)
