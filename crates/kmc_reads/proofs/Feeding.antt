@@ -12,7 +12,7 @@ use Rattle.kmc_reads.specs.Fasta.{is_header}
 use Rattle.kmc_reads.specs.Pieces.{last_line}
 use Rattle.kmc_reads.specs.Rows.{ends_from}
 use Rattle.kmc_reads.specs.Stages.{Spot, begun_by, given_by, past}
-use Rattle.kmc_reads.specs.Standing.{At, IsAgain, StandsStill}
+use Rattle.kmc_reads.specs.Standing.{At, IsAgain}
 use Rattle.kmc_reads.proofs.Rows.{concat_snoc, ends_snoc}
 
 pub no_items : (xs : List ℕ) → length xs ≡ 0 → xs ≡ []
@@ -143,19 +143,3 @@ module _ (rows : List (List ℕ)) (n : ℕ) (read line : List ℕ) (w : Scan) wh
 pub last_is_line : (front : List ℕ) → (front ≡ [] → ⊥) → last_line front ≡ strip_last 13 front ∷ []
 last_is_line [] some = absurd (some refl)
 last_is_line (b ∷ bs) some = refl
-
--- the buffers and the place are the same
-pub stands_still : (old new : Scan) → IsAgain old new → StandsStill old new
-stands_still old new a = λ rows spot front at. let k = at.keeps in record {
-  keeps = record {
-    stage = ap (λ p. p.stage) a.place ∙ k.stage;
-    number = ap (λ p. p.number) a.place ∙ k.number;
-    bytes = a.bytes ∙ k.bytes;
-    ends = a.ends ∙ k.ends;
-    start = ap (λ p. p.start) a.place ∙ k.start;
-    many = ap (λ p. p.length) a.place ∙ k.many;
-    first = λ some. ap (λ p. p.first) a.place ∙ k.first some;
-  };
-  held = ap (λ p. p.held) a.place ∙ at.held;
-  settled = at.settled;
-}

@@ -1,7 +1,6 @@
 use Rattle.std.proofs.Common.{◌++◌, sym, ap, subst, ◌∙◌}
-use Rattle.std.proofs.lemmas.Result.{IfOk-weaker, on_err_weaker}
+use Rattle.std.proofs.lemmas.Result.{IfOk-weaker}
 use Rattle.kmc_reads.specs.Standing.{FeederState, StandsCut, Hands, At}
-use Rattle.kmc_reads.proofs.Feeding.{stands_still}
 use Rattle.kmc_reads.proofs.StandsCut.{cut_taken}
 use Rattle.kmc_reads.proofs.feeder.Feeder.take_open.Goals as goal
 
