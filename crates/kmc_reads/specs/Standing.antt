@@ -153,6 +153,10 @@ pub record IsAgain (old new : Scan) : Type 0 where
   pub ends : new.ends.items ≡ old.ends.items
   pub place : new.place ≡ old.place
 
+-- wherever the old scan stood, the new one stands
+abbrev pub StandsStill : Scan → Scan → Type 0
+StandsStill old new = (rows : List (List ℕ)) (spot : Spot) (front : List ℕ) → At rows spot front old → At rows spot front new
+
 -- what contracts see of a feeder
 pub record FeederState : Type 0 where
   pub scan : Scan

@@ -3,9 +3,9 @@ ghost use Rattle.std.specs.Prelude.{◌≡◌, ◌≢◌, ℕ, ◌+◌, List, []
 ghost use Rattle.std.specs.Io.BufRead.{strip_last};
 ghost use Rattle.std.specs.List.{concat};
 ghost use Rattle.kmc_reads.specs.Reads.{reads_of};
-ghost use Rattle.kmc_reads.specs.Stages.{fault, ended};
+ghost use Rattle.kmc_reads.specs.Stages.{Spot, fault, ended};
 ghost use Rattle.kmc_reads.specs.Cuts.{AreCut};
-ghost use Rattle.kmc_reads.specs.Standing.{StandsAt, StandsCut, IsSomewhere, IsHandedOut, Refuses, open_symbols};
+ghost use Rattle.kmc_reads.specs.Standing.{At, Hands, StandsAt, StandsCut, StandsStill, IsSomewhere, IsHandedOut, Refuses, open_symbols};
 
 use crate::error::ReadsError;
 use crate::format::Format;
@@ -67,6 +67,9 @@ impl Feeder {
         ensures again { (e : ReadsError) → Refuses e self.old → (result ≡ Err e)
             × (self.new ≡ self.old) }
 
+        // What waited before a refusal waits after it.
+        ensures still { OnErr result (StandsStill self.old.scan self.new.scan) }
+
         // The same where open reads were handed out in pieces.
         ensures cut { (overlap : ℕ) (format : Format) (text : List ℕ) (taken : List (List ℕ))
             → StandsCut overlap format text taken self.old
@@ -102,6 +105,8 @@ impl Feeder {
             → length (ended format text) ≡ length taken + result }
         ensures cut { (overlap : ℕ) (format : Format) (text : List ℕ) (taken : List (List ℕ))
             (s : StandsCut overlap format text taken self.now) → result ≡ length s.rows }
+        ensures rows { (rows : List (List ℕ)) (spot : Spot) (front : List ℕ)
+            → At rows spot front self.now.scan → result ≡ length rows }
     {
         self.scan.count()
     }
@@ -113,12 +118,15 @@ impl Feeder {
             → length (concat (ended format text)) ≡ length (concat taken) + result }
         ensures cut { (overlap : ℕ) (format : Format) (text : List ℕ) (taken : List (List ℕ))
             (s : StandsCut overlap format text taken self.now) → result ≡ length (concat s.rows) }
+        ensures rows { (rows : List (List ℕ)) (spot : Spot) (front : List ℕ)
+            → At rows spot front self.now.scan → result ≡ length (concat rows) }
     {
         self.scan.symbols()
     }
 
     /// Hands out the reads that have ended and were not taken yet. It copies the open read, so take
-    /// them a round at a time, and not after each piece. A feeder that has refused the text goes on refusing.
+    /// them a round at a time, and not after each piece. A feeder that has refused the text hands out the reads that had
+    /// ended before the piece that it refused, and goes on refusing.
     pub fn take(&mut self, alloc: Global) -> Result<Reads, AllocError>
         ensures all { (format : Format) (text : List ℕ) (taken : List (List ℕ))
             → StandsAt format text taken self.old
@@ -128,6 +136,11 @@ impl Feeder {
             → IfOk result (λ reads. StandsAt format text (taken ++ reads) self.new) }
         ensures memory { OnErr result (self.new ≡ self.old) }
         ensures refused { (e : ReadsError) → Refuses e self.old → Refuses e self.new }
+
+        // What waits is handed out, after a refusal too.
+        ensures waiting { (rows : List (List ℕ)) (spot : Spot) (front : List ℕ)
+            → At rows spot front self.old.scan
+            → IfOk result (λ reads. (reads ≡ rows) × At [] spot front self.new.scan) }
 
         // The same where open reads were handed out in pieces.
         ensures cut { (overlap : ℕ) (format : Format) (text : List ℕ) (taken : List (List ℕ))
@@ -151,6 +164,12 @@ impl Feeder {
             → OnErr result (StandsCut overlap format text taken self.new) }
         ensures handed { OnOk result (IsHandedOut overlap self.new.scan) }
         ensures refused { (e : ReadsError) → Refuses e self.old → Refuses e self.new }
+
+        // What waits is handed out, after a refusal too.
+        ensures waiting { (rows : List (List ℕ)) (spot : Spot) (front : List ℕ)
+            → At rows spot front self.old.scan
+            → IfOk result (λ reads. Hands overlap rows spot front reads self.new.scan) }
+        ensures still { OnErr result (StandsStill self.old.scan self.new.scan) }
     {
         self.scan.take_open(alloc, overlap)
     }
@@ -177,6 +196,9 @@ impl Feeder {
             → StandsAt format text taken self
             → IfErr result (λ p. p.0 ≡ ReadsError.Memory → StandsAt format text taken p.1) }
         ensures again { (e : ReadsError) → Refuses e self → result ≡ Err (e, self) }
+
+        // What waited before a refusal waits after it.
+        ensures still { IfErr result (λ p. StandsStill self.scan p.1.scan) }
 
         // The same where open reads were handed out in pieces.
         ensures cut { (overlap : ℕ) (format : Format) (text : List ℕ) (taken : List (List ℕ))

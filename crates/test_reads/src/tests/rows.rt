@@ -131,6 +131,22 @@ fn a_line_is_judged_once_its_line_feed_has_come(rt: HostRuntime) {
     assert_end_refused(&rt, feeder, ReadsError::BadPlus(3));
 }
 
+#[test]
+fn reads_that_ended_before_a_refused_piece_are_taken_after_it(rt: HostRuntime) {
+    let alloc = rt.alloc();
+    let mut feeder = Feeder::new(alloc, Format::Fastq);
+    feed(&mut feeder, b"@r\nACGT\n+\nIIII\n@s\nGG\n+\nII\n@t\nT").expect(
+        &rt,
+        "two reads and an open one",
+    );
+    // the read that is open ends in the piece that has the faulty line
+    refuses(&rt, &mut feeder, "\n+\nI\nx\n", ReadsError::BadHeader(13));
+    wait(&rt, &feeder, 2, 6, "after a refusal");
+    are_taken(&rt, alloc, &mut feeder, &["ACGT", "GG"], "after a refusal");
+    are_taken(&rt, alloc, &mut feeder, &[], "a second time");
+    refuses(&rt, &mut feeder, "", ReadsError::BadHeader(13));
+}
+
 /// Asserts that the end of this text, which ends no read, is refused so, and hands the feeder back.
 fn end_of_text_refused(
     rt: &impl Abort,

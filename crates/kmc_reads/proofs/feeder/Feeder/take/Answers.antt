@@ -33,3 +33,7 @@ returns-clause-cut c = λ overlap format text taken s.
           (hands_rows overlap s.rows s.spot s.front reads c.take.new.self h.0 h.1) (ap (λ v. v.refusal) c.self.view_is ∙ s.sound),
     ))
     (c.take.ensures.taken s.rows s.spot s.front at)
+
+pub returns-clause-waiting : goal.returns-clause-waiting
+returns-clause-waiting c = λ rows spot front at.
+    c.take.ensures.taken rows spot front (subst (λ t. At rows spot front t) (sym (ap (λ v. v.scan) c.self.view_is)) at)

@@ -12,3 +12,7 @@ returns-clause-stands c = λ format text taken s.
     (λ reads. StandsCut c.args.overlap format text (taken ++ reads) next)
     (λ reads h. cut_taken c.args.overlap format text taken c.args.self.now s reads next h (ap (λ v. v.refusal) c.self.view_is ∙ s.sound))
     (c.take_open.ensures.taken s.rows s.spot s.front at)
+
+pub returns-clause-waiting : goal.returns-clause-waiting
+returns-clause-waiting c = λ rows spot front at.
+    c.take_open.ensures.taken rows spot front (subst (λ t. At rows spot front t) (sym (ap (λ v. v.scan) c.self.view_is)) at)
