@@ -1,5 +1,5 @@
 //! Lines of a text that comes in pieces.
-ghost use Rattle.std.specs.Prelude.{◌≡◌, MatchOption};
+ghost use Rattle.std.specs.Prelude.{◌≡◌, MatchOption, get_or};
 ghost use Rattle.std.specs.Io.BufRead.{strip_last, ends_with_byte};
 ghost use Rattle.kmc_reads.specs.Fasta.{is_header};
 ghost use Rattle.kmc_reads.specs.Standing.{HasNoFeed, IsCut};
@@ -34,5 +34,15 @@ pub fn begins_header(line: &[u8]) -> bool
     match line {
         [b'>', ..] => true,
         _ => false,
+    }
+}
+
+/// The first of these bytes, or 0 where there is none.
+pub fn first_of(line: &[u8]) -> u8
+    ensures { result ≡ get_or line.now 0 0 }
+{
+    match line {
+        [first, ..] => *first,
+        _ => 0,
     }
 }
