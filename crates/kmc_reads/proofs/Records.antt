@@ -1,5 +1,5 @@
 -- Whole lines of a FASTQ record.
-use Rattle.std.proofs.Common.{◌≡◌, ◌<◌, ℕ, true, cond, ◌==◌, nat_eq, List, [], ◌∷◌, ◌++◌, length, get_or, refl, sym, ap, subst, ◌∙◌, arith, append_assoc, append-nil, eq-eqb, Some, None}
+use Rattle.std.proofs.Common.{◌≡◌, ◌<◌, ◌-◌, ℕ, true, cond, ◌==◌, nat_eq, List, [], ◌∷◌, ◌++◌, length, get_or, refl, sym, ap, subst, ◌∙◌, arith, append_assoc, append-nil, length-append, eq-eqb, Some, None}
 use Rattle.std.proofs.lemmas.Bool.{ne_eqb}
 use Rattle.std.specs.List.{concat}
 use Rattle.std.specs.Io.BufRead.{strip_last}
@@ -33,6 +33,18 @@ none_begun FirstHeader read = refl
 none_begun Body read = refl
 none_begun Name read = refl
 none_begun Rest read = refl
+
+-- symbols go onto the open read
+pub more_bytes : (a read content rest : List ℕ) → rest ≡ [] → (a ++ (read ++ rest)) ++ content ≡ a ++ ((read ++ content) ++ rest)
+more_bytes a read content rest none =
+    (λ i. (a ++ (read ++ none i)) ++ content) ∙ ap (λ (t : List ℕ). (a ++ t) ++ content) (append-nil read) ∙ append_assoc a read content
+    ∙ ap (λ (t : List ℕ). a ++ t) (sym (append-nil (read ++ content)) ∙ ap (λ (t : List ℕ). (read ++ content) ++ t) (sym none))
+
+-- how long it is
+pub open_length : (rows : List (List ℕ)) (read rest bytes : List ℕ) (start : ℕ) → rest ≡ [] → bytes ≡ concat rows ++ (read ++ rest)
+    → start ≡ length (concat rows) → length bytes - start ≡ length read
+open_length rows read rest bytes start none is from =
+    omega (arith, ap length is, length-append (concat rows) (read ++ rest), length-append read rest, ap length none, from)
 
 module _ (rows : List (List ℕ)) (s : Spot) (v : Scan) where
   -- the same spot, by its stage
@@ -90,18 +102,23 @@ module _ (s : Spot) where
   no_quality line is other = fault_at Quality line _ is
       (ap (λ b. cond b None (Some (QualityLength s.number))) (ne_eqb (length line) (length s.read) other))
 
--- such a line and its line feed
-module _ (s : Spot) (line : List ℕ) (unbroken : HasNoFeed line) where
-  pub took_goes : (rows : List (List ℕ)) (v : Scan) → TookLine rows s (strip_last 13 line) v → Goes rows s [] (line ++ 10 ∷ []) v
-  took_goes rows v took =
-      let content = strip_last 13 line in let given = given_by s.stage s.read content in let next = past s content in
-      record {
+-- such a line, of which nothing came before, and its line feed
+module _ (rows : List (List ℕ)) (s : Spot) (front line content : List ℕ) (empty : front ≡ []) (is : content ≡ strip_last 13 line) (unbroken : HasNoFeed line) where
+  pub took_goes : (v : Scan) → TookLine rows s content v → Goes rows s front (line ++ 10 ∷ []) v
+  took_goes v took =
+      let given = given_by s.stage s.read content in let next = past s content in
+      let fine : fault_of s.number s.stage s.read (strip_last 13 line) ≡ None = ap (fault_of s.number s.stage s.read) (sym is) ∙ took.fine in
+      let fed = subst (λ t. Leads s line (10 ∷ []) (given_by s.stage s.read t) (past s t) []) (sym is) (feed_leads s line fine) in
+      subst (λ t. Goes rows s t (line ++ 10 ∷ []) v) (sym empty) (record {
         more = given;
         next = next;
         left = [];
-        leads = then_leads s s next [] line [] line (10 ∷ []) [] given (open_leads s [] line unbroken) (feed_leads s line took.fine);
+        leads = then_leads s s next [] line [] line (10 ∷ []) [] given (open_leads s [] line unbroken) fed;
         stands = took.stands;
-      }
+      })
 
-  pub took_faults : (e : ReadsError) → fault_of s.number s.stage s.read (strip_last 13 line) ≡ Some e → HasFault s [] (line ++ 10 ∷ []) e
-  took_faults e faulty = then_faults s s [] line line (10 ∷ []) [] e (open_leads s [] line unbroken) (feed_faults s line e faulty)
+  pub took_faults : (e : ReadsError) → fault_of s.number s.stage s.read content ≡ Some e → HasFault s front (line ++ 10 ∷ []) e
+  took_faults e faulty =
+      subst (λ t. HasFault s t (line ++ 10 ∷ []) e) (sym empty)
+      (then_faults s s [] line line (10 ∷ []) [] e (open_leads s [] line unbroken)
+      (feed_faults s line e (ap (fault_of s.number s.stage s.read) (sym is) ∙ faulty)))

@@ -1,8 +1,8 @@
-use Rattle.std.proofs.Common.{◌≡◌, [], ◌++◌, sym, ap, ◌∙◌, append_assoc, append-nil}
+use Rattle.std.proofs.Common.{◌≡◌, [], ◌++◌, sym, ap, ◌∙◌}
 use Rattle.std.specs.List.{concat}
 use Rattle.kmc_reads.specs.Stages.{Spot}
 use Rattle.kmc_reads.specs.Standing.{kept}
-use Rattle.kmc_reads.proofs.Records.{took_sequence, none_kept}
+use Rattle.kmc_reads.proofs.Records.{took_sequence, none_kept, more_bytes}
 use Rattle.kmc_reads.proofs.scan.record.Scan.sequence.Goals as goal
 
 pub returns-clause-took : goal.returns-clause-took
@@ -14,7 +14,8 @@ returns-clause-took c = λ rows spot at.
     (record {
       stage = k.stage;
       number = k.number;
-      bytes = c.in_ok-extend_from_slice.ensures.items ∙ ap (λ t. t ++ content) k.bytes ∙ ?;
+      bytes = c.in_ok-extend_from_slice.ensures.items ∙ ap (λ t. t ++ content) k.bytes
+          ∙ more_bytes (concat rows) spot.read content (kept spot.stage []) (none_kept spot.stage);
       ends = k.ends;
       start = k.start;
       many = k.many;
