@@ -1,19 +1,19 @@
 -- Whole lines of a FASTQ record.
-use Rattle.std.proofs.Common.{◌≡◌, ◌<◌, ◌-◌, ℕ, true, cond, ◌==◌, nat_eq, List, [], ◌∷◌, ◌++◌, length, get_or, refl, sym, ap, subst, ◌∙◌, arith, append_assoc, append-nil, length-append, eq-eqb, Some, None}
-use Rattle.std.proofs.lemmas.Bool.{ne_eqb}
+use Rattle.std.proofs.Common.{◌≡◌, ◌-◌, ℕ, cond, List, [], ◌∷◌, ◌++◌, length, refl, sym, ap, subst, ◌∙◌, arith, append_assoc, append-nil, length-append, eq-eqb, Some, None}
 use Rattle.std.specs.List.{concat}
 use Rattle.std.specs.Io.BufRead.{strip_last}
 use Rattle.kmc_reads.specs.declared.scan.Scan.{Scan}
 use Rattle.kmc_reads.specs.declared.error.ReadsError.{ReadsError}
-use Rattle.kmc_reads.specs.declared.error.ReadsError.TheVariants.{BadHeader, BadPlus, QualityLength}
+use Rattle.kmc_reads.specs.declared.error.ReadsError.TheVariants.{QualityLength}
 use Rattle.kmc_reads.specs.declared.stage.Stage.{Stage}
 use Rattle.kmc_reads.specs.declared.stage.Stage.TheVariants.{Header, Sequence, Plus, Quality, FirstHeader, Body, Name, Rest}
 use Rattle.kmc_reads.specs.Lines.{line_past}
-use Rattle.kmc_reads.specs.Stages.{Spot, past, begun_by, given_by, fault_of}
-use Rattle.kmc_reads.specs.Standing.{At, Goes, Leads, HasFault, HasNoFeed, TookLine, kept}
+use Rattle.kmc_reads.specs.Stages.{Spot, past, given_by, fault_of}
+use Rattle.kmc_reads.specs.Standing.{At, Goes, Leads, HasFault, HasNoFeed, kept}
+use Rattle.kmc_reads.specs.Records.{TookLine}
 use Rattle.kmc_reads.proofs.Walking.{open_leads, feed_leads, then_leads, feed_faults, then_faults}
 
--- of an empty line nothing is kept, and it begins no header
+-- of an empty line nothing is kept
 pub none_kept : (st : Stage) → kept st [] ≡ []
 none_kept Header = refl
 none_kept Sequence = refl
@@ -23,16 +23,6 @@ none_kept FirstHeader = refl
 none_kept Body = refl
 none_kept Name = refl
 none_kept Rest = refl
-
-pub none_begun : (st : Stage) (read : List ℕ) → begun_by st read [] ≡ []
-none_begun Header read = refl
-none_begun Sequence read = refl
-none_begun Plus read = refl
-none_begun Quality read = refl
-none_begun FirstHeader read = refl
-none_begun Body read = refl
-none_begun Name read = refl
-none_begun Rest read = refl
 
 -- symbols go onto the open read
 pub more_bytes : (a read content rest : List ℕ) → rest ≡ [] → (a ++ (read ++ rest)) ++ content ≡ a ++ ((read ++ content) ++ rest)
@@ -55,52 +45,14 @@ module _ (rows : List (List ℕ)) (s : Spot) (v : Scan) where
   none_given : (t : Spot) → At rows t [] v → At (rows ++ []) t [] v
   none_given t at = subst (λ r. At r t [] v) (sym (append-nil rows)) at
 
-  pub took_blank : (line : List ℕ) → s.stage ≡ Header → length line ≡ 0
-      → At rows (record { number = line_past s.number 1; stage = Header; read = s.read }) [] v → TookLine rows s line v
-  took_blank [] is none at = at_stage Header [] is (record { fine = refl; stands = none_given _ at })
-  took_blank (c ∷ line) is none at = absurd (omega arith)
-
-  pub took_header : (line : List ℕ) → s.stage ≡ Header → 0 < length line → get_or line 0 0 ≡ 64
-      → At rows (record { number = line_past s.number 1; stage = Sequence; read = s.read }) [] v → TookLine rows s line v
-  took_header [] is some first at = absurd (omega arith)
-  took_header (c ∷ line) is some first at = at_stage Header (c ∷ line) is
-      (record { fine = ap (λ b. cond (b == 64) None (Some (BadHeader s.number))) first; stands = none_given _ at })
-
   pub took_sequence : (line : List ℕ) → s.stage ≡ Sequence
       → At rows (record { number = line_past s.number 1; stage = Plus; read = s.read ++ line }) [] v → TookLine rows s line v
   took_sequence line is at = at_stage Sequence line is (record { fine = refl; stands = none_given _ at })
-
-  pub took_plus : (line : List ℕ) → s.stage ≡ Plus → get_or line 0 0 ≡ 43
-      → At rows (record { number = line_past s.number 1; stage = Quality; read = s.read }) [] v → TookLine rows s line v
-  took_plus [] is first at = absurd (omega arith)
-  took_plus (c ∷ line) is first at = at_stage Plus (c ∷ line) is
-      (record { fine = ap (λ b. cond (b == 43) None (Some (BadPlus s.number))) first; stands = none_given _ at })
 
   pub took_quality : (line : List ℕ) → s.stage ≡ Quality → length line ≡ length s.read
       → At (rows ++ s.read ∷ []) (record { number = line_past s.number 1; stage = Header; read = [] }) [] v → TookLine rows s line v
   took_quality line is long at = at_stage Quality line is
       (record { fine = ap (λ b. cond b None (Some (QualityLength s.number))) (eq-eqb (length line) (length s.read) long); stands = at })
-
--- the faults of such lines
-module _ (s : Spot) where
-  fault_at : (st : Stage) (line : List ℕ) (e : ReadsError) → s.stage ≡ st → fault_of s.number st s.read line ≡ Some e
-      → fault_of s.number s.stage s.read line ≡ Some e
-  fault_at st line e is h = ap (λ t. fault_of s.number t s.read line) is ∙ h
-
-  pub no_header : (line : List ℕ) → s.stage ≡ Header → 0 < length line → (get_or line 0 0 ≡ 64 → ⊥)
-      → fault_of s.number s.stage s.read line ≡ Some (BadHeader s.number)
-  no_header [] is some other = absurd (omega arith)
-  no_header (c ∷ line) is some other = fault_at Header (c ∷ line) _ is
-      (ap (λ b. cond b None (Some (BadHeader s.number))) (ne_eqb c 64 other))
-
-  pub no_plus : (line : List ℕ) → s.stage ≡ Plus → (get_or line 0 0 ≡ 43 → ⊥) → fault_of s.number s.stage s.read line ≡ Some (BadPlus s.number)
-  no_plus [] is other = fault_at Plus [] _ is refl
-  no_plus (c ∷ line) is other = fault_at Plus (c ∷ line) _ is (ap (λ b. cond b None (Some (BadPlus s.number))) (ne_eqb c 43 other))
-
-  pub no_quality : (line : List ℕ) → s.stage ≡ Quality → (length line ≡ length s.read → ⊥)
-      → fault_of s.number s.stage s.read line ≡ Some (QualityLength s.number)
-  no_quality line is other = fault_at Quality line _ is
-      (ap (λ b. cond b None (Some (QualityLength s.number))) (ne_eqb (length line) (length s.read) other))
 
 -- such a line, of which nothing came before, and its line feed
 module _ (rows : List (List ℕ)) (s : Spot) (front line content : List ℕ) (empty : front ≡ []) (is : content ≡ strip_last 13 line) (unbroken : HasNoFeed line) where

@@ -8,4 +8,5 @@ pub mod Pieces
 pub mod Rows
 pub mod Stages
 pub mod Standing
+pub mod Records
 pub mod Laws

@@ -14,7 +14,7 @@ use Rattle.kmc_reads.specs.Cuts.{IsCutAnswer}
 use Rattle.kmc_reads.specs.Fasta.{is_header}
 use Rattle.kmc_reads.specs.Pieces.{whole_from, open_from, lines_from, last_line}
 use Rattle.kmc_reads.specs.Rows.{ends_from}
-use Rattle.kmc_reads.specs.Stages.{Spot, first_spot, past, begun_by, given_by, fault_of, fault_from, ended_from, reads_from, answer_at_end}
+use Rattle.kmc_reads.specs.Stages.{Spot, first_spot, begun_by, fault_from, ended_from, reads_from, answer_at_end}
 
 -- the bytes of a line are kept where they are symbols of a read
 abbrev pub kept : Stage → List ℕ → List ℕ
@@ -96,11 +96,6 @@ pub record IsName (spot : Spot) (front piece : List ℕ) : Type 0 where
   pub body : spot.stage ≡ Body
   pub none : front ≡ []
   pub header : is_header piece ≡ true
-
--- the scan took a whole line that has no fault, and stands behind its line feed
-pub record TookLine (rows : List (List ℕ)) (spot : Spot) (line : List ℕ) (v : Scan) : Type 0 where
-  pub fine : fault_of spot.number spot.stage spot.read line ≡ None
-  pub stands : At (rows ++ given_by spot.stage spot.read line) (past spot line) [] v
 
 -- the scan went over the bytes p
 pub record Goes (rows : List (List ℕ)) (spot : Spot) (front p : List ℕ) (v : Scan) : Type 0 where

@@ -293,7 +293,8 @@ impl Scan {
         Ok(())
     }
 
-    /// The last part of the open line, of which something has come.
+    /// The last part of the open line.
+    #[inline(never)]
     fn last_part(&mut self, piece: &[u8]) -> Result<(), ReadsError>
         ensures goes { (rows : List (List ℕ)) (spot : Spot) (front : List ℕ)
             → At rows spot front self.old → HasNoFeed piece.now
@@ -312,6 +313,7 @@ impl Scan {
     }
 
     /// The open line up to its line feed.
+    #[inline(always)]
     fn line(&mut self, line: &[u8]) -> Result<(), ReadsError>
         ensures goes { (rows : List (List ℕ)) (spot : Spot) (front : List ℕ)
             → At rows spot front self.old → HasNoFeed line.now

@@ -3,7 +3,8 @@ ghost use Rattle.std.specs.Prelude.{false, ◌≡◌, ◌≢◌, ℕ, List, [], 
 ghost use Rattle.kmc_reads.specs.declared.stage.Stage.TheVariants.{Header, Sequence, Plus, Quality};
 ghost use Rattle.kmc_reads.specs.Lines.{line_past};
 ghost use Rattle.kmc_reads.specs.Stages.{Spot, fault_of};
-ghost use Rattle.kmc_reads.specs.Standing.{Keeps, At, TookLine};
+ghost use Rattle.kmc_reads.specs.Standing.{Keeps, At};
+ghost use Rattle.kmc_reads.specs.Records.{TookLine};
 
 use crate::error::ReadsError;
 use crate::line::first_of;
@@ -12,7 +13,7 @@ use crate::stage::Stage;
 
 impl Scan {
     /// The next line begins. Nothing was noted of the last one.
-    #[inline]
+    #[inline(always)]
     fn step(&mut self, stage: Stage)
         ensures at { (rows : List (List ℕ)) (spot : Spot) → Keeps rows spot [] self.old
             → self.old.place.held ≡ false
@@ -26,7 +27,7 @@ impl Scan {
     }
 
     /// A whole header, or a blank line before it.
-    #[inline]
+    #[inline(always)]
     pub(super) fn header(&mut self, content: &[u8]) -> Result<(), ReadsError>
         requires { self.old.place.stage ≡ Header }
         ensures took { (rows : List (List ℕ)) (spot : Spot) → At rows spot [] self.old
@@ -48,7 +49,7 @@ impl Scan {
     }
 
     /// A whole sequence line.
-    #[inline]
+    #[inline(always)]
     pub(super) fn sequence(&mut self, content: &[u8]) -> Result<(), ReadsError>
         requires { self.old.place.stage ≡ Sequence }
         ensures took { (rows : List (List ℕ)) (spot : Spot) → At rows spot [] self.old
@@ -64,7 +65,7 @@ impl Scan {
     }
 
     /// A whole plus line.
-    #[inline]
+    #[inline(always)]
     pub(super) fn plus(&mut self, content: &[u8]) -> Result<(), ReadsError>
         requires { self.old.place.stage ≡ Plus }
         ensures took { (rows : List (List ℕ)) (spot : Spot) → At rows spot [] self.old
@@ -82,7 +83,7 @@ impl Scan {
     }
 
     /// A whole quality line, which ends the open read.
-    #[inline]
+    #[inline(always)]
     pub(super) fn quality(&mut self, content: &[u8]) -> Result<(), ReadsError>
         requires { self.old.place.stage ≡ Quality }
         ensures took { (rows : List (List ℕ)) (spot : Spot) → At rows spot [] self.old

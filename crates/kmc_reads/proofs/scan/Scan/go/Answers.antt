@@ -36,8 +36,8 @@ pub returns-in_err-line-clause-fault : goal.returns-in_err-line-clause-fault
 returns-in_err-line-clause-fault c = λ rows spot front at.
     let u = c.loop-line.invariant in let w = u.goes rows spot front at in let g = w.goes in
     let line = c.in-Some.line.now in let after = c.in-Some.after.now in
-    passed_on c.line.result c.from_residual-in_err-line.result _ _ _ c.in_err-line.was
-    (c.line.ensures.fault (rows ++ g.more) g.next g.left g.stands c.in-Some.ensures.unbroken) c.from_residual-in_err-line.ensures.1
+    passed_on c.line.result c.from_residual.result _ _ _ c.in_err-line.was
+    (c.line.ensures.fault (rows ++ g.more) g.next g.left g.stands c.in-Some.ensures.unbroken) c.from_residual.ensures.1
     λ e found other.
     subst (λ t. HasFault spot front t e) (over_split w.over line after _ _ c.in-Some.ensures w.whole)
     (faults_on spot front (w.over ++ (line ++ 10 ∷ [])) after e

@@ -1,17 +1,9 @@
-use Rattle.std.proofs.Common.{◌≡◌, [], ◌∷◌, ◌++◌, ◌-◌, length, sym, ap, ◌∙◌, Some, arith}
+use Rattle.std.proofs.Common.{◌≡◌, [], ◌∷◌, ◌++◌, length, sym, ◌∙◌, arith}
 use Rattle.std.proofs.lemmas.Grind.{common_steps}
-use Rattle.kmc_reads.specs.declared.error.ReadsError.TheVariants.{QualityLength}
 use Rattle.kmc_reads.specs.Stages.{Spot}
 use Rattle.kmc_reads.specs.Standing.{kept}
-use Rattle.kmc_reads.proofs.Records.{took_quality, no_quality, none_kept, open_length}
-use Rattle.kmc_reads.proofs.scan.record.Scan.quality.Goals as goal
-
-pub returns-then-len-ne-clause-fault : goal.returns-then-len-ne-clause-fault
-returns-then-len-ne-clause-fault c = λ rows spot at.
-    let k = at.keeps in
-    let long = open_length rows spot.read (kept spot.stage []) c.args.self.now.bytes.items c.args.self.now.place.start (none_kept spot.stage) k.bytes k.start in
-    λ other. no_quality spot c.args.content.now (sym k.stage ∙ c.requires) (λ is. ?)
-    ∙ ap (λ n. Some (QualityLength n)) (sym k.number)
+use Rattle.kmc_reads.proofs.Records.{took_quality, none_kept, open_length}
+use Rattle.kmc_reads.proofs.scan.Scan.quality.Goals as goal
 
 pub returns-clause-took : goal.returns-clause-took
 returns-clause-took c = λ rows spot at.

@@ -3,7 +3,7 @@ use Rattle.std.specs.List.{concat}
 use Rattle.kmc_reads.specs.Stages.{Spot}
 use Rattle.kmc_reads.specs.Standing.{kept}
 use Rattle.kmc_reads.proofs.Records.{took_sequence, none_kept, more_bytes}
-use Rattle.kmc_reads.proofs.scan.record.Scan.sequence.Goals as goal
+use Rattle.kmc_reads.proofs.scan.Scan.sequence.Goals as goal
 
 pub returns-clause-took : goal.returns-clause-took
 returns-clause-took c = λ rows spot at.
