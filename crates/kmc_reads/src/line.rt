@@ -6,10 +6,14 @@ ghost use Rattle.kmc_reads.specs.Standing.{HasNoFeed, IsCut};
 
 use memchr::memchr;
 
-/// The bytes up to the first line feed and those after it; none where there is no line feed.
+/// The bytes up to the first line feed and those after it; none where there is no line feed. A line of one byte, as most plus
+/// lines are, is seen without a search.
 pub fn cut_line(text: &[u8]) -> Option<(&[u8], &[u8])>
     ensures { MatchOption result (HasNoFeed text.now) (λ p. IsCut text.now p.0.now p.1.now) }
 {
+    if text.len() > 1 && text[1] == b'\n' && text[0] != b'\n' {
+        return Some((&text[..1], &text[2..]));
+    }
     match memchr(b'\n', text) {
         Some(i) => Some((&text[..i], &text[i + 1..])),
         None => None,

@@ -1,8 +1,8 @@
-use Rattle.std.proofs.Common.{◌≡◌, ℕ, List, ◌++◌, [], ◌∷◌, take, length, refl, ap, subst, ◌∙◌, take_all, arith}
+use Rattle.std.proofs.Common.{◌≡◌, ℕ, List, ◌++◌, [], ◌∷◌, take, length, refl, subst, take_all, arith}
 use Rattle.std.proofs.lemmas.Grind.{common_steps}
 use Rattle.kmc_reads.specs.Standing.{Goes, HasFault}
 use Rattle.kmc_reads.proofs.PassedOn.{passed_on}
-use Rattle.kmc_reads.proofs.Walking.{here, then_goes, fed, feed_faults, then_faults, faults_on, over_split, take_front}
+use Rattle.kmc_reads.proofs.Walking.{here, then_goes, then_faults, faults_on, over_split, take_front}
 use Rattle.kmc_reads.proofs.scan.Scan.go.Goals as goal
 
 all_of : (xs : List ℕ) → take (length xs) xs ≡ xs

@@ -1,5 +1,4 @@
-use Rattle.std.proofs.Common.{◌++◌, [], ◌∷◌, arith}
-use Rattle.std.proofs.lemmas.Grind.{common_steps}
+use Rattle.std.proofs.Common.{◌++◌, [], ◌∷◌}
 use Rattle.kmc_reads.proofs.PassedOn.{passed_on}
 use Rattle.kmc_reads.proofs.Walking.{then_goes, fed, feed_faults, then_faults}
 use Rattle.kmc_reads.proofs.scan.Scan.last_part.Goals as goal
