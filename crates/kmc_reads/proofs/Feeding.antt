@@ -4,15 +4,14 @@ use Rattle.std.proofs.lemmas.Bool.{lt-ltb, eqb-true}
 use Rattle.std.proofs.lemmas.List.{get_or-append-add}
 use Rattle.std.specs.List.{concat}
 use Rattle.std.specs.Io.BufRead.{strip_last, ends_with_byte}
-use Rattle.std.specs.Io.Iter.{u64_saturate}
 use Rattle.kmc_reads.specs.declared.scan.Scan.{Scan}
 use Rattle.kmc_reads.specs.declared.stage.Stage.{Stage}
 use Rattle.kmc_reads.specs.declared.stage.Stage.TheVariants.{Header, Sequence, Plus, Quality, FirstHeader, Body, Name, Rest}
 use Rattle.kmc_reads.specs.Fasta.{is_header}
 use Rattle.kmc_reads.specs.Pieces.{last_line}
 use Rattle.kmc_reads.specs.Rows.{ends_from}
-use Rattle.kmc_reads.specs.Stages.{Spot, begun_by, given_by, past}
-use Rattle.kmc_reads.specs.Standing.{At, IsAgain}
+use Rattle.kmc_reads.specs.Stages.{begun_by, given_by, past}
+use Rattle.kmc_reads.specs.Standing.{At}
 use Rattle.kmc_reads.proofs.Rows.{concat_snoc, ends_snoc}
 
 pub no_items : (xs : List ℕ) → length xs ≡ 0 → xs ≡ []

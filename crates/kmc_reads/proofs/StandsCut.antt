@@ -10,7 +10,7 @@ use Rattle.kmc_reads.specs.Cuts.{AreCut, IsCutAnswer}
 use Rattle.kmc_reads.specs.Pieces.{whole_from, last_line, lines_from}
 use Rattle.kmc_reads.specs.Reads.{reads_of}
 use Rattle.kmc_reads.specs.Stages.{Spot, first_spot, fault, fault_from, reads_from}
-use Rattle.kmc_reads.specs.Standing.{FeederState, StandsAt, StandsCut, Leads, LeadsCut, Goes, Hands, HasFault, At, IsAgain}
+use Rattle.kmc_reads.specs.Standing.{FeederState, StandsCut, Leads, LeadsCut, Goes, Hands, HasFault, At}
 use Rattle.kmc_reads.proofs.Answers.{with_none, reads_join}
 use Rattle.kmc_reads.proofs.Ending.{reads_are}
 

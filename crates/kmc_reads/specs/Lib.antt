@@ -8,5 +8,6 @@ pub mod Pieces
 pub mod Rows
 pub mod Stages
 pub mod Standing
+pub mod Records
 pub mod Laws
 pub mod Messages

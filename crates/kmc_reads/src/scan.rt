@@ -4,9 +4,12 @@ ghost use Rattle.std.specs.Io.BufRead.{strip_last};
 ghost use Rattle.std.specs.List.{concat};
 ghost use Rattle.kmc_reads.specs.declared.stage.Stage.TheVariants.{Body, Name, Rest};
 ghost use Rattle.kmc_reads.specs.Answer.{with_reads};
+ghost use Rattle.kmc_reads.specs.Lines.{line_feed};
 ghost use Rattle.kmc_reads.specs.Pieces.{last_line};
 ghost use Rattle.kmc_reads.specs.Stages.{Spot, first_stage, first_spot, fault_of, past, begun_by, given_by, answer_at_end, reads_from};
 ghost use Rattle.kmc_reads.specs.Standing.{Lies, Keeps, At, IsSomewhere, Goes, HasFault, HasNoFeed, IsName, EndsLine, EndsRead, EndsText, Hands, IsAgain, IsHandedOut, Moves, kept, open_symbols};
+
+mod record;
 
 use crate::error::ReadsError;
 use crate::format::Format;
@@ -290,6 +293,52 @@ impl Scan {
         Ok(())
     }
 
+    /// The last part of the open line.
+    #[inline(never)]
+    fn last_part(&mut self, piece: &[u8]) -> Result<(), ReadsError>
+        ensures goes { (rows : List (List ℕ)) (spot : Spot) (front : List ℕ)
+            → At rows spot front self.old → HasNoFeed piece.now
+            → OnOk result (Goes rows spot front (piece.now ++ line_feed ∷ []) self.new) }
+        ensures fault { (rows : List (List ℕ)) (spot : Spot) (front : List ℕ)
+            → At rows spot front self.old → HasNoFeed piece.now
+            → IfErr result
+            (λ e. e ≢ ReadsError.Memory → HasFault spot front (piece.now ++ line_feed ∷ []) e) }
+        ensures bytes { take (length self.old.bytes.items) self.new.bytes.items
+            ≡ self.old.bytes.items }
+        ensures ends { take (length self.old.ends.items) self.new.ends.items ≡ self.old.ends.items }
+    {
+        self.extend(piece)?;
+        self.end_line()?;
+        Ok(())
+    }
+
+    /// The open line up to its line feed.
+    #[inline(always)]
+    fn line(&mut self, line: &[u8]) -> Result<(), ReadsError>
+        ensures goes { (rows : List (List ℕ)) (spot : Spot) (front : List ℕ)
+            → At rows spot front self.old → HasNoFeed line.now
+            → OnOk result (Goes rows spot front (line.now ++ line_feed ∷ []) self.new) }
+        ensures fault { (rows : List (List ℕ)) (spot : Spot) (front : List ℕ)
+            → At rows spot front self.old → HasNoFeed line.now
+            → IfErr result
+            (λ e. e ≢ ReadsError.Memory → HasFault spot front (line.now ++ line_feed ∷ []) e) }
+        ensures bytes { take (length self.old.bytes.items) self.new.bytes.items
+            ≡ self.old.bytes.items }
+        ensures ends { take (length self.old.ends.items) self.new.ends.items ≡ self.old.ends.items }
+    {
+        if !self.is_between() {
+            return self.last_part(line);
+        }
+        let (content, _) = cut_return(line);
+        match self.place.stage {
+            Stage::Header => self.header(content),
+            Stage::Sequence => self.sequence(content),
+            Stage::Plus => self.plus(content),
+            Stage::Quality => self.quality(content),
+            _ => self.last_part(line),
+        }
+    }
+
     /// Goes over a piece.
     fn go(&mut self, piece: &[u8]) -> Result<(), ReadsError>
         ensures goes { (rows : List (List ℕ)) (spot : Spot) (front : List ℕ)
@@ -303,8 +352,7 @@ impl Scan {
     {
         let mut rest = piece;
         while let Some((line, after)) = cut_line(rest) {
-            self.extend(line)?;
-            self.end_line()?;
+            self.line(line)?;
             rest = after;
         }
         self.extend(rest)?;

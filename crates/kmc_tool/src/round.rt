@@ -17,10 +17,15 @@ const PIECE: usize = 65536;
 /// A round is full with so many symbols, however few its reads are.
 const ROUND: usize = 1 << 23;
 
-/// One read goes to the feeder. The answer is whether it gave bytes.
-fn read_and_feed<R: Read>(reader: &mut Counted<R>, feeder: &mut Feeder) -> Result<bool, InputError>
+/// One read goes to the feeder, by way of this buffer. The answer is whether it gave bytes.
+fn read_and_feed<R: Read>(
+    reader: &mut Counted<R>,
+    feeder: &mut Feeder,
+    piece: &mut [u8],
+) -> Result<bool, InputError>
     requires failures { reader.old.failures < 2 ^ 64 - 1 }
     requires reads { reader.old.reads < 2 ^ 64 - 1 }
+    requires room { length piece.old ≡ PIECE }
     ensures counts { AreCounts (reader.old.reads
         + 1) reader.old.reads reader.new.reads reader.old.failures reader.new.failures result }
     ensures fed { (overlap : ℕ) (format : Format) (text : List ℕ) (taken : List (List ℕ))
@@ -36,8 +41,7 @@ fn read_and_feed<R: Read>(reader: &mut Counted<R>, feeder: &mut Feeder) -> Resul
     ensures short { IsErrOf result InputError.TooLong → ⊥ }
 {
     fault_stays();
-    let mut piece = [0u8; PIECE];
-    let n = match reader.read(&mut piece) {
+    let n = match reader.read(piece) {
         Ok(n) => n,
         Err(_) => return Err(InputError::Read),
     };
@@ -67,11 +71,12 @@ pub fn fill_round<R: Read>(
         → OnOk result
         (IsFilled reads ROUND PIECE overlap format text taken feeder.old feeder.new) }
 {
+    let mut piece = [0u8; PIECE];
     for _ in 0..1u64 << 32 {
         if reader.reads() >= most {
             return Err(InputError::TooLong);
         }
-        let more = read_and_feed(reader, feeder)?;
+        let more = read_and_feed(reader, feeder, &mut piece)?;
         if !more {
             return Ok(false);
         }
