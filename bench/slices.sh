@@ -12,8 +12,8 @@
 #
 # SLICES (8), THREADS (4), ROUNDS (3) and K (25) are variables too. The programs run in turn, ROUNDS times each; a row has the run with the
 # least wall time. KMC's sorted dump is part of its time. The disk is that of the files of the meantime, without reads and dump, looked at
-# five times a second. FOLDER (of $TMPDIR or /tmp) has the files, as /dev/shm for a file system in memory; the texts lie there too, and are
-# removed at the end. The second table has the steps of the slices; the third has the peak of kmc_cut on a quarter of the short reads, as
+# five times a second. FOLDER (of $TMPDIR or /tmp) has the files, as /dev/shm for a file system in memory, which are removed at the end; the
+# texts lie there too, or stay in the folder TEXTS for the next time. The second table has the steps of the slices; the third has the peak of kmc_cut on a quarter of the short reads, as
 # often as CUT_TIMES (1 4 16: 0.3, 1.3 and 5 GB) say.
 set -eu
 top=$(cd "$(dirname "$0")/.." && pwd)
@@ -22,15 +22,29 @@ threads=${THREADS:-4}
 rounds=${ROUNDS:-3}
 k=${K:-25}
 work=$(mktemp -d "${FOLDER:-${TMPDIR:-/tmp}}/slices-XXXXXX")
+texts=${TEXTS:-$work}
 trap 'touch "$work/ended"; wait; rm -rf "$work"' EXIT
 cd "$work"
 whole="-ci1 -cx9223372036854775808 -cs9223372036854775808"
 
-# text_of WORKLOAD: makes its text
+# text_of WORKLOAD READS: makes its text where it is not there, and calls it `reads`
 text_of() {
+    text="$texts/slices_$1_$2"
+    if [ ! -f "$text" ]; then
+        case $1 in
+            short) python3 "$top/bench/simulate_reads.py" "$2" 100 20000000 1 > "$text.part" ;;
+            hifi) python3 "$top/bench/simulate_reads.py" "$2" 15000 10000000 4 0.002 > "$text.part" ;;
+        esac
+        mv "$text.part" "$text"
+    fi
+    ln -sf "$text" reads
+}
+
+# reads_of WORKLOAD: how many reads it has
+reads_of() {
     case $1 in
-        short) python3 "$top/bench/simulate_reads.py" "${SHORT_READS:-6000000}" 100 20000000 1 > reads ;;
-        hifi) python3 "$top/bench/simulate_reads.py" "${LONG_READS:-20000}" 15000 10000000 4 0.002 > reads ;;
+        short) echo "${SHORT_READS:-6000000}" ;;
+        hifi) echo "${LONG_READS:-20000}" ;;
         *) echo "slices.sh: no workload $1" >&2; return 2 ;;
     esac
 }
@@ -133,7 +147,8 @@ megabytes() {
 echo "| reads | run | wall s | user s | MB | disk MB | wall, as a part of one run's | memory, so |"
 echo "|---|---|---|---|---|---|---|---|"
 for workload; do
-    text_of "$workload"
+    many=$(reads_of "$workload")
+    text_of "$workload" "$many"
     size=$(awk -v bytes="$(wc -c < reads)" 'BEGIN { printf "%.1f GB", bytes / 1e9 }')
     symbols=$(awk 'NR % 4 == 2 { n += length($0) } END { print n }' reads)
     rm -f ./*.times
@@ -161,7 +176,7 @@ cat steps
 echo
 echo "| input of kmc_cut, GB | peak MB |"
 echo "|---|---|"
-python3 "$top/bench/simulate_reads.py" "$((${SHORT_READS:-6000000} / 4))" 100 20000000 1 > reads
+text_of short "$(($(reads_of short) / 4))"
 for times in ${CUT_TIMES:-1 4 16}; do
     mkdir cut
     rm -f peak.times
