@@ -166,12 +166,12 @@ pub(crate) fn count_known(
     Ok(words)
 }
 
-/// A number for so many bytes of a body: records have some ten bytes, and equal ones are looked for.
-const BYTES_OF_A_PLACE: usize = 16;
+/// A place for so many bytes of a body: records have some ten bytes, so nearly each has a place of its own.
+const BYTES_OF_A_PLACE: usize = 8;
 
 /// How many words the body has, and 2^64 - 1 where they are more, if it is whole records of the bin. A record that is equal to
 /// an earlier one, or to its reverse complement, is mostly not judged again: numbers of records are kept in the room, one for
-/// 16 bytes of the body. What the room has before does not matter, and where memory for it is refused every record is judged.
+/// 8 bytes of the body. What the room has before does not matter, and where memory for it is refused every record is judged.
 pub fn count_words(
     body: &[u8],
     bin: usize,
