@@ -3,13 +3,14 @@ use Rattle.std.proofs.Common.{◌≡◌, ℕ, ◌+◌, ◌-◌, ◌<◌, ◌≤�
 use Rattle.std.specs.List.{flat_map}
 use Rattle.std.specs.Io.KnownBytes.{Keeps, Appends}
 use Rattle.std.proofs.lemmas.List.{take-append-drop, take_more}
+use Rattle.std.proofs.Math.Seq.{take-append_seam}
 use Rattle.std.proofs.lemmas.Grind.{flat_map-append}
-use Rattle.std.proofs.KnownBytes.{Appends-trans, Appends-kept}
-use Rattle.kmc_device.specs.Device.{AppendsFront}
-use Rattle.kmc_device.specs.Lemmas.Devices.{front_after, front_of}
+use Rattle.std.proofs.KnownBytes.{Appends-kept}
+use Rattle.kmc_device.specs.Device.{AppendsFront, WritesOut}
+use Rattle.kmc_device.specs.Lemmas.Devices.{front_after, front_of, gathered_out}
 use Rattle.kmc_dump.specs.Listed.{Listed}
 use Rattle.kmc_dump.specs.Ranges.{range_text}
-use Rattle.kmc_dump.proofs.Texts.{texts_join, wave_text, climb}
+use Rattle.kmc_dump.proofs.Texts.{texts_join, climb}
 
 flat_parts : {S : Type 0} (f : S → List ℕ) (ss : List S) (i : ℕ) (s : S) → i < length ss → s ≡ get_or ss i s → (flat_map f (take i ss) ++ f s)
     ++ flat_map f (drop (i + 1) ss) ≡ flat_map f ss
@@ -28,23 +29,15 @@ buffer_front f ss i s a b c next inside is same before now =
     subst (AppendsFront a c) (ap (λ (t : List ℕ). (flat_map f (take i ss) ++ t) ++ flat_map f (drop (i + 1) ss)) same ∙ flat_parts f ss i s inside is)
     (front_of a c (flat_map f (take i ss) ++ next) (flat_map f (drop (i + 1) ss)) (front_after a b c (flat_map f (take i ss)) next before now))
 
+-- what was put in place of the first n
+pub front_row : {S : Type 0} (n : ℕ) (now rest : List S) → length now ≡ n → take n (now ++ rest) ≡ now
+front_row n now rest long = ap (λ m. take m (now ++ rest)) (sym long) ∙ take-append_seam now rest
+
 module _ (k w : ℕ) (pos : 0 < w) (lists : List Listed) (bounds : List ℕ)
     (up : (i : ℕ) → i + 1 < length bounds → get_or bounds i 0 ≤ get_or bounds (i + 1) 0) where
   -- the text from the first range on, to before this one
   abbrev pub upto : ℕ → List ℕ
   upto n = range_text k w (get_or bounds 0 0) (get_or bounds n 0) lists
-
-  pub joins : {S : Type 0} (f : S → List ℕ) (ss : List S) (first m : ℕ) → m ≡ first + length ss → m < length bounds
-      → ((i : ℕ) (d : S) → i < length ss → f (get_or ss i d) ≡ range_text k w (get_or bounds (first + i) 0) (get_or bounds (first + i + 1) 0) lists)
-      → upto first ++ flat_map f ss ≡ upto m
-  joins f ss first m next inside are =
-      let here : first + length ss < length bounds = omega (arith, next, inside) in
-      let zero_more : 0 + first ≡ first = omega arith in
-      let low : get_or bounds 0 0 ≤ get_or bounds first 0 = rw zero_more at (climb k w pos lists bounds up 0 first (omega (arith, here))) in
-      ap (λ (t : List ℕ). upto first ++ t) (wave_text k w pos lists bounds up f ss first here are)
-      ∙ texts_join k w (get_or bounds 0 0) (get_or bounds first 0) (get_or bounds (first + length ss) 0) lists pos low
-      (climb k w pos lists bounds up first (length ss) here)
-      ∙ ap upto (sym next)
 
   pub rest_joins : (m last : ℕ) → m ≤ last → last < length bounds → upto m ++ range_text k w (get_or bounds m 0) (get_or bounds last 0) lists ≡ upto last
   rest_joins m last less inside =
@@ -54,23 +47,22 @@ module _ (k w : ℕ) (pos : 0 < w) (lists : List Listed) (bounds : List ℕ)
       let high : get_or bounds m 0 ≤ get_or bounds last 0 = rw sum at (climb k w pos lists bounds up m (last - m) (omega arith)) in
       texts_join k w (get_or bounds 0 0) (get_or bounds m 0) (get_or bounds last 0) lists pos low high
 
-  -- a wave is out
-  pub wave_out : {S : Type 0} (f : S → List ℕ) (ss : List S) (first m : ℕ) (a b c : Option (List ℕ)) → m ≡ first + length ss → m < length bounds
-      → ((i : ℕ) (d : S) → i < length ss → f (get_or ss i d) ≡ range_text k w (get_or bounds (first + i) 0) (get_or bounds (first + i + 1) 0) lists)
-      → Appends a b (upto first) → Appends b c (flat_map f ss) → Appends a c (upto m)
-  wave_out f ss first m a b c next inside are before now =
-      subst (Appends a c) (joins f ss first m next inside are) (Appends-trans a b c (upto first) (flat_map f ss) before now)
+  -- what was held is out, and the text of the next ranges is held
+  pub turn_out : (first m : ℕ) (a b c : Option (List ℕ)) (held next : List ℕ) → first ≤ m → m < length bounds → WritesOut a b (upto first) held
+      → Appends b c held → next ≡ range_text k w (get_or bounds first 0) (get_or bounds m 0) lists → WritesOut a c (upto m) next
+  turn_out first m a b c held next less inside before now is = (
+    upto first,
+    ap (λ (t : List ℕ). upto first ++ t) is ∙ rest_joins first m less inside,
+    gathered_out a b c (upto first) held before now,
+  )
 
-  -- of a wave a front is out
-  pub wave_front : {S : Type 0} (f : S → List ℕ) (ss : List S) (first m last : ℕ) (a b c : Option (List ℕ)) → m ≡ first + length ss → m ≤ last
-      → last < length bounds
-      → ((i : ℕ) (d : S) → i < length ss → f (get_or ss i d) ≡ range_text k w (get_or bounds (first + i) 0) (get_or bounds (first + i + 1) 0) lists)
-      → Appends a b (upto first) → AppendsFront b c (flat_map f ss) → AppendsFront a c (upto last)
-  wave_front f ss first m last a b c next less inside are before now =
-      let rest = range_text k w (get_or bounds m 0) (get_or bounds last 0) lists in
-      let within : m < length bounds = omega (arith, less, inside) in
-      subst (AppendsFront a c) (ap (λ (t : List ℕ). t ++ rest) (joins f ss first m next within are) ∙ rest_joins m last less inside)
-      (front_of a c (upto first ++ flat_map f ss) rest (front_after a b c (upto first) (flat_map f ss) before now))
+  -- of what was held a front is out
+  pub turn_front : (first last : ℕ) (a b c : Option (List ℕ)) (held : List ℕ) → first ≤ last → last < length bounds → WritesOut a b (upto first) held
+      → AppendsFront b c held → AppendsFront a c (upto last)
+  turn_front first last a b c held less inside before now =
+      let rest = range_text k w (get_or bounds first 0) (get_or bounds last 0) lists in
+      let front : AppendsFront a c (upto first) = subst (AppendsFront a c) before.1 (front_after a b c before.0 held before.2 now) in
+      subst (AppendsFront a c) (rest_joins first last less inside) (front_of a c (upto first) rest front)
 
   -- all ranges are out
   pub all_out : (first last : ℕ) (a b c : Option (List ℕ)) → first ≡ last → Appends a b (upto first) → Keeps b c → Appends a c (upto last)

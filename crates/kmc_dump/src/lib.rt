@@ -15,6 +15,7 @@ mod range;
 mod ranges;
 mod shown;
 mod slots;
+mod turn;
 mod wave;
 mod waves;
 mod word_size;

@@ -54,8 +54,9 @@ fn count_pairs<W: Word + Drop, C: Shown + Drop>(lists: &[Counts<W, C>]) -> Resul
 
 /// Writes the dump of lists that share no word: the lines of all their pairs in the order of the words, and nothing else.
 /// The answer is the number of lines. Ranges of words are gathered and sorted by so many threads, as many ranges at a
-/// time; no list of all pairs is made. All memory is had before the first write: after a refusal other than `Write`
-/// nothing was written, and after `Write` a front of the dump.
+/// time, while the calling thread writes those before; no list of all pairs is made. One thread does all in turn. All memory
+/// is had before the first write: after a refusal other than `Write` nothing was written, and after `Write` a front of the
+/// dump.
 pub fn write_lists<
     R: Threads + Sync,
     D: Write,
@@ -87,7 +88,8 @@ pub fn write_lists<
     let ranges = part_words(alloc, lists, size, total)?;
     // No more than hold all pairs once and the widest range once more.
     let wanted = (total / ranges.widest.max(1)).saturating_add(1);
-    let count = threads.min(wanted);
+    let rows = if threads == 1 { 1 } else { 2 };
+    let count = threads.saturating_mul(rows).min(wanted);
     let mut buffers = make_buffers(alloc, count, ranges.widest, size)?;
     match write_ranges(rt, writer, lists, &ranges, &mut buffers) {
         Ok(()) => Ok(total as u64),

@@ -2,7 +2,7 @@ use Rattle.std.proofs.Common.{take, ap, arith}
 use Rattle.std.proofs.lemmas.Grind.{common_steps}
 use Rattle.kmc_device.specs.Lemmas.Devices.{on_err}
 use Rattle.kmc_dump.proofs.Pieces.{buffer_front}
-use Rattle.kmc_dump.proofs.waves.write_buffers.Goals as goal
+use Rattle.kmc_dump.proofs.turn.write_buffers.Goals as goal
 
 pub returns-in_err-write_text-clause-front : goal.returns-in_err-write_text-clause-front
 returns-in_err-write_text-clause-front g c =

@@ -1,7 +1,7 @@
 use Rattle.std.proofs.Common.{◌≡◌, take}
 use Rattle.std.specs.List.{flat_map}
 use Rattle.std.specs.Io.KnownBytes.{Appends}
-use Rattle.kmc_dump.proofs.waves.write_buffers.Given as goal
+use Rattle.kmc_dump.proofs.turn.write_buffers.Given as goal
 
 -- the buffers so far are out
 abbrev pub invariant-loop-buffer : goal.invariant-loop-buffer

@@ -1,0 +1,25 @@
+use Rattle.std.proofs.Common.{◌≡◌, ◌-◌, ◌*◌, ◌≤◌, ◌^◌, All, length, get_or, take, vec_capacity}
+use Rattle.std.specs.List.{flat_map}
+use Rattle.kmc_device.specs.Device.{WritesOut}
+use Rattle.kmc_device.specs.Line.{line_room}
+use Rattle.kmc_dump.specs.Ranges.{range_text}
+use Rattle.kmc_dump.proofs.waves.write_rows.Given as goal
+
+-- of the ranges so far the last stand in the front row, and those before them are out
+abbrev pub invariant-loop-next : goal.invariant-loop-next
+invariant-loop-next g l = record {
+  inside : l.next ≤ l.count;
+  fits : l.full ≤ length l.front;
+  front_pairs : All (λ b. l.ranges.widest ≤ vec_capacity b.pairs) l.front;
+  front_text : All (λ b. l.ranges.widest * line_room l.ranges.k g.C.Shown.most_digits ≤ length b.text.items) l.front;
+  back_pairs : All (λ b. l.ranges.widest ≤ vec_capacity b.pairs) l.back;
+  back_text : All (λ b. l.ranges.widest * line_room l.ranges.k g.C.Shown.most_digits ≤ length b.text.items) l.back;
+  within : All (λ b. b.filled ≤ length b.text.items) (take l.full l.front);
+  kept : l.writer.failures ≡ l.initial.writer.failures;
+  out : WritesOut (g.D.Write.contents l.initial.writer.inner) (g.D.Write.contents l.writer.inner)
+      (range_text l.ranges.k (2 ^ l.ranges.shift) (get_or l.ranges.bounds.items 0 0) (get_or l.ranges.bounds.items l.next 0) l.lists)
+      (flat_map (λ b. take b.filled b.text.items) (take l.full l.front));
+}
+
+abbrev pub decreases-loop-next : goal.decreases-loop-next
+decreases-loop-next g l = l.count - l.next
