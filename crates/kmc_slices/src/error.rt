@@ -6,25 +6,19 @@ ghost use Rattle.kmc_slices.specs.declared.error.CutError.TheVariants.{Memory};
 use kmc_reads::ReadsError;
 use kmc_tool::RunError;
 use std::alloc::AllocError;
-use thiserror::Error;
 
 /// Why reads were not cut to the files of slices. Of several causes the one that is met first is answered.
-#[derive(Clone, Copy, Debug, PartialEq, Eq, Error)]
+#[derive(Clone, Copy, Debug, PartialEq, Eq)]
 pub enum CutError {
     /// A growth or the start of a thread was refused.
-    #[error("out of memory")]
     Memory,
     /// A read failed, of whatever kind.
-    #[error("read failed")]
     Read,
     /// A write to the file of this slice or its flush failed, or a write took nothing of what was left.
-    #[error("write failed: slice {0}")]
     Write(usize),
     /// The text is no list of reads; never for want of memory.
-    #[error("{0}")]
     Input(ReadsError),
     /// 2^32 reads gave bytes.
-    #[error("input too long")]
     TooLong,
 }
 
