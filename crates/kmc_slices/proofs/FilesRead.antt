@@ -1,7 +1,6 @@
 -- Files of a slice, one after the other.
-use Rattle.std.proofs.Common.{◌≡◌, ℕ, ◌+◌, ◌<◌, ◌++◌, List, [], ◌∷◌, length, map, replicate, Option, Result, Ok, Err, refl, sym, ap, subst, ◌∙◌, append-nil, arith}
-use Rattle.std.specs.Prelude.{OnOk}
-use Rattle.std.specs.List.{AllZip, flat_map}
+use Rattle.std.proofs.Common.{◌≡◌, ℕ, ◌+◌, ◌++◌, List, [], ◌∷◌, length, replicate, Option, sym, ap, ◌∙◌, append-nil, arith}
+use Rattle.std.specs.List.{flat_map}
 use Rattle.std.specs.Io.KnownBytes.{Consumes}
 use Rattle.std.proofs.lemmas.Grind.{flat_map-append}
 use Rattle.std.proofs.lemmas.List.{get_or-replicate}
@@ -9,9 +8,9 @@ use Rattle.kmc_record.specs.Shapes.{Sizes}
 use Rattle.kmc_store.specs.Bins.{body_at}
 use Rattle.kmc_count.specs.Lemmas.Zips.{zip_append}
 use Rattle.kmc_tool.specs.Lemmas.Fed.{consumes_on}
-use Rattle.kmc_slice_files.specs.Frames.{Frame, body_of}
+use Rattle.kmc_slice_files.specs.Frames.{body_of}
 use Rattle.kmc_slice_files.specs.Files.{header_bytes}
-use Rattle.kmc_slice_files.specs.Whole.{GaveFile, GaveFrames, HaveMore}
+use Rattle.kmc_slice_files.specs.Whole.{GaveFile, GaveFrames}
 use Rattle.kmc_slices.specs.Gathered.{AreGathered, GaveSlice, Records}
 
 -- one file more
@@ -42,7 +41,3 @@ gathered_first shape S s old mid new before after header empty wide gave = recor
       ∙ ap (λ front. front ++ body_of b gave.fs) (get_or-replicate shape.n b [] [] inside)
       ∙ sym (append-nil (body_of b gave.fs));
 }
-
-pub on_ok_then : {A E : Type 0} (r : Result A E) (P Q : Type 0) → (P → Q) → OnOk r P → OnOk r Q
-on_ok_then (Ok x) P Q f h = f h
-on_ok_then (Err e) P Q f h = tt

@@ -1,5 +1,5 @@
 -- Rounds behind rounds, on the writers of all slices.
-use Rattle.std.proofs.Common.{◌≡◌, inl, ℕ, ◌<◌, ◌^◌, min, List, [], ◌∷◌, ◌++◌, length, get_or, Option, Result, Ok, Err, IfErr, OnErr, OnOk, refl, sym, ap, subst, ◌∙◌, arith, append_assoc, append-nil}
+use Rattle.std.proofs.Common.{◌≡◌, inl, ℕ, ◌<◌, ◌^◌, min, List, [], ◌∷◌, ◌++◌, get_or, Option, Result, Err, IfErr, OnErr, refl, sym, ap, subst, ◌∙◌, arith, append_assoc, append-nil}
 use Rattle.std.specs.List.{AllByRecursion, flat_map}
 use Rattle.std.proofs.lemmas.List.Concat.{flat_map-append}
 use Rattle.std.proofs.KnownBytes.{Appends-nil}
@@ -16,10 +16,10 @@ use Rattle.kmc_store.specs.Laws.{MergedBinsHoldBoth, EmptyBinsHoldNoReads}
 use Rattle.kmc_tool.specs.Rounds.{HoldsPieces}
 use Rattle.kmc_tool.specs.Lemmas.Causes.{passed_on}
 use Rattle.std.specs.Prelude.{IsErrAnd}
-use Rattle.kmc_slice_files.specs.Files.{header_bytes, file_bytes}
-use Rattle.kmc_slice_files.specs.Frames.{frames_bytes, frame_bytes, head_bytes, end_bytes, NO_BIN}
+use Rattle.kmc_slice_files.specs.Files.{header_bytes}
+use Rattle.kmc_slice_files.specs.Frames.{frames_bytes, frame_bytes, end_bytes}
 use Rattle.kmc_slice_files.specs.Writes.{EachGot, EachBegan, AreFramed, AreBegun, held_at}
-use Rattle.kmc_slice_files.specs.Lemmas.Rounds.{files_ended, frames_more, opened, round_joined}
+use Rattle.kmc_slice_files.specs.Lemmas.Rounds.{ended, ended_by, ended_is, files_ended, frames_more, opened, round_joined}
 use Rattle.kmc_slices.specs.Slices.{Part, IsCutTo, whole_bodies}
 use Rattle.kmc_slices.specs.Rounds.{AreAllRounds, AreRounds, AreUnended}
 use Rattle.kmc_slices.specs.Cut.{BeganSlices, HoldAllInput, IsLeft, WroteSlices}
@@ -102,15 +102,6 @@ module _ (shape : Sizes) (limit S : ℕ) (olds : List (Option (List ℕ))) where
         (before.begun.written s inside) (begun.written s inside));
   }
 
--- what follows where there is an answer
-pub on_ok_so : {A E : Type 0} (r : Result A E) (P Q : Type 0) → (P → Q) → OnOk r P → OnOk r Q
-on_ok_so (Ok x) P Q f h = f h
-on_ok_so (Err e) P Q f h = tt
-
-pub on_ok : {A E : Type 0} (r : Result A E) (P : Type 0) → P → OnOk r P
-on_ok (Ok x) P h = h
-on_ok (Err e) P h = tt
-
 -- the bins of all rounds hold all reads
 rounds_hold : MergedBinsHoldBoth → EmptyBinsHoldNoReads → (format : Format) (shape : Sizes) (limit S : ℕ) (old new : Option (List ℕ))
     (olds news : List (Option (List ℕ))) (counts : List ℕ) (all : AreAllRounds format shape limit S old new olds news counts)
@@ -131,7 +122,7 @@ rounds_hold merged none format shape limit S old new olds news counts all =
     }
 
 -- the headers, the rounds and the ends
-pub files_whole : MergedBinsHoldBoth → EmptyBinsHoldNoReads → (format : Format) (shape : Sizes) (limit S : ℕ) (old new : Option (List ℕ))
+files_whole : MergedBinsHoldBoth → EmptyBinsHoldNoReads → (format : Format) (shape : Sizes) (limit S : ℕ) (old new : Option (List ℕ))
     (olds mids news : List (Option (List ℕ))) (counts : List ℕ) → IsShape shape.k shape.m shape.n → S < 2 ^ 16
     → AreAllRounds format shape limit S old new olds mids counts → EachGot (λ s. end_bytes (get_or counts s 0)) S mids news
     → WroteSlices format shape limit S old new olds news
@@ -141,33 +132,46 @@ files_whole merged none format shape limit S old new olds mids news counts sizes
   files = files_ended shape S (whole_bodies shape all.rounds.rounds.rounds) olds mids news counts sizes few all.rounds.rounds.begun got;
 }
 
-pub files_begun : MergedBinsHoldBoth → EmptyBinsHoldNoReads → (format : Format) (shape : Sizes) (limit S : ℕ) (old new : Option (List ℕ))
+files_begun : MergedBinsHoldBoth → EmptyBinsHoldNoReads → (format : Format) (shape : Sizes) (limit S : ℕ) (old new : Option (List ℕ))
     (olds mids news : List (Option (List ℕ))) (counts : List ℕ) → IsShape shape.k shape.m shape.n → S < 2 ^ 16
     → AreAllRounds format shape limit S old new olds mids counts → EachBegan (λ s. end_bytes (get_or counts s 0)) S mids news
     → BeganSlices format shape limit S old new olds news
 files_begun merged none format shape limit S old new olds mids news counts sizes few all began =
     let begun = all.rounds.rounds.begun in
+    let bodies = whole_bodies shape all.rounds.rounds.rounds in
     record {
-      bodies = whole_bodies shape all.rounds.rounds.rounds;
+      bodies = bodies;
       holds = rounds_hold merged none format shape limit S old new olds mids counts all;
-      fronts = λ s inside.
-          let fs = begun.fs s in
-          let ends : end_bytes (get_or counts s 0) ≡ end_bytes (length fs) = ap (λ n. head_bytes NO_BIN 0 n) (omega (arith, begun.many s inside)) in (
-            file_bytes shape S s fs,
-            record {
-              slicing = record { sizes = sizes; some = omega (arith, inside); most = few; within = inside };
-              fs = fs;
-              has =
-                  begun.has s inside;
-              is = refl;
-            },
-            subst (AppendsFront (held_at olds s) (held_at news s))
-                (append_assoc (header_bytes shape S s) (frames_bytes fs) (end_bytes (get_or counts s 0))
-                ∙ ap (λ (l : List ℕ). header_bytes shape S s ++ (frames_bytes fs ++ l)) ends)
-                (front_after (held_at olds s) (held_at mids s) (held_at news s) (header_bytes shape S s ++ frames_bytes fs)
-                (end_bytes (get_or counts s 0)) (begun.written s inside) (began s inside)),
-          );
+      fronts = λ s inside. (
+        ended shape S bodies olds mids counts sizes few begun s inside,
+        ended_is shape S bodies olds mids counts sizes few begun s inside,
+        subst (AppendsFront (held_at olds s) (held_at news s)) (ended_by shape S bodies olds mids counts sizes few begun s inside)
+            (front_after (held_at olds s) (held_at mids s) (held_at news s) (header_bytes shape S s ++ frames_bytes (begun.fs s))
+            (end_bytes (get_or counts s 0)) (begun.written s inside) (began s inside)),
+      );
     }
+
+-- the same, of writers that are as many behind each step
+module _ (merged : MergedBinsHoldBoth) (none : EmptyBinsHoldNoReads) (format : Format) (shape told : Sizes) (limit S n m : ℕ)
+    (old new : Option (List ℕ)) (olds begins mids : List (Option (List ℕ))) (counts counted : List ℕ)
+    (rounds : (os : List (Option (List ℕ))) → AreRounds shape limit n [] os begins counts → AreAllRounds format shape limit n old new os mids counted)
+    (sizes : IsShape shape.k shape.m shape.n) (few : S < 2 ^ 16) (is : told ≡ shape) (wide : n ≡ S) (same : m ≡ n)
+    (got : EachGot (header_bytes told S) S olds begins) (noughts : (s : ℕ) → s < S → get_or counts s 0 ≡ 0) where
+  all : AreAllRounds format shape limit S old new olds mids counted
+  all =
+      let headed = subst (λ (t : Sizes). EachGot (header_bytes t S) S olds begins) is got in
+      let begun = subst (λ x. AreRounds shape limit x [] olds begins counts) (sym wide) (rounds_none shape limit S olds begins counts headed noughts) in
+      subst (λ x. AreAllRounds format shape limit x old new olds mids counted) wide (rounds olds begun)
+
+  pub wrote_all : (news : List (Option (List ℕ))) → EachGot (λ s. end_bytes (get_or counted s 0)) m mids news
+      → WroteSlices format shape limit S old new olds news
+  wrote_all news ends = files_whole merged none format shape limit S old new olds mids news counted sizes few all
+      (subst (λ x. EachGot (λ s. end_bytes (get_or counted s 0)) x mids news) (same ∙ wide) ends)
+
+  pub began_all : (news : List (Option (List ℕ))) → EachBegan (λ s. end_bytes (get_or counted s 0)) m mids news
+      → BeganSlices format shape limit S old new olds news
+  began_all news ends = files_begun merged none format shape limit S old new olds mids news counted sizes few all
+      (subst (λ x. EachBegan (λ s. end_bytes (get_or counted s 0)) x mids news) (same ∙ wide) ends)
 
 -- what has no end is left so
 pub is_left : (format : Format) (shape : Sizes) (limit S : ℕ) (old new : Option (List ℕ)) (olds news : List (Option (List ℕ))) (e : CutError)

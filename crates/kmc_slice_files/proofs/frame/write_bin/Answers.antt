@@ -1,4 +1,4 @@
-use Rattle.std.proofs.Common.{◌≡◌, ◌≤◌, ◌^◌, ◌+◌, length, take, arith, ◌∙◌}
+use Rattle.std.proofs.Common.{◌≤◌, ◌^◌, ◌+◌, length, take, arith, ◌∙◌}
 use Rattle.kmc_device.specs.Lemmas.Devices.{on_err}
 use Rattle.kmc_slice_files.proofs.Framing.{bin_more, bin_begun, piece_at, piece_is, piece_long}
 use Rattle.kmc_slice_files.proofs.frame.write_bin.Goals as goal

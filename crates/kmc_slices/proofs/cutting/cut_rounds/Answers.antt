@@ -1,11 +1,12 @@
 use Rattle.std.proofs.Common.{◌≡◌, ◌<◌, ◌^◌, ◌+◌, ◌-◌, ℕ, List, [], ◌++◌, Ok, OnErr, length, map, slice_index, refl, sym, ap, subst, ◌∙◌, arith}
 use Rattle.kmc_device.specs.Device.{Watched}
+use Rattle.kmc_device.specs.Lemmas.Devices.{on_ok, on_ok_then}
 use Rattle.kmc_record.specs.Shapes.{Sizes}
 use Rattle.kmc_settings.specs.Shape.{shape_of}
 use Rattle.kmc_tool.specs.Rounds.{AreCountsOf, HoldsPieces}
 use Rattle.kmc_tool.specs.Lemmas.Fed.{counts_on, fed_cause, risen, unfaulted}
 use Rattle.kmc_slices.specs.Rounds.{AreLastRounds, AreRounds, AreUnended}
-use Rattle.kmc_slices.proofs.Rounds.{on_ok, on_ok_so, rounds_unended}
+use Rattle.kmc_slices.proofs.Rounds.{rounds_unended}
 use Rattle.kmc_slices.proofs.Told.{last_cause, last_counts, refused_since, taken_since, told_cause, told_counts, told_writes, writes_on}
 use Rattle.kmc_slices.proofs.cutting.cut_rounds.Goals as goal
 
@@ -53,7 +54,7 @@ returns-then-not-more-clause-ok g c = λ olds before.
     let inv = c.loop.invariant in let st = inv.way in let dealing = c.args.dealing.now in let p = dealing.params in let shape = shape_of p in
     let held = λ (w : Watched g.row.W.Denot). g.W.Write.contents w.inner in
     let mids = map held c.loop.writers in let news = map held c.cut_last_round.new.writers in
-    on_ok_so c.cut_last_round.result _ _ (λ last. record {
+    on_ok_then c.cut_last_round.result _ _ (λ last. record {
       bytes = st.fed.bytes;
       given = (st.fed.given, inv.ended c.if-not-more.true);
       rounds = subst (λ n. AreLastRounds p.format shape dealing.limit n st.fed.bytes olds news c.cut_last_round.new.counts) inv.wide last;

@@ -1,12 +1,11 @@
-use Rattle.std.proofs.Common.{◌≡◌, [], OnErr, length, map, slice_index, inl, inr, sym, subst, ◌∙◌}
+use Rattle.std.proofs.Common.{◌≡◌, [], OnErr, length, map, inl, inr, sym, subst}
 use Rattle.kmc_device.specs.Device.{Watched}
 use Rattle.kmc_record.specs.Shapes.{Sizes}
 use Rattle.kmc_settings.specs.Shape.{shape_of}
 use Rattle.kmc_slice_files.specs.Files.{header_bytes}
-use Rattle.kmc_slice_files.specs.Frames.{end_bytes}
 use Rattle.kmc_slice_files.specs.Writes.{EachGot, EachBegan}
-use Rattle.kmc_slices.specs.Rounds.{AreAllRounds, AreRounds, AreUnended}
-use Rattle.kmc_slices.proofs.Rounds.{files_begun, files_whole, header_unended, left_so, rounds_none, shape_is}
+use Rattle.kmc_slices.specs.Rounds.{AreRounds, AreUnended}
+use Rattle.kmc_slices.proofs.Rounds.{began_all, header_unended, left_so, rounds_none, shape_is, wrote_all}
 use Rattle.kmc_slices.proofs.slicing.cut_files.Goals as goal
 
 pub returns-in-Err-clause-left : goal.returns-in-Err-clause-left
@@ -31,40 +30,14 @@ returns-in_err-cut_rounds-clause-left g c =
 
 pub returns-in-Ok-end_files-clause-ok : goal.returns-in-Ok-end_files-clause-ok
 returns-in-Ok-end_files-clause-ok g c =
-    let dealing = c.args.dealing.now in let p = dealing.params in let shape = shape_of p in let S = length c.args.writers.now in
-    let held = λ (w : Watched g.row.W.Denot). g.W.Write.contents w.inner in
-    let olds = map held c.args.writers.now in let begins = map held c.begin_files.new.writers in
-    let mids = map held c.cut_rounds.new.writers in let news = map held c.end_files.new.writers in
-    let none = rounds_none shape dealing.limit S olds begins c.begin_files.new.counts
-    (subst (λ (t : Sizes). EachGot (header_bytes t S) S olds begins) c.shape-shape.ensures c.in-Ok.ensures.ok) c.in-Ok.ensures.none in
-    let wide : length c.begin_files.new.writers ≡ S = c.begin_files.auto.writers in
-    let same : length c.cut_rounds.new.writers ≡ S = c.cut_rounds.auto.writers ∙ wide in
-    let all = c.in_ok-cut_rounds.ensures.ok olds
-    (subst (λ n. AreRounds shape dealing.limit n [] olds begins c.begin_files.new.counts) (sym wide) none) in
-    files_whole c.merged_bins_hold_both.ensures c.empty_bins_hold_no_reads.ensures p.format shape dealing.limit S _ _ olds mids news
-    c.cut_rounds.new.counts
-    (shape_is p) c.requires.few
-    (subst (λ n. AreAllRounds p.format shape dealing.limit n (g.R.Read.remaining c.args.reader.now.inner)
-    (g.R.Read.remaining c.cut_rounds.new.reader.inner) olds mids
-    c.cut_rounds.new.counts) wide all)
-    (subst (λ n. EachGot (λ s. end_bytes (slice_index c.cut_rounds.new.counts s)) n mids news) same c.in-Ok-end_files.ensures.ok)
+    wrote_all c.merged_bins_hold_both.ensures c.empty_bins_hold_no_reads.ensures _ _ _ _ (length c.args.writers.now) _ _ _ _
+    (map (λ (w : Watched g.row.W.Denot). g.W.Write.contents w.inner) c.args.writers.now) _ _ _ _ c.in_ok-cut_rounds.ensures.ok
+    (shape_is c.args.dealing.now.params) c.requires.few c.shape-shape.ensures c.begin_files.auto.writers c.cut_rounds.auto.writers
+    c.in-Ok.ensures.ok c.in-Ok.ensures.none _ c.in-Ok-end_files.ensures.ok
 
 pub returns-in-Err-end_files-clause-left : goal.returns-in-Err-end_files-clause-left
-returns-in-Err-end_files-clause-left g c =
-    let dealing = c.args.dealing.now in let p = dealing.params in let shape = shape_of p in let S = length c.args.writers.now in
-    let held = λ (w : Watched g.row.W.Denot). g.W.Write.contents w.inner in
-    let olds = map held c.args.writers.now in let begins = map held c.begin_files.new.writers in
-    let mids = map held c.cut_rounds.new.writers in let news = map held c.end_files.new.writers in
-    let none = rounds_none shape dealing.limit S olds begins c.begin_files.new.counts
-    (subst (λ (t : Sizes). EachGot (header_bytes t S) S olds begins) c.shape-shape.ensures c.in-Ok.ensures.ok) c.in-Ok.ensures.none in
-    let wide : length c.begin_files.new.writers ≡ S = c.begin_files.auto.writers in
-    let same : length c.cut_rounds.new.writers ≡ S = c.cut_rounds.auto.writers ∙ wide in
-    let all = c.in_ok-cut_rounds.ensures.ok olds
-    (subst (λ n. AreRounds shape dealing.limit n [] olds begins c.begin_files.new.counts) (sym wide) none) in
-    inr (files_begun c.merged_bins_hold_both.ensures c.empty_bins_hold_no_reads.ensures p.format shape dealing.limit S _ _ olds mids news
-    c.cut_rounds.new.counts
-    (shape_is p) c.requires.few
-    (subst (λ n. AreAllRounds p.format shape dealing.limit n (g.R.Read.remaining c.args.reader.now.inner)
-    (g.R.Read.remaining c.cut_rounds.new.reader.inner) olds mids
-    c.cut_rounds.new.counts) wide all)
-    (subst (λ n. EachBegan (λ s. end_bytes (slice_index c.cut_rounds.new.counts s)) n mids news) same c.in-Err-end_files.ensures.begun))
+returns-in-Err-end_files-clause-left g c = inr
+    (began_all c.merged_bins_hold_both.ensures c.empty_bins_hold_no_reads.ensures _ _ _ _ (length c.args.writers.now) _ _ _ _
+    (map (λ (w : Watched g.row.W.Denot). g.W.Write.contents w.inner) c.args.writers.now) _ _ _ _ c.in_ok-cut_rounds.ensures.ok
+    (shape_is c.args.dealing.now.params) c.requires.few c.shape-shape.ensures c.begin_files.auto.writers c.cut_rounds.auto.writers
+    c.in-Ok.ensures.ok c.in-Ok.ensures.none _ c.in-Err-end_files.ensures.begun)

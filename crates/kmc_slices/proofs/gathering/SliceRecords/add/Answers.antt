@@ -1,8 +1,9 @@
 use Rattle.std.proofs.Common.{◌≡◌, ℕ, List, [], ◌∷◌, ◌++◌, length, map, sym, ap, subst, ◌∙◌}
 use Rattle.std.proofs.lemmas.List.{length-map, with_items_is}
+use Rattle.kmc_device.specs.Lemmas.Devices.{on_ok_then}
 use Rattle.kmc_slice_files.specs.Whole.{GaveFile}
 use Rattle.kmc_slices.specs.Gathered.{AreGathered, Records}
-use Rattle.kmc_slices.proofs.FilesRead.{gathered_more, on_ok_then}
+use Rattle.kmc_slices.proofs.FilesRead.{gathered_more}
 use Rattle.kmc_slices.proofs.gathering.SliceRecords.add.Goals as goal
 
 pub returns-clause-ok : goal.returns-clause-ok
