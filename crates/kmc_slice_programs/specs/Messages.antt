@@ -1,18 +1,14 @@
 -- What a user is shown of a fault.
-use Rattle.std.specs.Prelude.{ℕ, List, [], ◌++◌, codes, decimal, slice_index_or}
+use Rattle.std.specs.Prelude.{ℕ, List, ◌++◌, codes, decimal}
 use Rattle.kmc_reads.specs.declared.error.ReadsError.{ReadsError}
 use Rattle.kmc_reads.specs.declared.error.ReadsError.TheVariants as reads
 use Rattle.kmc_record.specs.declared.fault.PartError.{PartError}
 use Rattle.kmc_record.specs.declared.fault.PartError.TheVariants.{Damaged, WrongBin, Memory as NoMemory}
-use Rattle.kmc_options.specs.Names.{name_of}
-use Rattle.kmc_settings.specs.Words.{Word}
+use Rattle.kmc_settings.specs.Words.{Word, name_at}
 use Rattle.kmc_store.specs.declared.judging.BinFault.{BinFault}
 use Rattle.kmc_slice_files.specs.Messages.{text_of_slice_fault}
 use Rattle.kmc_slice_files.specs.declared.opening.CreateFault.TheVariants as create
-use Rattle.kmc_slice_options.specs.declared.cutting.CutRequestError.{CutRequestError}
-use Rattle.kmc_slice_options.specs.declared.cutting.CutRequestError.TheVariants as no_cut
-use Rattle.kmc_slice_options.specs.declared.listing.ListRequestError.{ListRequestError}
-use Rattle.kmc_slice_options.specs.declared.listing.ListRequestError.TheVariants as no_list
+use Rattle.kmc_slice_options.specs.Messages.{text_of_no_cut, text_of_no_list}
 use Rattle.kmc_slices.specs.declared.error.CutError.{CutError}
 use Rattle.kmc_slices.specs.declared.error.CutError.TheVariants as cut
 use Rattle.kmc_slices.specs.declared.listing.ListError.TheVariants as list
@@ -20,21 +16,6 @@ use Rattle.kmc_slice_programs.specs.declared.cut_fault.CutFault.{CutFault}
 use Rattle.kmc_slice_programs.specs.declared.cut_fault.CutFault.TheVariants.{Request, NotMade, Cut}
 use Rattle.kmc_slice_programs.specs.declared.list_fault.ListFault.{ListFault}
 use Rattle.kmc_slice_programs.specs.declared.list_fault.ListFault.TheVariants.{Request as ListRequest, NotOpened, File, Dump}
-
--- the name of a file, as it was given
-abbrev pub name_at : List Word → ℕ → Word
-name_at files i = slice_index_or files i []
-
-abbrev pub text_of_no_cut : CutRequestError → List ℕ
-text_of_no_cut no_cut.Usage = codes "usage: kmc_cut [-fa|-fq|-fm] [-k<len>] [-p<len>] [-n<bins>] [-sp<n>] -slices<S> [--force] <prefix>"
-text_of_no_cut (no_cut.OutOfRange s) = codes "kmc_cut: value of -" ++ name_of s ++ codes " is out of range"
-text_of_no_cut no_cut.Slices = codes "kmc_cut: value of -slices is out of range"
-text_of_no_cut no_cut.Memory = codes "kmc_cut: out of memory"
-
-abbrev pub text_of_no_list : ListRequestError → List ℕ
-text_of_no_list no_list.Usage = codes "usage: kmc_list [-ci<n>] [-cx<n>] [-cs<n>] [-sr<n>] [-b] <file> .."
-text_of_no_list (no_list.OutOfRange s) = codes "kmc_list: value of -" ++ name_of s ++ codes " is out of range"
-text_of_no_list no_list.Memory = codes "kmc_list: out of memory"
 
 -- why a text is no list of reads: `line 3: bad plus line`
 abbrev pub text_of_reads_error : ReadsError → List ℕ

@@ -3,7 +3,7 @@ ghost use Rattle.std.specs.Prelude.{◌≡◌, Some};
 ghost use Rattle.kmc_slice_programs.specs.Cutting.{status_of};
 ghost use Rattle.kmc_slice_programs.specs.Messages.{message_of_cut};
 
-use crate::texts::{NoCut, NoReads};
+use crate::texts::NoReads;
 use kmc_slice_files::CreateFault;
 use kmc_slice_options::CutRequestError;
 use kmc_slices::CutError;
@@ -52,10 +52,7 @@ impl fmt::Display for CutMessage<'_> {
     fn fmt<W: fmt::Write>(&self, f: &mut fmt::Formatter<W>) -> fmt::Result {
         let prefix = self.prefix;
         match self.fault {
-            CutFault::Request(error) => {
-                let why = NoCut(error);
-                write!(f, "{why}")
-            }
+            CutFault::Request(error) => write!(f, "{error}"),
             CutFault::NotMade(CreateFault::File(s)) => {
                 write!(
                     f,

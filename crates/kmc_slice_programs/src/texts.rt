@@ -1,58 +1,11 @@
-//! What a user is told of faults that come from the crates below: of words, of reads and of records.
+//! What a user is told of faults that come from the crates below: of reads and of records.
 ghost use Rattle.std.specs.Prelude.{Some};
-ghost use Rattle.kmc_slice_programs.specs.Messages.{text_of_bin_fault, text_of_no_cut, text_of_no_list, text_of_reads_error};
+ghost use Rattle.kmc_slice_programs.specs.Messages.{text_of_bin_fault, text_of_reads_error};
 
-use kmc_options::Named;
 use kmc_reads::ReadsError;
 use kmc_record::PartError;
-use kmc_slice_options::{CutRequestError, ListRequestError};
 use kmc_store::BinFault;
 use std::fmt;
-
-/// Why words ask for no cut.
-#[derive(Clone, Copy)]
-pub(crate) struct NoCut(pub CutRequestError);
-
-impl fmt::Display for NoCut {
-    ghost output = { λ no. Some (text_of_no_cut no.0) };
-
-    fn fmt<W: fmt::Write>(&self, f: &mut fmt::Formatter<W>) -> fmt::Result {
-        match self.0 {
-            CutRequestError::Usage => write!(
-                f,
-                "usage: kmc_cut [-fa|-fq|-fm] [-k<len>] [-p<len>] [-n<bins>] [-sp<n>] -slices<S> [--force] <prefix>"
-            ),
-            CutRequestError::OutOfRange(setting) => {
-                let name = setting.name();
-                write!(f, "kmc_cut: value of -{name} is out of range")
-            }
-            CutRequestError::Slices => write!(f, "kmc_cut: value of -slices is out of range"),
-            CutRequestError::Memory => write!(f, "kmc_cut: out of memory"),
-        }
-    }
-}
-
-/// Why words ask for no list.
-#[derive(Clone, Copy)]
-pub(crate) struct NoList(pub ListRequestError);
-
-impl fmt::Display for NoList {
-    ghost output = { λ no. Some (text_of_no_list no.0) };
-
-    fn fmt<W: fmt::Write>(&self, f: &mut fmt::Formatter<W>) -> fmt::Result {
-        match self.0 {
-            ListRequestError::Usage => write!(
-                f,
-                "usage: kmc_list [-ci<n>] [-cx<n>] [-cs<n>] [-sr<n>] [-b] <file> .."
-            ),
-            ListRequestError::OutOfRange(setting) => {
-                let name = setting.name();
-                write!(f, "kmc_list: value of -{name} is out of range")
-            }
-            ListRequestError::Memory => write!(f, "kmc_list: out of memory"),
-        }
-    }
-}
 
 /// Why a text is no list of reads.
 #[derive(Clone, Copy)]
