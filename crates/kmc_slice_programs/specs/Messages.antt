@@ -1,9 +1,9 @@
 -- What a user is shown of a fault.
-use Rattle.std.specs.Prelude.{ℕ, List, [], ◌++◌, codes, decimal, slice_index_or}
+use Rattle.std.specs.Prelude.{ℕ, List, ◌++◌, codes, decimal}
 use Rattle.kmc_reads.specs.Messages.{text_of_reads_error}
 use Rattle.kmc_record.specs.declared.fault.PartError.{PartError}
 use Rattle.kmc_record.specs.declared.fault.PartError.TheVariants.{Damaged, WrongBin, Memory as NoMemory}
-use Rattle.kmc_settings.specs.Words.{Word}
+use Rattle.kmc_settings.specs.Words.{Word, name_at}
 use Rattle.kmc_store.specs.declared.judging.BinFault.{BinFault}
 use Rattle.kmc_slice_files.specs.Messages.{text_of_slice_fault}
 use Rattle.kmc_slice_files.specs.declared.opening.CreateFault.TheVariants as create
@@ -15,10 +15,6 @@ use Rattle.kmc_slice_programs.specs.declared.cut_fault.CutFault.{CutFault}
 use Rattle.kmc_slice_programs.specs.declared.cut_fault.CutFault.TheVariants.{Request, NotMade, Cut}
 use Rattle.kmc_slice_programs.specs.declared.list_fault.ListFault.{ListFault}
 use Rattle.kmc_slice_programs.specs.declared.list_fault.ListFault.TheVariants.{Request as ListRequest, NotOpened, File, Dump}
-
--- the name of a file, as it was given
-abbrev pub name_at : List Word → ℕ → Word
-name_at files i = slice_index_or files i []
 
 -- why the records of a bin are none of that bin
 abbrev pub text_of_part_error : ℕ → PartError → List ℕ

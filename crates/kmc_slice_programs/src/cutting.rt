@@ -12,11 +12,11 @@ ghost use Rattle.kmc_slice_programs.specs.declared.cutting.TheConstants.{HELP};
 use crate::asking::{asked_text, shown};
 use crate::cut_fault::{CutFault, CutMessage};
 use kmc_device::Counted;
+use kmc_settings::arguments;
 use kmc_slice_files::create_files;
 use kmc_slice_options::{CutRequest, CutRequestError, cut_request};
 use kmc_slices::cut_slices;
-use std::alloc::Global;
-use std::env;
+use std::alloc::{AllocError, Global};
 use std::io::{Read, Write};
 use std::process::ExitCode;
 use std::rt::{Env, Files};
@@ -25,15 +25,6 @@ use std::thread::Threads;
 
 const HELP: &'static str =
     "kmc_cut: reads on standard input, cut into the records of slices that kmc_list lists one by one\n\nusage: kmc_cut [-fa|-fq|-fm] [-k<len>] [-p<len>] [-n<bins>] [-sp<n>] -slices<S> [--force] <prefix>\n\n  -fq -fa -fm  FASTQ, FASTA, FASTA whose sequences take several lines; FASTQ where none is given\n  -k<len>      the length of words, 1 to 64; 25\n  -p<len>      the most symbols of a signature, 5 to 11; 9\n  -n<bins>     bins, 1 to 2000; 512\n  -sp<n>       threads that cut, 1 to 16; 2\n  -slices<S>   slices, 1 to 1000 and at most the bins\n  --force      files that are there are written over\n  <prefix>     the files are <prefix>.0, <prefix>.1 and so on\n\nReads may be cut in parts, each with a prefix of its own. Then for each slice kmc_list lists the files of all parts.\n";
-
-/// The process's arguments behind the program's name. Arguments that cannot be read are no usage.
-fn arguments<T: Env + Alloc<A = Global>>(rt: &T) -> Result<Vec<String>, CutRequestError> {
-    let Ok(mut arguments) = env::args(rt) else {
-        return Err(CutRequestError::Usage);
-    };
-    let _program = arguments.next();
-    Ok(arguments.collect(rt.alloc())?)
-}
 
 /// Cuts what the reader gives to files that are made first.
 fn cut<T: Threads + Wait + Sync + Files + Alloc<A = Global>, R: Read>(
@@ -145,7 +136,8 @@ pub fn cut_program<
     ensures statuses { exit_status result ≤ 2 }
 {
     match arguments(rt) {
-        Ok(words) => cut_words(rt, words, reader, writer),
-        Err(error) => ended(rt, "", Err(CutFault::Request(error))),
+        Ok(Some(words)) => cut_words(rt, words, reader, writer),
+        Ok(None) => ended(rt, "", Err(CutFault::Request(CutRequestError::Usage))),
+        Err(AllocError) => ended(rt, "", Err(CutFault::Request(CutRequestError::Memory))),
     }
 }

@@ -1,10 +1,11 @@
 //! What a fault of the listing shows its user: one line on standard error, and the exit status.
 ghost use Rattle.std.specs.Prelude.{◌≡◌, ◌≢◌, Some, map, not, string_bytes, true};
 ghost use Rattle.kmc_slice_programs.specs.Listing.{status_of};
-ghost use Rattle.kmc_slice_programs.specs.Messages.{message_of_list, name_at};
+ghost use Rattle.kmc_slice_programs.specs.Messages.{message_of_list};
 ghost use Rattle.kmc_slice_programs.specs.declared.list_fault.ListFault.TheVariants.{Dump};
 
 use crate::foreign::Foreign;
+use kmc_settings::name_at;
 use kmc_slice_files::SliceFault;
 use kmc_slice_options::ListRequestError;
 use kmc_slices::ListError;
@@ -60,16 +61,6 @@ pub struct ListMessage<'a> {
     pub fault: ListFault,
 }
 
-/// The name of a file, as it was given.
-fn name_of(files: &[String], i: usize) -> &str
-    ensures { result.now ≡ name_at (map string_bytes files.now) i }
-{
-    match files.get(i) {
-        Some(name) => name.as_str(),
-        None => "",
-    }
-}
-
 impl fmt::Display for ListMessage<'_> {
     ghost output = { λ m. Some (message_of_list (map string_bytes m.files.now) m.fault) };
 
@@ -77,11 +68,11 @@ impl fmt::Display for ListMessage<'_> {
         match self.fault {
             ListFault::Request(error) => write!(f, "{error}"),
             ListFault::NotOpened(i) => {
-                let name = name_of(self.files, i);
+                let name = name_at(self.files, i);
                 write!(f, "kmc_list: {name}: cannot be opened")
             }
             ListFault::File(i, fault) => {
-                let name = name_of(self.files, i);
+                let name = name_at(self.files, i);
                 write!(f, "kmc_list: {name}: {fault}")
             }
             ListFault::Dump(ListError::Foreign(fault)) => {

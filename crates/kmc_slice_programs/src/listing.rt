@@ -13,11 +13,10 @@ use crate::asking::{asked_text, shown};
 use crate::gathering::gather_files;
 use crate::list_fault::{ListFault, ListMessage};
 use kmc_device::Counted;
-use kmc_settings::Params;
+use kmc_settings::{Params, arguments};
 use kmc_slice_options::{ListRequest, ListRequestError, list_request};
 use kmc_slices::{ListError, list_records};
-use std::alloc::Global;
-use std::env;
+use std::alloc::{AllocError, Global};
 use std::io::Write;
 use std::process::ExitCode;
 use std::rt::{Env, Files};
@@ -25,15 +24,6 @@ use std::thread::Threads;
 
 const HELP: &'static str =
     "kmc_list: the dump of one slice of reads that kmc_cut has cut\n\nusage: kmc_list [-ci<n>] [-cx<n>] [-cs<n>] [-sr<n>] [-b] <file> ..\n\n  -ci<n>     words that occur less often are not listed; 2 where it is not given\n  -cx<n>     words that occur more often are not listed; 10^9\n  -cs<n>     greater counts are shown as this; 255\n  -sr<n>     threads that count, 1 to 16; 2\n  -b         words are counted as read, not together with their reverse complements\n  <file>     the files of one slice, of all parts of the reads\n\nThe dumps of all slices are merged by\n  kmc_merge -ci1 -cx9223372036854775808 -cs9223372036854775808 <dump> ..\n";
-
-/// The process's arguments behind the program's name. Arguments that cannot be read are no usage.
-fn arguments<T: Env + Alloc<A = Global>>(rt: &T) -> Result<Vec<String>, ListRequestError> {
-    let Ok(mut arguments) = env::args(rt) else {
-        return Err(ListRequestError::Usage);
-    };
-    let _program = arguments.next();
-    Ok(arguments.collect(rt.alloc())?)
-}
 
 /// Writes the dump of the records of the files.
 fn listed<T: Threads + Sync + Files + Alloc<A = Global>, W: Write>(
@@ -155,7 +145,14 @@ pub fn list_program<T: Threads + Sync + Files + Env + Eprint + Alloc<A = Global>
     ensures statuses { exit_status result ≤ 2 }
 {
     match arguments(rt) {
-        Ok(words) => list_words(rt, words, writer),
-        Err(error) => ended(rt, &[], Err(ListFault::Request(error)), false),
+        Ok(Some(words)) => list_words(rt, words, writer),
+        Ok(None) => {
+            let fault = ListFault::Request(ListRequestError::Usage);
+            ended(rt, &[], Err(fault), false)
+        }
+        Err(AllocError) => {
+            let fault = ListFault::Request(ListRequestError::Memory);
+            ended(rt, &[], Err(fault), false)
+        }
     }
 }

@@ -1,7 +1,7 @@
 use Rattle.std.proofs.Common.{◌≡◌, ◌∙◌, ◌++◌, ℕ, List, ap, append_assoc, codes, decimal, sym, subst}
 use Rattle.std.specs.Fmt.{HasWritten}
 use Rattle.kmc_slice_programs.specs.Messages.{text_of_part_error}
-use Rattle.kmc_slice_programs.proofs.texts.ForeignDisplay.fmt.Goals as goal
+use Rattle.kmc_slice_programs.proofs.foreign.ForeignDisplay.fmt.Goals as goal
 
 regrouped : (a b c d e : List ℕ) → a ++ b ++ c ++ d ++ e ≡ a ++ (b ++ (c ++ (d ++ e)))
 regrouped a b c d e = append_assoc (a ++ b ++ c) d e ∙ append_assoc (a ++ b) c (d ++ e) ∙ append_assoc a b (c ++ (d ++ e))
