@@ -8,10 +8,11 @@ use kmc_base::Word;
 use kmc_device::line_room;
 use std::alloc::{AllocError, Global};
 
-/// Room for the pairs of one range, and for its text, of which the first `filled` bytes are written.
+/// Room for the pairs of one range, also as keys, and for its text, of which the first `filled` bytes are written.
 #[derive(Drop)]
 pub struct Buffer<W, C> {
     pub pairs: Vec<(W, C)>,
+    pub keys: Vec<u64>,
     pub text: Vec<u8>,
     pub filled: usize,
 }
@@ -25,9 +26,11 @@ fn make_buffer<W: Word + Drop, C: Shown + Drop>(
     ensures { IfOk result (λ b. (widest ≤ vec_capacity b.pairs) × (length b.text.items ≡ bytes)) }
 {
     let pairs = Vec::with_capacity(alloc, widest)?;
+    let keys = Vec::with_capacity(alloc, widest)?;
     let text = vec![in alloc; 0; bytes]?;
     Ok(Buffer {
         pairs,
+        keys,
         text,
         filled: 0,
     })

@@ -1,10 +1,11 @@
 //! A wave: ranges that follow one another, each put into a buffer by a thread of its own.
-ghost use Rattle.std.specs.Prelude.{◌≡◌, ℕ, ◌+◌, ◌*◌, ◌^◌, ◌<◌, ◌≤◌, List, length, take, All, vec_len, vec_capacity, slice_index_or, slice_index};
+ghost use Rattle.std.specs.Prelude.{◌≡◌, ℕ, ◌+◌, ◌-◌, ◌*◌, ◌^◌, ◌<◌, ◌≤◌, List, length, take, All, IsTrue, vec_len, vec_capacity, slice_index_or, slice_index};
 ghost use Rattle.kmc_device.specs.Line.{line_room};
 ghost use Rattle.kmc_dump.specs.Ranges.{range_text, AreRanges};
 
 use crate::buffers::Buffer;
 use crate::counts::Counts;
+use crate::keys::{fit_keys, put_keys};
 use crate::range::put_range;
 use crate::ranges::Ranges;
 use crate::shown::Shown;
@@ -12,6 +13,22 @@ use crate::word_size::WordSize;
 use kmc_base::Word;
 use std::thread;
 use std::thread::Threads;
+
+/// Whether the pairs of a range fit keys, and the buffer has room for those of the widest.
+fn has_room_for_keys<W: Word + Drop, C: Shown + Drop>(
+    buffer: &Buffer<W, C>,
+    widest: usize,
+    shift: u32,
+    from: u128,
+    to: u128,
+) -> bool
+    ensures keys { IsTrue result → widest ≤ vec_capacity buffer.now.keys }
+    ensures small { IsTrue result → C.bits < 64 }
+    ensures least { IsTrue result → from * 2 ^ shift < 2 ^ 128 }
+    ensures fits { IsTrue result → (to - from) * 2 ^ shift * 2 ^ C.bits ≤ 2 ^ 64 }
+{
+    buffer.keys.capacity() >= widest && fit_keys::<C>(shift, from, to)
+}
 
 /// Puts the text of one of the ranges into a buffer.
 fn fill<W: Word + Drop, C: Shown + Drop>(
@@ -35,15 +52,29 @@ fn fill<W: Word + Drop, C: Shown + Drop>(
 {
     let from = ranges.bounds[range];
     let to = ranges.bounds[range + 1];
-    buffer.filled = put_range(
-        lists,
-        WordSize { k: ranges.k },
-        ranges.shift,
-        from,
-        to,
-        &mut buffer.pairs,
-        &mut buffer.text,
-    );
+    let size = WordSize { k: ranges.k };
+    let shift = ranges.shift;
+    if has_room_for_keys(buffer, ranges.widest, shift, from, to) {
+        buffer.filled = put_keys(
+            lists,
+            size,
+            shift,
+            from,
+            to,
+            &mut buffer.keys,
+            &mut buffer.text,
+        );
+    } else {
+        buffer.filled = put_range(
+            lists,
+            size,
+            shift,
+            from,
+            to,
+            &mut buffer.pairs,
+            &mut buffer.text,
+        );
+    }
 }
 
 /// Puts the texts of as many ranges as there are buffers into them, from the range `first` on. Each buffer has a thread;

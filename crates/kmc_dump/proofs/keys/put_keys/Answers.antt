@@ -1,0 +1,61 @@
+use Rattle.std.proofs.Common.{ℕ, ◌<◌, ◌^◌, All, List, ◌*◌, ◌%◌, length, map, refl, sym, ap, subst, ◌∙◌, arith}
+use Rattle.std.proofs.lemmas.List.{length-map}
+use Rattle.std.proofs.lemmas.List.Elements.{All-filter}
+use Rattle.std.proofs.lemmas.List.Sorted.{All-permutation, IsPermutation-map}
+use Rattle.std.specs.List.{filter}
+use Rattle.kmc_device.specs.Line.{text_of}
+use Rattle.kmc_dump.specs.Keys.{key_pair}
+use Rattle.kmc_dump.specs.Listed.{spelled}
+use Rattle.kmc_dump.specs.Ranges.{is_within, joined, packs}
+use Rattle.kmc_dump.proofs.RangeKeys.{keys_climb}
+use Rattle.kmc_dump.proofs.Order.{part_is}
+use Rattle.kmc_dump.proofs.Gathered.{climbs_there, room_left, gathered_moved}
+use Rattle.kmc_dump.proofs.keys.put_keys.Goals as goal
+
+pub gather_keys-requires-clause-rise : goal.gather_keys-requires-clause-rise
+gather_keys-requires-clause-rise g c =
+    climbs_there c.args.lists.now c.requires.merge.rise c.loop-list.list-index c.list-item.result c.loop-list-test.true c.list-item.is
+
+pub gather_keys-requires-clause-room : goal.gather_keys-requires-clause-room
+gather_keys-requires-clause-room g c =
+    let least = c.args.from * 2 ^ c.args.shift % 2 ^ 128 in
+    let f : ℕ → ℕ × ℕ = key_pair least g.C.Shown.bits in
+    let left = room_left
+    (is_within (2 ^ c.args.shift) c.args.from c.args.to) c.args.lists.now c.loop-list.list-index c.list-item.result c.loop-list-test.true c.list-item.is in
+    omega (
+      arith,
+      left,
+      ap length c.loop-list.invariant.pairs,
+      length-map c.loop-list.keys.items f,
+      c.loop-list.keys.ok.0,
+      c.loop-list.invariant.capacity,
+      c.requires.keys,
+      c.clear.ensures.capacity,
+    )
+
+pub put_key_lines-requires-clause-fit : goal.put_key_lines-requires-clause-fit
+put_key_lines-requires-clause-fit g c =
+    let least = c.args.from * 2 ^ c.args.shift % 2 ^ 128 in
+    let f : ℕ → ℕ × ℕ = key_pair least g.C.Shown.bits in
+    let t = is_within (2 ^ c.args.shift) c.args.from c.args.to in
+    let made = c.loop-list.keys in
+    let all = joined (packs c.args.lists.now) in
+    let P : ℕ × ℕ → Type 0 = λ p. p.0 < 4 ^ c.args.size.k in
+    let moved = gathered_moved f t c.args.lists.now c.loop-list.list-index _ made.items c.sort_unstable.new.self.items c.loop-list-test.false c.loop-list.invariant.pairs refl
+    (IsPermutation-map f made.items c.sort_unstable.new.self.items c.sort_unstable.ensures.permutation) in
+    subst (λ (ns : List ℕ). All P (map f ns)) (sym c.deref.ensures.value)
+    (All-permutation P (filter t all) _ moved (All-filter t P all c.requires.merge.fit))
+
+pub returns-clause-lines : goal.returns-clause-lines
+returns-clause-lines g c =
+    let least = c.args.from * 2 ^ c.args.shift % 2 ^ 128 in
+    let f : ℕ → ℕ × ℕ = key_pair least g.C.Shown.bits in
+    let t = is_within (2 ^ c.args.shift) c.args.from c.args.to in
+    let made = c.loop-list.keys in
+    let sorted = c.sort_unstable.new.self.items in
+    let moved = gathered_moved f t c.args.lists.now c.loop-list.list-index _ made.items sorted c.loop-list-test.false c.loop-list.invariant.pairs refl
+    (IsPermutation-map f made.items sorted c.sort_unstable.ensures.permutation) in
+    c.put_key_lines.ensures.lines
+    ∙ ap (λ (ns : List ℕ). text_of (spelled c.args.size.k (map f ns))) c.deref.ensures.value
+    ∙ ap (λ (ps : List (ℕ × ℕ)). text_of (spelled c.args.size.k ps)) (part_is t
+    (packs c.args.lists.now) _ c.requires.merge.rise c.requires.merge.apart moved (keys_climb least g.C.Shown.bits sorted c.sort_unstable.ensures.sorted))

@@ -1,0 +1,124 @@
+//! One range of the dump by keys: each pair in one number, so that the pairs are sorted as plain numbers.
+ghost use Rattle.std.specs.Prelude.{◌≡◌, ℕ, ◌+◌, ◌-◌, ◌*◌, ◌^◌, ◌<◌, ◌≤◌, List, [], ◌∷◌, ◌++◌, length, take, map, All, IsTrue, vec_len, vec_capacity};
+ghost use Rattle.kmc_device.specs.Line.{line_room, text_of};
+ghost use Rattle.kmc_dump.specs.Keys.{key_pair, key_pairs};
+ghost use Rattle.kmc_dump.specs.Listed.{spelled};
+ghost use Rattle.kmc_dump.specs.Ranges.{Climbs, within, whole, count_within, CanBeMerged};
+
+use crate::counts::Counts;
+use crate::shown::Shown;
+use crate::word_size::WordSize;
+use kmc_base::{Kmer, Word};
+use kmc_device::put_line;
+
+/// Whether a word of the range and a count, side by side, always fit 64 bits.
+pub fn fit_keys<C: Shown>(shift: u32, from: u128, to: u128) -> bool
+    ensures small { IsTrue result → C.bits < 64 }
+    ensures least { IsTrue result → from * 2 ^ shift < 2 ^ 128 }
+    ensures room { IsTrue result → (to - from) * 2 ^ shift * 2 ^ C.bits ≤ 2 ^ 64 }
+{
+    let bits = C::bits();
+    if bits >= 64 || shift > 64 - bits {
+        return false;
+    }
+    to.saturating_sub(from) <= 1 << (64 - bits - shift) && from <= u128::MAX >> shift
+}
+
+/// A word and a count as a key.
+fn key_of(word: u128, count: u64, least: u128, bits: u32) -> u64
+    requires least { least ≤ word }
+    requires room { (word - least + 1) * 2 ^ bits ≤ 2 ^ 64 }
+    requires bits { bits < 64 }
+    requires count { count < 2 ^ bits }
+    ensures { key_pair least bits result ≡ (word, count) }
+{
+    (((word - least) as u64) << bits) + count
+}
+
+/// Appends the keys of those pairs of a list whose slots are in a range. There is room for them, so that no push is refused.
+fn gather_keys<W: Word + Drop, C: Shown + Drop>(
+    list: &Counts<W, C>,
+    shift: u32,
+    from: u128,
+    to: u128,
+    least: u128,
+    keys: &mut Vec<u64>,
+)
+    requires rise { Climbs list.now.packed }
+    requires shift { shift < 128 }
+    requires range { from ≤ to }
+    requires least { least ≡ from * 2 ^ shift }
+    requires small { C.bits < 64 }
+    requires fits { (to - from) * 2 ^ shift * 2 ^ C.bits ≤ 2 ^ 64 }
+    requires room { vec_len keys.old + length (within (2 ^ shift) from to list.now.packed)
+        ≤ vec_capacity keys.old }
+    ensures pairs { key_pairs least C.bits keys.new.items
+        ≡ key_pairs least C.bits keys.old.items ++ within (2 ^ shift) from to list.now.packed }
+    ensures capacity { vec_capacity keys.old ≤ vec_capacity keys.new }
+{
+    let bits = C::bits();
+    let begin = list.below(shift, from);
+    let end = list.below(shift, to);
+    for i in begin..end {
+        let (word, count) = list.get(i);
+        let _ = keys.push(key_of(word.widen(), count.widen(), least, bits));
+    }
+}
+
+/// Puts the lines of keys into a text, from its first byte on, and says where they end.
+fn put_key_lines<C: Shown + Drop>(
+    keys: &[u64],
+    size: WordSize,
+    least: u128,
+    text: &mut [u8],
+) -> usize
+    requires small { C.bits < 64 }
+    requires fit { All (λ p. p.0 < 4 ^ size.k) (key_pairs least C.bits keys.now) }
+    requires room { length keys.now * line_room size.k C.most_digits ≤ length text.old }
+    ensures within { result ≤ length text.new }
+    ensures lines { take result text.new
+        ≡ text_of (spelled size.k (key_pairs least C.bits keys.now)) }
+{
+    let bits = C::bits();
+    let mask = (1 << bits) - 1;
+    let mut end = 0;
+    for key in keys {
+        let word = u128::from(*key >> bits) + least;
+        end = put_line(text, end, &Kmer::of_packed(word, size.k), *key & mask);
+    }
+    end
+}
+
+/// Puts the lines of a range into a text, as [`put_range`](crate::put_range) does, where its pairs fit keys. The vector for
+/// the keys is used again; both have room for the range before, so that nothing is allocated.
+pub fn put_keys<W: Word + Drop, C: Shown + Drop>(
+    lists: &[Counts<W, C>],
+    size: WordSize,
+    shift: u32,
+    from: u128,
+    to: u128,
+    keys: &mut Vec<u64>,
+    text: &mut [u8],
+) -> usize
+    requires merge { CanBeMerged size.k lists.now }
+    requires shift { shift < 128 }
+    requires range { from ≤ to }
+    requires small { C.bits < 64 }
+    requires least { from * 2 ^ shift < 2 ^ 128 }
+    requires fits { (to - from) * 2 ^ shift * 2 ^ C.bits ≤ 2 ^ 64 }
+    requires keys { count_within (2 ^ shift) from to lists.now ≤ vec_capacity keys.old }
+    requires text { count_within (2 ^ shift) from to lists.now * line_room size.k C.most_digits
+        ≤ length text.old }
+    ensures within { result ≤ length text.new }
+    ensures lines { take result text.new
+        ≡ text_of (spelled size.k (within (2 ^ shift) from to (whole lists.now))) }
+    ensures capacity { vec_capacity keys.old ≤ vec_capacity keys.new }
+{
+    let least = from << shift;
+    keys.clear();
+    for list in lists {
+        gather_keys(list, shift, from, to, least, keys);
+    }
+    keys.sort_unstable();
+    put_key_lines::<C>(keys, size, least, text)
+}
