@@ -70,10 +70,10 @@ module _ {T : Type 0} (q : QueueShape) (ws : List Counters) (xs : List (Queued T
     pub take_core : IsCore q (set ws y.writer (record c { left_count = c.left_count + 1 })) ys
     take_core = core_take q ws y.writer y.item ys c front_core counters
 
-    pub take_becomes : Becomes held (event.Take r, reply.Take (Ok (Got given))) after
+    take_becomes : Becomes held (event.Take r, reply.Take (Ok (Got given))) after
     take_becomes = (ys, begins, λ i. record { shape = q; writers = set ws y.writer (record (counters i) { left_count = c.left_count + 1 }); queue = ys })
 
-    pub take_legal : MovesOn held (event.Take r, reply.Take (Ok (Got given))) after
+    take_legal : MovesOn held (event.Take r, reply.Take (Ok (Got given))) after
     take_legal = take_moves held after r given core.all_writers (
       near,
       front_core.known.0,
@@ -82,6 +82,13 @@ module _ {T : Type 0} (q : QueueShape) (ws : List Counters) (xs : List (Queued T
           (λ z. slice_get z 0) (hit y.writer (y.item ∷ items_of y.writer ys) (items_of y.writer ys)),
     )
         take_becomes
+
+    -- the same of the value that is seen
+    pub becomes_so : (v : CoreState T) → held ≡ v → Becomes v (event.Take r, reply.Take (Ok (Got given))) after
+    becomes_so v is = subst (λ s. Becomes s (event.Take r, reply.Take (Ok (Got given))) after) is take_becomes
+
+    pub legal_so : (v : CoreState T) → held ≡ v → MovesOn v (event.Take r, reply.Take (Ok (Got given))) after
+    legal_so v is = subst (λ s. MovesOn s (event.Take r, reply.Take (Ok (Got given))) after) is take_legal
 
     -- the writer has an item that has not left
     pub one_waits : c.left_count < MAX_ITEMS

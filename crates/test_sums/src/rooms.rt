@@ -2,33 +2,22 @@
 use kmc_device::{Counted, ReadFault, fill_behind, read_behind};
 use test_support::PieceReader;
 
-/// A reader that gives three bytes at a time, and fails in this read; 0 for none.
-fn reader(failing: u64) -> Counted<PieceReader<'static>> {
-    Counted::new(PieceReader::new(b"cdefghij", 3, failing))
-}
-
-#[test]
-fn one_read_gives_a_piece(rt: HostRuntime) {
-    let mut room = *b"ab.....";
-    let mut reader = reader(0);
-    let end = read_behind(&mut reader, &mut room, 2);
-    assert_eq!(&rt; (end, &room, reader.reads()), (Ok(5), b"abcde..", 1));
-}
-
 #[test]
 fn reads_fill_a_room(rt: HostRuntime) {
-    let mut room = *b"ab.....";
-    let mut reader = reader(0);
-    let end = fill_behind(&mut reader, &mut room, 2);
-    assert_eq!(&rt; (end, &room, reader.reads()), (Ok(7), b"abcdefg", 2));
-    let end = fill_behind(&mut reader, &mut room, 3);
-    assert_eq!(&rt; (end, &room, reader.reads()), (Ok(6), b"abchijg", 3));
+    let mut room = *b"ab.......";
+    let mut reader = Counted::new(PieceReader::new(b"cdefghij", 3, 0));
+    assert!(&rt; read_behind(&mut reader, &mut room, 2) == Ok(5) && reader.reads() == 1);
+    assert_eq!(&rt; &room, b"abcde....");
+    assert!(&rt; fill_behind(&mut reader, &mut room, 5) == Ok(9) && reader.reads() == 3);
+    assert_eq!(&rt; &room, b"abcdefghi");
+    assert!(&rt; fill_behind(&mut reader, &mut room, 3) == Ok(4));
+    assert_eq!(&rt; &room, b"abcjefghi");
 }
 
 #[test]
 fn a_failed_read_is_told(rt: HostRuntime) {
-    let mut room = *b"ab.....";
-    let mut reader = reader(2);
-    let end = fill_behind(&mut reader, &mut room, 2);
-    assert_eq!(&rt; (end, reader.failures()), (Err(ReadFault), 1));
+    let mut room = *b"ab.......";
+    let mut reader = Counted::new(PieceReader::new(b"cdefghij", 3, 2));
+    assert!(&rt; fill_behind(&mut reader, &mut room, 2) == Err(ReadFault));
+    assert_eq!(&rt; (&room, reader.failures()), (b"abcde....", 1));
 }

@@ -1,15 +1,15 @@
 -- What the code read is the counters of the first item's writer. Where there is no item, what all writers put has left.
-use Rattle.std.proofs.Common.{◌≡◌, ◌∙◌, ◌+◌, sym, ap, subst, rules, refl, set, map, Ok, true}
+use Rattle.std.proofs.Common.{◌≡◌, ◌∙◌, sym, ap, subst, rules, refl, map, Ok, true}
 use Rattle.std.specs.Prelude.{All}
 use Rattle.circular_buffer.specs.Buffer.{Buffer}
 use Rattle.kmc_partcore.specs.declared.event.Event.TheVariants as event
 use Rattle.kmc_partcore.specs.declared.event.Reply.TheVariants as reply
-use Rattle.kmc_partcore.specs.declared.event.Taken.TheVariants.{Got, Empty, Finished}
+use Rattle.kmc_partcore.specs.declared.event.Taken.TheVariants.{Empty, Finished}
 use Rattle.kmc_plain_queue.specs.declared.part_core.Counters.{Counters}
 use Rattle.kmc_plain_queue.specs.declared.part_core.Queued.{Queued}
 use Rattle.kmc_partcore.specs.Legal.{FitsTake}
-use Rattle.kmc_plain_queue.specs.CoreState.{CoreState, live_in, Becomes, MovesOn}
-use Rattle.kmc_plain_queue.proofs.Answered.{take_core, take_becomes, take_legal, one_waits, finished_fits, finished_legal, empty_fits, empty_legal}
+use Rattle.kmc_plain_queue.specs.CoreState.{CoreState, live_in, MovesOn}
+use Rattle.kmc_plain_queue.proofs.Answered.{take_core, becomes_so, legal_so, one_waits, finished_fits, finished_legal, empty_fits, empty_legal}
 use Rattle.kmc_plain_queue.proofs.part_core.PartCore.take.Goals as goal
 
 pub overflow_add-number : goal.overflow_add-number
@@ -24,40 +24,14 @@ invariant_of-self g c = (
 )
 
 pub returns-in-Some-clause-state : goal.returns-in-Some-clause-state
-returns-in-Some-clause-state g c = let was = c.index-counters.result.now in let first = c.in-Some.field-0 in
-    subst (λ s. Becomes s (
-      event.Take c.args.reader,
-      reply.Take (Ok (Got record {
-        writer = first.writer;
-        number = was.left_count;
-        item = first.item;
-      })),
-    ) record {
-      shape = c.self.inside.shape;
-      writers = set c.self.inside.writers.items first.writer
-          (record was { left_count = was.left_count + 1 });
-      queue = c.pop_front.new.self.items;
-    }) c.self.view_is
-    (take_becomes _ _ _ c.self.invariant.1 c.args.reader first was _ c.if-reader-self.false (sym c.in-Some.ensures.value)
-    (ap (λ (b : Buffer (Queued g.row.T.Denot)). b.items) c.in-Some.ensures.items) c.index-counters.ensures)
+returns-in-Some-clause-state g c =
+    becomes_so _ _ _ c.self.invariant.1 c.args.reader c.in-Some.field-0 c.index-counters.result.now _ c.if-reader-self.false
+    (sym c.in-Some.ensures.value) (ap (λ (b : Buffer (Queued g.row.T.Denot)). b.items) c.in-Some.ensures.items) c.index-counters.ensures _ c.self.view_is
 
 pub returns-in-Some-clause-legal : goal.returns-in-Some-clause-legal
-returns-in-Some-clause-legal g c = let was = c.index-counters.result.now in let first = c.in-Some.field-0 in
-    subst (λ s. MovesOn s (
-      event.Take c.args.reader,
-      reply.Take (Ok (Got record {
-        writer = first.writer;
-        number = was.left_count;
-        item = first.item;
-      })),
-    ) record {
-      shape = c.self.inside.shape;
-      writers = set c.self.inside.writers.items first.writer
-          (record was { left_count = was.left_count + 1 });
-      queue = c.pop_front.new.self.items;
-    }) c.self.view_is
-    (take_legal _ _ _ c.self.invariant.1 c.args.reader first was _ c.if-reader-self.false (sym c.in-Some.ensures.value)
-    (ap (λ (b : Buffer (Queued g.row.T.Denot)). b.items) c.in-Some.ensures.items) c.index-counters.ensures)
+returns-in-Some-clause-legal g c =
+    legal_so _ _ _ c.self.invariant.1 c.args.reader c.in-Some.field-0 c.index-counters.result.now _ c.if-reader-self.false
+    (sym c.in-Some.ensures.value) (ap (λ (b : Buffer (Queued g.row.T.Denot)). b.items) c.in-Some.ensures.items) c.index-counters.ensures _ c.self.view_is
 
 pub returns-then-all_completed-clause-answer : goal.returns-then-all_completed-clause-answer
 returns-then-all_completed-clause-answer g c = subst (λ (s : CoreState g.row.T.Denot). FitsTake s.shape (live_in s) c.args.reader
