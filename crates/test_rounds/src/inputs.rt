@@ -172,7 +172,10 @@ fn assert_refused<R: Abort + Threads + Wait + Sync>(
 ) {
     for piece in [1, 7, 1000] {
         let (answer, failures, _) = bins_of(rt, alloc, text, piece, 0, params, 1 << 32);
-        assert_eq!(rt; (answer.err(), failures), (Some(InputError::Faulty(fault)), 0));
+        assert_eq!(rt;
+            (answer.err(), failures),
+            (Some(InputError::Faulty(fault)), 0)
+        );
     }
 }
 
