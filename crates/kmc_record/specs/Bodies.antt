@@ -5,7 +5,6 @@ use Rattle.kmc_base.specs.Words.{windows}
 use Rattle.kmc_split.specs.Signature.{signature_of}
 use Rattle.kmc_record.specs.Record.{spelling, IsSpelled, IsBodyOf}
 use Rattle.kmc_record.specs.Faults.{HasFault}
-use Rattle.kmc_record.specs.Refusals.{BeginsRecord}
 use Rattle.kmc_record.specs.Shapes.{Sizes}
 use Rattle.kmc_record.specs.Parts.{all_windows}
 use Rattle.kmc_record.specs.RecordKeys.{codes_of}
@@ -34,12 +33,10 @@ pub record BeginsWithOtherBin (bin : ℕ) (shape : Sizes) (bytes : List ℕ) : T
   pub is : bytes ≡ spelling shape.k codes ++ rest
   pub other : ¬ (Belong bin shape (windows shape.k codes))
 
--- the first fault: all is well before the offset, and there this is wrong; where memory is refused, all is well up to a
--- whole record, for which it was wanted
+-- the first fault: all is well before the offset, and there this is wrong; want of memory is no fault of a body
 abbrev pub IsFirstError : ℕ → Sizes → PartError → List ℕ → Type 0
 IsFirstError bin shape (Damaged fault offset) body = (offset < length body) × AreRecordsOfBin bin shape (take offset body) × HasFault shape.k fault
     (drop offset body)
 IsFirstError bin shape (WrongBin offset) body = (offset < length body) × AreRecordsOfBin bin shape (take offset body) × BeginsWithOtherBin bin shape
     (drop offset body)
-IsFirstError bin shape Memory body = (offset : ℕ) × (offset < length body) × AreRecordsOfBin bin shape (take offset body) × BeginsRecord shape.k
-    (drop offset body)
+IsFirstError bin shape Memory body = ⊥

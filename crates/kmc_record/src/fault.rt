@@ -37,7 +37,7 @@ pub enum PartError {
     Damaged(RecordFault, usize),
     /// A record has a word of another bin: where it begins.
     WrongBin(usize),
-    /// A growth was refused.
+    /// A growth was refused to a caller who judges bodies. To judge one body wants no memory.
     Memory,
 }
 

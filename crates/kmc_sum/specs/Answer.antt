@@ -9,7 +9,8 @@ use Rattle.kmc_sum.specs.State.{IsBegun, IsSumWritten}
 use Rattle.kmc_sum.specs.declared.error.SumError.{SumError}
 use Rattle.kmc_sum.specs.declared.error.SumError.TheVariants.{Source, Write, Memory, TooLong}
 
--- why a merge was given up (for want of memory before anything is read or written): of the readers' bytes at the start and now, and of their failures and the writer's, before and now
+-- why a merge was given up (for want of memory before anything is read or written): of the readers' bytes at the start and
+-- now, and of their failures and the writer's, before and now
 abbrev pub IsCause : List (Option (List ℕ)) → List (Option (List ℕ)) → List ℕ → List ℕ → ℕ → ℕ → SumError → Type 0
 IsCause starts nows olds news old new (Source e) = (k : ℕ) × IsLength k × IsFaultOf k starts nows olds news e.source e.fault
 IsCause starts nows olds news old new Write = RisesByOne old new
