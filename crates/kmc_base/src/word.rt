@@ -21,6 +21,10 @@ pub trait Word: Copy {
     fn zero() -> Self
         ensures { number result ≡ 0 };
 
+    /// A packed word of at most 16 codes.
+    fn of_packed(packed: u32) -> Self
+        ensures { number result ≡ packed };
+
     /// The weight of the first of k codes.
     fn top(k: usize) -> Self
         requires some { 1 ≤ k }
@@ -102,6 +106,10 @@ impl Word for u64 {
         0
     }
 
+    fn of_packed(packed: u32) -> u64 {
+        u64::from(packed)
+    }
+
     fn top(k: usize) -> u64 {
         1 << (2 * (k - 1))
     }
@@ -166,6 +174,10 @@ impl Word for u128 {
 
     fn zero() -> u128 {
         0
+    }
+
+    fn of_packed(packed: u32) -> u128 {
+        u128::from(packed)
     }
 
     fn top(k: usize) -> u128 {

@@ -16,6 +16,7 @@ use Rattle.kmc_count.specs.declared.limits.Limits.{Limits}
 use Rattle.kmc_count.specs.Occurrences.{same_word, occurrences, weight_of}
 use Rattle.kmc_count.specs.Dump.{IsDump}
 use Rattle.kmc_count.specs.Bodies.{AreSortedItems, IsDumpOfBody}
+use Rattle.kmc_count.specs.Tables.{ComeToAsMuch}
 use Rattle.kmc_count.specs.Lemmas.Runs.{weight_of_cons}
 
 -- ---- what items are worth
@@ -41,21 +42,27 @@ weight_is x (p ∷ ps) =
 pub sorted_long : (k : ℕ) (ks sorted : List ℕ) → IsPermutation ks sorted → All (IsRecordKey k) ks → All (IsRecordKey k) sorted
 sorted_long k ks sorted moved h = All-permutation (IsRecordKey k) ks sorted moved h
 
+pub as_much_themselves : (k f : ℕ) (ns : List ℕ) → ComeToAsMuch k f ns ns
+as_much_themselves k f ns = record {
+  each = λ g. refl;
+  fit = λ are. are;
+}
+
 -- ---- all of it
 
 module _ (strands : Strands) (k f : ℕ) where
   -- records were taken in, their numbers moved and unpacked, and the items moved
-  pub items_sorted : (body ks sorted now all rising : List ℕ) (ss : List (List ℕ)) → IsBodyOf k ss body → IsTaken strands k f ks now ss
-      → IsPermutation ks sorted
-      → Gains k f now all (key_words strands k sorted) 1 → IsPermutation all rising → IsSorted nat_cmp rising → AreSortedItems strands k f body rising
-  items_sorted body ks sorted now all rising ss records taken keys_moved gains moved up = record {
+  pub items_sorted : (body ks sorted now all summed rising : List ℕ) (ss : List (List ℕ)) → IsBodyOf k ss body → IsTaken strands k f ks now ss
+      → IsPermutation ks sorted → Gains k f now all (key_words strands k sorted) 1 → ComeToAsMuch k f all summed
+      → IsPermutation summed rising → IsSorted nat_cmp rising → AreSortedItems strands k f body rising
+  items_sorted body ks sorted now all summed rising ss records taken keys_moved gains much moved up = record {
     super_kmers = ss;
     records = records;
     each = λ g.
-        let same : worth g (items k f rising) ≡ worth g (items k f all) =
-        worth_is k f g rising ∙ sum_by-IsPermutation (λ n. item_weight f n * g (unpack k (n / 2 ^ f))) all rising moved ∙ sym (worth_is k f g all) in
-        omega (arith, same, gains.each g, moved_keys strands k g ks sorted keys_moved, taken.each g);
-    fit = All-permutation (λ n. n / 2 ^ f < 4 ^ k) all rising moved (gains.fit taken.fit);
+        let same : worth g (items k f rising) ≡ worth g (items k f summed) =
+        worth_is k f g rising ∙ sum_by-IsPermutation (λ n. item_weight f n * g (unpack k (n / 2 ^ f))) summed rising moved ∙ sym (worth_is k f g summed) in
+        omega (arith, same, much.each g, gains.each g, moved_keys strands k g ks sorted keys_moved, taken.each g);
+    fit = All-permutation (λ n. n / 2 ^ f < 4 ^ k) summed rising moved (much.fit (gains.fit taken.fit));
     sorted = up;
   }
 

@@ -5,9 +5,10 @@ ghost use Rattle.kmc_record.specs.Faults.{IsFirstFault};
 ghost use Rattle.kmc_record.specs.declared.fault.RecordFault.{RecordFault};
 ghost use Rattle.kmc_count.specs.Bodies.{AreSortedItems, IsDumpOfBody, WantsMemory};
 
+use crate::adding::{add_up, takes_table};
 use crate::limits::Limits;
 use crate::pair_list::PairList;
-use crate::repeats::Repeats;
+use crate::room::CountingRoom;
 use crate::tallying::tally;
 use kmc_base::{KeyRule, MOST_WEIGHT_BITS, Word};
 use kmc_record::{BodyError, push_rows, take_body};
@@ -22,45 +23,56 @@ fn sort_numbers(numbers: &mut Vec<u128>)
 }
 
 /// The words of a body as sorted items. Where equal records are looked for, they are sorted first, each as the lesser of it and its
-/// reverse complement, so that those that are equal stand side by side and their words are unpacked once.
+/// reverse complement, so that those that are equal stand side by side and their words are unpacked once. Many short words are added
+/// up in a table.
 fn sorted_items<W: Word + Drop>(
-    numbers: &mut Vec<u128>,
-    items: &mut Vec<W>,
+    room: &mut CountingRoom<W>,
     body: &[u8],
     rule: KeyRule,
     bits: u32,
-    repeats: &mut Repeats,
 ) -> Result<(), BodyError>
     requires most { rule.k ≤ W.most }
     requires beside { 2 * rule.k + bits ≤ 2 * W.most }
     requires bits { bits ≤ MOST_WEIGHT_BITS }
     ensures ok { OnOk result (AreSortedItems rule.strands rule.k bits body.now
-        (map W.number items.new.items)) }
+        (map W.number room.new.items.items)) }
     ensures damaged { (fault : RecordFault) (offset : ℕ)
         → IsErrOf result (BodyError.Damaged fault offset)
         → IsFirstFault rule.k fault offset body.now }
     ensures memory { IsErrOf result BodyError.Memory → WantsMemory rule.k body.now }
 {
-    numbers.clear();
-    items.clear();
-    take_body(numbers, items, body, rule, bits, repeats.short_records())?;
-    sort_numbers(numbers);
-    repeats.learn(numbers);
-    push_rows(items, numbers, rule, bits)?;
-    W::sort(items);
+    let in_table = takes_table(rule.k, body.len());
+    let short = if in_table {
+        0
+    } else {
+        room.repeats.short_records()
+    };
+    room.numbers.clear();
+    room.items.clear();
+    take_body(&mut room.numbers, &mut room.items, body, rule, bits, short)?;
+    sort_numbers(&mut room.numbers);
+    room.repeats.learn(&room.numbers);
+    push_rows(&mut room.items, &room.numbers, rule, bits)?;
+    if in_table {
+        add_up(
+            &mut room.items,
+            &mut room.table,
+            &mut room.over,
+            rule.k,
+            bits,
+        )?;
+    }
+    W::sort(&mut room.items);
     Ok(())
 }
 
-/// Puts the dump of a body into an empty list of pairs. The vectors for its records and its words may be used again for the
-/// next body, and what was met of equal records is told to the next.
+/// Puts the dump of a body into an empty list of pairs. The room may be used again for the next body.
 pub fn count_into<W: Word + Drop, L: PairList<W>>(
-    numbers: &mut Vec<u128>,
-    items: &mut Vec<W>,
+    room: &mut CountingRoom<W>,
     pairs: &mut L,
     body: &[u8],
     rule: KeyRule,
     limits: &Limits,
-    repeats: &mut Repeats,
 ) -> Result<(), BodyError>
     requires most { rule.k ≤ W.most }
     requires takes { L.takes rule.k pairs.old }
@@ -75,7 +87,7 @@ pub fn count_into<W: Word + Drop, L: PairList<W>>(
     ensures memory { IsErrOf result BodyError.Memory → WantsMemory rule.k body.now }
 {
     let bits = W::weight_bits(rule.k);
-    sorted_items(numbers, items, body, rule, bits, repeats)?;
-    tally(pairs, items, rule, bits, limits)?;
+    sorted_items(room, body, rule, bits)?;
+    tally(pairs, &room.items, rule, bits, limits)?;
     Ok(())
 }

@@ -13,13 +13,13 @@ const LEAST_RECORDS: usize = 1024;
 /// What the bins before tell of the next one: where few of their records were equal, sorting its records saves nothing. Whatever
 /// it says, the count is the same.
 #[derive(Clone, Copy, Debug)]
-pub struct Repeats {
+pub(crate) struct Repeats {
     plain: u32,
 }
 
 impl Repeats {
     /// No bin was met before: equal records are looked for.
-    pub fn new() -> Repeats {
+    pub(crate) fn new() -> Repeats {
         Repeats { plain: 0 }
     }
 

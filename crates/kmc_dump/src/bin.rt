@@ -8,20 +8,18 @@ ghost use Rattle.kmc_dump.specs.Listed.{IsListOf, pairs_of};
 use crate::counts::Counts;
 use crate::shown::Shown;
 use kmc_base::{KeyRule, Word};
-use kmc_count::{Limits, Repeats, count_into};
+use kmc_count::{CountingRoom, Limits, count_into};
 use kmc_record::BodyError;
 use std::alloc::Global;
 
-/// The dump of a body in packed form. The vectors for its records and its words may be used again for the next body. The list
+/// The dump of a body in packed form. The room may be used again for the next body. The list
 /// keeps no more memory than its pairs need.
 pub fn list_body<W: Word + Drop, C: Shown + Drop>(
-    numbers: &mut Vec<u128>,
-    items: &mut Vec<W>,
+    room: &mut CountingRoom<W>,
     alloc: Global,
     body: &[u8],
     rule: KeyRule,
     limits: &Limits,
-    repeats: &mut Repeats,
 ) -> Result<Counts<W, C>, BodyError>
     requires most { rule.k ≤ W.most }
     requires wide { limits.now.cs ≤ C.greatest }
@@ -34,7 +32,7 @@ pub fn list_body<W: Word + Drop, C: Shown + Drop>(
     ensures memory { IsErrOf result BodyError.Memory → WantsMemory rule.k body.now }
 {
     let mut pairs = Counts::new(alloc, rule.k);
-    count_into(numbers, items, &mut pairs, body, rule, limits, repeats)?;
+    count_into(room, &mut pairs, body, rule, limits)?;
     pairs.shrink();
     Ok(pairs)
 }

@@ -10,13 +10,13 @@ use crate::bin::list_body;
 use crate::counts::Counts;
 use crate::shown::Shown;
 use kmc_base::{KeyRule, Word};
-use kmc_count::{Limits, Repeats};
+use kmc_count::{CountingRoom, Limits};
 use kmc_record::{BodyError, share};
 use std::alloc::Global;
 use std::thread;
 use std::thread::Threads;
 
-/// The lists of bodies, one after the other, with their records and words in two vectors. Room for all lists is had first.
+/// The lists of bodies, one after the other, in the same room. Room for all lists is had first.
 fn list_row<W: Word + Drop, C: Shown + Drop>(
     alloc: Global,
     bodies: Vec<Vec<u8>>,
@@ -32,19 +32,9 @@ fn list_row<W: Word + Drop, C: Shown + Drop>(
         → IsFirstDamaged rule.k fault offset (map (λ b. b.items) bodies.items) }
 {
     let mut lists = Vec::with_capacity(alloc, bodies.len())?;
-    let mut numbers: Vec<u128> = Vec::new(alloc);
-    let mut items: Vec<W> = Vec::new(alloc);
-    let mut repeats = Repeats::new();
+    let mut room: CountingRoom<W> = CountingRoom::new(alloc);
     for body in bodies {
-        let list = list_body(
-            &mut numbers,
-            &mut items,
-            alloc,
-            &body,
-            rule,
-            limits,
-            &mut repeats,
-        )?;
+        let list = list_body(&mut room, alloc, &body, rule, limits)?;
         lists.push_reserved(list);
     }
     Ok(lists)

@@ -17,10 +17,10 @@ use Rattle.kmc_base.specs.Lemmas.Packs.{pack_fits, unpack_pack}
 module _ (k f : ℕ) where
   -- ---- items of words that are each counted m times
 
-  word_of_item : (m n : ℕ) → 1 ≤ m → m ≤ 2 ^ f → weighted f m n / 2 ^ f ≡ n
+  pub word_of_item : (m n : ℕ) → 1 ≤ m → m ≤ 2 ^ f → weighted f m n / 2 ^ f ≡ n
   word_of_item m n once most = div-mul-add n (2 ^ f) (m - 1) (omega arith)
 
-  weight_of_item : (m n : ℕ) → 1 ≤ m → m ≤ 2 ^ f → item_weight f (weighted f m n) ≡ m
+  pub weight_of_item : (m n : ℕ) → 1 ≤ m → m ≤ 2 ^ f → item_weight f (weighted f m n) ≡ m
   weight_of_item m n once most =
       let low : weighted f m n % 2 ^ f ≡ m - 1 = mod-mul-add n (2 ^ f) (m - 1) (omega arith) in
       omega (arith, low)
@@ -46,7 +46,7 @@ module _ (k f : ℕ) where
       let fits : pack w < 4 ^ k = rw are.0.0 at (pack_fits w are.0.1) in
       (subst (λ n. n < 4 ^ k) (sym (word_of_item m (pack w) once most)) fits, fit_weighted m ws once most are.1)
 
-  worth_append : (g : List ℕ → ℕ) (a b : List ℕ) → worth g (items k f (a ++ b)) ≡ worth g (items k f a) + worth g (items k f b)
+  pub worth_append : (g : List ℕ → ℕ) (a b : List ℕ) → worth g (items k f (a ++ b)) ≡ worth g (items k f a) + worth g (items k f b)
   worth_append g a b = ap (worth g) (map-append (item k f) a b) ∙ sum_by-append (λ (p : List ℕ × ℕ). p.1 * g p.0) (items k f a) (items k f b)
 
   pub gains_words : (old new : List ℕ) (ws : List (List ℕ)) (m : ℕ) → 1 ≤ m → m ≤ 2 ^ f → AreWords k ws → new ≡ old ++ map (weighted f m)

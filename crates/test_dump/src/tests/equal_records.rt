@@ -244,6 +244,12 @@ fn a_row_longer_than_the_greatest_weight(rt: HostRuntime) -> Result<(), Fail> {
     assert_repeated(&rt, rt.alloc(), 22, (1 << 20) + 1)
 }
 
+#[test]
+fn counters_of_short_words_that_are_full_begin_anew(rt: HostRuntime) -> Result<(), Fail> {
+    assert_repeated(&rt, rt.alloc(), 9, (1 << 20) + 1)?;
+    assert_repeated(&rt, rt.alloc(), 12, 2 * (1 << 20) + 1)
+}
+
 /// Records that are all different.
 fn single_records(alloc: Global, dice: &mut Dice, k: usize) -> Result<Vec<u8>, AllocError> {
     let mut body = Vec::new(alloc);

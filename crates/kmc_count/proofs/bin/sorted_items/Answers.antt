@@ -1,8 +1,10 @@
 use Rattle.std.proofs.Common.{map, All, subst, sym}
 use Rattle.kmc_record.specs.RecordKeys.{IsRecordKey, Gains, key_words}
 use Rattle.kmc_count.specs.Lemmas.PassedOn.{passed_on}
-use Rattle.kmc_count.proofs.Counted.{items_sorted, sorted_long}
+use Rattle.kmc_count.specs.Tables.{ComeToAsMuch}
+use Rattle.kmc_count.proofs.Counted.{as_much_themselves, items_sorted, sorted_long}
 use Rattle.kmc_count.proofs.bin.sorted_items.Goals as goal
+use Rattle.kmc_count.proofs.bin.sorted_items.Goals.{then-in_table-2+in_ok-add_up, else-in_table-2}
 
 pub push_rows-requires-clause-long : goal.push_rows-requires-clause-long
 push_rows-requires-clause-long g c =
@@ -16,7 +18,15 @@ returns-clause-ok g c =
     let taken = c.in_ok-take_body.ensures.ok in
     let gains = subst (λ t. Gains rule.k c.args.bits (map num c.take_body.new.items.items) (map num c.push_rows.new.items.items)
     (key_words rule.strands rule.k t) 1) c.deref-2.ensures.value c.in_ok-push_rows.ensures in
-    items_sorted rule.strands rule.k c.args.bits c.args.body.now _ _ _ _ _ taken.0 taken.1 taken.2 c.sort_numbers.ensures gains c.sort.ensures.moved c.sort.ensures.sorted
+    let all = map num c.push_rows.new.items.items in
+    let much : ComeToAsMuch rule.k c.args.bits all (map num c.if-in_table-2.room.items.items) = elim c.if-in_table-2.branch [
+      | then-in_table-2+in_ok-add_up w ↦
+          subst (λ room. ComeToAsMuch rule.k c.args.bits all (map num room.items.items)) (sym w.room-is) w.in_ok-add_up.ensures
+      | else-in_table-2 w ↦
+          subst (λ room. ComeToAsMuch rule.k c.args.bits all (map num room.items.items)) (sym w.room-is) (as_much_themselves rule.k c.args.bits all)
+    ] in
+    items_sorted rule.strands rule.k c.args.bits c.args.body.now _ _ _ _ _ _ taken.0 taken.1 taken.2 c.sort_numbers.ensures gains much c.sort.ensures.moved
+    c.sort.ensures.sorted
 
 pub returns-in_err-take_body-clause-damaged : goal.returns-in_err-take_body-clause-damaged
 returns-in_err-take_body-clause-damaged g c = λ fault offset is.

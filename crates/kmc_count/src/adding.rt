@@ -1,0 +1,144 @@
+//! Items of short words, those of equal words added up: a counter for each word takes the place of a sort.
+ghost use Rattle.std.specs.Prelude.{◌≡◌, ℕ, ◌+◌, ◌*◌, ◌/◌, ◌^◌, ◌<◌, ◌≤◌, ◌++◌, ◌∷◌, [], List, map, drop, length, replicate, true, OnOk};
+ghost use Rattle.kmc_base.specs.Weights.{items, worth, AreItems};
+ghost use Rattle.kmc_count.specs.Tables.{table_worth, ComeToAsMuch, IsTable, TakesIn};
+
+use kmc_base::{MOST_WEIGHT_BITS, Weight, Word};
+use std::alloc::AllocError;
+
+/// The most symbols of a word that has a counter: the counters of all words of 12 symbols take 64 MiB.
+const MOST_SYMBOLS: usize = 12;
+
+/// A table is worth its while where it has at most so many counters for each byte of the body.
+const COUNTERS_OF_A_BYTE: usize = 8;
+
+/// Whether the words of a body of so many bytes are counted in a table.
+pub(crate) fn takes_table(k: usize, bytes: usize) -> bool
+    ensures { result ≡ true → k ≤ MOST_SYMBOLS }
+{
+    k <= MOST_SYMBOLS && (1 << (2 * k)) / COUNTERS_OF_A_BYTE <= bytes
+}
+
+/// Adds an item to the counter of its word. Where that is full, what it counted becomes an item, and it begins anew.
+fn add_item<W: Word + Drop>(
+    table: &mut [u32],
+    over: &mut Vec<W>,
+    item: W,
+    k: usize,
+    bits: u32,
+) -> Result<(), AllocError>
+    requires some { 1 ≤ k }
+    requires most { k ≤ MOST_SYMBOLS }
+    requires beside { 2 * k + bits ≤ 2 * W.most }
+    requires bits { bits ≤ MOST_WEIGHT_BITS }
+    requires table { IsTable k bits table.old }
+    requires fits { W.number item / 2 ^ bits < 4 ^ k }
+    ensures { OnOk result (TakesIn k bits table.old (map W.number over.old.items) table.new
+        (map W.number over.new.items) (W.number item ∷ [])) }
+{
+    let word = item.without_weight(bits);
+    let times = item.times(bits) as u32;
+    let place = word.widen() as usize;
+    let count = table[place];
+    if count + times > 1 << bits {
+        let times_before = u64::from(count);
+        over.push(word.weighted(Weight {
+            bits,
+            times: times_before,
+        }))?;
+        table[place] = times;
+    } else {
+        table[place] = count + times;
+    }
+    Ok(())
+}
+
+/// Adds all items to the counters of their words.
+fn add_items<W: Word + Drop>(
+    table: &mut [u32],
+    over: &mut Vec<W>,
+    added: &[W],
+    k: usize,
+    bits: u32,
+) -> Result<(), AllocError>
+    requires some { 1 ≤ k }
+    requires most { k ≤ MOST_SYMBOLS }
+    requires beside { 2 * k + bits ≤ 2 * W.most }
+    requires bits { bits ≤ MOST_WEIGHT_BITS }
+    requires table { IsTable k bits table.old }
+    requires fit { AreItems k bits (map W.number added.now) }
+    ensures { OnOk result (TakesIn k bits table.old (map W.number over.old.items) table.new
+        (map W.number over.new.items) (map W.number added.now)) }
+{
+    for item in added {
+        add_item(table, over, *item, k, bits)?;
+    }
+    Ok(())
+}
+
+/// Appends an item for each word whose counter is not 0.
+fn push_counters<W: Word + Drop>(
+    out: &mut Vec<W>,
+    table: &[u32],
+    k: usize,
+    bits: u32,
+) -> Result<(), AllocError>
+    requires some { 1 ≤ k }
+    requires most { k ≤ MOST_SYMBOLS }
+    requires beside { 2 * k + bits ≤ 2 * W.most }
+    requires bits { bits ≤ MOST_WEIGHT_BITS }
+    requires table { IsTable k bits table.now }
+    ensures each { OnOk result ((g : List ℕ → ℕ)
+        → worth g (items k bits (map W.number out.new.items))
+        ≡ worth g (items k bits (map W.number out.old.items)) + table_worth g k 0 table.now) }
+    ensures fit { OnOk result (AreItems k bits (map W.number out.old.items)
+        → AreItems k bits (map W.number out.new.items)) }
+{
+    for place in 0..table.len() {
+        let count = table[place];
+        if count > 0 {
+            let word = W::of_packed(place as u32);
+            out.push(word.weighted(Weight {
+                bits,
+                times: u64::from(count),
+            }))?;
+        }
+    }
+    Ok(())
+}
+
+/// Makes the table of counters, each 0, in its room.
+fn make_table(table: &mut Vec<u32>, k: usize) -> Result<(), AllocError>
+    requires { k ≤ MOST_SYMBOLS }
+    ensures { OnOk result (table.new.items ≡ replicate (4 ^ k) 0) }
+{
+    table.clear();
+    table.resize(1 << (2 * k), 0)?;
+    Ok(())
+}
+
+/// Adds up the items of equal words, in counters that are made anew in the room `table`; `over` has room for items of full
+/// counters.
+pub(crate) fn add_up<W: Word + Drop>(
+    items: &mut Vec<W>,
+    table: &mut Vec<u32>,
+    over: &mut Vec<W>,
+    k: usize,
+    bits: u32,
+) -> Result<(), AllocError>
+    requires some { 1 ≤ k }
+    requires most { k ≤ MOST_SYMBOLS }
+    requires beside { 2 * k + bits ≤ 2 * W.most }
+    requires bits { bits ≤ MOST_WEIGHT_BITS }
+    requires fit { AreItems k bits (map W.number items.old.items) }
+    ensures { OnOk result (ComeToAsMuch k bits (map W.number items.old.items)
+        (map W.number items.new.items)) }
+{
+    make_table(table, k)?;
+    over.clear();
+    add_items(table.as_mut_slice(), over, items, k, bits)?;
+    items.clear();
+    items.append(over)?;
+    push_counters(items, table, k, bits)?;
+    Ok(())
+}
