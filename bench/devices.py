@@ -78,8 +78,8 @@ def tasks_of(library, size, step):
     reads = -(-len(TEXTS[size][1]) // 4096) + 1
     tasks = []
     for number in range(1, reads + 1):
-        tasks.append(("a failed read", {"READ_PIECE": "4096", "FAIL_READ": str(number)}, 1, 0, b"kmc: read failed\n"))
-    tasks.append(("all reads", {"READ_PIECE": "4096", "FAIL_READ": str(reads + 1)}, 0, length, b""))
+        tasks.append(("a failed read", {"READ_BLOCK": "4096", "FAIL_READ": str(number)}, 1, 0, b"kmc: read failed\n"))
+    tasks.append(("all reads", {"READ_BLOCK": "4096", "FAIL_READ": str(reads + 1)}, 0, length, b""))
     places = set(range(length))
     if length > 10**4:
         places = set(range(0, length, step))
@@ -88,9 +88,9 @@ def tasks_of(library, size, step):
     for place in sorted(places):
         for more in ({}, {"TAKE_NONE": "yes"}):
             tasks.append(("a failed write", dict(more, FAIL_WRITE=str(place)), 1, place, b"kmc: write failed\n"))
-    for piece in ("1", "7", "4096") if size == "small" else ("100", "4096"):
-        for devices in ({"READ_PIECE": piece}, {"WRITE_PIECE": piece}, {"READ_PIECE": piece, "WRITE_PIECE": piece}):
-            tasks.append(("pieces", devices, 0, length, b""))
+    for block in ("1", "7", "4096") if size == "small" else ("100", "4096"):
+        for devices in ({"READ_BLOCK": block}, {"WRITE_BLOCK": block}, {"READ_BLOCK": block, "WRITE_BLOCK": block}):
+            tasks.append(("blocks", devices, 0, length, b""))
     return [(library, size) + task for task in tasks]
 
 

@@ -1,4 +1,4 @@
-/* A preloaded library that makes standard input and standard output fail. READ_PIECE and WRITE_PIECE are the most bytes that a call of
+/* A preloaded library that makes standard input and standard output fail. READ_BLOCK and WRITE_BLOCK are the most bytes that a call of
    read or write passes on; the read with the number FAIL_READ fails; once FAIL_WRITE bytes were written, a write fails, or takes
    none where TAKE_NONE stands in the environment. The place of each write call's end is written to descriptor 9 where WRITE_ENDS stands
    there. devices.py compiles it. */
@@ -20,7 +20,7 @@ static long told(const char *name, long otherwise)
 ssize_t read(int file, void *buffer, size_t size)
 {
     if (file == 0) {
-        size_t most = (size_t)told("READ_PIECE", 1L << 30);
+        size_t most = (size_t)told("READ_BLOCK", 1L << 30);
         reads++;
         if (reads == told("FAIL_READ", 0)) {
             errno = EIO;
@@ -35,7 +35,7 @@ ssize_t write(int file, const void *buffer, size_t size)
 {
     ssize_t taken;
     if (file == 1) {
-        size_t most = (size_t)told("WRITE_PIECE", 1L << 30);
+        size_t most = (size_t)told("WRITE_BLOCK", 1L << 30);
         long left = told("FAIL_WRITE", 1L << 62) - written;
         if (left <= 0 && size > 0) {
             errno = ENOSPC;

@@ -146,9 +146,9 @@ def dump_of(reads, settings):
     k = settings[b"k"]
     seen = collections.Counter()
     for read in reads:
-        for piece in re.split(rb"[^ACGT]+", read.upper()):
-            if len(piece) >= k:
-                seen.update(map(piece.__getitem__, map(slice, range(len(piece) - k + 1), range(k, len(piece) + 1))))
+        for stretch in re.split(rb"[^ACGT]+", read.upper()):
+            if len(stretch) >= k:
+                seen.update(map(stretch.__getitem__, map(slice, range(len(stretch) - k + 1), range(k, len(stretch) + 1))))
     counts = collections.Counter()
     for word, count in seen.items():
         if not settings[b"apart"]:
@@ -196,7 +196,7 @@ def reverse(read):
 
 
 def reads_for(source, k, number):
-    """Reads that share words: pieces of one sequence, of either strand, and some of their own."""
+    """Reads that share words: parts of one sequence, of either strand, and some of their own."""
     lengths = (0, 1, k - 1, k, k + 1, k + 10, 2 * k, 60, 100, k + 255, k + 256, 300)
     genome = sequence(source, source.choice((20, 80, 200)) + k)
     for _ in range(number):
@@ -441,7 +441,7 @@ def option_line(source, is_fasta, values, is_small):
 
 
 def trial(seed, number):
-    """Words, text, and whether it comes through a pipe in pieces."""
+    """Words, text, and whether it comes through a pipe in blocks."""
     source = random.Random("%d %d" % (seed, number))
     values = good_values(source)
     k = values.get(b"k", 25)
@@ -474,28 +474,28 @@ def content_of(file):
 
 
 def feed(pipe, text):
-    """The text in pieces of some bytes, as far as the program takes it."""
+    """The text in blocks of some bytes, as far as the program takes it."""
     size = max(1, len(text) // 7)
     try:
         for start in range(0, len(text), size):
-            piece = text[start:start + size]
-            while piece:
-                piece = piece[os.write(pipe, piece):]
+            block = text[start:start + size]
+            while block:
+                block = block[os.write(pipe, block):]
     except BrokenPipeError:
         pass
     os.close(pipe)
 
 
-def run(words, text, in_pieces, environment=os.environ, more_files=(), program=KMC):
+def run(words, text, in_blocks, environment=os.environ, more_files=(), program=KMC):
     """Status, standard output and standard error; the status is negative where a signal ended the program."""
     out, err = memory_file(), memory_file()
-    given, pipe = os.pipe() if in_pieces else (memory_file(text), None)
+    given, pipe = os.pipe() if in_blocks else (memory_file(text), None)
     process = os.posix_spawn(program, [b"kmc"] + words, environment, file_actions=[
         (os.POSIX_SPAWN_DUP2, file, place) for file, place in ((given, 0), (out, 1), (err, 2)) + more_files])
     os.close(given)
     signal.signal(signal.SIGALRM, lambda *_: os.kill(process, signal.SIGKILL))
     signal.alarm(SECONDS)
-    if in_pieces:
+    if in_blocks:
         feed(pipe, text)
     _, status = os.waitpid(process, 0)
     signal.alarm(0)
@@ -507,18 +507,18 @@ def run(words, text, in_pieces, environment=os.environ, more_files=(), program=K
 
 # ---- the tries
 
-def is_wrong(words, text, in_pieces):
-    return run(words, text, in_pieces) != answer_of(words, text)
+def is_wrong(words, text, in_blocks):
+    return run(words, text, in_blocks) != answer_of(words, text)
 
 
-def smaller(words, text, in_pieces):
+def smaller(words, text, in_blocks):
     """A part of the text whose answer is wrong too."""
     size = len(text) // 2
     while size:
         start = 0
         while start < len(text):
             less = text[:start] + text[start + size:]
-            if is_wrong(words, less, in_pieces):
+            if is_wrong(words, less, in_blocks):
                 text = less
             else:
                 start += size
@@ -530,13 +530,13 @@ def shortened(content):
     return repr(content if len(content) <= 400 else content[:200] + b" .. " + content[-200:])
 
 
-def report(seed, number, words, text, in_pieces):
+def report(seed, number, words, text, in_blocks):
     if len(text) < 10**5:
-        text = smaller(words, text, in_pieces)
+        text = smaller(words, text, in_blocks)
     path = os.path.join(tempfile.gettempdir(), "kmc_fuzz_%d_%d" % (seed, number))
     with open(path, "wb") as file:
         file.write(text)
-    expected, found = answer_of(words, text), run(words, text, in_pieces)
+    expected, found = answer_of(words, text), run(words, text, in_blocks)
     return "\n".join((
         "fuzz: try %d is wrong, options %s, text in %s: %s" % (number, words, path, shortened(text)),
         "  wanted status %d, output %s, error %s" % (expected[0], shortened(expected[1]), shortened(expected[2])),
@@ -548,22 +548,22 @@ def tried(task):
     seed, numbers = task
     wrong, kinds = [], collections.Counter()
     for number in numbers:
-        words, text, in_pieces = trial(seed, number)
-        expected, found = answer_of(words, text), run(words, text, in_pieces)
+        words, text, in_blocks = trial(seed, number)
+        expected, found = answer_of(words, text), run(words, text, in_blocks)
         kind = re.sub(rb"\d+|-[a-z]+ is", b"..", found[2]).decode(errors="replace").strip().split(" [")[0]
         kinds[kind or ("a dump" if found[1] else "an empty dump")] += 1
         if found != expected:
-            wrong.append(report(seed, number, words, text, in_pieces))
+            wrong.append(report(seed, number, words, text, in_blocks))
     return wrong, kinds
 
 
 def show(seed, number):
-    words, text, in_pieces = trial(seed, number)
-    print("options", words, "in pieces" if in_pieces else "from a file")
+    words, text, in_blocks = trial(seed, number)
+    print("options", words, "in blocks" if in_blocks else "from a file")
     print("text", shortened(text))
     print("wanted", [shortened(part) if isinstance(part, bytes) else part for part in answer_of(words, text)])
-    print("it was", [shortened(part) if isinstance(part, bytes) else part for part in run(words, text, in_pieces)])
-    return is_wrong(words, text, in_pieces)
+    print("it was", [shortened(part) if isinstance(part, bytes) else part for part in run(words, text, in_blocks)])
+    return is_wrong(words, text, in_blocks)
 
 
 def main():

@@ -1,4 +1,4 @@
-"""A run over inputs, in one piece or in slices."""
+"""A run over inputs, whole or in slices."""
 import sys
 
 from futoncrane import inputs, memory, places, shared

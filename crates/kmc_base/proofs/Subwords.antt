@@ -1,39 +1,10 @@
 -- The codes from a place on, in a packed word.
-use Rattle.std.proofs.Common.{◌≡◌, ℕ, zero, suc, ◌+◌, ◌*◌, ◌-◌, ◌/◌, ◌%◌, ◌^◌, ◌<◌, ◌≤◌, bit_and, List, [], ◌∷◌, ◌++◌, take, drop, refl, sym, ap, ◌∙◌, arith, append_assoc, append-nil, add-zero}
+use Rattle.std.proofs.Common.{◌≡◌, ℕ, ◌+◌, ◌*◌, ◌-◌, ◌/◌, ◌%◌, ◌^◌, ◌<◌, ◌≤◌, bit_and, List, ◌++◌, take, drop, refl, sym, ap, ◌∙◌, arith, append_assoc}
 use Rattle.std.proofs.lemmas.List.{take_at, drop_at}
-use Rattle.std.proofs.Math.Arith.{mod-mul}
-use Rattle.std.proofs.Math.Nat.{div-div-eq-div-mul, pow-succ'}
-use Rattle.kmc_base.specs.Lemmas.Powers.{pow_quad, pow_some, masked, low_fits}
+use Rattle.kmc_base.specs.Lemmas.Powers.{pow_quad, masked, low_fits}
 use Rattle.kmc_base.specs.Words.{window}
 use Rattle.kmc_base.specs.Packed.{unpack}
-use Rattle.kmc_base.specs.Lemmas.Packing.{length_unpack}
-
-low_digits : (m p : ℕ) → p % 4 ^ suc m ≡ (p / 4 % 4 ^ m) * 4 + p % 4
-low_digits m p =
-    let some : zero < 4 ^ m = omega (arith, pow_some m) in
-    let four : zero < 4 = omega arith in
-    let power : 4 ^ suc m ≡ 4 ^ m * 4 = omega (arith, pow-succ' 4 m) in
-    ap (λ n. p % n) power ∙ mod-mul p some four
-
--- only the low codes count
-pub unpack_low : (m p : ℕ) → unpack m (p % 4 ^ m) ≡ unpack m p
-unpack_low zero p = refl
-unpack_low (suc m) p =
-    let high : p % 4 ^ suc m / 4 ≡ p / 4 % 4 ^ m = omega (arith, low_digits m p) in
-    let low : p % 4 ^ suc m % 4 ≡ p % 4 = omega (arith, low_digits m p) in
-    (λ i. unpack m (high i) ++ low i ∷ []) ∙ ap (λ (w : List ℕ). w ++ p % 4 ∷ []) (unpack_low m (p / 4))
-
--- the high codes and the low codes
-pub unpack_split : (a b p : ℕ) → unpack (a + b) p ≡ unpack a (p / 4 ^ b) ++ unpack b p
-unpack_split a zero p =
-    let one : p / 4 ^ 0 ≡ p = omega arith in
-    rw add-zero (rw one (sym (append-nil (unpack a p))))
-unpack_split a (suc b) p =
-    let count : a + suc b ≡ suc (a + b) = omega arith in
-    ap (λ n. unpack n p) count
-    ∙ ap (λ (w : List ℕ). w ++ p % 4 ∷ []) (unpack_split a b (p / 4))
-    ∙ append_assoc (unpack a (p / 4 / 4 ^ b)) (unpack b (p / 4)) (p % 4 ∷ [])
-    ∙ ap (λ q. unpack a q ++ unpack (suc b) p) (div-div-eq-div-mul p 4 (4 ^ b) ∙ ap (λ d. p / d) (sym (pow-succ' 4 b)))
+use Rattle.kmc_base.specs.Lemmas.Packing.{length_unpack, unpack_low, unpack_split}
 
 pub window_unpack : (n i m j p : ℕ) → i + m + j ≡ n → window m (unpack n p) i ≡ unpack m (p / 4 ^ j)
 window_unpack n i m j p e =

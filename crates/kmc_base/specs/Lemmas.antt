@@ -11,3 +11,4 @@ pub mod Ranges
 pub mod Orders
 pub mod Windows
 pub mod Weights
+pub mod PassedOn

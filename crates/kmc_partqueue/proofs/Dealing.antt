@@ -12,7 +12,7 @@ use Rattle.kmc_partqueue.specs.declared.views.Reading.{Reading}
 use Rattle.kmc_partqueue.specs.declared.views.View.{View}
 use Rattle.kmc_partcore.specs.declared.shape.QueueShape.{QueueShape}
 use Rattle.kmc_partqueue.specs.Counts.{Each, total_of, same, once_below}
-use Rattle.kmc_partqueue.specs.Lane.{free, Lane, LaneOk}
+use Rattle.kmc_partqueue.specs.Lane.{free, Lane}
 use Rattle.kmc_partqueue.specs.Rule.{head_at, end_at, slot_at, mark_at, got_once, entries, writers_of, readers_of, WriterOk, ReaderOk, ViewOk, LanesRule}
 use Rattle.kmc_partqueue.specs.Dealing.{row_from, fresh_writer, fresh_reader, all_seats, first_of, rest_of, no_writer, its_writer, no_reader, its_reader, both, spent}
 use Rattle.kmc_partqueue.specs.Lemmas.Sums.{total_set, total_append, each_append, views_stay, below_none}

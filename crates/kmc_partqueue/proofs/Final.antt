@@ -167,6 +167,9 @@ get_or_at [] i d s e = cc
 get_or_at (x ∷ l) zero d s e = let e' : Some x ≡ Some s = e in cc
 get_or_at (x ∷ l) (suc i) d s e = get_or_at l i d s e
 
+pub inner : {a b : ℕ} → Some (Some a) ≡ Some (Some b) → a ≡ b
+inner e = cc
+
 -- the counts that a take answers are the kept totals
 pub counts_are : {T : Type 0} (n : ℕ) (totals : List (Option ℕ)) (counts : List ℕ) → AreKeptTotals n totals counts
     → (l : List (WriterState T)) → Each (λ (x : WriterState T). x.number < n) l
@@ -175,6 +178,3 @@ pub counts_are : {T : Type 0} (n : ℕ) (totals : List (Option ℕ)) (counts : L
 counts_are n totals counts are [] near p = tt
 counts_are n totals counts are (x ∷ l) near p =
     let t = are.1 x.number near.0 in (t.2 ∙ ap Some (inner (sym t.1 ∙ p.0)), counts_are n totals counts are l near.1 p.1)
-  where
-    inner : {a b : ℕ} → Some (Some a) ≡ Some (Some b) → a ≡ b
-    inner e = cc

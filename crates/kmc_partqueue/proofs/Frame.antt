@@ -1,6 +1,6 @@
 -- What stays of the rule when one lane and one seat move.
 use Rattle.std.proofs.Common.{◌≡◌, ℕ, ◌%◌, ◌<◌, ◌≤◌, ◌≢◌, Bool, true, List, length, get_or, set, refl, sym, ap, ◌∙◌, le_trans, arith}
-use mathlib.Core.Option.{none, some}
+use mathlib.Core.Option.{some}
 use mathlib.Core.Option as maybe
 use lib.ListN.{get_elem?}
 use Rattle.std.specs.Prelude.{Option}

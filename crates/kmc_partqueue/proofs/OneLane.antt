@@ -4,6 +4,7 @@ use mathlib.Core.Option.{none, some}
 use mathlib.Core.Option as maybe
 use mathlib.Core.Logic.{dite}
 use native.Mathlib.Decide.{dec_le}
+use native.Mathlib.Nat.{add-mod_right}
 use lib.ListN.{get_elem?}
 use Rattle.std.specs.Prelude.{Some, None}
 use Rattle.atomic_table.proofs.Lists.{at_longer, at_last}
@@ -22,6 +23,11 @@ at_most_one free = omega arith
 at_most_one writing = omega arith
 at_most_one full = omega arith
 at_most_one (reading r) = omega arith
+
+-- the reader in whose hand a slot is
+abbrev pub holder : Phase → ℕ
+holder (reading q) = q
+holder _ = 0
 
 abbrev pub lane_of : {T : Type 0} → List T → Bool → Bool → (ℕ → Cell) → Lane T
 lane_of s h d cs = record { sent = s; held = h; done = d; cells = cs }
@@ -62,13 +68,10 @@ module _ {T : Type 0} where
         let n : ℕ = cell.0 in let l : n < head + c = k.freed in record {
           lies = k.lies;
           freed = omega arith;
-          waits = lq (n + c) (add_turn n ∙ k.lies) k.waits;
+          waits = lq (n + c) (add-mod_right n c ∙ k.lies) k.waits;
           phase = phase_stays head head' sent sent' mark mark' home home' n a b more (lq n k.lies) (hq n k.lies) (wq n k.lies) em eh cell.1 k.phase;
           in_hand = λ is. keep (let p = subst (InPhase c head sent mark home n) is k.phase in p.1) (k.in_hand is);
         }
-      where
-        add_turn : (n : ℕ) → (n + c) % c ≡ n % c
-        add_turn n = native.Mathlib.Nat.add-mod_right n c
 
     module _ (pos : 0 < c) (l : Lane T) (head ending : ℕ) (mark : ℕ → ℕ) (home : ℕ → maybe.Option (Home T)) (ok : LaneOk c l head ending mark home) where
       abbrev len : ℕ

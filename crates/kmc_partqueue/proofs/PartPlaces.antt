@@ -10,7 +10,7 @@ use Rattle.kmc_partcore.specs.declared.event.Received.{Received}
 use Rattle.kmc_partqueue.specs.declared.views.Writing.{Writing}
 use Rattle.kmc_partqueue.specs.declared.views.Reading.{Reading}
 use Rattle.kmc_partqueue.specs.Counts.{Among, total_of, same}
-use Rattle.kmc_partqueue.specs.Lane.{Phase, writing, reading, Cell, CellOk}
+use Rattle.kmc_partqueue.specs.Lane.{writing, reading, Cell, CellOk}
 use Rattle.kmc_partqueue.specs.Rule.{head_at, end_at, mark_at, slot_at, is_entry, got_once, entries, WriterOk, ReaderOk, GotOk, LanesRule}
 use Rattle.kmc_partqueue.specs.Plays.{next_slot_of, seen_slot_of}
 use Rattle.kmc_partqueue.specs.Reached.{IsReached}
@@ -19,7 +19,7 @@ use Rattle.kmc_partqueue.specs.Laws.{PartPlaceLaw, HeldSlotLaw}
 use Rattle.kmc_partqueue.specs.Lemmas.Sums.{same_ne, below_one, below_none}
 use Rattle.kmc_partqueue.proofs.Members.{some_member, member_at, within, among_last}
 use Rattle.kmc_partqueue.proofs.Turns.{other_lane}
-use Rattle.kmc_partqueue.proofs.OneLane.{full_found}
+use Rattle.kmc_partqueue.proofs.OneLane.{full_found, holder}
 use Rattle.kmc_partqueue.proofs.Frame.{St, heads_of}
 use Rattle.kmc_partqueue.proofs.Final.{each_at}
 use Rattle.kmc_partqueue.proofs.Kept.{rule_of}
@@ -165,15 +165,11 @@ module _ {T : Type 0} (k : QueueShape) (s : St T) (r : LanesRule k s) where
           let one = one_lane d.lane b.lane j i₀ (near d.head) (near b.head)
           (sym (ap (λ (z : ℕ). d.lane * z + d.head % z) o.per_writer) ∙ same_slot ∙ slot_is) in
           let e : (d.head, reading d.number) ≡ (b.head, reading b.number) = sym (o.held busy).0 ∙ (λ t. (r.lanes (one.0 t)).cells (one.1 t)) ∙ at_cell in
-          ap who (ap (λ (z : Cell). z.1) e));
+          ap holder (ap (λ (z : Cell). z.1) e));
     }
       where
         clash : writing ≡ reading b.number → ⊥
         clash e = cc
-
-        who : Phase → ℕ
-        who (reading q) = q
-        who _ = 0
 
 pub part_place_law : (T : Type 0) → PartPlaceLaw T
 part_place_law T k s r a has n x put = one_place k s (rule_of k s r) a has n x put r

@@ -18,7 +18,7 @@ use Rattle.kmc_partqueue.specs.Plays.{Seated, seen_slot_of, looking, seeing, tak
 use Rattle.kmc_partqueue.specs.Seats.{Between, Noted}
 use Rattle.kmc_partqueue.specs.Lemmas.Sums.{each_append}
 use Rattle.kmc_partqueue.proofs.Members.{among_left, among_last}
-use Rattle.kmc_partqueue.proofs.Final.{each_at}
+use Rattle.kmc_partqueue.proofs.Final.{each_at, inner}
 use Rattle.kmc_partqueue.proofs.Allowed.{reads_head, sees_published_part, reads_end, claims_part, releases_slot}
 
 module _ {T : Type 0} where
@@ -129,9 +129,6 @@ noted_more es ts w t n new inside = record {
       (olds es n.all) (set_same ts w (Some t) inside, tt);
 }
   where
-    inner : {x y : ℕ} → Some (Some x) ≡ Some (Some y) → x ≡ y
-    inner e = cc
-
     clash : {A : Type 0} {x : ℕ} {y : Option (Option ℕ)} → y ≡ Some None → y ≡ Some (Some x) → A
     clash {A} {x} a b = let e : Some None ≡ Some (Some x) = sym a ∙ b in cc
 

@@ -7,18 +7,19 @@ use native.Mathlib.Decide.{ℕ_discrete}
 use lib.ListN.{get_elem?}
 use Rattle.std.specs.Prelude.{Option, Some, None}
 use Rattle.atomic_table.proofs.Lists.{set_here}
+use Rattle.std.proofs.lemmas.Bool.{both_ways}
 use Rattle.kmc_partqueue.specs.declared.views.Writing.{Writing}
 use Rattle.kmc_partqueue.specs.declared.views.Reading.{Reading}
 use Rattle.kmc_partcore.specs.declared.event.Received.{Received}
 use Rattle.kmc_partqueue.specs.declared.views.View.{View}
 use Rattle.kmc_partcore.specs.declared.shape.QueueShape.{QueueShape}
 use Rattle.kmc_partqueue.specs.Counts.{Each, total_of, same, once_below}
-use Rattle.kmc_partqueue.specs.Lane.{Phase, free, full, reading, Cell, Lane, LaneOk, end_word}
+use Rattle.kmc_partqueue.specs.Lane.{free, full, reading, Cell, Lane, LaneOk, end_word}
 use Rattle.kmc_partqueue.specs.Rule.{head_at, end_at, slot_at, mark_at, is_entry, got_once, entries, readers_of, Rises, GotOk, EndOk, WriterOk, ReaderOk, LanesRule}
 use Rattle.kmc_partqueue.specs.Dealing.{one_of_readers}
 use Rattle.kmc_partqueue.specs.Plays.{seen_slot_of, looking, seeing, taking, freeing, ending}
 use Rattle.kmc_partqueue.specs.Lemmas.Sums.{put, at_put, put_here, one_of_itself, same_refl, same_ne, total_set, total_append, each_map, each_absent, each_append, once_next}
-use Rattle.kmc_partqueue.proofs.OneLane.{lane_of, ready_found, full_found, lane_stays, lane_takes, lane_frees}
+use Rattle.kmc_partqueue.proofs.OneLane.{holder, lane_of, ready_found, full_found, lane_stays, lane_takes, lane_frees}
 use Rattle.kmc_partqueue.proofs.Frame.{St, heads_of, Grows, Hands, alone_with, reader_stays, hands_put, rule_moves, reviewed}
 use Rattle.kmc_partqueue.proofs.Places.{slot_within, mark_within, mark_head, mark_end, mark_mark, head_head, head_end, head_mark, home_else}
 use Rattle.kmc_partqueue.proofs.WriterSteps.{grows_put}
@@ -203,7 +204,7 @@ module _ {T : Type 0} (k : QueueShape) where
       ≡ y = e in (let g' : y ≤ x = omega arith in g')) (λ w lw _. heads w lw) (le_refl (length l.sent)) (λ q z e. e)
       (λ d e. (d, refl, heads w₀ p.lane)) in
       let hands : (q : ℕ) → q ≢ b.number → Hands k r.lanes ls q = λ q other. hands_put k r.lanes w₀ i₀ l.sent l.held l.done cell' q
-      (λ e. other (sym (ap who (sym (ap (λ (z : Cell). z.1) has) ∙ e)))) in
+      (λ e. other (sym (ap holder (sym (ap (λ (z : Cell). z.1) has) ∙ e)))) in
       let v' : View T = one_of_readers (freeing b) in
       let mine : ReaderOk k ls hs' (freeing b) = reader_stays k r.lanes ls hs hs' g (freeing b)
       (λ e. clash e) record {
@@ -244,10 +245,6 @@ module _ {T : Type 0} (k : QueueShape) where
       clash : {A : Type 0} → false ≡ true → A
       clash e = cc
 
-      who : Phase → ℕ
-      who (reading q) = q
-      who _ = 0
-
   module _ (s : St T) (r : LanesRule k s) (id : ℕ) (b : Reading T) (at : get_elem? s.views id ≡ some (one_of_readers b)) where
     abbrev hs : ℕ → ℕ
     hs = heads_of k s.words
@@ -269,15 +266,12 @@ module _ {T : Type 0} (k : QueueShape) where
           per_writer = p.per_writer;
           lane = near;
           head = le_refl h;
-          ready = λ e. never refl e;
+          ready = λ e. absurd (both_ways _ refl e);
           shown = p.shown;
           rises = p.rises;
           ends = p.ends;
-          held = λ e. never empty e;
+          held = λ e. absurd (both_ways _ empty e);
         }
-      where
-        never : {A : Type 0} {x : Bool} → x ≡ false → x ≡ true → A
-        never {A} {x} d e = let z : false ≡ true = sym d ∙ e in cc
 
     -- the part at the head is seen published
     pub sees_kept : get_or s.words (mark_at k b.lane (b.head % k.per_writer)) 0 ≡ 2 * (b.head / k.per_writer) + 1

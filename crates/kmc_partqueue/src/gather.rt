@@ -1,5 +1,5 @@
 //! All seats come back, and what was sent was got once.
-ghost use Rattle.std.specs.Prelude.{◌≡◌, ℕ, ◌+◌, ◌-◌, ◌<◌, List, ◌++◌, length, Some, slice_get, Option};
+ghost use Rattle.std.specs.Prelude.{◌≡◌, ℕ, ◌<◌, List, ◌++◌, length, Some, slice_get, Option};
 ghost use Rattle.std.specs.Slots.{IsFull};
 ghost use Rattle.atomic_table.specs.Table.{State, Seen};
 ghost use Rattle.kmc_partqueue.specs.Reached.{IsReached};

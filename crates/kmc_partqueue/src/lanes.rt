@@ -1,5 +1,5 @@
 //! The queue, and how it opens with a seat for each writer and each reader.
-ghost use Rattle.std.specs.Prelude.{◌≡◌, ◌+◌, ◌*◌, ◌-◌, ◌<◌, [], Option, None, IfOk};
+ghost use Rattle.std.specs.Prelude.{◌≡◌, ◌+◌, ◌*◌, [], Option, IfOk};
 
 use crate::reader::ReaderSeat;
 use crate::rule::Reached;

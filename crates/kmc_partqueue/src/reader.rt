@@ -1,5 +1,5 @@
 //! What a reader does with its seat.
-ghost use Rattle.std.specs.Prelude.{◌≡◌, ℕ, ◌+◌, ◌*◌, ◌-◌, ◌/◌, ◌%◌, ◌<◌, ◌↔◌, [], ◌∷◌, ◌++◌, MatchOption, Option, Some, None, slice_get, true, false};
+ghost use Rattle.std.specs.Prelude.{◌≡◌, ℕ, ◌+◌, ◌*◌, ◌/◌, ◌%◌, ◌<◌, ◌↔◌, [], ◌∷◌, ◌++◌, MatchOption, Option, Some, None, slice_get, true, false};
 ghost use Rattle.kmc_partqueue.specs.Seats.{IsReaderOf, new_reader, KeepsNotes, AllEnded, AreKeptTotals};
 ghost use Rattle.kmc_partqueue.specs.declared.views.Reading.{Reading};
 ghost use Rattle.kmc_partqueue.specs.Dealing.{one_of_readers, fresh_reader};

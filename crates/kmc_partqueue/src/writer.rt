@@ -1,5 +1,5 @@
 //! What a writer does with its seat.
-ghost use Rattle.std.specs.Prelude.{◌≡◌, ◌+◌, ◌*◌, ◌-◌, ◌/◌, ◌%◌, ◌<◌, ◌↔◌, [], ◌∷◌, ◌++◌, length, MatchResult, IfErr, false, Option, Some, None, Err};
+ghost use Rattle.std.specs.Prelude.{◌≡◌, ◌+◌, ◌*◌, ◌/◌, ◌%◌, ◌↔◌, [], ◌∷◌, ◌++◌, length, MatchResult, IfErr, false, Option, Some, None, Err};
 ghost use Rattle.kmc_partqueue.specs.Dealing.{one_of_writers};
 ghost use Rattle.kmc_partqueue.specs.Seats.{IsWriterOf, open_writer};
 ghost use Rattle.kmc_partqueue.specs.Refusals.{Refused};

@@ -1,5 +1,6 @@
 -- A table of codes that agrees with their definition.
-use Rattle.std.proofs.Common.{◌≡◌, ℕ, zero, suc, ◌+◌, ◌<◌, ◌&&◌, Bool, true, false, nat_eq, List, [], ◌∷◌, length, get_or, Option, Some, None, refl, sym, ap, ◌∙◌, arith, add-zero}
+use Rattle.std.proofs.Common.{◌≡◌, ℕ, zero, suc, ◌+◌, ◌<◌, ◌&&◌, Bool, true, nat_eq, List, [], ◌∷◌, length, get_or, Option, Some, None, sym, ap, ◌∙◌, arith, add-zero}
+use Rattle.std.proofs.lemmas.Bool.{and_parts}
 use Rattle.std.proofs.lemmas.Bool.Decides.{nat_tests}
 use Rattle.kmc_base.specs.Words.{code_of}
 
@@ -12,19 +13,14 @@ abbrev agrees : ℕ → List ℕ → Bool
 agrees i [] = true
 agrees i (c ∷ cs) = nat_eq c (code_or_four (code_of i)) && agrees (i + 1) cs
 
-both : (a b : Bool) → (a && b) ≡ true → (a ≡ true) × (b ≡ true)
-both true true e = (refl, refl)
-both true false e = absurd (cc)
-both false b e = absurd (cc)
-
 at_place : (i : ℕ) (cs : List ℕ) (j : ℕ) → agrees i cs ≡ true → j < length cs → get_or cs j 0 ≡ code_or_four (code_of (i + j))
 at_place i [] j e inside = absurd (omega arith)
 at_place i (c ∷ cs) zero e inside =
-    let here : c ≡ code_or_four (code_of i) = grind (arith, nat_tests, (both (nat_eq c (code_or_four (code_of i))) (agrees (i + 1) cs) e).0) in
+    let here : c ≡ code_or_four (code_of i) = grind (arith, nat_tests, (and_parts (nat_eq c (code_or_four (code_of i))) (agrees (i + 1) cs) e).0) in
     here ∙ ap (λ n. code_or_four (code_of n)) (sym (add-zero i))
 at_place i (c ∷ cs) (suc j) e inside =
     let place : i + 1 + j ≡ i + suc j = omega arith in
-    at_place (i + 1) cs j (both (nat_eq c (code_or_four (code_of i))) (agrees (i + 1) cs) e).1 (omega arith) ∙ ap (λ n. code_or_four (code_of n)) place
+    at_place (i + 1) cs j (and_parts (nat_eq c (code_or_four (code_of i))) (agrees (i + 1) cs) e).1 (omega arith) ∙ ap (λ n. code_or_four (code_of n)) place
 
 is_code : (o : Option ℕ) (c : ℕ) → c ≡ code_or_four o → c < 4 → Some c ≡ o
 is_code None c e small = absurd (omega arith)

@@ -1,7 +1,7 @@
 //! The super-k-mers of a segment.
 ghost use Rattle.std.specs.Prelude.{◌≡◌, ◌≤◌, length, IfOk};
 ghost use Rattle.kmc_base.specs.Words.{windows};
-ghost use Rattle.kmc_plain.specs.Pieces.{IsCutInto, all_words};
+ghost use Rattle.kmc_plain.specs.SuperKmers.{IsCutInto, all_words};
 
 use kmc_base::{MAX_K, Segment};
 use kmc_split::{MAX_M, Scratch, SuperKmer, cut, super_kmer};
@@ -19,15 +19,15 @@ pub fn super_kmers(
     requires within { m ≤ k }
     requires limit { k ≤ MAX_K }
     requires long { k ≤ length s.now.codes.items }
-    ensures cut { IfOk result (λ pieces. IsCutInto k m s.now.codes.items pieces.items) }
-    ensures words { IfOk result (λ pieces. all_words pieces.items ≡ windows k s.now.codes.items) }
+    ensures cut { IfOk result (λ found. IsCutInto k m s.now.codes.items found.items) }
+    ensures words { IfOk result (λ found. all_words found.items ≡ windows k s.now.codes.items) }
 {
     let mut scratch = Scratch::new(alloc);
     let mut runs = Vec::new(alloc);
     cut(&s.codes, k, m, &mut scratch, &mut runs)?;
-    let mut pieces = Vec::new(alloc);
+    let mut found = Vec::new(alloc);
     for r in &runs {
-        pieces.push(super_kmer(alloc, &s.codes, k, *r)?)?;
+        found.push(super_kmer(alloc, &s.codes, k, *r)?)?;
     }
-    Ok(pieces)
+    Ok(found)
 }

@@ -9,13 +9,13 @@ use Rattle.kmc_reads.specs.Answer.{Answer, with_reads}
 use Rattle.kmc_reads.specs.Fasta.{is_header, onto_read, reads_after, fasta_reads}
 use Rattle.kmc_reads.specs.Fastq.{fastq_reads, plus_then, quality_then}
 use Rattle.kmc_reads.specs.Reads.{reads_of}
-use Rattle.kmc_reads.specs.Lines.{line_past, pieces, lines, onto_first}
-use Rattle.kmc_reads.specs.Pieces.{lines_from}
+use Rattle.kmc_reads.specs.Lines.{line_past, raw_lines, lines, onto_first}
+use Rattle.kmc_reads.specs.OpenLines.{lines_from}
 use Rattle.kmc_reads.specs.Stages.{first_spot, reads_from, answer_past, fault_of}
 use Rattle.kmc_reads.proofs.Bodies.{onto_onto, onto_none}
 use Rattle.kmc_reads.proofs.Answers.{with_none}
 
--- a text at the front of pieces
+-- a text at the front of lines
 joined : List ℕ → List (List ℕ) → List (List ℕ)
 joined [] [] = []
 joined (b ∷ bs) [] = (b ∷ bs) ∷ []
@@ -38,22 +38,22 @@ unfolding joined
 joined-empty [] ps = refl
 joined-empty (x ∷ front) ps = ap (λ (t : List ℕ). t ∷ ps) (append-nil (x ∷ front))
 
-lines_step : (front : List ℕ) (b : ℕ) (bs : List ℕ) (t : Bool) → lines_from [] bs ≡ map (strip_last 13) (joined [] (pieces bs)) → lines_from
-    (front ++ b ∷ []) bs ≡ map (strip_last 13) (joined (front ++ b ∷ []) (pieces bs))
+lines_step : (front : List ℕ) (b : ℕ) (bs : List ℕ) (t : Bool) → lines_from [] bs ≡ map (strip_last 13) (joined [] (raw_lines bs)) → lines_from
+    (front ++ b ∷ []) bs ≡ map (strip_last 13) (joined (front ++ b ∷ []) (raw_lines bs))
     → cond t (strip_last 13 front ∷ lines_from [] bs) (lines_from (front ++ b ∷ []) bs) ≡ map (strip_last 13)
-    (joined front (cond t ([] ∷ pieces bs) (onto_first b (pieces bs))))
-lines_step front b bs true x y = ap (λ t. strip_last 13 front ∷ t) (x ∙ ap (map (strip_last 13)) (joined-none (pieces bs))) ∙ sym
-    (ap (map (strip_last 13)) (joined-empty front (pieces bs)))
-lines_step front b bs false x y = y ∙ ap (map (strip_last 13)) (joined-first front b (pieces bs))
+    (joined front (cond t ([] ∷ raw_lines bs) (onto_first b (raw_lines bs))))
+lines_step front b bs true x y = ap (λ t. strip_last 13 front ∷ t) (x ∙ ap (map (strip_last 13)) (joined-none (raw_lines bs))) ∙ sym
+    (ap (map (strip_last 13)) (joined-empty front (raw_lines bs)))
+lines_step front b bs false x y = y ∙ ap (map (strip_last 13)) (joined-first front b (raw_lines bs))
 
-joined_lines : (front bs : List ℕ) → lines_from front bs ≡ map (strip_last 13) (joined front (pieces bs))
+joined_lines : (front bs : List ℕ) → lines_from front bs ≡ map (strip_last 13) (joined front (raw_lines bs))
 unfolding joined
 joined_lines [] [] = refl
 joined_lines (x ∷ front) [] = refl
 joined_lines front (b ∷ bs) = lines_step front b bs (b == 10) (joined_lines [] bs) (joined_lines (front ++ b ∷ []) bs)
 
 pub lines_same : (text : List ℕ) → lines_from [] text ≡ lines text
-lines_same text = joined_lines [] text ∙ ap (map (strip_last 13)) (joined-none (pieces text))
+lines_same text = joined_lines [] text ∙ ap (map (strip_last 13)) (joined-none (raw_lines text))
 
 pub past_past : (n a : ℕ) → line_past (line_past n a) 1 ≡ line_past n (a + 1)
 past_past n a = omega arith

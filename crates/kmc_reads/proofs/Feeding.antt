@@ -8,7 +8,7 @@ use Rattle.kmc_reads.specs.declared.scan.Scan.{Scan}
 use Rattle.kmc_reads.specs.declared.stage.Stage.{Stage}
 use Rattle.kmc_reads.specs.declared.stage.Stage.TheVariants.{Header, Sequence, Plus, Quality, FirstHeader, Body, Name, Rest}
 use Rattle.kmc_reads.specs.Fasta.{is_header}
-use Rattle.kmc_reads.specs.Pieces.{last_line}
+use Rattle.kmc_reads.specs.OpenLines.{last_line}
 use Rattle.kmc_reads.specs.Rows.{ends_from}
 use Rattle.kmc_reads.specs.Stages.{begun_by, given_by, past}
 use Rattle.kmc_reads.specs.Standing.{At}

@@ -8,7 +8,7 @@ use Rattle.kmc_reads.specs.Answer.{Answer, with_reads}
 use Rattle.kmc_reads.specs.Cuts.{AreCut, IsCutAnswer}
 use Rattle.kmc_reads.specs.Fasta.{is_header, onto_read, reads_after}
 use Rattle.kmc_reads.specs.Lines.{line_past}
-use Rattle.kmc_reads.specs.Pieces.{whole_from, lines_from, last_line}
+use Rattle.kmc_reads.specs.OpenLines.{whole_from, lines_from, last_line}
 use Rattle.kmc_reads.specs.Stages.{Spot, fault_from, reads_from, begun_by}
 use Rattle.kmc_reads.specs.Standing.{LeadsCut}
 use Rattle.kmc_reads.proofs.Answers.{with_none}

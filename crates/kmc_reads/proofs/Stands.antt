@@ -2,7 +2,7 @@
 use Rattle.std.proofs.Common.{◌≡◌, ℕ, List, [], ◌++◌, sym, ap, subst, ◌∙◌, append_assoc, append-nil, None}
 use Rattle.kmc_reads.specs.declared.format.Format.{Format}
 use Rattle.kmc_reads.specs.Answer.{with_reads}
-use Rattle.kmc_reads.specs.Pieces.{whole_from, open_from, last_line, lines_from}
+use Rattle.kmc_reads.specs.OpenLines.{whole_from, open_from, last_line, lines_from}
 use Rattle.kmc_reads.specs.Reads.{reads_of}
 use Rattle.kmc_reads.specs.Stages.{first_spot, fault, fault_from, ended, ended_from, reads_from}
 use Rattle.kmc_reads.specs.Standing.{FeederState, StandsAt, Leads, Goes, At}
@@ -19,15 +19,15 @@ module _ (format : Format) (text : List ℕ) (taken : List (List ℕ)) (v : Feed
       ap (λ t. ended_from (first_spot format) (whole_from [] t) (open_from [] t)) (sym (append-nil text)) ∙ s.leads.ended []
       ∙ ap (λ (t : List (List ℕ)). (taken ++ s.rows) ++ t) s.stands.settled ∙ append-nil (taken ++ s.rows)
 
--- a feeder that stands at a text went over a piece
-pub stands_on : (format : Format) (text piece : List ℕ) (taken : List (List ℕ)) (v w : FeederState) (s : StandsAt format text taken v)
-    → Goes s.rows s.spot s.front piece w.scan → w.refusal ≡ None → StandsAt format (text ++ piece) taken w
-stands_on format text piece taken v w s g sound = record {
+-- a feeder that stands at a text went over a block
+pub stands_on : (format : Format) (text block : List ℕ) (taken : List (List ℕ)) (v w : FeederState) (s : StandsAt format text taken v)
+    → Goes s.rows s.spot s.front block w.scan → w.refusal ≡ None → StandsAt format (text ++ block) taken w
+stands_on format text block taken v w s g sound = record {
   rows = s.rows ++ g.more;
   spot = g.next;
   front = g.left;
-  leads = subst (λ t. Leads (first_spot format) [] (text ++ piece) t g.next g.left) (append_assoc taken s.rows g.more)
-      (then_leads (first_spot format) s.spot g.next [] s.front g.left text piece (taken ++ s.rows) g.more s.leads g.leads);
+  leads = subst (λ t. Leads (first_spot format) [] (text ++ block) t g.next g.left) (append_assoc taken s.rows g.more)
+      (then_leads (first_spot format) s.spot g.next [] s.front g.left text block (taken ++ s.rows) g.more s.leads g.leads);
   stands = g.stands;
   sound = sound;
 }

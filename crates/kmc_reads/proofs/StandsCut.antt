@@ -7,7 +7,7 @@ use Rattle.kmc_reads.specs.declared.format.Format.{Format}
 use Rattle.kmc_reads.specs.declared.scan.Scan.{Scan}
 use Rattle.kmc_reads.specs.Answer.{Answer, with_reads}
 use Rattle.kmc_reads.specs.Cuts.{AreCut, IsCutAnswer}
-use Rattle.kmc_reads.specs.Pieces.{whole_from, last_line, lines_from}
+use Rattle.kmc_reads.specs.OpenLines.{whole_from, last_line, lines_from}
 use Rattle.kmc_reads.specs.Reads.{reads_of}
 use Rattle.kmc_reads.specs.Stages.{Spot, first_spot, fault, fault_from, reads_from}
 use Rattle.kmc_reads.specs.Standing.{FeederState, StandsCut, Leads, LeadsCut, Goes, Hands, HasFault, At}
@@ -66,23 +66,23 @@ module _ (overlap : ℕ) where
 -- ---- a feeder
 
 module _ (overlap : ℕ) (format : Format) (text : List ℕ) (taken : List (List ℕ)) (v : FeederState) (s : StandsCut overlap format text taken v) where
-  -- it went over a piece
-  pub cut_on : (piece : List ℕ) (w : FeederState) → Goes s.rows s.spot s.front piece w.scan → w.refusal ≡ None → StandsCut overlap format
-      (text ++ piece) taken w
-  cut_on piece w g sound = record {
+  -- it went over a block
+  pub cut_on : (block : List ℕ) (w : FeederState) → Goes s.rows s.spot s.front block w.scan → w.refusal ≡ None → StandsCut overlap format
+      (text ++ block) taken w
+  cut_on block w g sound = record {
     rows = s.rows ++ g.more;
     spot = g.next;
     front = g.left;
-    leads = subst (λ t. LeadsCut overlap (first_spot format) [] (text ++ piece) t g.next g.left) (append_assoc taken s.rows g.more)
-        (then_cut overlap (first_spot format) s.spot g.next [] s.front g.left text piece (taken ++ s.rows) g.more s.leads
-        (as_cut overlap s.spot g.next s.front g.left piece g.more g.leads));
+    leads = subst (λ t. LeadsCut overlap (first_spot format) [] (text ++ block) t g.next g.left) (append_assoc taken s.rows g.more)
+        (then_cut overlap (first_spot format) s.spot g.next [] s.front g.left text block (taken ++ s.rows) g.more s.leads
+        (as_cut overlap s.spot g.next s.front g.left block g.more g.leads));
     stands = g.stands;
     sound = sound;
   }
 
   -- it met a fault
-  pub cut_fault : (piece : List ℕ) (e : ReadsError) → HasFault s.spot s.front piece e → fault format (text ++ piece) ≡ Some e
-  cut_fault piece e h = s.leads.fault piece ∙ ap (λ t. fault_from s.spot (whole_from s.front t)) (sym (append-nil piece)) ∙ h []
+  pub cut_fault : (block : List ℕ) (e : ReadsError) → HasFault s.spot s.front block e → fault format (text ++ block) ≡ Some e
+  cut_fault block e h = s.leads.fault block ∙ ap (λ t. fault_from s.spot (whole_from s.front t)) (sym (append-nil block)) ∙ h []
 
   -- it handed out what it had
   pub cut_taken : (reads : List (List ℕ)) (w : FeederState) → Hands overlap s.rows s.spot s.front reads w.scan → w.refusal ≡ None

@@ -7,7 +7,7 @@ use Rattle.kmc_reads.specs.declared.stage.Stage.{Stage}
 use Rattle.kmc_reads.specs.declared.stage.Stage.TheVariants.{Header, Sequence, Plus, Quality, FirstHeader, Body, Name, Rest}
 use Rattle.kmc_reads.specs.Answer.{Answer, with_reads}
 use Rattle.kmc_reads.specs.Laws.{FaultStays, EndedStay}
-use Rattle.kmc_reads.specs.Pieces.{whole_from, open_from, lines_from}
+use Rattle.kmc_reads.specs.OpenLines.{whole_from, open_from, lines_from}
 use Rattle.kmc_reads.specs.Stages.{Spot, first_spot, past, begun_by, given_by, fault_of, fault_from, ended_from, or_else, unless, reads_from, answer_past}
 use Rattle.kmc_reads.proofs.Answers.{with_none, reads_join}
 use Rattle.kmc_reads.proofs.Ending.{reads_are}

@@ -1,4 +1,4 @@
--- A scan goes over a piece line by line.
+-- A scan goes over a block line by line.
 use Rattle.std.proofs.Common.{◌≡◌, ℕ, suc, Bool, true, false, cond, ◌==◌, List, [], ◌∷◌, ◌++◌, length, take, drop, get_or, refl, sym, ap, subst, ◌∙◌, arith, append_assoc, append-nil, Some, None}
 use Rattle.std.proofs.lemmas.Bool.{ne_eqb}
 use Rattle.std.specs.Io.BufRead.{strip_last}
@@ -8,21 +8,21 @@ use Rattle.kmc_reads.specs.declared.stage.Stage.TheVariants.{Body, Name}
 use Rattle.kmc_reads.specs.Answer.{with_reads}
 use Rattle.kmc_reads.specs.Fasta.{is_header}
 use Rattle.kmc_reads.specs.Lines.{line_past}
-use Rattle.kmc_reads.specs.Pieces.{whole_from, open_from, lines_from}
+use Rattle.kmc_reads.specs.OpenLines.{whole_from, open_from, lines_from}
 use Rattle.kmc_reads.specs.Stages.{Spot, past, given_by, fault_of, fault_from, ended_from, or_else, unless, reads_from, answer_past}
 use Rattle.kmc_reads.specs.Standing.{At, Goes, Leads, HasFault, HasNoFeed, IsCut}
 use Rattle.kmc_reads.proofs.Answers.{with_none, reads_join}
 use Rattle.kmc_reads.proofs.Feeding.{header_stripped}
 
--- a part of the piece, with which the rest makes the piece, was gone over
-pub record IsOver (piece rest : List ℕ) (rows : List (List ℕ)) (spot : Spot) (front : List ℕ) (v : Scan) : Type 0 where
+-- a part of the block, with which the rest makes the block, was gone over
+pub record IsOver (block rest : List ℕ) (rows : List (List ℕ)) (spot : Spot) (front : List ℕ) (v : Scan) : Type 0 where
   pub over : List ℕ
-  pub whole : over ++ rest ≡ piece
+  pub whole : over ++ rest ≡ block
   pub goes : Goes rows spot front over v
 
--- the scan went over what stands before the rest of the piece, and nothing that it had was lost
-pub record IsUnder (piece rest : List ℕ) (old new : Scan) : Type 0 where
-  pub goes : (rows : List (List ℕ)) (spot : Spot) (front : List ℕ) → At rows spot front old → IsOver piece rest rows spot front new
+-- the scan went over what stands before the rest of the block, and nothing that it had was lost
+pub record IsUnder (block rest : List ℕ) (old new : Scan) : Type 0 where
+  pub goes : (rows : List (List ℕ)) (spot : Spot) (front : List ℕ) → At rows spot front old → IsOver block rest rows spot front new
   pub bytes : take (length old.bytes.items) new.bytes.items ≡ old.bytes.items
   pub ends : take (length old.ends.items) new.ends.items ≡ old.ends.items
 
@@ -195,8 +195,8 @@ fed rows s front w fine at = record {
 }
 
 -- the line, its line feed and what follows make the rest
-pub over_split : (over line after rest piece : List ℕ) → IsCut rest line after → over ++ rest ≡ piece → (over ++ (line ++ 10 ∷ [])) ++ after ≡ piece
-over_split over line after rest piece cut whole =
+pub over_split : (over line after rest block : List ℕ) → IsCut rest line after → over ++ rest ≡ block → (over ++ (line ++ 10 ∷ [])) ++ after ≡ block
+over_split over line after rest block cut whole =
     append_assoc over (line ++ 10 ∷ []) after ∙ ap (λ (t : List ℕ). over ++ t) (append_assoc line (10 ∷ []) after ∙ sym cut.text_is) ∙ whole
 
 -- what stood at the front stays there

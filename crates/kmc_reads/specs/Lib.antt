@@ -4,7 +4,7 @@ pub mod Cuts
 pub mod Fastq
 pub mod Fasta
 pub mod Reads
-pub mod Pieces
+pub mod OpenLines
 pub mod Rows
 pub mod Stages
 pub mod Standing

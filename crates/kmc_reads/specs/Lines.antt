@@ -15,13 +15,13 @@ onto_first b [] = (b ∷ []) ∷ []
 onto_first b (l ∷ ls) = (b ∷ l) ∷ ls
 
 -- the text cut at each line feed; what stands after the last is a line too where it is not empty
-abbrev pub pieces : List ℕ → List (List ℕ)
-pieces [] = []
-pieces (b ∷ bs) = if b == line_feed then [] ∷ pieces bs else onto_first b (pieces bs)
+abbrev pub raw_lines : List ℕ → List (List ℕ)
+raw_lines [] = []
+raw_lines (b ∷ bs) = if b == line_feed then [] ∷ raw_lines bs else onto_first b (raw_lines bs)
 
 -- the contents of the lines: each without one carriage return where that is its last byte
 abbrev pub lines : List ℕ → List (List ℕ)
-lines text = map (strip_last carriage_return) (pieces text)
+lines text = map (strip_last carriage_return) (raw_lines text)
 
 -- the number of the line that stands so many lines past line n, at most the greatest u64
 abbrev pub line_past : ℕ → ℕ → ℕ

@@ -10,7 +10,7 @@ use Rattle.kmc_reads.specs.Fastq.{at_sign, plus_sign}
 use Rattle.kmc_reads.specs.Fasta.{is_header}
 use Rattle.kmc_reads.specs.Answer.{Answer, with_reads}
 use Rattle.kmc_reads.specs.Lines.{line_past}
-use Rattle.kmc_reads.specs.Pieces.{whole_lines, open_line}
+use Rattle.kmc_reads.specs.OpenLines.{whole_lines, open_line}
 
 -- the number of the next line, what it may be, and the symbols of the open read so far
 pub record Spot : Type 0 where

@@ -12,7 +12,7 @@ use Rattle.kmc_reads.specs.Lines.{line_feed, carriage_return}
 use Rattle.kmc_reads.specs.Answer.{with_reads}
 use Rattle.kmc_reads.specs.Cuts.{IsCutAnswer}
 use Rattle.kmc_reads.specs.Fasta.{is_header}
-use Rattle.kmc_reads.specs.Pieces.{whole_from, open_from, lines_from, last_line}
+use Rattle.kmc_reads.specs.OpenLines.{whole_from, open_from, lines_from, last_line}
 use Rattle.kmc_reads.specs.Rows.{ends_from}
 use Rattle.kmc_reads.specs.Stages.{Spot, first_spot, begun_by, fault_from, ended_from, reads_from, answer_at_end}
 
@@ -92,10 +92,10 @@ pub record IsCut (text line after : List ℕ) : Type 0 where
   pub shorter : length after < length text
 
 -- these bytes are the first of the header that ends the open read
-pub record IsName (spot : Spot) (front piece : List ℕ) : Type 0 where
+pub record IsName (spot : Spot) (front bytes : List ℕ) : Type 0 where
   pub body : spot.stage ≡ Body
   pub none : front ≡ []
-  pub header : is_header piece ≡ true
+  pub header : is_header bytes ≡ true
 
 -- the scan went over the bytes p
 pub record Goes (rows : List (List ℕ)) (spot : Spot) (front p : List ℕ) (v : Scan) : Type 0 where

@@ -1,4 +1,4 @@
-//! A text in pieces.
+//! A text that comes in blocks.
 ghost use Rattle.std.specs.Prelude.{◌≡◌, ◌≢◌, ℕ, ◌+◌, List, [], ◌++◌, length, IfOk, IfErr, OnOk, OnErr, IsErrOf, Ok, Err, None};
 ghost use Rattle.std.specs.Io.BufRead.{strip_last};
 ghost use Rattle.std.specs.List.{concat};
@@ -14,7 +14,7 @@ use crate::scan::Scan;
 use std::alloc::{AllocError, Global};
 use std::marker::Model;
 
-/// Takes a text in pieces, however it is cut, and gives its reads as they end. Each byte is looked at
+/// Takes a text that comes in blocks, however it is cut, and gives its reads as they end. Each byte is looked at
 /// once; of the lines that are no symbols of a read nothing is kept but what they are judged by.
 ///
 /// A feeder that has refused the text answers the same refusal from then on. One that was refused
@@ -47,19 +47,19 @@ impl Feeder {
         }
     }
 
-    /// Takes the next piece of the text. A line is judged once its line feed has come, so the answer
-    /// is never `Truncated`. The reads that the piece ends wait until they are taken.
-    pub fn feed(&mut self, piece: &[u8]) -> Result<(), ReadsError>
+    /// Takes the next block of the text. A line is judged once its line feed has come, so the answer
+    /// is never `Truncated`. The reads that the block ends wait until they are taken.
+    pub fn feed(&mut self, block: &[u8]) -> Result<(), ReadsError>
         ensures stands { (format : Format) (text : List ℕ) (taken : List (List ℕ))
             → StandsAt format text taken self.old
-            → OnOk result (StandsAt format (text ++ piece.now) taken self.new) }
+            → OnOk result (StandsAt format (text ++ block.now) taken self.new) }
         ensures sound { (format : Format) (text : List ℕ) (taken : List (List ℕ))
             → StandsAt format text taken self.old
-            → OnOk result (fault format (text ++ piece.now) ≡ None) }
+            → OnOk result (fault format (text ++ block.now) ≡ None) }
         ensures refused { (format : Format) (text : List ℕ) (taken : List (List ℕ))
             → StandsAt format text taken self.old
             → IfErr result
-            (λ e. e ≢ ReadsError.Memory → (fault format (text ++ piece.now) ≡ Some e)
+            (λ e. e ≢ ReadsError.Memory → (fault format (text ++ block.now) ≡ Some e)
             × Refuses e self.new) }
         ensures memory { (format : Format) (text : List ℕ) (taken : List (List ℕ))
             → StandsAt format text taken self.old → IsErrOf result ReadsError.Memory
@@ -73,11 +73,11 @@ impl Feeder {
         // The same where open reads were handed out in pieces.
         ensures cut { (overlap : ℕ) (format : Format) (text : List ℕ) (taken : List (List ℕ))
             → StandsCut overlap format text taken self.old
-            → OnOk result (StandsCut overlap format (text ++ piece.now) taken self.new) }
+            → OnOk result (StandsCut overlap format (text ++ block.now) taken self.new) }
         ensures cut_refused { (overlap : ℕ) (format : Format) (text : List ℕ)
             (taken : List (List ℕ)) → StandsCut overlap format text taken self.old
             → IfErr result
-            (λ e. e ≢ ReadsError.Memory → (fault format (text ++ piece.now) ≡ Some e)
+            (λ e. e ≢ ReadsError.Memory → (fault format (text ++ block.now) ≡ Some e)
             × Refuses e self.new) }
         ensures cut_memory { (overlap : ℕ) (format : Format) (text : List ℕ)
             (taken : List (List ℕ)) → StandsCut overlap format text taken self.old
@@ -86,7 +86,7 @@ impl Feeder {
         if let Some(e) = self.refusal {
             return Err(e);
         }
-        match self.scan.feed(piece) {
+        match self.scan.feed(block) {
             Ok(()) => Ok(()),
             Err(e) => {
                 if e != ReadsError::Memory {
@@ -125,8 +125,8 @@ impl Feeder {
     }
 
     /// Hands out the reads that have ended and were not taken yet. It copies the open read, so take
-    /// them a round at a time, and not after each piece. A feeder that has refused the text hands out the reads that had
-    /// ended before the piece that it refused, and goes on refusing.
+    /// them a round at a time, and not after each block. A feeder that has refused the text hands out the reads that had
+    /// ended before the block that it refused, and goes on refusing.
     pub fn take(&mut self, alloc: Global) -> Result<Reads, AllocError>
         ensures all { (format : Format) (text : List ℕ) (taken : List (List ℕ))
             → StandsAt format text taken self.old

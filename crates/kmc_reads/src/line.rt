@@ -1,4 +1,4 @@
-//! Lines of a text that comes in pieces.
+//! Lines of a text that comes in blocks.
 ghost use Rattle.std.specs.Prelude.{◌≡◌, MatchOption, get_or};
 ghost use Rattle.std.specs.Io.BufRead.{strip_last, ends_with_byte};
 ghost use Rattle.kmc_reads.specs.Fasta.{is_header};
@@ -21,13 +21,13 @@ pub fn cut_line(text: &[u8]) -> Option<(&[u8], &[u8])>
 }
 
 /// The bytes without one carriage return at their end, and whether there is one.
-pub fn cut_return(piece: &[u8]) -> (&[u8], bool)
-    ensures content { result.0.now ≡ strip_last 13 piece.now }
-    ensures held { result.1 ≡ ends_with_byte 13 piece.now }
+pub fn cut_return(bytes: &[u8]) -> (&[u8], bool)
+    ensures content { result.0.now ≡ strip_last 13 bytes.now }
+    ensures held { result.1 ≡ ends_with_byte 13 bytes.now }
 {
-    match piece {
+    match bytes {
         [content @ .., b'\r'] => (content, true),
-        _ => (piece, false),
+        _ => (bytes, false),
     }
 }
 

@@ -1,19 +1,18 @@
-//! One pass over a text that comes in pieces.
-ghost use Rattle.std.specs.Prelude.{true, false, ◌≡◌, ◌≢◌, ◌⊎◌, ℕ, ◌+◌, ◌<◌, ◌≤◌, List, [], ◌∷◌, ◌++◌, length, take, IfOk, IfErr, OnOk, OnErr, Ok, Err, Some, None};
+//! One pass over a text that comes in blocks.
+ghost use Rattle.std.specs.Prelude.{false, ◌≡◌, ◌≢◌, ◌⊎◌, ℕ, ◌+◌, ◌<◌, ◌≤◌, List, [], ◌∷◌, ◌++◌, length, take, IfOk, IfErr, OnOk, OnErr, Err};
 ghost use Rattle.std.specs.Io.BufRead.{strip_last};
 ghost use Rattle.std.specs.List.{concat};
-ghost use Rattle.kmc_reads.specs.declared.stage.Stage.TheVariants.{Body, Name, Rest};
-ghost use Rattle.kmc_reads.specs.Answer.{with_reads};
-ghost use Rattle.kmc_reads.specs.Lines.{line_feed};
-ghost use Rattle.kmc_reads.specs.Pieces.{last_line};
-ghost use Rattle.kmc_reads.specs.Stages.{Spot, first_stage, first_spot, fault_of, past, begun_by, given_by, answer_at_end, reads_from};
-ghost use Rattle.kmc_reads.specs.Standing.{Lies, Keeps, At, IsSomewhere, Goes, HasFault, HasNoFeed, IsName, EndsLine, EndsRead, EndsText, Hands, IsAgain, IsHandedOut, Moves, kept, open_symbols};
+ghost use Rattle.kmc_reads.specs.declared.stage.Stage.TheVariants.{Body, Rest};
+ghost use Rattle.kmc_reads.specs.OpenLines.{last_line};
+ghost use Rattle.kmc_reads.specs.Stages.{Spot, first_spot, answer_at_end, reads_from};
+ghost use Rattle.kmc_reads.specs.Standing.{Lies, Keeps, At, IsSomewhere, Goes, HasFault, EndsLine, EndsRead, EndsText, Hands, IsAgain, IsHandedOut, Moves, kept, open_symbols};
 
+mod line;
 mod record;
 
 use crate::error::ReadsError;
 use crate::format::Format;
-use crate::line::{begins_header, cut_line, cut_return};
+use crate::line::cut_line;
 use crate::reads::Reads;
 use crate::stage::Stage;
 use std::alloc::{AllocError, Global};
@@ -90,59 +89,6 @@ impl Scan {
         }
     }
 
-    /// More content of the open line.
-    fn add(&mut self, content: &[u8]) -> Result<(), AllocError>
-        ensures keeps { (rows : List (List ℕ)) (spot : Spot) (line : List ℕ)
-            → Keeps rows spot line self.old
-            → OnOk result (Keeps rows spot (line ++ content.now) self.new) }
-        ensures held { self.new.place.held ≡ self.old.place.held }
-        ensures bytes { take (length self.old.bytes.items) self.new.bytes.items
-            ≡ self.old.bytes.items }
-        ensures ends { self.new.ends.items ≡ self.old.ends.items }
-    {
-        match self.place.stage {
-            Stage::Sequence | Stage::Body | Stage::Rest => self.bytes.extend_from_slice(content)?,
-            _ => {}
-        }
-        if self.place.length == 0 && !content.is_empty() {
-            self.place.first = content[0];
-        }
-        self.place.length = self.place.length.saturating_add(content.len());
-        Ok(())
-    }
-
-    /// A carriage return that was held back is content after all.
-    fn release(&mut self) -> Result<(), AllocError>
-        ensures keeps { (rows : List (List ℕ)) (spot : Spot) (front : List ℕ)
-            → At rows spot front self.old → OnOk result (Keeps rows spot front self.new) }
-        ensures bytes { take (length self.old.bytes.items) self.new.bytes.items
-            ≡ self.old.bytes.items }
-        ensures ends { self.new.ends.items ≡ self.old.ends.items }
-    {
-        if self.place.held {
-            self.add(b"\r")?;
-        }
-        Ok(())
-    }
-
-    /// More bytes of the open line, which do not tell that it is a header. A carriage return at their
-    /// end is held back.
-    fn grow(&mut self, piece: &[u8]) -> Result<(), AllocError>
-        ensures at { (rows : List (List ℕ)) (spot : Spot) (front : List ℕ)
-            → At rows spot front self.old → 0 < length piece.now
-            → begun_by spot.stage spot.read (front ++ piece.now) ≡ []
-            → OnOk result (At rows spot (front ++ piece.now) self.new) }
-        ensures bytes { take (length self.old.bytes.items) self.new.bytes.items
-            ≡ self.old.bytes.items }
-        ensures ends { self.new.ends.items ≡ self.old.ends.items }
-    {
-        self.release()?;
-        let (content, held) = cut_return(piece);
-        self.add(content)?;
-        self.place.held = held;
-        Ok(())
-    }
-
     /// The open read is whole.
     fn close(&mut self) -> Result<(), AllocError>
         ensures keeps { (rows : List (List ℕ)) (spot : Spot) (line : List ℕ)
@@ -159,198 +105,18 @@ impl Scan {
         Ok(())
     }
 
-    /// Whether no line is open.
-    fn is_between(&self) -> bool
-        ensures none { (rows : List (List ℕ)) (spot : Spot) (front : List ℕ)
-            → At rows spot front self.now → result ≡ true → front ≡ [] }
-        ensures some { (rows : List (List ℕ)) (spot : Spot) (front : List ℕ)
-            → At rows spot front self.now → result ≡ false → front ≡ [] → ⊥ }
-    {
-        !self.place.held && self.place.length == 0
-    }
-
-    /// Whether these bytes of a line begin the header that ends the open read.
-    fn begins_name(&self, piece: &[u8]) -> bool
-        ensures name { (rows : List (List ℕ)) (spot : Spot) (front : List ℕ)
-            → At rows spot front self.now → result ≡ true → IsName spot front piece.now }
-        ensures none { (rows : List (List ℕ)) (spot : Spot) (front : List ℕ)
-            → At rows spot front self.now → result ≡ false
-            → begun_by spot.stage spot.read (front ++ piece.now) ≡ [] }
-    {
-        self.place.stage == Stage::Body && self.is_between() && begins_header(piece)
-    }
-
-    /// A header begins, and the open read is whole.
-    fn name(&mut self) -> Result<(), AllocError>
-        ensures at { (rows : List (List ℕ)) (spot : Spot) → At rows spot [] self.old
-            → spot.stage ≡ Body
-            → OnOk result
-            (At (rows ++ spot.read ∷ [])
-            (record { number = spot.number; stage = Name; read = [] }) [] self.new) }
-        ensures bytes { self.new.bytes.items ≡ self.old.bytes.items }
-        ensures ends { take (length self.old.ends.items) self.new.ends.items ≡ self.old.ends.items }
-    {
-        self.close()?;
-        self.place.stage = Stage::Name;
-        Ok(())
-    }
-
-    /// More bytes of the open line.
-    fn extend(&mut self, piece: &[u8]) -> Result<(), AllocError>
+    /// Goes over a block.
+    fn go(&mut self, block: &[u8]) -> Result<(), ReadsError>
         ensures goes { (rows : List (List ℕ)) (spot : Spot) (front : List ℕ)
-            → At rows spot front self.old → HasNoFeed piece.now
-            → OnOk result (Goes rows spot front piece.now self.new) }
+            → At rows spot front self.old → OnOk result (Goes rows spot front block.now self.new) }
+        ensures fault { (rows : List (List ℕ)) (spot : Spot) (front : List ℕ)
+            → At rows spot front self.old
+            → IfErr result (λ e. e ≢ ReadsError.Memory → HasFault spot front block.now e) }
         ensures bytes { take (length self.old.bytes.items) self.new.bytes.items
             ≡ self.old.bytes.items }
         ensures ends { take (length self.old.ends.items) self.new.ends.items ≡ self.old.ends.items }
     {
-        if piece.len() == 0 {
-            return Ok(());
-        }
-        if self.begins_name(piece) {
-            self.name()?;
-            self.grow(piece)?;
-            return Ok(());
-        }
-        self.grow(piece)?;
-        Ok(())
-    }
-
-    /// The fault of the open line, which is whole.
-    fn judge(&self) -> Result<(), ReadsError>
-        ensures fine { (rows : List (List ℕ)) (spot : Spot) (line : List ℕ)
-            → Keeps rows spot line self.now
-            → OnOk result (fault_of spot.number spot.stage spot.read line ≡ None) }
-        ensures fault { (rows : List (List ℕ)) (spot : Spot) (line : List ℕ)
-            → Keeps rows spot line self.now
-            → IfErr result (λ e. fault_of spot.number spot.stage spot.read line ≡ Some e) }
-    {
-        let place = self.place;
-        match place.stage {
-            Stage::Header if place.length > 0 && place.first != b'@' => {
-                Err(ReadsError::BadHeader(place.number))
-            }
-            Stage::FirstHeader if place.length > 0 && place.first != b'>' => {
-                Err(ReadsError::BadHeader(place.number))
-            }
-            Stage::Plus if place.length == 0 || place.first != b'+' => {
-                Err(ReadsError::BadPlus(place.number))
-            }
-            Stage::Quality if place.length != self.bytes.len().saturating_sub(place.start) => {
-                Err(ReadsError::QualityLength(place.number))
-            }
-            _ => Ok(()),
-        }
-    }
-
-    /// The line after the open one begins.
-    fn next_line(&mut self)
-        ensures at { (rows : List (List ℕ)) (spot : Spot) (line : List ℕ)
-            → Keeps rows spot line self.old → (spot.stage ≡ Stage.Quality → spot.read ≡ [])
-            → begun_by spot.stage spot.read line ≡ [] → At rows (past spot line) [] self.new }
-        ensures bytes { self.new.bytes.items ≡ self.old.bytes.items }
-        ensures ends { self.new.ends.items ≡ self.old.ends.items }
-    {
-        let stage = match self.place.stage {
-            Stage::Header if self.place.length == 0 => Stage::Header,
-            Stage::Header => Stage::Sequence,
-            Stage::Sequence => Stage::Plus,
-            Stage::Plus => Stage::Quality,
-            Stage::Quality => Stage::Header,
-            Stage::FirstHeader if self.place.length == 0 => Stage::FirstHeader,
-            Stage::FirstHeader | Stage::Body | Stage::Name | Stage::Rest => Stage::Body,
-        };
-        self.place.stage = stage;
-        self.place.number = self.place.number.saturating_add(1);
-        self.place.length = 0;
-        self.place.held = false;
-    }
-
-    /// The open line is whole.
-    fn end_line(&mut self) -> Result<(), ReadsError>
-        ensures fine { (rows : List (List ℕ)) (spot : Spot) (front : List ℕ)
-            → At rows spot front self.old
-            → OnOk result (fault_of spot.number spot.stage spot.read (strip_last 13 front) ≡ None) }
-        ensures at { (rows : List (List ℕ)) (spot : Spot) (front : List ℕ)
-            → At rows spot front self.old
-            → OnOk result
-            (At (rows ++ given_by spot.stage spot.read (strip_last 13 front))
-            (past spot (strip_last 13 front)) [] self.new) }
-        ensures fault { (rows : List (List ℕ)) (spot : Spot) (front : List ℕ)
-            → At rows spot front self.old
-            → IfErr result
-            (λ e. e ≢ ReadsError.Memory
-            → fault_of spot.number spot.stage spot.read (strip_last 13 front) ≡ Some e) }
-        ensures bytes { self.new.bytes.items ≡ self.old.bytes.items }
-        ensures ends { take (length self.old.ends.items) self.new.ends.items ≡ self.old.ends.items }
-    {
-        self.judge()?;
-        match self.place.stage {
-            Stage::Quality => self.close()?,
-            _ => {}
-        }
-        self.next_line();
-        Ok(())
-    }
-
-    /// The last part of the open line.
-    #[inline(never)]
-    fn last_part(&mut self, piece: &[u8]) -> Result<(), ReadsError>
-        ensures goes { (rows : List (List ℕ)) (spot : Spot) (front : List ℕ)
-            → At rows spot front self.old → HasNoFeed piece.now
-            → OnOk result (Goes rows spot front (piece.now ++ line_feed ∷ []) self.new) }
-        ensures fault { (rows : List (List ℕ)) (spot : Spot) (front : List ℕ)
-            → At rows spot front self.old → HasNoFeed piece.now
-            → IfErr result
-            (λ e. e ≢ ReadsError.Memory → HasFault spot front (piece.now ++ line_feed ∷ []) e) }
-        ensures bytes { take (length self.old.bytes.items) self.new.bytes.items
-            ≡ self.old.bytes.items }
-        ensures ends { take (length self.old.ends.items) self.new.ends.items ≡ self.old.ends.items }
-    {
-        self.extend(piece)?;
-        self.end_line()?;
-        Ok(())
-    }
-
-    /// The open line up to its line feed.
-    #[inline(always)]
-    fn line(&mut self, line: &[u8]) -> Result<(), ReadsError>
-        ensures goes { (rows : List (List ℕ)) (spot : Spot) (front : List ℕ)
-            → At rows spot front self.old → HasNoFeed line.now
-            → OnOk result (Goes rows spot front (line.now ++ line_feed ∷ []) self.new) }
-        ensures fault { (rows : List (List ℕ)) (spot : Spot) (front : List ℕ)
-            → At rows spot front self.old → HasNoFeed line.now
-            → IfErr result
-            (λ e. e ≢ ReadsError.Memory → HasFault spot front (line.now ++ line_feed ∷ []) e) }
-        ensures bytes { take (length self.old.bytes.items) self.new.bytes.items
-            ≡ self.old.bytes.items }
-        ensures ends { take (length self.old.ends.items) self.new.ends.items ≡ self.old.ends.items }
-    {
-        if !self.is_between() {
-            return self.last_part(line);
-        }
-        let (content, _) = cut_return(line);
-        match self.place.stage {
-            Stage::Header => self.header(content),
-            Stage::Sequence => self.sequence(content),
-            Stage::Plus => self.plus(content),
-            Stage::Quality => self.quality(content),
-            _ => self.last_part(line),
-        }
-    }
-
-    /// Goes over a piece.
-    fn go(&mut self, piece: &[u8]) -> Result<(), ReadsError>
-        ensures goes { (rows : List (List ℕ)) (spot : Spot) (front : List ℕ)
-            → At rows spot front self.old → OnOk result (Goes rows spot front piece.now self.new) }
-        ensures fault { (rows : List (List ℕ)) (spot : Spot) (front : List ℕ)
-            → At rows spot front self.old
-            → IfErr result (λ e. e ≢ ReadsError.Memory → HasFault spot front piece.now e) }
-        ensures bytes { take (length self.old.bytes.items) self.new.bytes.items
-            ≡ self.old.bytes.items }
-        ensures ends { take (length self.old.ends.items) self.new.ends.items ≡ self.old.ends.items }
-    {
-        let mut rest = piece;
+        let mut rest = block;
         while let Some((line, after)) = cut_line(rest) {
             self.line(line)?;
             rest = after;
@@ -370,17 +136,17 @@ impl Scan {
         self.place = place;
     }
 
-    /// Goes over the next piece of the text, or leaves all as it was.
-    pub fn feed(&mut self, piece: &[u8]) -> Result<(), ReadsError>
+    /// Goes over the next block of the text, or leaves all as it was.
+    pub fn feed(&mut self, block: &[u8]) -> Result<(), ReadsError>
         ensures goes { (rows : List (List ℕ)) (spot : Spot) (front : List ℕ)
-            → At rows spot front self.old → OnOk result (Goes rows spot front piece.now self.new) }
+            → At rows spot front self.old → OnOk result (Goes rows spot front block.now self.new) }
         ensures fault { (rows : List (List ℕ)) (spot : Spot) (front : List ℕ)
             → At rows spot front self.old
-            → IfErr result (λ e. e ≢ ReadsError.Memory → HasFault spot front piece.now e) }
+            → IfErr result (λ e. e ≢ ReadsError.Memory → HasFault spot front block.now e) }
         ensures again { OnErr result (IsAgain self.old self.new) }
     {
         let (bytes, ends, place) = (self.bytes.len(), self.ends.len(), self.place);
-        match self.go(piece) {
+        match self.go(block) {
             Ok(()) => Ok(()),
             Err(e) => {
                 self.undo(bytes, ends, place);

@@ -11,7 +11,7 @@ use Rattle.kmc_base.specs.Strands.{key, packed_key}
 use Rattle.kmc_base.specs.Words.{complement, rev_comp}
 use Rattle.kmc_base.specs.Lemmas.Packs.{AreCodes, pack_after_is, pack_fits, pack_canonical, length_rev_comp, codes_rev_comp}
 use Rattle.kmc_base.specs.Lemmas.Powers.{pow_quad, pow_some, pow_up}
-use Rattle.kmc_base.specs.Lemmas.Rolling.{codes_front}
+use Rattle.kmc_base.specs.Lemmas.Rolling.{codes_drop, codes_front}
 use Rattle.kmc_record.specs.Record.{quarters, codes_in}
 use Rattle.kmc_record.specs.Lemmas.Codes.{are_codes, length_codes, codes_join}
 
@@ -105,12 +105,7 @@ module _ (bs : List ℕ) (few : length bs ≤ 16) where
     symbols_are = codes_front n (codes_in bs) (are_codes bs)
 
     rest_are : AreCodes rest
-    rest_are = codes_rest n (codes_in bs) (are_codes bs)
-      where
-        codes_rest : (m : ℕ) (xs : List ℕ) → AreCodes xs → AreCodes (drop m xs)
-        codes_rest zero xs a = a
-        codes_rest (suc m) [] a = tt
-        codes_rest (suc m) (x ∷ xs) a = codes_rest m xs a.1
+    rest_are = codes_drop n (codes_in bs) (are_codes bs)
 
     all_bytes : codes_in (take (length bs) bs) ≡ s ++ rest
     all_bytes = ap codes_in (take_whole (length bs) bs refl) ∙ sym (take-append-drop n (codes_in bs))

@@ -1,5 +1,5 @@
 -- The words of a super-k-mer are those of a front and of what goes on k - 1 codes before the front's end.
-use Rattle.std.proofs.Common.{◌≡◌, ℕ, zero, suc, ◌+◌, ◌*◌, ◌-◌, ◌<◌, ◌≤◌, List, ◌∷◌, ◌++◌, length, take, drop, map, refl, sym, ap, ◌∙◌, arith, length-drop}
+use Rattle.std.proofs.Common.{◌≡◌, ℕ, ◌+◌, ◌*◌, ◌-◌, ◌≤◌, List, ◌++◌, length, take, drop, map, refl, sym, ap, ◌∙◌, arith, length-drop}
 use Rattle.std.proofs.lemmas.List.{length-take-le, drop-drop, drop-take, take-take}
 use Rattle.std.proofs.lemmas.List.Sums.{sum_by-append}
 use Rattle.std.specs.List.{range_with_len, sum_by, All}
@@ -7,37 +7,11 @@ use Rattle.kmc_base.specs.declared.strands.Strands.{Strands}
 use Rattle.kmc_base.specs.Strands.{key, keys}
 use Rattle.kmc_base.specs.Words.{window}
 use Rattle.kmc_base.specs.Lemmas.Rolling.{codes_front}
+use Rattle.kmc_split.specs.Lemmas.Places.{places_append, places_moved}
 use Rattle.kmc_record.specs.Record.{codes_in}
 use Rattle.kmc_record.specs.RecordKeys.{key_words, GainsWords, IsRecordKey}
 use Rattle.kmc_record.specs.Lemmas.Codes.{length_codes, are_codes, take_codes, drop_codes}
 use Rattle.kmc_record.specs.Lemmas.Taken.{IsRecord}
-
--- ---- rows of numbers
-
-in_two : (f : ℕ → List ℕ) (a m n : ℕ) → map f (range_with_len a (m + n)) ≡ map f (range_with_len a m) ++ map f (range_with_len (a + m) n)
-in_two f a zero n =
-    let e : 0 + n ≡ n = omega arith in
-    let g : a + 0 ≡ a = omega arith in
-    ap (λ q. map f (range_with_len a q)) e ∙ ap (λ q. map f (range_with_len q n)) (sym g)
-in_two f a (suc m) n =
-    let e : suc m + n ≡ suc (m + n) = omega arith in
-    let g : a + 1 + m ≡ a + suc m = omega arith in
-    ap (λ q. map f (range_with_len a q)) e
-    ∙ ap (λ (t : List (List ℕ)). f a ∷ t) (in_two f (a + 1) m n ∙ ap (λ q. map f (range_with_len (a + 1) m) ++ map f (range_with_len q n)) g)
-
-same_row : (f h : ℕ → List ℕ) (a b n : ℕ) → ((i : ℕ) → i < n → f (a + i) ≡ h (b + i)) → map f (range_with_len a n) ≡ map h (range_with_len b n)
-same_row f h a b zero same = refl
-same_row f h a b (suc n) same =
-    let first : f a ≡ h b =
-    let x : a + 0 ≡ a = omega arith in
-    let y : b + 0 ≡ b = omega arith in
-    sym (ap f x) ∙ same 0 (omega arith) ∙ ap h y in
-    let more : (i : ℕ) → i < n → f (a + 1 + i) ≡ h (b + 1 + i) =
-    λ i less.
-    let x : a + 1 + i ≡ a + suc i = omega arith in
-    let y : b + 1 + i ≡ b + suc i = omega arith in
-    ap f x ∙ same (suc i) (omega (arith, less)) ∙ sym (ap h y) in
-    (λ j. first j ∷ same_row f h (a + 1) (b + 1) n more j)
 
 -- ---- windows
 
@@ -60,16 +34,16 @@ module _ (strands : Strands) (k : ℕ) (s : List ℕ) (n : ℕ) (some : 1 ≤ k)
       let in_front : ℕ → List ℕ = λ i. key strands (window k (take (n + (k - 1)) s) i) in
       let in_back : ℕ → List ℕ = λ i. key strands (window k (drop n s) i) in
       let front : map at (range_with_len 0 n) ≡ keys strands k (take (n + (k - 1)) s) =
-      same_row at in_front 0 0 n
+      places_moved at in_front n 0 0
       (λ i less. let z : 0 + i ≡ i = omega arith in
       ap at z ∙ ap (key strands) (sym (window_front k (n + (k - 1)) s i (omega (arith, less, some)))) ∙ sym (ap in_front z))
       ∙ ap (λ q. map in_front (range_with_len 0 q)) (sym front_long) in
       let back : map at (range_with_len (0 + n) m) ≡ keys strands k (drop n s) =
-      same_row at in_back (0 + n) 0 m
+      places_moved at in_back m (0 + n) 0
       (λ i less. let z : 0 + i ≡ i = omega arith in let y : 0 + n + i ≡ n + i = omega arith in
       ap at y ∙ ap (key strands) (sym (window_behind k n s i)) ∙ sym (ap in_back z))
       ∙ ap (λ q. map in_back (range_with_len 0 q)) (sym back_long) in
-      ap (λ q. map at (range_with_len 0 q)) parts ∙ in_two at 0 n m ∙ (λ j. front j ++ back j)
+      ap (λ q. map at (range_with_len 0 q)) parts ∙ places_append at 0 n m ∙ (λ j. front j ++ back j)
 
   -- what they are worth
   pub worth_in_two : (g : List ℕ → ℕ) → sum_by g (keys strands k s) ≡ sum_by g (keys strands k (take (n + (k - 1)) s)) + sum_by g (keys strands k (drop n s))

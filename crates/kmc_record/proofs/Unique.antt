@@ -3,11 +3,11 @@ use Rattle.std.proofs.Common.{◌≡◌, ℕ, ◌*◌, ◌-◌, ◌<◌, ◌≤�
 use Rattle.std.proofs.lemmas.List.{take_at, drop_at, take-append-drop, get_or_append_left, get_or-append_right}
 use Rattle.std.specs.List.{flat_map, AllByRecursion}
 use Rattle.kmc_base.specs.Lemmas.Packs.{AreCodes}
-use Rattle.kmc_record.specs.Record.{packed_codes, spelling, IsSpelled, IsBodyOf, codes_in, size_of, quarters}
+use Rattle.kmc_record.specs.Record.{packed_codes, spelling, IsSpelled, IsBodyOf, codes_in, size_of}
 use Rattle.kmc_record.specs.Faults.{HasFault, IsFirstFault}
 use Rattle.kmc_record.specs.declared.fault.RecordFault.{RecordFault}
 use Rattle.kmc_record.specs.declared.fault.RecordFault.TheVariants.{Short, Padding}
-use Rattle.kmc_record.specs.Lemmas.Codes.{length_codes}
+use Rattle.kmc_record.specs.Lemmas.Codes.{codes_join, length_codes}
 use Rattle.kmc_record.proofs.Spelled.{codes_packed, length_packed, zeros_to_byte, zero_behind}
 
 codes_back : (s : List ℕ) → AreCodes s → take (length s) (codes_in (packed_codes s)) ≡ s
@@ -35,10 +35,6 @@ lists k (s ∷ ss) (t ∷ ts) h g e =
 pub one_list : (k : ℕ) (ss ts : List (List ℕ)) (body : List ℕ) → IsBodyOf k ss body → IsBodyOf k ts body → ss ≡ ts
 one_list k ss ts body h g = lists k ss ts h.each g.each (sym h.is ∙ g.is)
 
-codes_append : (a b : List ℕ) → codes_in (a ++ b) ≡ codes_in a ++ codes_in b
-codes_append [] b = refl
-codes_append (x ∷ a) b = ap (λ (t : List ℕ). quarters x ++ t) (codes_append a b)
-
 pub no_fault : (k : ℕ) (s rest : List ℕ) (fault : RecordFault) → IsSpelled k s → HasFault k fault (spelling k s ++ rest) → ⊥
 no_fault k s rest Short h f = omega (arith, f, h.least, length_packed s, length-append (packed_codes s) rest)
 no_fault k s rest Padding h f =
@@ -46,7 +42,7 @@ no_fault k s rest Padding h f =
     let up : length s ≤ i = omega (arith, f.1.1, h.least) in
     let small : i < 4 * size_of (length s) = omega (arith, f.1.2, h.least) in
     let inside : i < length (codes_in (packed_codes s)) = omega (arith, length_codes (packed_codes s), length_packed s, small) in
-    f.1.3 (ap (λ (t : List ℕ). get_or t i 0) (codes_append (packed_codes s) rest) ∙ get_or_append_left (codes_in (packed_codes s)) (codes_in rest) 0 i inside
+    f.1.3 (ap (λ (t : List ℕ). get_or t i 0) (codes_join (packed_codes s) rest) ∙ get_or_append_left (codes_in (packed_codes s)) (codes_in rest) 0 i inside
     ∙ ap (λ (t : List ℕ). get_or t i 0) (codes_packed s h.codes) ∙ get_or-append_right s (zeros_to_byte s) (length s) i 0 refl up ∙ zero_behind s
     (i - length s))
 

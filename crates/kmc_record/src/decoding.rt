@@ -1,5 +1,5 @@
 //! How a record is read.
-ghost use Rattle.std.specs.Prelude.{◌≡◌, ◌+◌, ◌*◌, ◌≤◌, ◌<◌, ◌++◌, length, take, IfOk, IfErr};
+ghost use Rattle.std.specs.Prelude.{◌≡◌, ◌+◌, ◌*◌, ◌≤◌, ◌++◌, length, take, IfOk, IfErr};
 ghost use Rattle.kmc_record.specs.Record.{spelling, IsSpelled, codes_in};
 ghost use Rattle.kmc_record.specs.Refusals.{IsRefused};
 

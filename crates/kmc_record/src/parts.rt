@@ -1,5 +1,5 @@
 //! The parts of a chunk.
-ghost use Rattle.std.specs.Prelude.{◌≡◌, ℕ, ◌+◌, ◌-◌, ◌≤◌, ◌<◌, nat_le, List, [], ◌∷◌, map, length, OnOk, IfOk};
+ghost use Rattle.std.specs.Prelude.{◌≡◌, ℕ, ◌+◌, ◌-◌, ◌≤◌, ◌<◌, nat_le, [], ◌∷◌, map, length, OnOk, IfOk};
 ghost use Rattle.std.specs.List.{All, filter, range_with_len};
 ghost use Rattle.kmc_base.specs.Stretches.{segments_of};
 ghost use Rattle.kmc_split.specs.Cut.{IsRunOf};

@@ -1,5 +1,5 @@
 //! Rows of equal records: the words of each row once, with the length of the row as their weight.
-ghost use Rattle.std.specs.Prelude.{◌≡◌, ◌+◌, ◌*◌, ◌^◌, ◌<◌, ◌≤◌, ◌++◌, All, map, OnOk};
+ghost use Rattle.std.specs.Prelude.{◌≡◌, ◌+◌, ◌*◌, ◌≤◌, ◌++◌, All, map, OnOk};
 ghost use Rattle.kmc_base.specs.Packed.{pack};
 ghost use Rattle.kmc_base.specs.Strands.{keys};
 ghost use Rattle.kmc_base.specs.Weights.{weighted};

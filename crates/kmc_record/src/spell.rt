@@ -1,7 +1,7 @@
 //! How records are written.
-ghost use Rattle.std.specs.Prelude.{◌≡◌, ◌+◌, ◌-◌, ◌*◌, ◌/◌, ◌<◌, ◌≤◌, ◌++◌, length, take, drop, slice_index, OnOk, OnErr};
+ghost use Rattle.std.specs.Prelude.{◌≡◌, ◌+◌, ◌-◌, ◌*◌, ◌/◌, ◌<◌, ◌≤◌, ◌++◌, length, drop, slice_index, OnOk, OnErr};
 ghost use Rattle.std.specs.List.{AllByRecursion};
-ghost use Rattle.kmc_record.specs.Record.{packed_codes, spelling, IsSpelled, size_of};
+ghost use Rattle.kmc_record.specs.Record.{packed_codes, spelling, IsSpelled};
 
 use kmc_base::MAX_K;
 use std::alloc::AllocError;

@@ -59,22 +59,22 @@ held_set bodies b out was inside =
     omega (arith, sums, ap length at, ap held_bytes (map-set items_of bodies b out))
 
 -- a front of a body was read
-pub held_front : (bodies : List (Vec ℕ Global)) (b : ℕ) (out was : Vec ℕ Global) (piece : ℕ) (h : Head) (a m c : Option (List ℕ)) → b < length bodies
+pub held_front : (bodies : List (Vec ℕ Global)) (b : ℕ) (out was : Vec ℕ Global) (block : ℕ) (h : Head) (a m c : Option (List ℕ)) → b < length bodies
     → TookHead h a m
-    → GaveSome (get_or bodies b was).len out.len piece m c → GaveSome (held_bytes (map items_of bodies))
-    (held_bytes (map items_of (set bodies b out))) piece a c
-held_front bodies b out was piece h a m c inside took some = record {
+    → GaveSome (get_or bodies b was).len out.len block m c → GaveSome (held_bytes (map items_of bodies))
+    (held_bytes (map items_of (set bodies b out))) block a c
+held_front bodies b out was block h a m c inside took some = record {
   bytes = took.bytes ++ some.bytes;
   gave = Consumes-trans a m c took.bytes some.bytes took.gave some.gave;
   held = omega (arith, held_set bodies b out was inside, some.held, length-append took.bytes some.bytes, (get_or bodies b was).ok.0, out.ok.0);
 }
 
 -- a whole body was read
-pub held_body : (bodies : List (Vec ℕ Global)) (b : ℕ) (out was : Vec ℕ Global) (piece : ℕ) (h : Head) (body : List ℕ) (a m c : Option (List ℕ))
+pub held_body : (bodies : List (Vec ℕ Global)) (b : ℕ) (out was : Vec ℕ Global) (block : ℕ) (h : Head) (body : List ℕ) (a m c : Option (List ℕ))
     → b < length bodies → TookHead h a m
     → items_of out ≡ items_of (get_or bodies b was) ++ body → Consumes m c body → GaveSome (held_bytes (map items_of bodies))
-    (held_bytes (map items_of (set bodies b out))) piece a c
-held_body bodies b out was piece h body a m c inside took is gave = record {
+    (held_bytes (map items_of (set bodies b out))) block a c
+held_body bodies b out was block h body a m c inside took is gave = record {
   bytes = took.bytes ++ body;
   gave = Consumes-trans a m c took.bytes body took.gave gave;
   held = omega (

@@ -42,23 +42,23 @@ no_body b i (f ∷ fs) differ of =
     ∙ no_body b i fs differ of.1
 
 -- the next bytes of a body
-abbrev pub piece_at : List ℕ → ℕ → ℕ → List ℕ
-piece_at body done more = take (done + more - done) (drop done body)
+abbrev pub block_at : List ℕ → ℕ → ℕ → List ℕ
+block_at body done more = take (done + more - done) (drop done body)
 
-pub piece_is : (body : List ℕ) (done more : ℕ) → piece_at body done more ≡ take more (drop done body)
-piece_is body done more = let size : done + more - done ≡ more = omega arith in ap (λ n. take n (drop done body)) size
+pub block_is : (body : List ℕ) (done more : ℕ) → block_at body done more ≡ take more (drop done body)
+block_is body done more = let size : done + more - done ≡ more = omega arith in ap (λ n. take n (drop done body)) size
 
-pub piece_long : (body : List ℕ) (done more : ℕ) → more ≤ length body - done → length (piece_at body done more) ≡ more
-piece_long body done more few =
-    ap length (piece_is body done more) ∙ length-take-le more (drop done body) (omega (arith, few, length-drop done body))
+pub block_long : (body : List ℕ) (done more : ℕ) → more ≤ length body - done → length (block_at body done more) ≡ more
+block_long body done more few =
+    ap length (block_is body done more) ∙ length-take-le more (drop done body) (omega (arith, few, length-drop done body))
 
--- one more piece of a bin is out
-pub bin_more : (b : ℕ) (body piece : List ℕ) (done more n : ℕ) (a c d : Option (List ℕ)) → 1 ≤ more → more ≤ 2 ^ 20 → done + more ≤ length body
-    → IsBinWritten b (take done body) n a c → Appends c d (frame_bytes (frame b piece))
-    → piece ≡ take more (drop done body) → length piece ≡ more
+-- one more frame of a bin is out
+pub bin_more : (b : ℕ) (body block : List ℕ) (done more n : ℕ) (a c d : Option (List ℕ)) → 1 ≤ more → more ≤ 2 ^ 20 → done + more ≤ length body
+    → IsBinWritten b (take done body) n a c → Appends c d (frame_bytes (frame b block))
+    → block ≡ take more (drop done body) → length block ≡ more
     → IsBinWritten b (take (done + more) body) (n + 1) a d
-bin_more b body piece done more n a c d some most within before now is long =
-    let f = frame b piece in
+bin_more b body block done more n a c d some most within before now is long =
+    let f = frame b block in
     record {
       fs = before.fs ++ f ∷ [];
       of_bin = of_bin_more b before.fs (f ∷ []) before.of_bin (record { bin = refl; some = omega (arith, long); most = omega (arith, long) }, tt);
@@ -70,11 +70,11 @@ bin_more b body piece done more n a c d some most within before now is long =
           (Appends-trans a c d (frames_bytes before.fs) (frame_bytes f) before.written now);
     }
 
--- a piece of a bin failed
-pub bin_begun : (b : ℕ) (body piece : List ℕ) (n : ℕ) (a c d : Option (List ℕ)) → 1 ≤ length piece → length piece ≤ 2 ^ 20
-    → IsBinWritten b body n a c → AppendsFront c d (frame_bytes (frame b piece)) → IsBinBegun b a d
-bin_begun b body piece n a c d some most before now =
-    let f = frame b piece in
+-- a frame of a bin failed
+pub bin_begun : (b : ℕ) (body block : List ℕ) (n : ℕ) (a c d : Option (List ℕ)) → 1 ≤ length block → length block ≤ 2 ^ 20
+    → IsBinWritten b body n a c → AppendsFront c d (frame_bytes (frame b block)) → IsBinBegun b a d
+bin_begun b body block n a c d some most before now =
+    let f = frame b block in
     record {
       fs = before.fs ++ f ∷ [];
       of_bin = of_bin_more b before.fs (f ∷ []) before.of_bin (record { bin = refl; some = some; most = most }, tt);

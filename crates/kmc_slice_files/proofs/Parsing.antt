@@ -158,10 +158,6 @@ spares_told a y l c b z m d rest more sa sb sy sz sl sm sc sd e =
       all.1,
     )
 
-pub length-spare : (bin spare long check : ℕ) → length (spare_head bin spare long check) ≡ 16
-unfolding spare_head
-length-spare bin spare long check = refl
-
 -- the letters, one a byte
 letters_are : to_le_bytes w64 LETTERS ≡ 75 ∷ 77 ∷ 67 ∷ 83 ∷ 76 ∷ 73 ∷ 67 ∷ 69 ∷ []
 letters_are = refl

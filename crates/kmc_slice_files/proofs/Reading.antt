@@ -50,12 +50,12 @@ front_of_wide : (items zs : List ℕ) (n from : ℕ) → from ≡ length items �
 front_of_wide items zs n from is most = ap (λ (l : List ℕ). take from (l ++ zs)) (take_all n items (omega (arith, is)))
     ∙ take_at items zs from (sym is)
 
--- a piece of a body came
-module _ (a b c : Option (List ℕ)) (start body items wide spare room : List ℕ) (left long piece from end : ℕ) (size : length body + left ≡ long)
-    (stand : items ≡ start ++ body) (gave : Consumes a b body) (behind : from ≡ length items) (spread : wide ≡ take (from + piece) items ++ spare)
-    (most : piece ≤ left) (came : CameBehind b c from end wide room) where
+-- a block of a body came
+module _ (a b c : Option (List ℕ)) (start body items wide spare room : List ℕ) (left long block from end : ℕ) (size : length body + left ≡ long)
+    (stand : items ≡ start ++ body) (gave : Consumes a b body) (behind : from ≡ length items) (spread : wide ≡ take (from + block) items ++ spare)
+    (most : block ≤ left) (came : CameBehind b c from end wide room) where
   front : take from wide ≡ items
-  front = ap (take from) spread ∙ front_of_wide items spare (from + piece) from behind (omega arith)
+  front = ap (take from) spread ∙ front_of_wide items spare (from + block) from behind (omega arith)
 
   abbrev pub all_bytes : List ℕ
   all_bytes = body ++ came.bytes
@@ -66,9 +66,9 @@ module _ (a b c : Option (List ℕ)) (start body items wide spare room : List �
   pub all_size : length all_bytes + from ≡ length body + end
   all_size = omega (arith, length-append body came.bytes, came.many)
 
-  pub piece_came : (len : ℕ) (rest : List ℕ) → end ≡ from + piece → length room ≡ end → len ≡ end
-      → (x : List ℕ) × (length x + (left - piece) ≡ long) × (take len (room ++ rest) ≡ start ++ x) × Consumes a c x
-  piece_came len rest full wide_room is = (
+  pub block_came : (len : ℕ) (rest : List ℕ) → end ≡ from + block → length room ≡ end → len ≡ end
+      → (x : List ℕ) × (length x + (left - block) ≡ long) × (take len (room ++ rest) ≡ start ++ x) × Consumes a c x
+  block_came len rest full wide_room is = (
     all_bytes,
     omega (arith, all_size, size, full, most),
     take_at room rest len (omega (arith, wide_room, is)) ∙ sym (take_all end room (omega (arith, wide_room))) ∙ came.stand
@@ -76,20 +76,20 @@ module _ (a b c : Option (List ℕ)) (start body items wide spare room : List �
     all_gave,
   )
 
-  pub short_came : end < from + piece → IsAtEnd c → (bytes : List ℕ) × (length bytes < long) × Consumes a c bytes × IsAtEnd c
+  pub short_came : end < from + block → IsAtEnd c → (bytes : List ℕ) × (length bytes < long) × Consumes a c bytes × IsAtEnd c
   short_came short ended = (all_bytes, omega (arith, all_size, short, size, most), all_gave, ended)
 
-  pub some_came : (before after limit : ℕ) → before ≡ length start → after ≡ from + piece → piece ≤ limit → GaveSome before after limit a c
+  pub some_came : (before after limit : ℕ) → before ≡ length start → after ≡ from + block → block ≤ limit → GaveSome before after limit a c
   some_came before after limit is now few = record {
     bytes = all_bytes;
     gave = all_gave;
     held = omega (arith, is, now, few, behind, ap length stand, length-append start body, length-append body came.bytes);
   }
 
-pub some_given : (a b c : Option (List ℕ)) (body given items start : List ℕ) (before after from piece limit : ℕ) → Consumes a b body
-    → Consumes b c given → items ≡ start ++ body → from ≡ length items → before ≡ length start → after ≡ from + piece → piece ≤ limit
+pub some_given : (a b c : Option (List ℕ)) (body given items start : List ℕ) (before after from block limit : ℕ) → Consumes a b body
+    → Consumes b c given → items ≡ start ++ body → from ≡ length items → before ≡ length start → after ≡ from + block → block ≤ limit
     → GaveSome before after limit a c
-some_given a b c body given items start before after from piece limit gave now stand behind is grown few = record {
+some_given a b c body given items start before after from block limit gave now stand behind is grown few = record {
   bytes = body ++ given;
   gave = Consumes-trans a b c body given gave now;
   held = omega (arith, is, grown, few, behind, ap length stand, length-append start body, length-append body given);

@@ -8,7 +8,8 @@ use Rattle.kmc_slice_files.specs.Frames.{Frame, frame, IsFrame, check_of, spare_
 use Rattle.kmc_slice_files.specs.Reads.{IsHeadOf, BeginsNothing, SaysFrame, SaysEnd}
 use Rattle.kmc_slice_files.specs.declared.read.Head.{Head}
 use Rattle.kmc_slice_files.proofs.Hashing.{hashed_small}
-use Rattle.kmc_slice_files.proofs.Parsing.{parted, spares_told, length-spare}
+use Rattle.kmc_slice_files.specs.Lemmas.Heads.{length_spare}
+use Rattle.kmc_slice_files.proofs.Parsing.{parted, spares_told}
 
 check_small : (bin : ℕ) (body : List ℕ) → check_of bin body < 2 ^ 64
 check_small bin body = hashed_small bin body
@@ -87,9 +88,9 @@ less_begins n S s count bytes few = record {
         length-append (frame_bytes f) rest,
         length-append (head_bytes f.bin (length f.body) (check_of f.bin f.body))
             f.body,
-        length-spare f.bin 0 (length f.body) (check_of f.bin f.body),
+        length_spare f.bin 0 (length f.body) (check_of f.bin f.body),
       );
-  end = λ rest e. omega (arith, few, ap length e, length-append (end_bytes count) rest, length-spare NO_BIN 0 0 (capped count));
+  end = λ rest e. omega (arith, few, ap length e, length-append (end_bytes count) rest, length_spare NO_BIN 0 0 (capped count));
 }
 
 -- behind what stood there

@@ -15,7 +15,7 @@ use Rattle.kmc_slice_files.specs.Whole.{TookFrames, TookAll, IsEndFault}
 use Rattle.kmc_slice_files.specs.declared.frames.Place.{Place}
 use Rattle.kmc_slice_files.specs.declared.frames.FramesFault.{FramesFault}
 use Rattle.kmc_slice_files.specs.declared.frames.FramesFault.TheVariants.{Next, Behind, TooMany}
-use Rattle.kmc_slice_files.proofs.Parsing.{length-spare}
+use Rattle.kmc_slice_files.specs.Lemmas.Heads.{length_spare}
 
 abbrev pub place : ℕ → ℕ → Place
 place frames byte = record { frames = frames; byte = byte }
@@ -53,7 +53,7 @@ length-frame : (f : Frame) → length (frame_bytes f) ≡ 16 + length f.body
 length-frame f = omega (
   arith,
   length-append (head_bytes f.bin (length f.body) (check_of f.bin f.body)) f.body,
-  length-spare f.bin 0 (length f.body)
+  length_spare f.bin 0 (length f.body)
       (check_of f.bin f.body),
 )
 
@@ -94,19 +94,19 @@ frame_behind n m S s count byte long a b c before mid after wide now took o is s
     }
 
 -- what memory holds behind a fault
-pub held_behind : (n S s count byte piece : ℕ) (a b c : Option (List ℕ)) (before mid after : List (List ℕ))
+pub held_behind : (n S s count byte block : ℕ) (a b c : Option (List ℕ)) (before mid after : List (List ℕ))
     → TookFrames n S s a b before mid (place count byte)
-    → GaveSome (held_bytes mid) (held_bytes after) piece b c → GaveSome (held_bytes before) (held_bytes after) piece a c
-held_behind n S s count byte piece a b c before mid after took some = record {
+    → GaveSome (held_bytes mid) (held_bytes after) block b c → GaveSome (held_bytes before) (held_bytes after) block a c
+held_behind n S s count byte block a b c before mid after took some = record {
   bytes = frames_bytes took.fs ++ some.bytes;
   gave = Consumes-trans a b c (frames_bytes took.fs) some.bytes took.gave some.gave;
   held = omega (arith, took.held, some.held, length-append (frames_bytes took.fs) some.bytes);
 }
 
 -- the same behind a header
-pub held_header : (before after piece : ℕ) (a b c : Option (List ℕ)) (header : List ℕ) → Consumes a b header → GaveSome before after piece b c
-    → GaveSome before after piece a c
-held_header before after piece a b c header first some = record {
+pub held_header : (before after block : ℕ) (a b c : Option (List ℕ)) (header : List ℕ) → Consumes a b header → GaveSome before after block b c
+    → GaveSome before after block a c
+held_header before after block a b c header first some = record {
   bytes = header ++ some.bytes;
   gave = Consumes-trans a b c header some.bytes first some.gave;
   held = omega (arith, some.held, length-append header some.bytes);
@@ -118,10 +118,10 @@ end_bytes_given b c Behind is = (is.0, is.2)
 end_bytes_given b c TooMany is = absurd is
 
 -- the same where the end of the bytes was not read
-pub held_at_end : (n S s piece : ℕ) (a b c : Option (List ℕ)) (before after : List (List ℕ)) (at : Place) → TookAll n S s a b before after at
+pub held_at_end : (n S s block : ℕ) (a b c : Option (List ℕ)) (before after : List (List ℕ)) (at : Place) → TookAll n S s a b before after at
     → (why : FramesFault) → IsEndFault b c why
-    → GaveSome (held_bytes before) (held_bytes after) piece a c
-held_at_end n S s piece a b c before after at all why is =
+    → GaveSome (held_bytes before) (held_bytes after) block a c
+held_at_end n S s block a b c before after at all why is =
     let took = all.took in
     let more = end_bytes_given b c why is in
     record {

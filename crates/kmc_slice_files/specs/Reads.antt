@@ -50,11 +50,11 @@ pub record GaveFront (n S s count : ℕ) (old new : Option (List ℕ)) : Type 0 
   pub ended : IsAtEnd new
   pub none : BeginsNothing n S s count bytes
 
--- the reader gave bytes, and memory holds as many more, but for one piece
-pub record GaveSome (before after piece : ℕ) (old new : Option (List ℕ)) : Type 0 where
+-- the reader gave bytes, and memory holds as many more, but for one block
+pub record GaveSome (before after block : ℕ) (old new : Option (List ℕ)) : Type 0 where
   pub bytes : List ℕ
   pub gave : Consumes old new bytes
-  pub held : after ≤ before + length bytes + piece
+  pub held : after ≤ before + length bytes + block
 
 -- a head that begins a frame of this bin
 pub record SaysFrame (n S s b : ℕ) (h : Head) : Type 0 where

@@ -1,5 +1,5 @@
 //! All frames of a file, to its end.
-ghost use Rattle.std.specs.Prelude.{◌≡◌, ◌^◌, ◌<◌, ◌≤◌, [], length, map, OnOk, OnErr, IfOk, IfErr};
+ghost use Rattle.std.specs.Prelude.{◌≡◌, ◌<◌, ◌≤◌, [], length, map, OnOk, OnErr, IfOk, IfErr};
 ghost use Rattle.kmc_slice_files.specs.Files.{IsSlicing};
 ghost use Rattle.kmc_slice_files.specs.Reads.{GaveSome, held_bytes};
 ghost use Rattle.kmc_device.specs.Device.{GaveAll};
@@ -7,7 +7,7 @@ ghost use Rattle.kmc_slice_files.specs.Whole.{TookAll, GaveFrames, IsEndFault, I
 
 use crate::frame::HEAD;
 use crate::header::{HEADER, Slicing};
-use crate::read::{FrameFault, PIECE, read_frame};
+use crate::read::{BLOCK, FrameFault, read_frame};
 use kmc_device::{Counted, ReadFault, fill_behind};
 use std::io::Read;
 
@@ -56,7 +56,7 @@ fn take_frames<R: Read>(
     ensures device { IfErr result (λ e. FileTells reader.old.failures reader.new.failures e.why) }
     ensures held { OnErr result
         (GaveSome (held_bytes (map (λ v. v.items) bodies.old))
-        (held_bytes (map (λ v. v.items) bodies.new)) PIECE (R.remaining reader.old.inner)
+        (held_bytes (map (λ v. v.items) bodies.new)) BLOCK (R.remaining reader.old.inner)
         (R.remaining reader.new.inner)) }
 {
     let mut byte = HEADER as u64;
@@ -118,7 +118,7 @@ pub fn read_frames<R: Read>(
     ensures device { IfErr result (λ e. FileTells reader.old.failures reader.new.failures e.why) }
     ensures held { OnErr result
         (GaveSome (held_bytes (map (λ v. v.items) bodies.old))
-        (held_bytes (map (λ v. v.items) bodies.new)) PIECE (R.remaining reader.old.inner)
+        (held_bytes (map (λ v. v.items) bodies.new)) BLOCK (R.remaining reader.old.inner)
         (R.remaining reader.new.inner)) }
 {
     let place = take_frames(

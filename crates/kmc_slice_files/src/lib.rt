@@ -22,6 +22,6 @@ pub use frame::{write_bin, write_end};
 pub use frames::{FileFault, FramesFault, Place, read_frames};
 pub use header::{HeaderFault, Slicing, read_header, write_header};
 pub use opening::{CreateFault, create_files};
-pub use read::{FrameFault, PIECE};
+pub use read::{BLOCK, FrameFault};
 pub use round::write_round;
 pub use slice::{SliceFault, read_slice};

@@ -1,5 +1,5 @@
 //! The files of slices, made to be written.
-ghost use Rattle.std.specs.Prelude.{◌≡◌, ℕ, ◌<◌, List, length, map, slice_index, MatchResult};
+ghost use Rattle.std.specs.Prelude.{◌≡◌, ℕ, length, map, slice_index, MatchResult};
 ghost use Rattle.kmc_slice_files.specs.Opening.{IsCreateFault};
 
 use kmc_device::Counted;

@@ -1,6 +1,6 @@
 //! One frame that is read.
-ghost use Rattle.std.specs.Prelude.{◌≡◌, ℕ, ◌+◌, ◌-◌, ◌*◌, ◌^◌, ◌<◌, ◌≤◌, ◌++◌, List, length, map, take, vec_len, OnOk, OnErr, IfOk, IfErr};
-ghost use Rattle.std.specs.Io.KnownBytes.{Consumes, IsAtEnd};
+ghost use Rattle.std.specs.Prelude.{◌≡◌, ℕ, ◌+◌, ◌<◌, ◌≤◌, ◌++◌, List, length, map, vec_len, OnOk, OnErr, IfOk, IfErr};
+ghost use Rattle.std.specs.Io.KnownBytes.{Consumes};
 ghost use Rattle.kmc_slice_files.specs.Reads.{IsHeadOf, TookNext, GaveSome, IsSaid, TookHead, IsHeadFault, IsBodyFault, IsFrameFault, TellsOfReader, held_bytes};
 
 use crate::check::frame_check;
@@ -8,8 +8,8 @@ use crate::frame::{HEAD, MOST_BODY, NO_BIN};
 use kmc_device::{Counted, ReadFault, fill_behind};
 use std::io::Read;
 
-/// Memory for a body is asked for in pieces of so many bytes, as they come.
-pub const PIECE: usize = 65536;
+/// Memory for a body is asked for in blocks of so many bytes, as they come.
+pub const BLOCK: usize = 65536;
 
 /// Why no frame was read.
 #[derive(Clone, Copy, Debug, PartialEq, Eq)]
@@ -56,8 +56,8 @@ fn head_of(bytes: &[u8; HEAD]) -> Head
     }
 }
 
-/// Reads so many bytes behind those of a vector, a piece at a time: where fewer come, no more memory was asked for than for
-/// those and one piece.
+/// Reads so many bytes behind those of a vector, a block at a time: where fewer come, no more memory was asked for than for
+/// those and one block.
 fn read_body<R: Read>(
     reader: &mut Counted<R>,
     out: &mut Vec<u8>,
@@ -70,22 +70,22 @@ fn read_body<R: Read>(
     ensures fault { IfErr result
         (IsBodyFault long (R.remaining reader.old.inner) (R.remaining reader.new.inner)) }
     ensures device { IfErr result (TellsOfReader reader.old.failures reader.new.failures) }
-    ensures held { OnErr result (GaveSome (vec_len out.old) (vec_len out.new) PIECE
+    ensures held { OnErr result (GaveSome (vec_len out.old) (vec_len out.new) BLOCK
         (R.remaining reader.old.inner) (R.remaining reader.new.inner)) }
 {
     let mut left = long as usize;
     while left > 0 {
-        let piece = left.min(PIECE);
+        let block = left.min(BLOCK);
         let from = out.len();
-        match out.resize(from + piece, 0) {
+        match out.resize(from + block, 0) {
             Ok(()) => {}
             Err(_) => return Err(FrameFault::Memory),
         }
         let end = fill_behind(reader, out.as_mut_slice(), from)?;
-        if end < from + piece {
+        if end < from + block {
             return Err(FrameFault::Short);
         }
-        left -= piece;
+        left -= block;
     }
     Ok(())
 }
@@ -166,7 +166,7 @@ pub(crate) fn read_frame<R: Read>(
     ensures device { IfErr result (TellsOfReader reader.old.failures reader.new.failures) }
     ensures held { OnErr result
         (GaveSome (held_bytes (map (λ v. v.items) bodies.old))
-        (held_bytes (map (λ v. v.items) bodies.new)) PIECE (R.remaining reader.old.inner)
+        (held_bytes (map (λ v. v.items) bodies.new)) BLOCK (R.remaining reader.old.inner)
         (R.remaining reader.new.inner)) }
 {
     let head = read_head(reader)?;

@@ -6,7 +6,7 @@ ghost use Rattle.kmc_slice_files.specs.Whole.{GaveFile, IsSliceFault, SliceTells
 
 use crate::frames::{FileFault, read_frames};
 use crate::header::{HeaderFault, Slicing, read_header};
-use crate::read::PIECE;
+use crate::read::BLOCK;
 use kmc_device::Counted;
 use std::io::Read;
 
@@ -62,7 +62,7 @@ pub fn read_slice<R: Read>(
     ensures device { IfErr result (SliceTells reader.old.failures reader.new.failures) }
     ensures held { OnErr result
         (GaveSome (held_bytes (map (λ v. v.items) bodies.old))
-        (held_bytes (map (λ v. v.items) bodies.new)) PIECE (R.remaining reader.old.inner)
+        (held_bytes (map (λ v. v.items) bodies.new)) BLOCK (R.remaining reader.old.inner)
         (R.remaining reader.new.inner)) }
 {
     let told = read_header(reader)?;

@@ -17,7 +17,8 @@ use Rattle.kmc_count.specs.Merge.{joined}
 use Rattle.kmc_sum.specs.Laws.{CountsAdd}
 use Rattle.kmc_tool.specs.Laws.{HeldReadsAreCounted, CutReadsAreCounted, BinsShareNoKey}
 use Rattle.kmc_slice_files.specs.Files.{IsSlicing, IsSliceFile, file_bytes, header_bytes}
-use Rattle.kmc_slice_files.specs.Frames.{Frame, AreFrames, body_of, end_bytes, frames_bytes, spare_head}
+use Rattle.kmc_slice_files.specs.Frames.{Frame, AreFrames, body_of, end_bytes, frames_bytes}
+use Rattle.kmc_slice_files.specs.Lemmas.Heads.{length_spare}
 use Rattle.kmc_slice_files.specs.Laws.{FilesAreOne}
 use Rattle.kmc_slice_files.specs.Writes.{held_at}
 use Rattle.kmc_slices.specs.Files.{AreCutTo, AreRead, IsFileOf, files_of}
@@ -146,10 +147,6 @@ file_tells one shape other S s T t bodies others file is read = go read.fss read
         (same.0, same.1, same.2)
 
 -- the end has bytes
-length_head : (bin spare long check : ℕ) → length (spare_head bin spare long check) ≡ 16
-unfolding spare_head
-length_head bin spare long check = refl
-
 pub unended : FilesAreOne → UnendedIsNoFile
 unended one shape other S s T t fs bodies text slicing frames front is =
     let ends = end_bytes (length fs) in
@@ -158,7 +155,7 @@ unended one shape other S s T t fs bodies text slicing frames front is =
     (sym front.1)
     ∙ append_assoc text front.0 ends ∙ ap (λ (l : List ℕ). l ++ (front.0 ++ ends)) is.is in
     let same = one shape other S s T t fs is.fs [] (front.0 ++ ends) slicing is.slicing frames is.has.frames all in
-    absurd (omega (arith, ap length same.4, length-append front.0 ends, length_head 65535 0 0 (capped (length fs))))
+    absurd (omega (arith, ap length same.4, length-append front.0 ends, length_spare 65535 0 0 (capped (length fs))))
 
 -- what stands in a file that was empty
 appended : (a b : Option (List ℕ)) (file bytes : List ℕ) → a ≡ Some [] → b ≡ Some file → Appends a b bytes → file ≡ bytes

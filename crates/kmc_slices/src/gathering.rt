@@ -1,5 +1,5 @@
 //! The files of one slice, read one after the other.
-ghost use Rattle.std.specs.Prelude.{◌≡◌, ◌-◌, ◌^◌, ◌<◌, [], ◌∷◌, ◌++◌, List, ℕ, Option, map, OnOk, IfOk, IfErr, IsErrOf};
+ghost use Rattle.std.specs.Prelude.{◌≡◌, [], ◌∷◌, ◌++◌, List, ℕ, Option, map, OnOk, IfOk, IfErr, IsErrOf};
 ghost use Rattle.kmc_slice_files.specs.Whole.{IsSliceFault, SliceTells};
 ghost use Rattle.kmc_slice_files.specs.declared.slice.SliceFault.{SliceFault};
 ghost use Rattle.kmc_slices.specs.Gathered.{AreGathered, AreRecords, GaveHeader, IsFirstFault, IsOfSlice, Tells};

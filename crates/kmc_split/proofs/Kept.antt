@@ -1,5 +1,5 @@
 -- The words of runs.
-use Rattle.std.proofs.Common.{◌≡◌, ℕ, zero, suc, ◌+◌, ◌-◌, ◌<◌, ◌≤◌, List, [], ◌∷◌, ◌++◌, length, map, get_or, refl, sym, ap, ◌∙◌, arith, add-zero}
+use Rattle.std.proofs.Common.{◌≡◌, ℕ, ◌+◌, ◌-◌, ◌<◌, ◌≤◌, List, [], ◌∷◌, ◌++◌, length, map, get_or, refl, sym, ap, ◌∙◌, arith}
 use Rattle.std.specs.List.{All, range_with_len}
 use Rattle.std.proofs.lemmas.List.FromFn.{length-map-range_with_len, get_or-map-range_with_len}
 use Rattle.std.proofs.lemmas.List.Elements.{All-cons}
@@ -8,29 +8,8 @@ use Rattle.kmc_split.specs.declared.runs.Run.{Run}
 use Rattle.kmc_split.specs.Signature.{signature_of}
 use Rattle.kmc_split.specs.Cut.{IsRun, AreRuns, IsCut, run_codes, run_words, IsRunOf}
 use Rattle.kmc_base.specs.Lemmas.Windows.{length_window}
-use Rattle.kmc_split.specs.Lemmas.Least.{window_window}
-use Rattle.kmc_split.proofs.Unique.{starts_within}
-
--- places in a row, in two parts
-places_append : (f : ℕ → List ℕ) (a n m : ℕ) → map f (range_with_len a (n + m)) ≡ map f (range_with_len a n) ++ map f (range_with_len (a + n) m)
-places_append f a zero m =
-    let e : 0 + m ≡ m = omega arith in
-    let s : a ≡ a + 0 = omega arith in
-    (λ i. map f (range_with_len (s i) (e i)))
-places_append f a (suc n) m =
-    let e : suc n + m ≡ suc (n + m) = omega arith in
-    let s : a + 1 + n ≡ a + suc n = omega arith in
-    ap (λ c. map f (range_with_len a c)) e
-    ∙ ap (λ (t : List (List ℕ)). f a ∷ t) (places_append f (a + 1) n m ∙ ap (λ b. map f (range_with_len (a + 1) n) ++ map f (range_with_len b m)) s)
-
--- the same words, from another list and place
-moved : (f g : ℕ → List ℕ) (n a b : ℕ) → ((j : ℕ) → j < n → f (a + j) ≡ g (b + j)) → map f (range_with_len a n) ≡ map g (range_with_len b n)
-moved f g zero a b same = refl
-moved f g (suc n) a b same =
-    let here : f a ≡ g b = ap f (sym (add-zero a)) ∙ same 0 (omega arith) ∙ ap g (add-zero b) in
-    let rest = moved f g n (a + 1) (b + 1)
-    (λ j h. let d : a + 1 + j ≡ a + (j + 1) = omega arith in let e : b + (j + 1) ≡ b + 1 + j = omega arith in ap f d ∙ same (j + 1) (omega arith) ∙ ap g e) in
-    (λ i. here i ∷ rest i)
+use Rattle.kmc_split.specs.Lemmas.Least.{starts_within, window_window}
+use Rattle.kmc_split.specs.Lemmas.Places.{places_append, places_moved}
 
 -- the words of a run are those of the segment at its places
 words_of_run : (k : ℕ) (codes : List ℕ) (r : Run) → 1 ≤ k → 1 ≤ r.words → r.start + (r.words + (k - 1)) ≤ length codes
@@ -39,7 +18,7 @@ words_of_run k codes r some words inside =
     let long = length_window (r.words + (k - 1)) r.start codes inside in
     let count : length (run_codes k codes r) + 1 - k ≡ r.words = omega (arith, long) in
     ap (λ n. map (window k (run_codes k codes r)) (range_with_len 0 n)) count
-    ∙ moved (window k (run_codes k codes r)) (window k codes) r.words 0 r.start
+    ∙ places_moved (window k (run_codes k codes r)) (window k codes) r.words 0 r.start
     (λ j h. let e : 0 + j ≡ j = omega arith in ap (window k (run_codes k codes r)) e ∙ window_window k (r.words + (k - 1)) r.start j codes (omega arith))
 
 module _ (k m : ℕ) (codes : List ℕ) (some : 1 ≤ k) (long : k ≤ length codes) where

@@ -1,14 +1,13 @@
 -- A list of signatures has exactly one list of runs.
 use Rattle.std.proofs.Common.{◌≡◌, ℕ, zero, suc, ◌+◌, ◌-◌, ◌<◌, ◌≤◌, List, [], ◌∷◌, ◌++◌, refl, sym, subst, ◌∙◌, arith, ◌⊎◌, inl, inr, add-one}
+use Rattle.std.proofs.lemmas.Bool.{cases_eq}
 use Rattle.kmc_split.specs.declared.runs.Run.{Run}
 use Rattle.kmc_split.specs.Cut.{IsRun, IsLongOrOther, AreRuns}
+use Rattle.kmc_split.specs.Lemmas.Least.{starts_within}
 use Rattle.kmc_split.proofs.Grouping.{open_run, first, grow, cut_here}
 
 order : (a b : ℕ) → (a < b) ⊎ ((a ≡ b) ⊎ (b < a))
 order a b = grind arith
-
-equal_or_not : (a b : ℕ) → (a ≡ b) ⊎ (a ≡ b → ⊥)
-equal_or_not a b = grind arith
 
 module _ (at : ℕ → ℕ) (end : ℕ) where
   -- a run that ends before another one that begins with it is not followed by anything
@@ -27,14 +26,10 @@ module _ (at : ℕ → ℕ) (end : ℕ) where
       let full : r.words ≡ 256 = long same in
       omega (arith, si.most)
 
-  pub starts_within : (p : ℕ) (rs : List Run) → AreRuns at p end rs → p ≤ end
-  starts_within p [] h = omega arith
-  starts_within p (r ∷ rs) h = omega (arith, starts_within (p + r.words) rs h.3)
-
   same_heads : (p : ℕ) (r s : Run) (rs ss : List Run) → AreRuns at p end (r ∷ rs) → AreRuns at p end (s ∷ ss)
       → (r.words < s.words) ⊎ ((r.words ≡ s.words) ⊎ (s.words < r.words)) → (r.words ≡ s.words → rs ≡ ss) → r ∷ rs ≡ s ∷ ss
-  same_heads p r s rs ss h k (inl less) rest = absurd (shorter p r s rs h.0 k.0 h.1 k.1 h.2 h.3 (starts_within (p + s.words) ss k.3) less)
-  same_heads p r s rs ss h k (inr (inr less)) rest = absurd (shorter p s r ss k.0 h.0 k.1 h.1 k.2 k.3 (starts_within (p + r.words) rs h.3) less)
+  same_heads p r s rs ss h k (inl less) rest = absurd (shorter p r s rs h.0 k.0 h.1 k.1 h.2 h.3 (starts_within at end (p + s.words) ss k.3) less)
+  same_heads p r s rs ss h k (inr (inr less)) rest = absurd (shorter p s r ss k.0 h.0 k.1 h.1 k.2 k.3 (starts_within at end (p + r.words) rs h.3) less)
   same_heads p r s rs ss h k (inr (inl e)) rest =
       let starts : r.start ≡ s.start = h.0 ∙ sym k.0 in
       let r_first : at p ≡ r.signature = h.1.one p (omega arith) (omega (arith, h.1.some)) in
@@ -45,8 +40,8 @@ module _ (at : ℕ → ℕ) (end : ℕ) where
 
   pub one_list : (p : ℕ) (rs ss : List Run) → AreRuns at p end rs → AreRuns at p end ss → rs ≡ ss
   one_list p [] [] h k = refl
-  one_list p [] (s ∷ ss) h k = absurd (omega (arith, k.1.some, starts_within (p + s.words) ss k.3))
-  one_list p (r ∷ rs) [] h k = absurd (omega (arith, h.1.some, starts_within (p + r.words) rs h.3))
+  one_list p [] (s ∷ ss) h k = absurd (omega (arith, k.1.some, starts_within at end (p + s.words) ss k.3))
+  one_list p (r ∷ rs) [] h k = absurd (omega (arith, h.1.some, starts_within at end (p + r.words) rs h.3))
   one_list p (r ∷ rs) (s ∷ ss) h k =
       same_heads p r s rs ss h k (order r.words s.words) (λ e. one_list (p + r.words) rs ss h.3 (subst (λ (n : ℕ). AreRuns at (p + n) end ss) (sym e) k.3))
 
@@ -60,7 +55,7 @@ record IsOpen (at : ℕ → ℕ) (i : ℕ) : Type 0 where
 
 module _ (at : ℕ → ℕ) where
   one_more : (i : ℕ) → IsOpen at i → IsOpen at (i + 1)
-  one_more i h = pick (equal_or_not (at i) (at h.start)) (equal_or_not (i - h.start) 256)
+  one_more i h = pick (cases_eq (at i) (at h.start)) (cases_eq (i - h.start) 256)
     where
       cut_it : (at h.start ≡ at i → i - h.start ≡ 256) → IsOpen at (i + 1)
       cut_it apart =

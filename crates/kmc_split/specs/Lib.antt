@@ -1,7 +1,7 @@
 pub mod Signature
 pub mod Cut
 pub mod SuperKmer
-pub mod Pieces
+pub mod SuperKmers
 pub mod Laws
 pub mod Minima
 pub mod Rows

@@ -5,7 +5,7 @@ use Rattle.kmc_base.specs.declared.kmer.TheConstants.{MAX_K}
 use Rattle.kmc_base.specs.Words.{windows}
 
 -- k, and the codes that the words of k codes stand in
-pub record Piece : Type 0 where
+pub record SuperKmerValue : Type 0 where
   pub k : ℕ
   pub codes : List ℕ
 
@@ -18,5 +18,5 @@ pub record IsSuperKmer (k : ℕ) (w : List ℕ) : Type 0 where
   pub codes : All (λ c. c < 4) w
 
 -- the words of a super-k-mer, in the order of their places
-abbrev pub piece_words : Piece → List (List ℕ)
-piece_words s = windows s.k s.codes
+abbrev pub super_kmer_words : SuperKmerValue → List (List ℕ)
+super_kmer_words s = windows s.k s.codes

@@ -4,8 +4,8 @@ ghost use Rattle.std.specs.List.{All};
 ghost use Rattle.kmc_base.specs.Words.{window, windows};
 ghost use Rattle.kmc_split.specs.Signature.{signature_of};
 ghost use Rattle.kmc_split.specs.Minima.{low};
-ghost use Rattle.kmc_split.specs.SuperKmer.{IsSuperKmer, piece_words};
-ghost use Rattle.kmc_split.specs.Pieces.{piece};
+ghost use Rattle.kmc_split.specs.SuperKmer.{IsSuperKmer, super_kmer_words};
+ghost use Rattle.kmc_split.specs.SuperKmers.{super_kmer_of_run};
 
 use crate::judge::offers;
 use crate::minima::{lowest, next_low};
@@ -29,9 +29,9 @@ pub struct SuperKmer {
 }
 
 impl Model for SuperKmer {
-    ghost use Rattle.kmc_split.specs.SuperKmer.{Piece, IsSuperKmer};
+    ghost use Rattle.kmc_split.specs.SuperKmer.{SuperKmerValue, IsSuperKmer};
 
-    ghost Value = { Piece };
+    ghost Value = { SuperKmerValue };
 
     ghost view = { λ a. record { k = a.k; codes = a.codes.items } };
 
@@ -73,7 +73,7 @@ impl SuperKmer {
 
     /// How many words it has, 1 to 256.
     pub fn words(&self) -> usize
-        ensures is { result ≡ length (piece_words self.now) }
+        ensures is { result ≡ length (super_kmer_words self.now) }
         ensures count { result + self.now.k ≡ length self.now.codes + 1 }
         ensures some { 1 ≤ result }
         ensures most { result ≤ 256 }
@@ -98,7 +98,7 @@ impl SuperKmer {
         requires most { m ≤ MAX_M }
         requires within { m ≤ self.now.k }
         requires bins { 1 ≤ n }
-        ensures { IsTrue result ↔ All (λ w. signature_of m w % n ≡ bin) (piece_words self.now) }
+        ensures { IsTrue result ↔ All (λ w. signature_of m w % n ≡ bin) (super_kmer_words self.now) }
     {
         words_in_bin(&self.codes, self.k, m, n, bin)
     }
@@ -168,7 +168,7 @@ pub fn super_kmer(alloc: Global, codes: &[u8], k: usize, r: Run) -> Result<Super
     requires words { 1 ≤ r.words }
     requires most { r.words ≤ 256 }
     requires inside { r.start + (r.words + (k - 1)) ≤ length codes.now }
-    ensures { IfOk result (λ s. s ≡ piece k codes.now r) }
+    ensures { IfOk result (λ s. s ≡ super_kmer_of_run k codes.now r) }
 {
     let mut own = Vec::new(alloc);
     own.extend_from_slice(&codes[r.start..r.start + (r.words + (k - 1))])?;

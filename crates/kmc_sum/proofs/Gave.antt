@@ -1,5 +1,5 @@
 -- What a source gave so far.
-use Rattle.std.proofs.Common.{◌≡◌, ◌≢◌, ℕ, zero, suc, ◌/◌, ◌%◌, ◌<◌, ◌≤◌, ◌^◌, cond, true, List, [], ◌∷◌, ◌++◌, drop, length, Option, refl, sym, ap, subst, ◌∙◌, arith, append_assoc, append-nil}
+use Rattle.std.proofs.Common.{◌≡◌, ◌≢◌, ℕ, ◌<◌, ◌≤◌, ◌^◌, cond, true, List, [], ◌∷◌, ◌++◌, drop, length, Option, refl, sym, ap, subst, ◌∙◌, arith, append_assoc, append-nil}
 use Rattle.std.proofs.KnownBytes.{Consumes-trans}
 use Rattle.std.proofs.lemmas.Grind.{flat_map-append}
 use Rattle.std.proofs.lemmas.List.{take-append-drop, map-append, length-append}
@@ -11,7 +11,7 @@ use Rattle.std.specs.declared.cmp.Ordering.TheVariants.{Less}
 use Rattle.std.proofs.lemmas.Bool.Decides.{nat_tests}
 use Rattle.kmc_base.specs.Words.{kmer_cmp}
 use Rattle.kmc_base.specs.Packed.{unpack}
-use Rattle.kmc_base.specs.Lemmas.Packs.{AreCodes, codes_append}
+use Rattle.kmc_base.specs.Lemmas.Packs.{codes_unpack}
 use Rattle.kmc_base.specs.Lemmas.Packing.{length_unpack}
 use Rattle.kmc_count.specs.Dump.{words_of}
 use Rattle.kmc_device.specs.Line.{line_of, text_of}
@@ -28,10 +28,6 @@ use Rattle.kmc_sum.specs.Sources.{IsSource}
 use Rattle.kmc_sum.specs.declared.heads.Head.{Head}
 use Rattle.kmc_sum.specs.declared.source.Room.{Room}
 use Rattle.kmc_sum.specs.declared.line.Line.{Line}
-
-pub codes_unpack : (n p : ℕ) → AreCodes (unpack n p)
-codes_unpack zero p = tt
-codes_unpack (suc n) p = let low : p % 4 < 4 = omega arith in codes_append (unpack n (p / 4)) (p % 4 ∷ []) (codes_unpack n (p / 4)) (low, tt)
 
 pub text_push : (pairs : List (List ℕ × ℕ)) (p : List ℕ × ℕ) → text_of (pairs ++ p ∷ []) ≡ text_of pairs ++ line_of p
 text_push pairs p = flat_map-append line_of pairs (p ∷ []) ∙ ap (λ (t : List ℕ). text_of pairs ++ t) (append-nil (line_of p))

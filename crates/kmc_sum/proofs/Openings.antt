@@ -4,8 +4,6 @@ use Rattle.std.proofs.lemmas.Bool.{cases_eq, cases_lt}
 use Rattle.std.proofs.lemmas.List.Sums.{sum_by-cons}
 use Rattle.std.proofs.lemmas.List.{length-set, length-map, get_or-set_same, get_or-set_other, get_or-map, map-set}
 use Rattle.std.specs.Io.KnownBytes.{Consumes, IsAtEnd}
-use Rattle.std.specs.List.Sorted.{IsStrictlySortedBy}
-use Rattle.kmc_base.specs.Words.{kmer_cmp}
 use Rattle.kmc_base.specs.Packed.{unpack}
 use Rattle.kmc_device.specs.Line.{text_of}
 use Rattle.kmc_sum.specs.Line.{IsLineOf}
@@ -24,12 +22,9 @@ use Rattle.kmc_sum.specs.declared.line.Line.{Line}
 use Rattle.kmc_sum.specs.declared.heads.Head.{Head}
 use Rattle.kmc_sum.specs.declared.source.Room.{Room}
 use Rattle.kmc_sum.proofs.Rooms.{goes_nowhere}
+use Rattle.kmc_sum.proofs.Tallies.{rising_none}
 use Rattle.kmc_sum.proofs.Advances.{source_like, fault_after, left_now}
 use Rattle.kmc_sum.proofs.Gave.{line_pair, line_splits, listed_first, front_taken, gave_fewer, of_other_length}
-
-rising_none : IsStrictlySortedBy kmer_cmp []
-unfolding IsStrictlySortedBy
-rising_none = tt
 
 -- a source has given bytes and no line
 pub gave_none : (m : ℕ) (a b : Option (List ℕ)) (before rest : List ℕ) → before ≡ [] → GoesOn a b before rest → GaveFront m a b [] rest

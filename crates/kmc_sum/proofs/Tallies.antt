@@ -29,7 +29,7 @@ all_push : (P : List ℕ × ℕ → Type 0) (ps qs : List (List ℕ × ℕ)) →
 all_push P [] qs h k = k
 all_push P (p ∷ ps) qs h k = (h.0, all_push P ps qs h.1 k)
 
-rising_none : IsStrictlySortedBy kmer_cmp []
+pub rising_none : IsStrictlySortedBy kmer_cmp []
 unfolding IsStrictlySortedBy
 rising_none = tt
 

@@ -97,7 +97,7 @@ fn merge_in<R: Read, W: Write>(
 /// The most sources of a merge.
 pub const MOST_SOURCES: usize = 1000;
 
-/// Reads the dumps of all sources side by side, a piece of each at a time, and writes the dump of the sum of the counts
+/// Reads the dumps of all sources side by side, a block of each at a time, and writes the dump of the sum of the counts
 /// that they list, within the limits; says how many lines it has. A sum above 2^64 - 1 stays there, where no limit lists
 /// it. It takes 64 KiB a source and about log2 n comparisons a line of n sources. After a refusal what went out is a front
 /// of the dump of what the sources gave before it.

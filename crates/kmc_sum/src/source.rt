@@ -1,4 +1,4 @@
-//! A source of lines: a reader, and a room for the bytes that it gave and that are not yet judged, a piece at a time.
+//! A source of lines: a reader, and a room for the bytes that it gave and that are not yet judged, a block at a time.
 ghost use Rattle.std.specs.Prelude.{◌≡◌, ◌≢◌, ℕ, ◌+◌, ◌-◌, ◌^◌, ◌<◌, ◌≤◌, ◌++◌, [], List, length, take, drop, min, OnOk, OnErr, IfOk, IfErr, IsErrOf, MatchOption, Option, IfSome, None};
 ghost use Rattle.std.specs.Io.KnownBytes.{IsAtEnd};
 ghost use Rattle.kmc_device.specs.Device.{RisesByOne};
@@ -20,7 +20,7 @@ use std::io::Read;
 pub const LONGEST_LINE: usize = MAX_K + 22;
 
 /// The bytes that a reader is asked for at a time.
-const PIECE: usize = 65536;
+const BLOCK: usize = 65536;
 
 /// The bytes of a source from `from` to `to` are read and not yet judged, and `lines` of its lines were taken.
 #[derive(Drop)]
@@ -36,7 +36,7 @@ impl Room {
     pub fn new(alloc: Global) -> Result<Room, AllocError>
         ensures { IfOk result (λ r. IsRoom r × (unread r ≡ []) × (r.lines ≡ 0)) }
     {
-        let bytes = vec![in alloc; 0; PIECE]?;
+        let bytes = vec![in alloc; 0; BLOCK]?;
         Ok(Room {
             bytes,
             from: 0,

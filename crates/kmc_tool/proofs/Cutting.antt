@@ -8,6 +8,7 @@ use Rattle.std.specs.List.{sum_by, range_with_len}
 use Rattle.kmc_base.specs.declared.strands.Strands.{Strands}
 use Rattle.kmc_base.specs.Places.{word_at}
 use Rattle.kmc_base.specs.Words.{codes_of, window}
+use Rattle.kmc_base.specs.Lemmas.Orders.{lt_same}
 use Rattle.kmc_count.specs.Occurrences.{is_key_of}
 use Rattle.kmc_reads.specs.Cuts.{AddsUp}
 use Rattle.kmc_tool.specs.Laws.{CutReadsAreCounted}
@@ -44,9 +45,6 @@ nothing F a (suc n) none =
     sum_by-cons F a (range_with_len (a + 1) n) ∙ omega (arith, here, rest)
 
 -- ---- the words of a front and of the rest
-
-lt_same : (a b c d : ℕ) → (a < b → c < d) → (c < d → a < b) → nat_lt a b ≡ nat_lt c d
-lt_same a b c d h g = grind (arith, nat_tests)
 
 beyond : (k : ℕ) (read : List ℕ) (i : ℕ) → length read < i + k → word_at k read i ≡ None
 beyond k read i short =

@@ -4,11 +4,11 @@ use Rattle.kmc_reads.specs.declared.format.Format.{Format}
 use Rattle.kmc_reads.specs.Standing.{FeederState, StandsCut}
 use Rattle.kmc_tool.specs.Rounds.{HasRoom, IsFed, IsFilled}
 
-module _ (reads symbols piece overlap : ℕ) (format : Format) (from to : Option (List ℕ)) (a b : ℕ) (text : List ℕ) (taken : List (List ℕ)) (old v : FeederState)
+module _ (reads symbols block overlap : ℕ) (format : Format) (from to : Option (List ℕ)) (a b : ℕ) (text : List ℕ) (taken : List (List ℕ)) (old v : FeederState)
     (f : IsFed overlap format from to a b text taken v) (room : (v ≡ old) ⊎ HasRoom reads symbols v) where
-  -- one piece more was fed
-  pub filled : (w : FeederState) → ((last : List ℕ) × (length last ≤ piece) × StandsCut overlap format ((text ++ f.bytes) ++ last) taken w)
-      → IsFilled reads symbols piece overlap format text taken old w
+  -- one block more was fed
+  pub filled : (w : FeederState) → ((last : List ℕ) × (length last ≤ block) × StandsCut overlap format ((text ++ f.bytes) ++ last) taken w)
+      → IsFilled reads symbols block overlap format text taken old w
   filled w more = record {
     earlier = v;
     front = f.bytes;
@@ -20,7 +20,7 @@ module _ (reads symbols piece overlap : ℕ) (format : Format) (from to : Option
   }
 
   -- no read was made any more
-  pub not_full : IsFilled reads symbols piece overlap format text taken old v
+  pub not_full : IsFilled reads symbols block overlap format text taken old v
   not_full = record {
     earlier = v;
     front = f.bytes;

@@ -49,14 +49,14 @@ pub record HasRoom (reads symbols : ℕ) (v : FeederState) : Type 0 where
   pub open_read : (at : IsSomewhere v.scan) → length (open_symbols at.spot.stage at.spot.read (strip_last carriage_return at.front)) < symbols
 
 -- what was fed last, at most so many bytes, came to a feeder that had room, or to that of the beginning: a round that is full takes nothing
-pub record IsFilled (reads symbols piece : ℕ) (overlap : ℕ) (format : Format) (text : List ℕ) (taken : List (List ℕ)) (old new : FeederState)
+pub record IsFilled (reads symbols block : ℕ) (overlap : ℕ) (format : Format) (text : List ℕ) (taken : List (List ℕ)) (old new : FeederState)
     : Type 0 where
   pub earlier : FeederState
   pub front : List ℕ
   pub last : List ℕ
   pub before : StandsCut overlap format (text ++ front) taken earlier
   pub after : StandsCut overlap format ((text ++ front) ++ last) taken new
-  pub most : length last ≤ piece
+  pub most : length last ≤ block
   pub room : (earlier ≡ old) ⊎ HasRoom reads symbols earlier
 
 -- how many reads gave bytes, at most so many, and how many calls failed, by the cause of a refusal

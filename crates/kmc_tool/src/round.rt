@@ -1,4 +1,4 @@
-//! A round of reads, read and fed piece by piece.
+//! A round of reads, read and fed block by block.
 ghost use Rattle.std.specs.Prelude.{◌≡◌, ℕ, ◌+◌, ◌-◌, ◌^◌, ◌<◌, ◌≤◌, ◌++◌, List, length, false, OnOk, IsErrOf, Ok};
 ghost use Rattle.std.specs.Io.KnownBytes.{IsAtEnd};
 ghost use Rattle.kmc_reads.specs.declared.format.Format.{Format};
@@ -12,7 +12,7 @@ use kmc_reads::laws::fault_stays;
 use std::io::Read;
 
 /// A read asks for at most so many bytes.
-const PIECE: usize = 65536;
+const BLOCK: usize = 65536;
 
 /// A round is full with so many symbols, however few its reads are.
 const ROUND: usize = 1 << 23;
@@ -21,11 +21,11 @@ const ROUND: usize = 1 << 23;
 fn read_and_feed<R: Read>(
     reader: &mut Counted<R>,
     feeder: &mut Feeder,
-    piece: &mut [u8],
+    block: &mut [u8],
 ) -> Result<bool, InputError>
     requires failures { reader.old.failures < 2 ^ 64 - 1 }
     requires reads { reader.old.reads < 2 ^ 64 - 1 }
-    requires room { length piece.old ≡ PIECE }
+    requires room { length block.old ≡ BLOCK }
     ensures counts { AreCounts (reader.old.reads
         + 1) reader.old.reads reader.new.reads reader.old.failures reader.new.failures result }
     ensures fed { (overlap : ℕ) (format : Format) (text : List ℕ) (taken : List (List ℕ))
@@ -33,19 +33,19 @@ fn read_and_feed<R: Read>(
         → IsFedBy overlap format (R.remaining reader.old.inner)
         (R.remaining reader.new.inner) reader.old.reads reader.new.reads text taken feeder.new result }
     ensures at_end { result ≡ Ok false → IsAtEnd (R.remaining reader.new.inner) }
-    ensures piece { (overlap : ℕ) (format : Format) (text : List ℕ) (taken : List (List ℕ))
+    ensures block { (overlap : ℕ) (format : Format) (text : List ℕ) (taken : List (List ℕ))
         → StandsCut overlap format text taken feeder.old
         → OnOk result
-        ((last : List ℕ) × (length last ≤ PIECE)
+        ((last : List ℕ) × (length last ≤ BLOCK)
         × StandsCut overlap format (text ++ last) taken feeder.new) }
     ensures short { IsErrOf result InputError.TooLong → ⊥ }
 {
     fault_stays();
-    let n = match reader.read(piece) {
+    let n = match reader.read(block) {
         Ok(n) => n,
         Err(_) => return Err(InputError::Read),
     };
-    feeder.feed(&piece[..n])?;
+    feeder.feed(&block[..n])?;
     Ok(n > 0)
 }
 
@@ -69,14 +69,14 @@ pub fn fill_round<R: Read>(
     ensures filled { (overlap : ℕ) (format : Format) (text : List ℕ) (taken : List (List ℕ))
         → StandsCut overlap format text taken feeder.old
         → OnOk result
-        (IsFilled reads ROUND PIECE overlap format text taken feeder.old feeder.new) }
+        (IsFilled reads ROUND BLOCK overlap format text taken feeder.old feeder.new) }
 {
-    let mut piece = [0u8; PIECE];
+    let mut block = [0u8; BLOCK];
     for _ in 0..1u64 << 32 {
         if reader.reads() >= most {
             return Err(InputError::TooLong);
         }
-        let more = read_and_feed(reader, feeder, &mut piece)?;
+        let more = read_and_feed(reader, feeder, &mut block)?;
         if !more {
             return Ok(false);
         }

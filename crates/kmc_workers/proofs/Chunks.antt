@@ -1,4 +1,4 @@
--- The reads of a chunk as a piece of all reads.
+-- The reads of a chunk among all reads.
 use Rattle.std.proofs.Common.{◌≡◌, ℕ, ◌+◌, ◌-◌, ◌≤◌, List, length, [], take, drop, map, sym, ap, subst, ◌∙◌, take_all, arith}
 use Rattle.std.specs.List.{slice_range, take-map, drop-map}
 use Rattle.std.proofs.lemmas.List.{length-drop}

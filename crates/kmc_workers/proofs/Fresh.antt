@@ -1,6 +1,5 @@
 -- The seats of a new queue have put and got nothing.
 use Rattle.std.proofs.Common.{◌≡◌, ◌<◌, List, [], ◌∷◌, map, refl, sym, subst, arith}
-use Rattle.std.specs.Prelude.{Result, Ok, Err, IfOk}
 use Rattle.atomic_table.specs.Seated.{TableId}
 use Rattle.kmc_record.specs.Parts.{Parcel}
 use Rattle.kmc_partcore.specs.declared.shape.QueueShape.{QueueShape}

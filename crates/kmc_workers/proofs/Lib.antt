@@ -3,7 +3,6 @@ mod Chunks
 mod Few
 mod Fresh
 mod Merging
-mod Passed
 mod Returned
 mod Sent
 mod Stored

@@ -1,5 +1,5 @@
 //! What a storer does: it takes parts until the queue is finished, and absorbs them into bins.
-ghost use Rattle.std.specs.Prelude.{◌≡◌, IfOk, IfErr, OnOk};
+ghost use Rattle.std.specs.Prelude.{IfOk, IfErr, OnOk};
 ghost use Rattle.kmc_store.specs.Bins.{Absorbed};
 ghost use Rattle.kmc_workers.specs.Workers.{IsFreshReader};
 ghost use Rattle.kmc_workers.specs.Causes.{IsStorersCause};

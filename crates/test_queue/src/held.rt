@@ -1,5 +1,5 @@
 //! A writer or a reader that is held in the middle of a call, in a thread of its own.
-ghost use Rattle.std.specs.Prelude.{◌≡◌, ◌<◌};
+ghost use Rattle.std.specs.Prelude.{◌≡◌};
 ghost use Rattle.kmc_partqueue.specs.Seats.{IsWriterOf, IsReaderOf};
 
 use crate::lanes::{got, is_full, is_not_now, total, totals};

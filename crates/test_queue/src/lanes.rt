@@ -1,6 +1,5 @@
 //! Worked calls on one thread: what each answers, from the queue's description.
-ghost use Rattle.std.specs.Prelude.{◌≡◌, ◌<◌, ◌≤◌, ℕ, IfOk};
-ghost use Rattle.kmc_partqueue.specs.Counts.{Each, total_of, same};
+ghost use Rattle.std.specs.Prelude.{◌≡◌, ◌≤◌, IfOk};
 ghost use Rattle.kmc_partqueue.specs.Seats.{IsWriterOf, IsReaderOf};
 
 use kmc_partcore::{QueueShape, Taken, Totals};

@@ -11,7 +11,7 @@ use std::process::Abort;
 use std::sync::Wait;
 use std::test::Fail;
 use std::thread::Threads;
-use test_support::PieceReader;
+use test_support::BlockReader;
 
 const FASTQ: &[u8] =
     b"@a\nACGTACGTAC\n+\nIIIIIIIIII\n@b\r\nGATTACANNGATTACA\r\n+\r\nIIIIIIIIIIIIIIII\r\n\n@c\n\n+\n\n@d\nTTTTTTTTTTTTTTTTTTTT\n+\nIIIIIIIIIIIIIIIIIIII";
@@ -23,13 +23,13 @@ fn bins_of<R: Abort + Threads + Wait + Sync>(
     rt: &R,
     alloc: Global,
     text: &[u8],
-    piece: usize,
+    block: usize,
     failing: u64,
     params: &Params,
     max_reads: u64,
 ) -> (Result<Bins, InputError>, u64, u64) {
-    assert!(rt; 1 <= piece && max_reads <= 1 << 32);
-    let mut reader = Counted::new(PieceReader::new(text, piece, failing));
+    assert!(rt; 1 <= block && max_reads <= 1 << 32);
+    let mut reader = Counted::new(BlockReader::new(text, block, failing));
     let answer = bins_of_input(
         rt,
         alloc,
@@ -60,13 +60,13 @@ fn assert_filled<R: Abort + Threads + Wait + Sync>(
     rt: &R,
     alloc: Global,
     text: &[u8],
-    piece: usize,
+    block: usize,
     params: &Params,
     whole: &Bins,
 ) -> Result<(), Fail> {
-    let (answer, failures, _) = bins_of(rt, alloc, text, piece, 0, params, 1 << 32);
+    let (answer, failures, _) = bins_of(rt, alloc, text, block, 0, params, 1 << 32);
     assert_eq!(rt; failures, 0);
-    assert!(rt; are_as_long(&answer?, whole), "{piece} {params:?}");
+    assert!(rt; are_as_long(&answer?, whole), "{block} {params:?}");
     Ok(())
 }
 
@@ -79,8 +79,8 @@ fn assert_rounds<R: Abort + Threads + Wait + Sync>(
     params: &Params,
 ) -> Result<(), Fail> {
     let whole = stage_one(rt, alloc, &slices_of(alloc, reads)?, params, &NoGate)?;
-    for piece in [1, 7, 1000] {
-        assert_filled(rt, alloc, text, piece, params, &whole)?;
+    for block in [1, 7, 1000] {
+        assert_filled(rt, alloc, text, block, params, &whole)?;
     }
     Ok(())
 }
@@ -170,8 +170,8 @@ fn assert_refused<R: Abort + Threads + Wait + Sync>(
     text: &[u8],
     fault: ReadsError,
 ) {
-    for piece in [1, 7, 1000] {
-        let (answer, failures, _) = bins_of(rt, alloc, text, piece, 0, params, 1 << 32);
+    for block in [1, 7, 1000] {
+        let (answer, failures, _) = bins_of(rt, alloc, text, block, 0, params, 1 << 32);
         assert_eq!(rt;
             (answer.err(), failures),
             (Some(InputError::Faulty(fault)), 0)

@@ -16,21 +16,21 @@ use std::process::Abort;
 use std::sync::Wait;
 use std::test::Fail;
 use std::thread::Threads;
-use test_support::{Dice, PieceReader};
+use test_support::{BlockReader, Dice};
 
 /// The bins of a text that comes so many bytes a read, its reads dealt as pieces of at most `limit` symbols.
 fn bins_in_pieces<R: Abort + Threads + Wait + Sync>(
     rt: &R,
     alloc: Global,
     text: &[u8],
-    piece: usize,
+    block: usize,
     params: &Params,
     limit: usize,
 ) -> Result<Bins, InputError>
     ensures { IfOk result (λ bins. bins.shape ≡ shape_of params.now) }
 {
-    assert!(rt; 1 <= piece && params.k <= limit);
-    let mut reader = Counted::new(PieceReader::new(text, piece, 0));
+    assert!(rt; 1 <= block && params.k <= limit);
+    let mut reader = Counted::new(BlockReader::new(text, block, 0));
     bins_of_input(rt, alloc, &mut reader, params, &NoGate, 1 << 32, limit)
 }
 
@@ -39,11 +39,11 @@ fn dump_in_pieces<R: Abort + Threads + Wait + Sync>(
     rt: &R,
     alloc: Global,
     text: &[u8],
-    piece: usize,
+    block: usize,
     params: &Params,
     limit: usize,
 ) -> Result<Vec<u8>, Fail> {
-    let bins = bins_in_pieces(rt, alloc, text, piece, params, limit)?;
+    let bins = bins_in_pieces(rt, alloc, text, block, params, limit)?;
     let lists = stage_two(rt, alloc, bins, params)?;
     let mut writer = Counted::new(Vec::new(alloc));
     match write_bins(rt, alloc, &mut writer, &lists, params.k, params.sr) {
@@ -95,12 +95,12 @@ fn assert_dump<R: Abort + Threads + Wait + Sync>(
     rt: &R,
     alloc: Global,
     text: &[u8],
-    piece: usize,
+    block: usize,
     params: &Params,
     limit: usize,
 ) -> Result<usize, Fail> {
     let want = dump_of_whole(rt, alloc, text, params)?;
-    let dump = dump_in_pieces(rt, alloc, text, piece, params, limit)?;
+    let dump = dump_in_pieces(rt, alloc, text, block, params, limit)?;
     assert_eq!(rt; dump.as_slice(), want.as_slice(), "{limit} {params:?}");
     Ok(want.len())
 }
@@ -154,7 +154,7 @@ fn assert_random_dumps<R: Abort + Threads + Wait + Sync>(
     let text = some_text(alloc, dice)?;
     let k = 1 + dice.roll(12);
     let mut listed: usize = 0;
-    for (sp, batch, piece) in [
+    for (sp, batch, block) in [
         (1usize, 1usize, 1usize),
         (1, 1, 1000),
         (3, 2, 7),
@@ -162,7 +162,7 @@ fn assert_random_dumps<R: Abort + Threads + Wait + Sync>(
     ] {
         let params = settings(rt, Format::Fasta, k, sp, batch);
         let limit = k + dice.roll(30);
-        let length = assert_dump(rt, alloc, &text, piece, &params, limit)?;
+        let length = assert_dump(rt, alloc, &text, block, &params, limit)?;
         listed = listed.saturating_add(length);
     }
     Ok(listed)

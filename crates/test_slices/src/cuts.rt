@@ -15,7 +15,7 @@ use std::process::Abort;
 use std::sync::Wait;
 use std::test::Fail;
 use std::thread::Threads;
-use test_support::{Full, NarrowWriter, PieceReader};
+use test_support::{BlockReader, Full, NarrowWriter};
 
 const FASTQ: &[u8] =
     b"@a\nACGTACGTAC\n+\nIIIIIIIIII\n@b\r\nGATTACANNGATTACA\r\n+\r\nIIIIIIIIIIIIIIII\r\n\n@c\n\n+\n\n@d\nTTTTTTTTTTTTTTTTTTTT\n+\nIIIIIIIIIIIIIIIIIIII";
@@ -48,7 +48,7 @@ fn cut<R: Abort + Threads + Wait + Sync>(
     room: usize,
     failing: u64,
 ) -> Result<(Result<(), CutError>, Vec<Vec<u8>>), Fail> {
-    let mut reader = Counted::new(PieceReader::new(FASTQ, 7, failing));
+    let mut reader = Counted::new(BlockReader::new(FASTQ, 7, failing));
     let mut writers = fresh_writers(alloc, room)?;
     let answer = cut_slices_with(
         rt,
@@ -81,7 +81,7 @@ fn assert_slice(
         slices: 3,
         slice,
     };
-    let mut reader = Counted::new(PieceReader::new(file, 11, 0));
+    let mut reader = Counted::new(BlockReader::new(file, 11, 0));
     if read_slice(&mut reader, bodies.as_mut_slice(), &slicing).is_err() {
         return Err(Fail::from("a file of a slice is read"));
     }

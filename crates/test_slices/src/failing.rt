@@ -11,7 +11,7 @@ use std::alloc::Global;
 use std::process::Abort;
 use std::sync::Wait;
 use std::thread::Threads;
-use test_support::{Full, NarrowWriter, PieceReader};
+use test_support::{BlockReader, Full, NarrowWriter};
 
 /// The read of the worked file.
 const TEXT: &[u8] = b">r\nACGTACGT\n";
@@ -24,7 +24,7 @@ fn cut<R: Abort + Threads + Wait + Sync>(
     weak: &Weak,
 ) -> (Result<(), CutError>, Vec<Vec<u8>>) {
     let params = settings(rt, 4, 7, Strands::Joined, 1);
-    let mut reader = Counted::new(PieceReader::new(TEXT, 1, failing));
+    let mut reader = Counted::new(BlockReader::new(TEXT, 1, failing));
     let mut writers = writers_of(alloc, 2, weak).expect(rt, "memory");
     let answer = cut_slices(rt, alloc, &mut reader, writers.as_mut_slice(), &params);
     (answer, files_of(alloc, writers).expect(rt, "memory"))
@@ -32,7 +32,7 @@ fn cut<R: Abort + Threads + Wait + Sync>(
 
 /// Whether the bytes are a whole file of a slice.
 fn is_whole(alloc: Global, bytes: &[u8]) -> bool {
-    let mut reader = Counted::new(PieceReader::new(bytes, 1000, 0));
+    let mut reader = Counted::new(BlockReader::new(bytes, 1000, 0));
     SliceRecords::begin(alloc, &mut reader).is_ok()
 }
 
@@ -103,13 +103,13 @@ fn assert_read_fault(rt: &impl Abort, fault: SliceFault, header: bool) {
 
 /// Asserts that a read of the worked file that fails is told, of a first file and of another.
 fn assert_read_told(rt: &impl Abort, alloc: Global, failing: u64) {
-    let mut reader = Counted::new(PieceReader::new(&FILE, 1, failing));
+    let mut reader = Counted::new(BlockReader::new(&FILE, 1, failing));
     let Some(GatherError::File(fault)) = SliceRecords::begin(alloc, &mut reader).err() else {
         rt.abort()
     };
     assert_read_fault(rt, fault, failing <= 28);
     let mut records = gathered(rt, alloc, None, &FILE);
-    let mut reader = Counted::new(PieceReader::new(&FILE, 1, failing));
+    let mut reader = Counted::new(BlockReader::new(&FILE, 1, failing));
     let fault = records.add(&mut reader).err();
     assert_read_fault(rt, fault.expect(rt, "a fault"), failing <= 28);
 }

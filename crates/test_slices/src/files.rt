@@ -11,7 +11,7 @@ use kmc_slice_files::{
 use std::alloc::Global;
 use std::process::Abort;
 use std::test::Fail;
-use test_support::{Full, NarrowWriter, PieceReader};
+use test_support::{BlockReader, Full, NarrowWriter};
 
 /// The bytes of the file.
 pub(crate) const LENGTH: usize = 82;
@@ -36,10 +36,10 @@ fn read(
     rt: &(impl Abort + Alloc<A = Global>),
     bytes: &[u8],
     slice: u16,
-    piece: usize,
+    block: usize,
     failing: u64,
 ) -> Result<(Result<(), SliceFault>, [Vec<u8>; 7]), Fail>
-    requires { 1 ≤ piece }
+    requires { 1 ≤ block }
 {
     let Some(shape) = Shape::new(4, 5, 7) else {
         return Err(Fail::from("there is no such shape"));
@@ -58,7 +58,7 @@ fn read(
         Vec::new(rt.alloc()),
         Vec::new(rt.alloc()),
     ];
-    let mut reader = Counted::new(PieceReader::new(bytes, piece, failing));
+    let mut reader = Counted::new(BlockReader::new(bytes, block, failing));
     let answer = read_slice(&mut reader, &mut bodies, &expected);
     Ok((answer, bodies))
 }
@@ -96,9 +96,9 @@ fn file_has_the_bytes_of_the_example(rt: HostRuntime) -> Result<(), Fail> {
 }
 
 #[test]
-fn file_is_read_in_any_pieces(rt: HostRuntime) -> Result<(), Fail> {
-    for piece in 1..LENGTH + 1 {
-        let (answer, bodies) = read(&rt, &FILE, 0, piece, 0)?;
+fn file_is_read_in_any_blocks(rt: HostRuntime) -> Result<(), Fail> {
+    for block in 1..LENGTH + 1 {
+        let (answer, bodies) = read(&rt, &FILE, 0, block, 0)?;
         assert_eq!(rt; answer, Ok(()));
         assert_eq!(rt; bodies[2].as_slice(), SECOND.as_slice());
         assert_eq!(rt; bodies[6].as_slice(), SIXTH.as_slice());

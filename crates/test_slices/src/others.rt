@@ -13,7 +13,7 @@ use std::alloc::Global;
 use std::process::Abort;
 use std::sync::Wait;
 use std::thread::Threads;
-use test_support::PieceReader;
+use test_support::BlockReader;
 
 const TEXT: &[u8] = b">a\nACGTACGTTTGACGTTACGTGG\n>b\nGATTACAGATTACAGATTACA\n";
 
@@ -44,14 +44,14 @@ fn first_file<R: Abort + Threads + Wait + Sync>(
 
 /// How the bytes are refused as the first file of a slice.
 fn begin_fault(alloc: Global, bytes: &[u8]) -> Option<GatherError> {
-    let mut reader = Counted::new(PieceReader::new(bytes, 1000, 0));
+    let mut reader = Counted::new(BlockReader::new(bytes, 1000, 0));
     SliceRecords::begin(alloc, &mut reader).err()
 }
 
 /// How the bytes are refused as another file of the slice of a file.
 fn add_fault(rt: &impl Abort, alloc: Global, file: &[u8], bytes: &[u8]) -> Option<SliceFault> {
     let mut records = gathered(rt, alloc, None, file);
-    let mut reader = Counted::new(PieceReader::new(bytes, 1000, 0));
+    let mut reader = Counted::new(BlockReader::new(bytes, 1000, 0));
     records.add(&mut reader).err()
 }
 

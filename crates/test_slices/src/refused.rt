@@ -11,7 +11,7 @@ use std::alloc::Global;
 use std::process::Abort;
 use std::sync::Wait;
 use std::thread::Threads;
-use test_support::{NarrowWriter, PieceReader};
+use test_support::{BlockReader, NarrowWriter};
 
 const TEXT: &[u8] = b">r\nACGTACGT\n>s\nACGTACGT\n";
 
@@ -36,7 +36,7 @@ fn is_memory(fault: SliceFault) -> bool {
 
 /// The records of the file, read twice, or nothing where memory was refused.
 fn records_of(rt: &impl Abort, alloc: Global, file: &[u8]) -> Option<SliceRecords> {
-    let mut reader = Counted::new(PieceReader::new(file, 1000, 0));
+    let mut reader = Counted::new(BlockReader::new(file, 1000, 0));
     let mut records = match SliceRecords::begin(alloc, &mut reader) {
         Ok(records) => records,
         Err(GatherError::Memory) => return None,
@@ -45,7 +45,7 @@ fn records_of(rt: &impl Abort, alloc: Global, file: &[u8]) -> Option<SliceRecord
             return None;
         }
     };
-    let mut reader = Counted::new(PieceReader::new(file, 1000, 0));
+    let mut reader = Counted::new(BlockReader::new(file, 1000, 0));
     if let Err(fault) = records.add(&mut reader) {
         assert!(rt; is_memory(fault));
         return None;
@@ -81,7 +81,7 @@ fn assert_listed_or_refused<R: Abort + Threads + Sync>(
 
 /// Asserts that the bytes are no file of a slice.
 fn assert_no_file(rt: &impl Abort, alloc: Global, bytes: &[u8]) {
-    let mut reader = Counted::new(PieceReader::new(bytes, 1000, 0));
+    let mut reader = Counted::new(BlockReader::new(bytes, 1000, 0));
     assert!(rt; SliceRecords::begin(alloc, &mut reader).is_err());
 }
 
@@ -107,7 +107,7 @@ fn assert_cut_or_refused<R: Abort + Threads + Sync>(
 
 fn cut_or_refuse<R: Abort + Threads + Wait + Sync>(rt: &R, alloc: Global) {
     let params = settings(rt, 4, 7, Strands::Joined, 1);
-    let mut reader = Counted::new(PieceReader::new(TEXT, 1, 0));
+    let mut reader = Counted::new(BlockReader::new(TEXT, 1, 0));
     let Ok(writers) = writers_of(alloc, 2, &READY) else {
         return;
     };

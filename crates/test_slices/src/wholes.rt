@@ -12,7 +12,7 @@ use std::alloc::Global;
 use std::process::Abort;
 use std::sync::Wait;
 use std::thread::Threads;
-use test_support::{Dice, PieceReader};
+use test_support::{BlockReader, Dice};
 
 /// The files of so many slices of the text.
 pub(crate) fn cut<R: Abort + Threads + Wait + Sync>(
@@ -23,7 +23,7 @@ pub(crate) fn cut<R: Abort + Threads + Wait + Sync>(
     params: &Params,
 ) -> Vec<Vec<u8>> {
     assert!(rt; 1 <= slices && slices <= 1000);
-    let mut reader = Counted::new(PieceReader::new(text, 100, 0));
+    let mut reader = Counted::new(BlockReader::new(text, 100, 0));
     let mut writers = writers_of(alloc, slices, &SOUND).expect(rt, "memory");
     let answer = cut_slices(rt, alloc, &mut reader, writers.as_mut_slice(), params);
     assert_eq!(rt; answer, Ok(()));
@@ -37,7 +37,7 @@ pub(crate) fn gathered(
     before: Option<SliceRecords>,
     file: &[u8],
 ) -> SliceRecords {
-    let mut reader = Counted::new(PieceReader::new(file, 1000, 0));
+    let mut reader = Counted::new(BlockReader::new(file, 1000, 0));
     let Some(records) = before else {
         return SliceRecords::begin(alloc, &mut reader).expect(rt, "a file");
     };
@@ -70,7 +70,7 @@ fn dump_of_slice<R: Abort + Threads + Sync>(
 fn merged(rt: &impl Abort, alloc: Global, dumps: &[Vec<u8>]) -> Vec<u8> {
     let mut readers = Vec::new(alloc);
     for dump in dumps {
-        let reader = PieceReader::new(dump, 1000, 0);
+        let reader = BlockReader::new(dump, 1000, 0);
         readers.push(Counted::new(reader)).expect(rt, "memory");
     }
     assert!(rt; 1 <= readers.len() && readers.len() <= MOST_SOURCES);
@@ -88,7 +88,7 @@ fn dump_of_run<R: Abort + Threads + Wait + Sync>(
     text: &[u8],
     params: &Params,
 ) -> Vec<u8> {
-    let mut reader = Counted::new(PieceReader::new(text, 1000, 0));
+    let mut reader = Counted::new(BlockReader::new(text, 1000, 0));
     let mut writer = Counted::new(Vec::new(alloc));
     assert!(rt; run(rt, alloc, &mut reader, &mut writer, params).is_ok());
     writer.into_inner()

@@ -4,7 +4,7 @@ use kmc_sum::{LineFault, MOST_SOURCES, SourceError, SourceFault, SumError, merge
 use std::alloc::Global;
 use std::process::Abort;
 use std::test::Fail;
-use test_support::{Full, NarrowWriter, PieceReader};
+use test_support::{BlockReader, Full, NarrowWriter};
 
 const GREATEST: u64 = 1 << 63;
 
@@ -50,7 +50,7 @@ fn summed(
 ) -> Result<(Result<u64, SumError>, Vec<u8>), Fail> {
     let mut readers = Vec::new(rt.alloc());
     for text in texts {
-        let reader = PieceReader::new(text.as_bytes(), 3, devices.failing);
+        let reader = BlockReader::new(text.as_bytes(), 3, devices.failing);
         if readers.push(Counted::new(reader)).is_err() {
             return Err(Fail::from("out of memory"));
         }

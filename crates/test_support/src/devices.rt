@@ -4,30 +4,30 @@ ghost use Rattle.std.specs.Prelude.{◌≤◌, Some};
 use std::io;
 use std::io::{ErrorKind, Read, Write};
 
-/// A reader that gives its bytes in pieces, and fails in one of its reads; reads are numbered from 1.
+/// A reader that gives its bytes in blocks, and fails in one of its reads; reads are numbered from 1.
 #[derive(Drop)]
-pub struct PieceReader<'a> {
+pub struct BlockReader<'a> {
     rest: &'a [u8],
-    piece: usize,
+    block: usize,
     reads: u64,
     failing: u64,
-    ghost some: { 1 ≤ piece },
+    ghost some: { 1 ≤ block },
 }
 
-impl<'a> PieceReader<'a> {
-    pub fn new(rest: &'a [u8], piece: usize, failing: u64) -> PieceReader<'a>
-        requires { 1 ≤ piece }
+impl<'a> BlockReader<'a> {
+    pub fn new(rest: &'a [u8], block: usize, failing: u64) -> BlockReader<'a>
+        requires { 1 ≤ block }
     {
-        PieceReader {
+        BlockReader {
             rest,
-            piece,
+            block,
             reads: 0,
             failing,
         }
     }
 }
 
-impl<'a> Read for PieceReader<'a> {
+impl<'a> Read for BlockReader<'a> {
     ghost remaining = { λ r. Some r.rest.now };
 
     fn read(&mut self, buf: &mut [u8]) -> io::Result<usize> {
@@ -35,7 +35,7 @@ impl<'a> Read for PieceReader<'a> {
         if self.reads == self.failing {
             return Err(io::Error::from(ErrorKind::Interrupted));
         }
-        let n = self.piece.min(buf.len());
+        let n = self.block.min(buf.len());
         self.rest.read(&mut buf[..n])
     }
 }

@@ -6,6 +6,6 @@ mod devices;
 mod dice;
 mod queue;
 
-pub use devices::{FlushCounter, Full, NarrowWriter, PieceReader};
+pub use devices::{BlockReader, FlushCounter, Full, NarrowWriter};
 pub use dice::Dice;
 pub use queue::gathered;

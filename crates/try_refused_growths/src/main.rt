@@ -11,7 +11,7 @@ mod words;
 
 use crate::bins::{absorb_parts, merge_bins};
 use crate::records::{judge_bodies, spell_super_kmers};
-use crate::texts::read_in_pieces;
+use crate::texts::read_in_blocks;
 use crate::words::{push_pairs, write_words};
 use std::alloc::{AllocError, Global};
 use std::io;
@@ -34,7 +34,7 @@ macro_rules! make_rows {
 
 /// The rows of texts and records.
 fn make_records(rt: &(impl Print + Eprint), alloc: Global) -> Result<(), AllocError> {
-    make_rows!(rt, alloc; read_in_pieces, spell_super_kmers, judge_bodies);
+    make_rows!(rt, alloc; read_in_blocks, spell_super_kmers, judge_bodies);
     Ok(())
 }
 

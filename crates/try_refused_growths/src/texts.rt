@@ -1,4 +1,4 @@
-//! A text in pieces: `feed`, `take` and `finish`.
+//! A text that comes in blocks: `feed`, `take` and `finish`.
 use crate::tell;
 use kmc_reads::{Feeder, Format, Reads, ReadsError};
 use std::alloc::{AllocError, Global};
@@ -6,23 +6,23 @@ use std::alloc::{AllocError, Global};
 const TEXT: &[u8] =
     b"@a\nACGTACGTTTGACGTACGTTTG\n+\nIIIIIIIIIIIIIIIIIIIIII\n@b\n\n+\n\n@c\nGATTACAGATTACAGATTACAGATTACAGATTACA\n+\nIIIIIIIIIIIIIIIIIIIIIIIIIIIIIIIIIII\n@d\nNACG\n+\nIIII\n@e\nCCCCC\n+\nIIIII\n@f\nTTTTT\n+\nIIIII";
 
-const PIECE: usize = 7;
+const BLOCK: usize = 7;
 
-/// Feeds a piece. A fault of the text, which has none, is passed over.
-fn feed(rt: &impl Eprint, feeder: &mut Feeder, piece: &[u8]) -> Result<(), AllocError> {
-    if let Err(ReadsError::Memory) = feeder.feed(piece) {
+/// Feeds a block. A fault of the text, which has none, is passed over.
+fn feed(rt: &impl Eprint, feeder: &mut Feeder, block: &[u8]) -> Result<(), AllocError> {
+    if let Err(ReadsError::Memory) = feeder.feed(block) {
         tell(rt, "feed");
-        if let Err(ReadsError::Memory) = feeder.feed(piece) {
+        if let Err(ReadsError::Memory) = feeder.feed(block) {
             return Err(AllocError);
         }
     }
     Ok(())
 }
 
-/// Feeds a text in pieces.
+/// Feeds a text in blocks.
 fn feed_all(rt: &impl Eprint, feeder: &mut Feeder, text: &[u8]) -> Result<(), AllocError> {
-    for piece in text.chunks(PIECE) {
-        feed(rt, feeder, piece)?;
+    for block in text.chunks(BLOCK) {
+        feed(rt, feeder, block)?;
     }
     Ok(())
 }
@@ -61,8 +61,8 @@ fn print_reads(rt: &impl Print, name: &str, reads: &Reads) {
     }
 }
 
-/// Reads the text in pieces. The reads that ended in its first half are taken, and later the others.
-pub fn read_in_pieces(rt: &(impl Print + Eprint), alloc: Global) -> Result<(), AllocError> {
+/// Reads the text in blocks. The reads that ended in its first half are taken, and later the others.
+pub fn read_in_blocks(rt: &(impl Print + Eprint), alloc: Global) -> Result<(), AllocError> {
     let (first, second) = TEXT.split_at(TEXT.len() / 2);
     let mut feeder = Feeder::new(alloc, Format::Fastq);
     feed_all(rt, &mut feeder, first)?;

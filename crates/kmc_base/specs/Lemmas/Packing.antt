@@ -1,6 +1,7 @@
 -- Packing and unpacking.
-use Rattle.std.proofs.Common.{◌≡◌, ℕ, zero, suc, ◌+◌, ◌*◌, ◌-◌, ◌/◌, ◌%◌, ◌^◌, ◌<◌, ◌≤◌, List, [], ◌∷◌, ◌++◌, length, refl, sym, ap, ◌∙◌, arith, length-append, reverse, map, add-one, get_or}
+use Rattle.std.proofs.Common.{◌≡◌, ℕ, zero, suc, ◌+◌, ◌*◌, ◌-◌, ◌/◌, ◌%◌, ◌^◌, ◌<◌, ◌≤◌, List, [], ◌∷◌, ◌++◌, length, refl, sym, ap, ◌∙◌, arith, append_assoc, append-nil, add-zero, length-append, reverse, map, add-one, get_or}
 use Rattle.std.proofs.lemmas.List.{reverse-append, map-append, get_or-append_right, get_or_append_left}
+use Rattle.std.proofs.Math.Arith.{mod-mul}
 use Rattle.std.proofs.Math.Nat.{div-div-eq-div-mul, pow-succ'}
 use Rattle.std.proofs.lemmas.Bool.Decides.{nat_tests}
 use Rattle.std.specs.Ordering.{nat_cmp, ordering_then}
@@ -8,13 +9,47 @@ use Rattle.std.specs.Cmp.Lexicographic.{slice_cmp}
 use Rattle.std.specs.declared.cmp.Ordering.{Ordering}
 use Rattle.std.specs.declared.cmp.Ordering.TheVariants.{Less, Equal, Greater}
 use Rattle.kmc_base.specs.declared.kmer.Kmer.TheInside.{Inside}
-use Rattle.kmc_base.specs.Lemmas.Powers.{pow_up, pow_quad}
+use Rattle.kmc_base.specs.Lemmas.Powers.{pow_up, pow_quad, pow_some}
 use Rattle.kmc_base.specs.Words.{complement, rev_comp}
 use Rattle.kmc_base.specs.Packed.{unpack, pack_after, pack, IsPacked}
 
 pub length_unpack : (n p : ℕ) → length (unpack n p) ≡ n
 length_unpack zero p = refl
 length_unpack (suc n) p = length-append (unpack n (p / 4)) (p % 4 ∷ []) ∙ omega (arith, length_unpack n (p / 4))
+
+-- ---- the high codes and the low codes
+
+quarter_at : (p j : ℕ) → p / 4 / 4 ^ j ≡ p / 4 ^ suc j
+quarter_at p j = div-div-eq-div-mul p 4 (4 ^ j) ∙ ap (λ d. p / d) (sym (pow-succ' 4 j))
+
+low_digits : (m p : ℕ) → p % 4 ^ suc m ≡ (p / 4 % 4 ^ m) * 4 + p % 4
+low_digits m p =
+    let some : zero < 4 ^ m = omega (arith, pow_some m) in
+    let four : zero < 4 = omega arith in
+    let power : 4 ^ suc m ≡ 4 ^ m * 4 = omega (arith, pow-succ' 4 m) in
+    ap (λ n. p % n) power ∙ mod-mul p some four
+
+-- only the low codes count
+pub unpack_low : (m p : ℕ) → unpack m (p % 4 ^ m) ≡ unpack m p
+unpack_low zero p = refl
+unpack_low (suc m) p =
+    let high : p % 4 ^ suc m / 4 ≡ p / 4 % 4 ^ m = omega (arith, low_digits m p) in
+    let low : p % 4 ^ suc m % 4 ≡ p % 4 = omega (arith, low_digits m p) in
+    (λ i. unpack m (high i) ++ low i ∷ []) ∙ ap (λ (w : List ℕ). w ++ p % 4 ∷ []) (unpack_low m (p / 4))
+
+-- the high codes and the low codes
+pub unpack_split : (a b p : ℕ) → unpack (a + b) p ≡ unpack a (p / 4 ^ b) ++ unpack b p
+unpack_split a zero p =
+    let one : p / 4 ^ 0 ≡ p = omega arith in
+    rw add-zero (rw one (sym (append-nil (unpack a p))))
+unpack_split a (suc b) p =
+    let count : a + suc b ≡ suc (a + b) = omega arith in
+    ap (λ n. unpack n p) count
+    ∙ ap (λ (w : List ℕ). w ++ p % 4 ∷ []) (unpack_split a b (p / 4))
+    ∙ append_assoc (unpack a (p / 4 / 4 ^ b)) (unpack b (p / 4)) (p % 4 ∷ [])
+    ∙ ap (λ q. unpack a q ++ unpack (suc b) p) (quarter_at p b)
+
+-- ---- packed and unpacked
 
 pub pack_after_append : (p : ℕ) (xs : List ℕ) (c : ℕ) → pack_after p (xs ++ c ∷ []) ≡ pack_after p xs * 4 + c
 pack_after_append p [] c = refl
@@ -89,9 +124,6 @@ rev_comp_more n p = rw add-one (ap reverse (map-append complement (unpack n (p /
     (map complement (unpack n (p / 4))) (complement (p % 4) ∷ []))
 
 -- ---- the code at a place
-
-quarter_at : (p j : ℕ) → p / 4 / 4 ^ j ≡ p / 4 ^ suc j
-quarter_at p j = div-div-eq-div-mul p 4 (4 ^ j) ∙ ap (λ d. p / d) (sym (pow-succ' 4 j))
 
 code_from : (n p i j : ℕ) → i + j + 1 ≡ n → get_or (unpack n p) i 0 ≡ p / 4 ^ j % 4
 code_from zero p i j e = absurd (omega arith)

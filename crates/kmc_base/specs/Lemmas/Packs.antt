@@ -1,5 +1,5 @@
 -- Packed words from the side of the codes.
-use Rattle.std.proofs.Common.{◌≡◌, ℕ, suc, ◌+◌, ◌*◌, ◌-◌, ◌/◌, ◌%◌, ◌^◌, ◌<◌, ◌≤◌, min, Bool, true, false, cond, List, [], ◌∷◌, ◌++◌, length, map, reverse, refl, sym, ap, subst, ◌∙◌, arith, append_assoc, add-zero, zero-add}
+use Rattle.std.proofs.Common.{◌≡◌, ℕ, zero, suc, ◌+◌, ◌*◌, ◌-◌, ◌/◌, ◌%◌, ◌^◌, ◌<◌, ◌≤◌, min, Bool, true, false, cond, List, [], ◌∷◌, ◌++◌, length, map, reverse, refl, sym, ap, subst, ◌∙◌, arith, append_assoc, add-zero, zero-add}
 use Rattle.std.proofs.lemmas.List.{length-map, length-reverse, map-append, reverse-append}
 use Rattle.std.proofs.lemmas.Nat.{mod-mul-add}
 use Rattle.std.proofs.Math.Nat.{pow-succ'}
@@ -17,6 +17,12 @@ AreCodes w = AllByRecursion (λ c. c < 4) w
 pub codes_append : (xs ys : List ℕ) → AreCodes xs → AreCodes ys → AreCodes (xs ++ ys)
 codes_append [] ys h k = k
 codes_append (x ∷ xs) ys h k = (h.0, codes_append xs ys h.1 k)
+
+pub codes_unpack : (n p : ℕ) → AreCodes (unpack n p)
+codes_unpack zero p = tt
+codes_unpack (suc n) p =
+    let small : p % 4 < 4 = omega arith in
+    codes_append (unpack n (p / 4)) (p % 4 ∷ []) (codes_unpack n (p / 4)) (small, tt)
 
 pub rev_comp_cons : (x : ℕ) (t : List ℕ) → rev_comp (x ∷ t) ≡ rev_comp t ++ complement x ∷ []
 rev_comp_cons x t = reverse-append (complement x ∷ []) (map complement t)

@@ -44,21 +44,18 @@ codes_zeros : (k : ℕ) → AreCodes (replicate k 0)
 codes_zeros zero = tt
 codes_zeros (suc k) = (omega arith, codes_zeros k)
 
-codes_take : (n : ℕ) (xs : List ℕ) → AreCodes xs → AreCodes (take n xs)
-codes_take zero xs h = tt
-codes_take (suc n) [] h = tt
-codes_take (suc n) (x ∷ xs) h = (h.0, codes_take n xs h.1)
+pub codes_front : (n : ℕ) (xs : List ℕ) → AreCodes xs → AreCodes (take n xs)
+codes_front zero xs h = tt
+codes_front (suc n) [] h = tt
+codes_front (suc n) (x ∷ xs) h = (h.0, codes_front n xs h.1)
 
-codes_drop : (n : ℕ) (xs : List ℕ) → AreCodes xs → AreCodes (drop n xs)
+pub codes_drop : (n : ℕ) (xs : List ℕ) → AreCodes xs → AreCodes (drop n xs)
 codes_drop zero xs h = h
 codes_drop (suc n) [] h = tt
 codes_drop (suc n) (x ∷ xs) h = codes_drop n xs h.1
 
 pub codes_part : (n m : ℕ) (xs : List ℕ) → AreCodes xs → AreCodes (take n (drop m xs))
-codes_part n m xs h = codes_take n (drop m xs) (codes_drop m xs h)
-
-pub codes_front : (n : ℕ) (xs : List ℕ) → AreCodes xs → AreCodes (take n xs)
-codes_front n xs h = codes_take n xs h
+codes_part n m xs h = codes_front n (drop m xs) (codes_drop m xs h)
 
 codes_trail : (k : ℕ) (s : List ℕ) (i : ℕ) → AreCodes s → AreCodes (trail k s i)
 codes_trail k s i h = codes_part k i (replicate k 0 ++ s) (codes_append (replicate k 0) s (codes_zeros k) h)

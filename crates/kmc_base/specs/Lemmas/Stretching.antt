@@ -1,13 +1,12 @@
 -- An open stretch before the stretches of what follows it.
-use Rattle.std.proofs.Common.{◌≡◌, ℕ, suc, ◌+◌, ◌-◌, ◌<◌, ◌≤◌, ◌==◌, ◌⊎◌, inl, inr, Bool, true, false, cond, nat_le, List, [], ◌∷◌, ◌++◌, length, take, drop, get_or, Option, None, Some, refl, sym, ap, subst, ◌∙◌, arith, append_assoc, append-nil, add-one, add-zero, length-append, drop_of_length-le}
-use Rattle.std.proofs.lemmas.Bool.{eq-eqb, ne_eqb}
+use Rattle.std.proofs.Common.{◌≡◌, ℕ, suc, ◌+◌, ◌-◌, ◌<◌, ◌≤◌, ◌==◌, inl, inr, Bool, true, false, cond, nat_le, List, [], ◌∷◌, ◌++◌, length, take, drop, get_or, Option, None, Some, refl, sym, ap, subst, ◌∙◌, arith, append_assoc, append-nil, add-one, add-zero, length-append, drop_of_length-le}
+use Rattle.std.proofs.lemmas.Bool.{cases_lt, eq-eqb, ne_eqb}
 use Rattle.std.proofs.lemmas.Bool.Decides.{nat_tests}
-use Rattle.std.proofs.lemmas.List.Elements.{filter-append, All-from_recursion}
+use Rattle.std.proofs.lemmas.List.Elements.{filter-append}
 use Rattle.std.proofs.Math.Seq.{drop-cons}
 use Rattle.std.proofs.lemmas.List.{get_or-take, get_or-drop, length-take, length-drop}
-use Rattle.std.specs.List.{filter, All, AllByRecursion}
+use Rattle.std.specs.List.{filter}
 use Rattle.kmc_base.specs.Words.{code_of}
-use Rattle.kmc_base.specs.Lemmas.Keys.{IsCode, code_small}
 use Rattle.kmc_base.specs.Stretches.{Stretch, with_place, stretches_from, led_by, leading, IsBase, AreBases}
 
 abbrev pub long_enough : ℕ → List Stretch → List Stretch
@@ -175,14 +174,11 @@ pub bases_more : (n d : ℕ) (bytes more : List ℕ) → more ≡ take (n + d - 
     → AreBases n bytes → AreBases (n + d) bytes
 bases_more n d bytes more is long rest each i inside =
     let many : length more ≡ d = ap length is ∙ length-take (n + d - n) (drop n bytes) ∙ omega (arith, length-drop n bytes) in
-    elim (nat_cases i n) [
+    elim (cases_lt i n) [
       | inl h ↦ each i h
       | inr h ↦ let place : n + (i - n) ≡ i = omega arith in subst IsBase (at (i - n) (omega arith) ∙ ap (λ (j : ℕ). get_or bytes j 0) place)
           (rest (i - n) (omega (arith, many)))
     ]
   where
-    nat_cases : (i n : ℕ) → (i < n) ⊎ (n ≤ i)
-    nat_cases i n = grind arith
-
     at : (j : ℕ) → j < d → get_or more j 0 ≡ get_or bytes (n + j) 0
     at j below = ap (λ (xs : List ℕ). get_or xs j 0) is ∙ get_or-take (n + d - n) (drop n bytes) j 0 (omega arith) ∙ get_or-drop n bytes j 0

@@ -1,6 +1,6 @@
 -- Items: packed words with weights in one number.
 use Rattle.std.proofs.Common.{◌≡◌, ℕ, zero, suc, ◌+◌, ◌-◌, ◌*◌, ◌%◌, ◌^◌, ◌<◌, ◌≤◌, bit_and, ap, ◌∙◌, arith, le_refl, mod-eq_of_lt}
-use Rattle.std.proofs.lemmas.Nat.{pow-add, mul-le, and_mask, pow_below, mod_below}
+use Rattle.std.proofs.lemmas.Nat.{pow-add, mul-le, and_mask, pow_below}
 use Rattle.std.proofs.Math.Nat.{pow-succ'}
 use Rattle.std.proofs.Math.Pow.{pow_mono}
 use Rattle.kmc_base.specs.Weights.{weighted}

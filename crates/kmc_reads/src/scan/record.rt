@@ -1,5 +1,5 @@
 //! The lines of a FASTQ record that come whole: each is judged where it lies, and of it nothing but symbols is kept.
-ghost use Rattle.std.specs.Prelude.{false, ◌≡◌, ◌≢◌, ℕ, List, [], ◌++◌, length, take, IfErr, OnOk, Some};
+ghost use Rattle.std.specs.Prelude.{false, ◌≡◌, ◌≢◌, ℕ, List, [], length, take, IfErr, OnOk, Some};
 ghost use Rattle.kmc_reads.specs.declared.stage.Stage.TheVariants.{Header, Sequence, Plus, Quality};
 ghost use Rattle.kmc_reads.specs.Lines.{line_past};
 ghost use Rattle.kmc_reads.specs.Stages.{Spot, fault_of};

@@ -1,63 +1,31 @@
 -- The number of a record as 16 bytes, and the codes in them.
-use Rattle.std.proofs.Common.{◌≡◌, ℕ, zero, suc, ◌+◌, ◌-◌, ◌*◌, ◌/◌, ◌%◌, ◌^◌, ◌<◌, ◌≤◌, List, [], ◌∷◌, ◌++◌, length, take, drop, length-append, refl, sym, ap, ◌∙◌, arith, append_assoc, append-nil, suc-add}
+use Rattle.std.proofs.Common.{◌≡◌, ℕ, zero, suc, ◌+◌, ◌-◌, ◌*◌, ◌/◌, ◌%◌, ◌^◌, ◌≤◌, List, [], ◌∷◌, ◌++◌, length, take, drop, length-append, refl, sym, ap, ◌∙◌, arith, append-nil}
 use Rattle.std.proofs.lemmas.List.{take_at, take-append-drop}
 use Rattle.std.proofs.lemmas.Slice.{take-put_mid, drop-put_mid}
 use Rattle.std.proofs.Math.ListN.{drop_of_length-le}
 use borrow.Rule.Slice.PartMut.{put_mid}
 use Rattle.std.proofs.lemmas.Nat.{pow-add}
-use Rattle.std.proofs.Math.Nat.{div-div-eq-div-mul, pow-succ'}
-use Rattle.std.proofs.Math.Arith.{mod-mul}
+use Rattle.std.proofs.Math.Nat.{pow-succ'}
 use Rattle.std.specs.Int.{byte_at, bytes_high_first}
 use Rattle.kmc_base.specs.Packed.{unpack}
-use Rattle.kmc_base.specs.Lemmas.Packing.{length_unpack}
-use Rattle.kmc_base.specs.Lemmas.Packs.{AreCodes, codes_append}
-use Rattle.kmc_base.specs.Lemmas.Powers.{pow_some}
+use Rattle.kmc_base.specs.Lemmas.Packing.{length_unpack, unpack_low, unpack_split}
+use Rattle.kmc_base.specs.Lemmas.Packs.{AreCodes, codes_unpack}
 use Rattle.kmc_record.specs.Record.{quarters, codes_in}
 use Rattle.kmc_record.specs.RecordKeys.{codes_of, symbols_of, packed_symbols}
 use Rattle.kmc_record.specs.Lemmas.Codes.{codes_join}
 
 -- ---- the symbols of a number
 
-codes_unpack : (n p : ℕ) → AreCodes (unpack n p)
-codes_unpack zero p = tt
-codes_unpack (suc n) p =
-    let small : p % 4 < 4 = omega arith in
-    codes_append (unpack n (p / 4)) (p % 4 ∷ []) (codes_unpack n (p / 4)) (small, tt)
-
 pub are_codes : (key : ℕ) → AreCodes (codes_of key)
 are_codes key = codes_unpack (symbols_of key) (packed_symbols key)
 
 -- ---- a packed word in two parts
 
-quarter_of : (p j : ℕ) → p / 4 / 4 ^ j ≡ p / 4 ^ suc j
-quarter_of p j = div-div-eq-div-mul p 4 (4 ^ j) ∙ ap (λ t. p / t) (sym (pow-succ' 4 j))
-
-join : (n m p : ℕ) → unpack (n + m) p ≡ unpack m (p / 4 ^ n) ++ unpack n p
-join zero m p =
-    let all : p / 4 ^ 0 ≡ p = omega arith in
-    let none : 0 + m ≡ m = omega arith in
-    ap (λ t. unpack t p) none ∙ sym (append-nil (unpack m p)) ∙ ap (λ t. unpack m t ++ []) (sym all)
-join (suc n) m p =
-    rw suc-add
-    (ap (λ (t : List ℕ). t ++ p % 4 ∷ []) (join n m (p / 4)) ∙ append_assoc (unpack m (p / 4 / 4 ^ n)) (unpack n (p / 4)) (p % 4 ∷ [])
-    ∙ ap (λ t. unpack m t ++ unpack (suc n) p) (quarter_of p n))
-
-low_part : (n p : ℕ) → unpack n (p % 4 ^ n) ≡ unpack n p
-low_part zero p = refl
-low_part (suc n) p =
-    let some : zero < 4 ^ n = omega (arith, pow_some n) in
-    let four : zero < 4 = omega arith in
-    let turned : 4 ^ suc n ≡ 4 ^ n * 4 = pow-succ' 4 n ∙ omega arith in
-    let parts : p % 4 ^ suc n ≡ p / 4 % 4 ^ n * 4 + p % 4 = ap (λ t. p % t) turned ∙ mod-mul p some four in
-    let high : p % 4 ^ suc n / 4 ≡ p / 4 % 4 ^ n = omega (arith, parts) in
-    let low : p % 4 ^ suc n % 4 ≡ p % 4 = omega (arith, parts) in
-    (λ i. unpack n (high i) ++ low i ∷ []) ∙ ap (λ (t : List ℕ). t ++ p % 4 ∷ []) (low_part n (p / 4))
-
 -- the first n of 64 symbols
 front_part : (n p : ℕ) → n ≤ 64 → take n (unpack 64 p) ≡ unpack n (p / 4 ^ (64 - n))
 front_part n p most =
-    let parts : 64 ≡ (64 - n) + n = omega arith in
-    let whole : unpack 64 p ≡ unpack n (p / 4 ^ (64 - n)) ++ unpack (64 - n) p = ap (λ m. unpack m p) parts ∙ join (64 - n) n p in
+    let parts : 64 ≡ n + (64 - n) = omega arith in
+    let whole : unpack 64 p ≡ unpack n (p / 4 ^ (64 - n)) ++ unpack (64 - n) p = ap (λ m. unpack m p) parts ∙ unpack_split n (64 - n) p in
     ap (take n) whole ∙ take_at (unpack n (p / 4 ^ (64 - n))) (unpack (64 - n) p) n (length_unpack n (p / 4 ^ (64 - n)))
 
 -- ---- bytes
@@ -85,20 +53,20 @@ byte_is (suc i) n = ap (λ t. n / t % 256) (worth_of_byte (suc i))
 codes_of_bytes : (k n : ℕ) → codes_in (bytes_high_first k n) ≡ unpack (4 * k) n
 codes_of_bytes zero n = refl
 codes_of_bytes (suc k) n =
-    let more : 4 * suc k ≡ 4 * k + 4 = omega arith in
+    let more : 4 * suc k ≡ 4 + 4 * k = omega arith in
     (λ i. quarters (byte_is k n i) ++ codes_of_bytes k n i)
     ∙ ap (λ (t : List ℕ). t ++ unpack (4 * k) n) (sym (four_codes (n / 4 ^ (4 * k))))
-    ∙ sym (ap (λ m. unpack m n) more ∙ join (4 * k) 4 n)
+    ∙ sym (ap (λ m. unpack m n) more ∙ unpack_split 4 (4 * k) n)
 
 -- the high and the low 8 bytes have the symbols in front
 pub codes_of_halves : (key high low : ℕ) → high ≡ key / 2 ^ 64 → low ≡ key % 2 ^ 64 → take (symbols_of key)
     (codes_in (bytes_high_first 8 high ++ bytes_high_first 8 low)) ≡ codes_of key
 codes_of_halves key high low h l =
     let top : unpack 32 high ≡ unpack 32 (key / 4 ^ 32) = ap (unpack 32) h in
-    let rest : unpack 32 low ≡ unpack 32 key = ap (unpack 32) l ∙ low_part 32 key in
+    let rest : unpack 32 low ≡ unpack 32 key = ap (unpack 32) l ∙ unpack_low 32 key in
     let whole : codes_in (bytes_high_first 8 high ++ bytes_high_first 8 low) ≡ unpack 64 key =
     codes_join (bytes_high_first 8 high) (bytes_high_first 8 low) ∙ (λ i. (codes_of_bytes 8 high ∙ top) i ++ (codes_of_bytes 8 low ∙ rest) i) ∙ sym
-    (join 32 32 key) in
+    (unpack_split 32 32 key) in
     ap (take (symbols_of key)) whole ∙ front_part (symbols_of key) key (omega arith)
 
 -- two halves of 8 bytes that were written one after the other

@@ -85,6 +85,9 @@ signature_is m n w at long each =
     ∙ least_is (4 ^ m) (window m w) at n 0 0
     (λ j h. let e : 0 + j ≡ j = omega arith in ap at e ∙ each j h ∙ ap (λ (x : ℕ). min (4 ^ m) (offer m (window m w x))) (sym e)))
 
+pub min_is : (a b c : ℕ) → a ≡ c → a ≤ b → a ≡ min b c
+min_is a b c e h = omega arith
+
 -- of the word at place i, by what the m-mers of the whole list offer
 pub signature_at : (m n k i : ℕ) (xs : List ℕ) (at : ℕ → ℕ) → m + n ≡ k → i + k ≤ length xs
     → ((j : ℕ) → j + m ≤ length xs → at j ≡ offer m (window m xs j)) → ((j : ℕ) → j + m ≤ length xs → at j ≤ 4 ^ m)
@@ -96,22 +99,19 @@ signature_at m n k i xs at whole inside is fit =
     let here : at (i + j) ≡ offer m (window m xs (i + j)) = is (i + j) (omega arith) in
     let same : offer m (window m (window k xs i) j) ≡ offer m (window m xs (i + j)) = ap (offer m) (window_window m k i j xs (omega arith)) in
     let below : at (i + j) ≤ 4 ^ m = fit (i + j) (omega arith) in
-    cap (at (i + j)) (4 ^ m) (offer m (window m (window k xs i) j)) (here ∙ sym same) below)
-  where
-    cap : (a b c : ℕ) → a ≡ c → a ≤ b → a ≡ min b c
-    cap a b c e h = omega arith
+    min_is (at (i + j)) (4 ^ m) (offer m (window m (window k xs i) j)) (here ∙ sym same) below)
 
 -- ---- runs for signatures that agree up to the end
 
-module _ (at bt : ℕ → ℕ) (end : ℕ) (same : (i : ℕ) → i < end → at i ≡ bt i) where
-  starts_before : (p : ℕ) (rs : List Run) → AreRuns at p end rs → p ≤ end
-  starts_before p [] h = omega arith
-  starts_before p (r ∷ rs) h = omega (arith, starts_before (p + r.words) rs h.3)
+pub starts_within : (at : ℕ → ℕ) (end p : ℕ) (rs : List Run) → AreRuns at p end rs → p ≤ end
+starts_within at end p [] h = omega arith
+starts_within at end p (r ∷ rs) h = omega (arith, starts_within at end (p + r.words) rs h.3)
 
+module _ (at bt : ℕ → ℕ) (end : ℕ) (same : (i : ℕ) → i < end → at i ≡ bt i) where
   same_runs : (p : ℕ) (rs : List Run) → AreRuns at p end rs → AreRuns bt p end rs
   same_runs p [] h = h
   same_runs p (r ∷ rs) h =
-      let inside = starts_before (p + r.words) rs h.3 in
+      let inside = starts_within at end (p + r.words) rs h.3 in
       (h.0, record { some = h.1.some; most = h.1.most; one = λ i from to. sym (same i (omega arith)) ∙ h.1.one i from to }, h.2, same_runs (p + r.words) rs h.3)
 
 -- ---- the cut, from offers, least values and runs

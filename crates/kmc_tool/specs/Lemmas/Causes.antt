@@ -1,6 +1,7 @@
 -- What holds of a refusal, at the cause that it has.
 use Rattle.std.proofs.Common.{◌≡◌, ◌≢◌, ℕ, ◌≤◌, ap, refl, sym, subst, arith}
 use Rattle.std.specs.Prelude.{Result, Ok, Err, IfErr, IfOk, OnOk, IsErrAnd}
+use Rattle.kmc_base.specs.Lemmas.PassedOn.{passed_on}
 use Rattle.kmc_tool.specs.Rounds.{AreCountsOf}
 use Rattle.kmc_tool.specs.declared.error.InputError.{InputError}
 use Rattle.kmc_tool.specs.declared.error.InputError.TheVariants.{Memory, Read, Faulty, TooLong}
@@ -47,11 +48,6 @@ err_then P Q (Err e) go p = go e p
 pub same_err : {A E : Type 0} (r : Result A E) (e : E) → IsErrAnd r (λ x. x ≡ e) → r ≡ Err e
 same_err (Ok x) e is = absurd is
 same_err (Err x) e is = ap Err is
-
--- a refusal that is passed on has what the first one had
-pub passed_on : {A E : Type 0} (P : E → Type 0) (r : Result A E) (e : E) → IsErrAnd r (λ x. x ≡ e) → P e → IfErr r P
-passed_on P (Ok x) e is h = absurd is
-passed_on P (Err x) e is h = subst P (sym is) h
 
 -- what is passed on is the cause
 pub cause_of : {A E : Type 0} (r : Result A E) (e cause : E) → IsErrAnd r (λ x. x ≡ e) → r ≡ Err cause → e ≡ cause

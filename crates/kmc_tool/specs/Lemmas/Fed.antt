@@ -6,7 +6,7 @@ use Rattle.kmc_reads.specs.declared.error.ReadsError.TheVariants as reads
 use Rattle.kmc_reads.specs.declared.format.Format.{Format}
 use Rattle.kmc_reads.specs.Laws.{FaultStays}
 use Rattle.kmc_reads.specs.Reads.{reads_of}
-use Rattle.kmc_reads.specs.Pieces.{whole_from}
+use Rattle.kmc_reads.specs.OpenLines.{whole_from}
 use Rattle.kmc_reads.specs.Stages.{fault, fault_from, first_spot}
 use Rattle.kmc_reads.specs.Standing.{FeederState, StandsCut}
 use Rattle.kmc_record.specs.Shapes.{Sizes}

@@ -1,5 +1,4 @@
 //! Bodies with equal records: their packed lists against their plain counts, which unpack each record by itself.
-ghost use Rattle.std.specs.Prelude.{◌≤◌};
 
 use crate::tests::bodies::{are_plain, has_pairs};
 use kmc_base::{Kmer, Strands};

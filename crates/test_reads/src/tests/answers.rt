@@ -3,15 +3,15 @@ use crate::tests::calls::{feed, finish};
 use kmc_reads::{Feeder, ReadsError};
 use std::process::Abort;
 
-/// Asserts that the piece is answered so.
+/// Asserts that the block is answered so.
 pub(crate) fn assert_fed(
     rt: &impl Abort,
     feeder: &mut Feeder,
-    piece: &[u8],
+    block: &[u8],
     want: Result<(), ReadsError>,
 ) {
-    let answer = feed(feeder, piece);
-    assert_eq!(rt; answer, want, "{piece:?}");
+    let answer = feed(feeder, block);
+    assert_eq!(rt; answer, want, "{block:?}");
 }
 
 /// Asserts that the refusal of the end is this one.

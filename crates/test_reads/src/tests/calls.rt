@@ -2,9 +2,9 @@
 use kmc_reads::{Feeder, Reads, ReadsError};
 use std::alloc::{AllocError, Global};
 
-pub(crate) fn feed(feeder: &mut Feeder, piece: &[u8]) -> Result<(), ReadsError> {
-    match feeder.feed(piece) {
-        Err(ReadsError::Memory) => feeder.feed(piece),
+pub(crate) fn feed(feeder: &mut Feeder, block: &[u8]) -> Result<(), ReadsError> {
+    match feeder.feed(block) {
+        Err(ReadsError::Memory) => feeder.feed(block),
         answer => answer,
     }
 }

@@ -110,8 +110,8 @@ fn taken_places(alloc: Global, feeder: &mut Feeder) -> Result<(usize, usize), Al
     Ok(all_places(&taken.to_vecs(alloc)?))
 }
 
-/// Feeds a text in random pieces and takes open reads now and then: their places.
-fn feed_pieces(
+/// Feeds a text in random blocks and takes open reads now and then: their places.
+fn feed_blocks(
     rt: &impl Abort,
     alloc: Global,
     dice: &mut Dice,
@@ -121,9 +121,9 @@ fn feed_pieces(
     let mut all = (0usize, 0usize);
     let mut rest = text;
     for _ in 0..text.len() + 1 {
-        let (piece, after) = rest.split_at(dice.roll(8).min(rest.len()));
+        let (block, after) = rest.split_at(dice.roll(8).min(rest.len()));
         rest = after;
-        assert_fed(rt, feeder, piece, Ok(()));
+        assert_fed(rt, feeder, block, Ok(()));
         if dice.roll(2) == 0 {
             all = sums(all, taken_places(alloc, feeder)?);
         }
@@ -132,15 +132,15 @@ fn feed_pieces(
     Ok(all)
 }
 
-/// The places of the open reads of a text in random pieces, and of the reads that its end leaves.
-fn places_in_pieces(
+/// The places of the open reads of a text in random blocks, and of the reads that its end leaves.
+fn places_in_blocks(
     rt: &impl Abort,
     alloc: Global,
     dice: &mut Dice,
     text: &[u8],
 ) -> Result<(usize, usize), AllocError> {
     let mut feeder = Feeder::new(alloc, Format::Fasta);
-    let open = feed_pieces(rt, alloc, dice, &mut feeder, text)?;
+    let open = feed_blocks(rt, alloc, dice, &mut feeder, text)?;
     let Ok(last) = finish(feeder) else {
         return Err(AllocError);
     };
@@ -152,10 +152,10 @@ fn assert_places(rt: &impl Abort, text: &[u8], given: (usize, usize), want: (usi
     assert_eq!(rt; given, want, "{text:?}");
 }
 
-/// Asserts that the places of a random text in pieces are those of the whole reads, and tells at how many of them the word is.
+/// Asserts that the places of a random text in blocks are those of the whole reads, and tells at how many of them the word is.
 fn compare(rt: &impl Abort, alloc: Global, dice: &mut Dice) -> Result<usize, AllocError> {
     let text = some_text(alloc, dice)?;
-    let given = places_in_pieces(rt, alloc, dice, &text)?;
+    let given = places_in_blocks(rt, alloc, dice, &text)?;
     let Ok(reads) = read_all(alloc, &text, Format::Fasta) else {
         return Err(AllocError);
     };

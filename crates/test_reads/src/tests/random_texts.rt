@@ -1,4 +1,4 @@
-//! Random texts, good and bad, in random pieces against a plain reader of whole lines.
+//! Random texts, good and bad, in random blocks against a plain reader of whole lines.
 use crate::tests::answers::{assert_end_refused, assert_fed};
 use crate::tests::calls::{feed, finish, take};
 use crate::tests::plain::{Reading, plain_reads};
@@ -59,8 +59,8 @@ fn refuses_for_good(rt: &impl Abort, feeder: Feeder, want: ReadsError) {
     assert_end_refused(rt, feeder, want);
 }
 
-/// Feeds a text in random pieces, and adds the reads that are taken now and then; or the refusal of a piece.
-fn feed_pieces(
+/// Feeds a text in random blocks, and adds the reads that are taken now and then; or the refusal of a block.
+fn feed_blocks(
     alloc: Global,
     dice: &mut Dice,
     feeder: &mut Feeder,
@@ -69,9 +69,9 @@ fn feed_pieces(
 ) -> Result<Result<(), ReadsError>, AllocError> {
     let mut rest = text;
     for _ in 0..text.len() + 1 {
-        let (piece, after) = rest.split_at(dice.roll(6).min(rest.len()));
+        let (block, after) = rest.split_at(dice.roll(6).min(rest.len()));
         rest = after;
-        if let Err(e) = feed(feeder, piece) {
+        if let Err(e) = feed(feeder, block) {
             return Ok(Err(e));
         }
         if dice.roll(3) == 0 {
@@ -101,8 +101,8 @@ fn reads_to_the_end(
     }
 }
 
-/// The reads of a text that is fed in random pieces, or its refusal, which is for good.
-fn reads_in_pieces(
+/// The reads of a text that is fed in random blocks, or its refusal, which is for good.
+fn reads_in_blocks(
     rt: &impl Abort,
     alloc: Global,
     dice: &mut Dice,
@@ -111,7 +111,7 @@ fn reads_in_pieces(
 ) -> Result<Reading, AllocError> {
     let mut feeder = Feeder::new(alloc, format);
     let mut given = Vec::new(alloc);
-    if let Err(e) = feed_pieces(alloc, dice, &mut feeder, text, &mut given)? {
+    if let Err(e) = feed_blocks(alloc, dice, &mut feeder, text, &mut given)? {
         refuses_for_good(rt, feeder, e);
         return Ok(Err(e));
     }
@@ -123,7 +123,7 @@ fn assert_same(rt: &impl Abort, text: &[u8], answer: &Reading, want: &Reading) {
     assert_eq!(rt; answer, want, "{text:?}");
 }
 
-/// Asserts that a random text in random pieces has the reads of the plain reader, or its refusal, and tells whether it has
+/// Asserts that a random text in random blocks has the reads of the plain reader, or its refusal, and tells whether it has
 /// reads. `read_all` says the same.
 fn compare(
     rt: &impl Abort,
@@ -133,7 +133,7 @@ fn compare(
 ) -> Result<bool, AllocError> {
     let text = some_text(alloc, dice, format)?;
     let want = plain_reads(alloc, &text, format)?;
-    let answer = reads_in_pieces(rt, alloc, dice, &text, format)?;
+    let answer = reads_in_blocks(rt, alloc, dice, &text, format)?;
     assert_same(rt, &text, &answer, &want);
     Ok(want.is_ok())
 }
@@ -171,7 +171,7 @@ fn good_texts(rt: &impl Abort, alloc: Global, dice: &mut Dice, format: Format) -
 }
 
 #[test]
-fn pieces_give_what_the_plain_reader_gives(rt: HostRuntime) {
+fn blocks_give_what_the_plain_reader_gives(rt: HostRuntime) {
     let mut dice = Dice { state: 5 };
     for format in [Format::Fastq, Format::Fasta] {
         let good = good_texts(&rt, rt.alloc(), &mut dice, format);

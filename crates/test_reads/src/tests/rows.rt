@@ -48,23 +48,23 @@ fn are_taken(rt: &impl Abort, alloc: Global, feeder: &mut Feeder, want: &[&str],
     are(rt, &reads, want, told);
 }
 
-/// Asserts that this piece ends just these reads.
-fn gives(rt: &impl Abort, alloc: Global, feeder: &mut Feeder, piece: &str, want: &[&str]) {
-    feed(feeder, piece.as_bytes()).expect(rt, piece);
-    wait(rt, feeder, want.len(), symbols_of(want), piece);
-    are_taken(rt, alloc, feeder, want, piece);
+/// Asserts that this block ends just these reads.
+fn gives(rt: &impl Abort, alloc: Global, feeder: &mut Feeder, block: &str, want: &[&str]) {
+    feed(feeder, block.as_bytes()).expect(rt, block);
+    wait(rt, feeder, want.len(), symbols_of(want), block);
+    are_taken(rt, alloc, feeder, want, block);
 }
 
-/// Asserts that none of these pieces ends a read.
-fn give_none(rt: &impl Abort, alloc: Global, feeder: &mut Feeder, pieces: &[&str]) {
-    for piece in pieces {
-        gives(rt, alloc, feeder, piece, &[]);
+/// Asserts that none of these blocks ends a read.
+fn give_none(rt: &impl Abort, alloc: Global, feeder: &mut Feeder, blocks: &[&str]) {
+    for block in blocks {
+        gives(rt, alloc, feeder, block, &[]);
     }
 }
 
-/// Asserts that this piece is refused so.
-fn refuses(rt: &impl Abort, feeder: &mut Feeder, piece: &str, want: ReadsError) {
-    assert_fed(rt, feeder, piece.as_bytes(), Err(want));
+/// Asserts that this block is refused so.
+fn refuses(rt: &impl Abort, feeder: &mut Feeder, block: &str, want: ReadsError) {
+    assert_fed(rt, feeder, block.as_bytes(), Err(want));
 }
 
 /// Asserts that the end of the text leaves just these reads.
@@ -108,7 +108,7 @@ fn a_fasta_read_ends_with_the_first_byte_of_the_next_header(rt: HostRuntime) {
 }
 
 #[test]
-fn a_carriage_return_at_the_end_of_a_piece_waits(rt: HostRuntime) {
+fn a_carriage_return_at_the_end_of_a_block_waits(rt: HostRuntime) {
     let alloc = rt.alloc();
     let mut feeder = Feeder::new(alloc, Format::Fastq);
     give_none(&rt, alloc, &mut feeder, &["@r\r", "\nACGT\r"]);
@@ -132,14 +132,14 @@ fn a_line_is_judged_once_its_line_feed_has_come(rt: HostRuntime) {
 }
 
 #[test]
-fn reads_that_ended_before_a_refused_piece_are_taken_after_it(rt: HostRuntime) {
+fn reads_that_ended_before_a_refused_block_are_taken_after_it(rt: HostRuntime) {
     let alloc = rt.alloc();
     let mut feeder = Feeder::new(alloc, Format::Fastq);
     feed(&mut feeder, b"@r\nACGT\n+\nIIII\n@s\nGG\n+\nII\n@t\nT").expect(
         &rt,
         "two reads and an open one",
     );
-    // the read that is open ends in the piece that has the faulty line
+    // the read that is open ends in the block that has the faulty line
     refuses(&rt, &mut feeder, "\n+\nI\nx\n", ReadsError::BadHeader(13));
     wait(&rt, &feeder, 2, 6, "after a refusal");
     are_taken(&rt, alloc, &mut feeder, &["ACGT", "GG"], "after a refusal");

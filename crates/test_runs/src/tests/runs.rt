@@ -15,7 +15,7 @@ use std::alloc::{AllocError, Global};
 use std::process::Abort;
 use std::sync::Wait;
 use std::thread::Threads;
-use test_support::{Full, NarrowWriter, PieceReader};
+use test_support::{BlockReader, Full, NarrowWriter};
 
 /// What a run answered, what it wrote, and how many calls of its devices failed.
 #[derive(Drop)]
@@ -47,7 +47,7 @@ fn fastq(rt: &impl Abort, alloc: Global, sequences: &[&[u8]]) -> Vec<u8> {
 fn run_between<R: Threads + Wait + Sync>(
     rt: &R,
     alloc: Global,
-    reader: PieceReader,
+    reader: BlockReader,
     writer: NarrowWriter,
     params: &Params,
 ) -> Outcome {
@@ -71,7 +71,7 @@ fn dump_of<R: Threads + Wait + Sync>(
     text: &[u8],
     params: &Params,
 ) -> Outcome {
-    let reader = PieceReader::new(text, 1000, 0);
+    let reader = BlockReader::new(text, 1000, 0);
     let writer = NarrowWriter::new(Vec::new(alloc), 100_000, 100_000, Full::Fails, true);
     run_between(rt, alloc, reader, writer, params)
 }

@@ -14,7 +14,7 @@ use std::process::Abort;
 use std::test::Fail;
 
 /// The super-k-mers of the letters.
-fn pieces_of(
+fn super_kmers_of(
     rt: &impl Abort,
     alloc: Global,
     letters: &[u8],
@@ -27,9 +27,9 @@ fn pieces_of(
 }
 
 /// The signature of the first word of a super-k-mer.
-fn first_signature(rt: &impl Abort, piece: &SuperKmer, m: usize) -> u32 {
-    assert!(rt; piece.k() <= piece.codes().len());
-    let first = piece.word_at(0);
+fn first_signature(rt: &impl Abort, super_kmer: &SuperKmer, m: usize) -> u32 {
+    assert!(rt; super_kmer.k() <= super_kmer.codes().len());
+    let first = super_kmer.word_at(0);
     assert!(rt; 1 <= m && m <= MAX_M && m <= first.k());
     signature(&first, m).value()
 }
@@ -44,7 +44,7 @@ fn push_run(text: &mut String, alloc: Global, words: usize, signature: u32) -> R
 }
 
 /// The super-k-mers of the letters, as the number of words and the signature of the first word of each.
-fn pieces_text(
+fn super_kmers_text(
     rt: &impl Abort,
     alloc: Global,
     letters: &str,
@@ -52,15 +52,15 @@ fn pieces_text(
     m: usize,
 ) -> Result<String, Fail> {
     let mut text = String::new(alloc);
-    for piece in &pieces_of(rt, alloc, letters.as_bytes(), k, m)? {
-        let signature = first_signature(rt, piece, m);
-        push_run(&mut text, alloc, piece.words(), signature)?;
+    for super_kmer in &super_kmers_of(rt, alloc, letters.as_bytes(), k, m)? {
+        let signature = first_signature(rt, super_kmer, m);
+        push_run(&mut text, alloc, super_kmer.words(), signature)?;
     }
     Ok(text)
 }
 
 /// Asserts that the super-k-mers of the letters are these.
-fn assert_pieces(
+fn assert_super_kmers(
     rt: &impl Abort,
     alloc: Global,
     letters: &str,
@@ -68,7 +68,11 @@ fn assert_pieces(
     m: usize,
     want: &str,
 ) -> Result<(), Fail> {
-    assert_text(rt, pieces_text(rt, alloc, letters, k, m)?.as_str(), want);
+    assert_text(
+        rt,
+        super_kmers_text(rt, alloc, letters, k, m)?.as_str(),
+        want,
+    );
     Ok(())
 }
 
@@ -138,31 +142,31 @@ fn judges_mmers_by_their_canonical_form(rt: HostRuntime) -> Result<(), Fail> {
 #[test]
 fn cuts_where_the_signature_changes(rt: HostRuntime) -> Result<(), Fail> {
     let alloc = rt.alloc();
-    assert_pieces(&rt, alloc, "AACCGTTAC", 7, 5, "1:22 2:26")?;
+    assert_super_kmers(&rt, alloc, "AACCGTTAC", 7, 5, "1:22 2:26")?;
     let want = "1:27 1:108 1:177 1:108 1:27";
-    assert_pieces(&rt, alloc, "ACGTACGT", 4, 4, want)
+    assert_super_kmers(&rt, alloc, "ACGTACGT", 4, 4, want)
 }
 
 /// Asserts that a super-k-mer has words of k symbols and these codes.
-fn assert_piece(rt: &impl Abort, piece: &SuperKmer, k: usize, codes: &[u8]) {
-    assert_number(rt, piece.k(), k);
-    assert_bytes(rt, piece.codes(), codes);
+fn assert_super_kmer(rt: &impl Abort, super_kmer: &SuperKmer, k: usize, codes: &[u8]) {
+    assert_number(rt, super_kmer.k(), k);
+    assert_bytes(rt, super_kmer.codes(), codes);
 }
 
 #[test]
-fn pieces_hold_the_codes_of_their_words(rt: HostRuntime) -> Result<(), Fail> {
-    let pieces = pieces_of(&rt, rt.alloc(), b"AACCGTTAC", 7, 5)?;
-    assert!(rt; pieces.len() == 2);
-    assert_piece(&rt, &pieces[0], 7, &[0, 0, 1, 1, 2, 3, 3]);
-    assert_piece(&rt, &pieces[1], 7, &[0, 1, 1, 2, 3, 3, 0, 1]);
+fn super_kmers_hold_the_codes_of_their_words(rt: HostRuntime) -> Result<(), Fail> {
+    let super_kmers = super_kmers_of(&rt, rt.alloc(), b"AACCGTTAC", 7, 5)?;
+    assert!(rt; super_kmers.len() == 2);
+    assert_super_kmer(&rt, &super_kmers[0], 7, &[0, 0, 1, 1, 2, 3, 3]);
+    assert_super_kmer(&rt, &super_kmers[1], 7, &[0, 1, 1, 2, 3, 3, 0, 1]);
     Ok(())
 }
 
 /// How many symbols each super-k-mer has.
-fn lengths_of(alloc: Global, pieces: &[SuperKmer]) -> Result<Vec<usize>, AllocError> {
+fn lengths_of(alloc: Global, super_kmers: &[SuperKmer]) -> Result<Vec<usize>, AllocError> {
     let mut lengths = Vec::new(alloc);
-    for piece in pieces {
-        lengths.push(piece.codes().len())?;
+    for super_kmer in super_kmers {
+        lengths.push(super_kmer.codes().len())?;
     }
     Ok(lengths)
 }
@@ -175,8 +179,8 @@ fn assert_lengths(
     want: &[usize],
 ) -> Result<(), Fail> {
     let letters = same_bytes(alloc, b'A', symbols)?;
-    let pieces = pieces_of(rt, alloc, &letters, 25, 9)?;
-    let lengths = lengths_of(alloc, &pieces)?;
+    let super_kmers = super_kmers_of(rt, alloc, &letters, 25, 9)?;
+    let lengths = lengths_of(alloc, &super_kmers)?;
     assert!(rt; lengths.as_slice() == want, "{symbols}");
     Ok(())
 }
@@ -250,7 +254,7 @@ fn assert_row(
     let (k, m) = (number(row, 0)?, number(row, 1)?);
     let (letters, want) = (field(row, 2)?, field(row, 3)?);
     assert_runs(rt, alloc, letters, k, m, scratch, want)?;
-    assert_pieces(rt, alloc, letters, k, m, want)
+    assert_super_kmers(rt, alloc, letters, k, m, want)
 }
 
 #[test]
@@ -304,9 +308,9 @@ fn is_in_bin(
     letters: &str,
     bin: usize,
 ) -> Result<bool, AllocError> {
-    let piece = super_kmer_of(rt, alloc, letters.as_bytes(), 7)?;
-    assert!(rt; piece.k() == 7);
-    Ok(piece.in_bin(5, 7, bin))
+    let super_kmer = super_kmer_of(rt, alloc, letters.as_bytes(), 7)?;
+    assert!(rt; super_kmer.k() == 7);
+    Ok(super_kmer.in_bin(5, 7, bin))
 }
 
 #[test]

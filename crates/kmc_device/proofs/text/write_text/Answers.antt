@@ -1,5 +1,5 @@
 use Rattle.std.proofs.Common.{arith, rules, length-drop}
-use Rattle.kmc_device.specs.Lemmas.Devices.{rest_is, piece_out, front_out, none_out}
+use Rattle.kmc_device.specs.Lemmas.Devices.{rest_is, block_out, front_out, none_out}
 use Rattle.kmc_device.proofs.text.write_text.Goals as goal
 
 pub returns-in-Ok-eq0-clause-front : goal.returns-in-Ok-eq0-clause-front
@@ -11,7 +11,7 @@ loop-done-preserved g c =
     let bound = rw (rest_is c.args.text.now c.loop-done.done) at c.in-Ok.ensures.bound in (
       omega (arith, length-drop c.loop-done.done c.args.text.now, bound),
       search rules,
-      piece_out _ _ _ c.args.text.now c.loop-done.done c.in-Ok.n c.loop-done.invariant.2 c.in-Ok.ensures.bytes,
+      block_out _ _ _ c.args.text.now c.loop-done.done c.in-Ok.n c.loop-done.invariant.2 c.in-Ok.ensures.bytes,
     )
 
 pub returns-in-Err-clause-front : goal.returns-in-Err-clause-front

@@ -1,18 +1,16 @@
-use Rattle.std.proofs.Common.{◌≡◌, ℕ, Bool, true, false, slice_get, arith, sym, ap, ◌∙◌, subst}
+use Rattle.std.proofs.Common.{ℕ, false, slice_get, arith, sym, ap, ◌∙◌, subst}
 use mathlib.Core.Logic.{dite}
 use native.Mathlib.Decide.{ℕ_discrete}
+use Rattle.std.proofs.lemmas.Bool.{both_ways}
 use Rattle.kmc_partqueue.specs.Seats.{AllEnded}
 use Rattle.kmc_partqueue.proofs.Counted.{at_within}
 use Rattle.kmc_partqueue.proofs.Final.{get_or_at}
 use Rattle.kmc_partqueue.proofs.gather.first_finished.Goals as goal
 
-was_false : {A : Type 0} {b : Bool} → b ≡ false → b ≡ true → A
-was_false {A} {b} x y = let e : false ≡ true = sym x ∙ y in cc
-
 pub loop-i-preserved : goal.loop-i-preserved
 loop-i-preserved g c = λ j lt s e all. let i : ℕ = c.loop-i.i in let r = c.index-readers-i.result in dite (ℕ_discrete j i)
     (λ is. let one = c.index-readers-i.is ∙ get_or_at c.args.readers.now i r s (ap (slice_get c.args.readers.now) (sym is) ∙ e) in
-    was_false c.if-finished.false (c.finished.ensures.1 (subst (λ v. AllEnded v.writers v.totals) (sym one) all)))
+    absurd (both_ways _ c.if-finished.false (c.finished.ensures.1 (subst (λ v. AllEnded v.writers v.totals) (sym one) all))))
     (λ ne. c.loop-i.invariant j (omega arith) s e all)
 
 pub unreachable-requires : goal.unreachable-requires

@@ -1,4 +1,4 @@
-use Rattle.std.proofs.Common.{◌≡◌, ◌++◌, map, subst, ap, ◌∙◌}
+use Rattle.std.proofs.Common.{◌++◌, map, subst, ap, ◌∙◌}
 use Rattle.std.specs.List.Sorted.{IsPermutation}
 use Rattle.kmc_base.specs.Packed.{pack}
 use Rattle.kmc_record.specs.RecordWords.{record_keys}

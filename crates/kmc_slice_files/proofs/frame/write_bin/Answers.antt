@@ -1,14 +1,14 @@
 use Rattle.std.proofs.Common.{◌≤◌, ◌^◌, ◌+◌, length, take, arith, ◌∙◌}
 use Rattle.kmc_device.specs.Lemmas.Devices.{on_err}
-use Rattle.kmc_slice_files.proofs.Framing.{bin_more, bin_begun, piece_at, piece_is, piece_long}
+use Rattle.kmc_slice_files.proofs.Framing.{bin_more, bin_begun, block_at, block_is, block_long}
 use Rattle.kmc_slice_files.proofs.frame.write_bin.Goals as goal
 
 pub returns-in_err-write_frame-clause-front : goal.returns-in_err-write_frame-clause-front
 returns-in_err-write_frame-clause-front g c =
     let body = c.args.body.now in
     let done = c.loop-done.done in
-    let long = piece_long body done c.min-more.result (omega (arith, c.min-more.ensures)) in
-    on_err c.from_residual.result _ (bin_begun c.args.bin (take done body) (piece_at body done c.min-more.result) c.loop-done.frames _ _ _
+    let long = block_long body done c.min-more.result (omega (arith, c.min-more.ensures)) in
+    on_err c.from_residual.result _ (bin_begun c.args.bin (take done body) (block_at body done c.min-more.result) c.loop-done.frames _ _ _
     (omega (arith, long, c.min-more.ensures, c.loop-done-test.true)) (omega (arith, long, c.min-more.ensures)) c.loop-done.invariant.out
     c.in_err-write_frame.ensures.front)
 
@@ -24,7 +24,7 @@ loop-done-preserved g c =
       inside = within;
       few = omega (arith, some, inv.few);
       same = c.in_ok-write_frame.ensures.kept ∙ inv.same;
-      out = bin_more c.args.bin body (piece_at body c.loop-done.done more) c.loop-done.done more c.loop-done.frames _ _ _ some few within inv.out
-          c.in_ok-write_frame.ensures.ok (piece_is body c.loop-done.done more)
-          (piece_long body c.loop-done.done more (omega (arith, c.min-more.ensures)));
+      out = bin_more c.args.bin body (block_at body c.loop-done.done more) c.loop-done.done more c.loop-done.frames _ _ _ some few within inv.out
+          c.in_ok-write_frame.ensures.ok (block_is body c.loop-done.done more)
+          (block_long body c.loop-done.done more (omega (arith, c.min-more.ensures)));
     }

@@ -3,7 +3,7 @@ use Rattle.kmc_store.specs.Bins.{BinList, empty_bins}
 use Rattle.kmc_store.specs.Holds.{HoldsReads}
 use Rattle.kmc_settings.specs.Shape.{shape_of}
 use Rattle.kmc_tool.specs.Rounds.{HoldsPieces, IsFedBy}
-use Rattle.kmc_tool.specs.Lemmas.Causes.{passed_on}
+use Rattle.kmc_base.specs.Lemmas.PassedOn.{passed_on}
 use Rattle.kmc_slices.proofs.round.next_bins.Goals as goal
 
 pub returns-in_err-more-clause-cause : goal.returns-in_err-more-clause-cause

@@ -1,10 +1,10 @@
-use Rattle.std.proofs.Common.{◌≡◌, ℕ, suc, ◌+◌, ◌-◌, ◌^◌, ◌<◌, ◌≤◌, List, length, slice_index, min, ap, ◌∙◌, arith}
+use Rattle.std.proofs.Common.{◌≡◌, ℕ, suc, ◌+◌, ◌-◌, ◌^◌, ◌<◌, ◌≤◌, List, length, slice_index, ap, ◌∙◌, arith}
 use Rattle.kmc_base.specs.Words.{window}
 use Rattle.kmc_split.specs.Signature.{signature_of}
 use Rattle.kmc_split.specs.Offers.{offer}
 use Rattle.kmc_split.specs.Minima.{low}
 use Rattle.kmc_split.specs.Lemmas.Lowest.{fits_most}
-use Rattle.kmc_split.specs.Lemmas.Least.{signature_is, signature_le}
+use Rattle.kmc_split.specs.Lemmas.Least.{min_is, signature_is, signature_le}
 use Rattle.kmc_split.proofs.signatures.signature_in.Goals as goal
 
 -- what the m-mers of a word offer
@@ -16,10 +16,7 @@ lowest_is m codes values v within long is fit e =
     let count : length values ≡ suc n = omega arith in
     e ∙ ap (λ c. low (slice_index values) c 0) count
     ∙ signature_is m n codes (slice_index values) (omega arith)
-    (λ j h. cap (slice_index values j) (4 ^ m) (offer m (window m codes j)) (is j (omega arith)) (fit j (omega arith)))
-  where
-    cap : (a b d : ℕ) → a ≡ d → a ≤ b → a ≡ min b d
-    cap a b d e h = omega arith
+    (λ j h. min_is (slice_index values j) (4 ^ m) (offer m (window m codes j)) (is j (omega arith)) (fit j (omega arith)))
 
 pub of_value-requires : goal.of_value-requires
 of_value-requires c =

@@ -2,7 +2,7 @@ use Rattle.std.proofs.Common.{inl, inr, ◌+◌, ◌++◌, Ok, true, false, refl
 use Rattle.kmc_tool.specs.Rounds.{AreCounts, IsFedBy}
 use Rattle.kmc_tool.specs.Lemmas.Causes.{same_err}
 use Rattle.kmc_tool.specs.Lemmas.Fed.{fed_none, fed_on, fed_by}
-use Rattle.kmc_tool.specs.declared.round.TheConstants.{PIECE, ROUND}
+use Rattle.kmc_tool.specs.declared.round.TheConstants.{BLOCK, ROUND}
 use Rattle.kmc_tool.proofs.Filled.{filled, not_full}
 use Rattle.kmc_tool.proofs.round.fill_round.Goals as goal
 
@@ -64,16 +64,16 @@ returns-then-waiting-reads-clause-fed g c = λ overlap format text taken s.
 pub returns-then-not-more-clause-filled : goal.returns-then-not-more-clause-filled
 returns-then-not-more-clause-filled g c = λ overlap format text taken s.
     let f = c.loop.invariant.way.fed overlap format text taken s in
-    filled c.args.reads ROUND PIECE overlap format _ _ _ _ text taken c.args.feeder.now c.loop.feeder f c.loop.invariant.room
-    c.read_and_feed.new.feeder (c.in_ok-more.ensures.piece overlap format _ taken f.stands)
+    filled c.args.reads ROUND BLOCK overlap format _ _ _ _ text taken c.args.feeder.now c.loop.feeder f c.loop.invariant.room
+    c.read_and_feed.new.feeder (c.in_ok-more.ensures.block overlap format _ taken f.stands)
 
 pub returns-then-waiting-reads-clause-filled : goal.returns-then-waiting-reads-clause-filled
 returns-then-waiting-reads-clause-filled g c = λ overlap format text taken s.
     let f = c.loop.invariant.way.fed overlap format text taken s in
-    filled c.args.reads ROUND PIECE overlap format _ _ _ _ text taken c.args.feeder.now c.loop.feeder f c.loop.invariant.room
-    c.read_and_feed.new.feeder (c.in_ok-more.ensures.piece overlap format _ taken f.stands)
+    filled c.args.reads ROUND BLOCK overlap format _ _ _ _ text taken c.args.feeder.now c.loop.feeder f c.loop.invariant.room
+    c.read_and_feed.new.feeder (c.in_ok-more.ensures.block overlap format _ taken f.stands)
 
 pub returns-clause-filled : goal.returns-clause-filled
 returns-clause-filled g c = λ overlap format text taken s.
-    not_full c.args.reads ROUND PIECE overlap format _ _ _ _ text taken c.args.feeder.now c.loop.feeder
+    not_full c.args.reads ROUND BLOCK overlap format _ _ _ _ text taken c.args.feeder.now c.loop.feeder
     (c.loop.invariant.way.fed overlap format text taken s) c.loop.invariant.room

@@ -27,6 +27,6 @@ returns-in_err-feed-clause-fed g c = λ overlap format text taken s.
 pub returns-in-Err-clause-counts : goal.returns-in-Err-clause-counts
 returns-in-Err-clause-counts g c = search rules
 
-pub returns-clause-piece : goal.returns-clause-piece
-returns-clause-piece g c = λ overlap format text taken s.
+pub returns-clause-block : goal.returns-clause-block
+returns-clause-block g c = λ overlap format text taken s.
     (take c.in-Ok.n c.read.new.buf, omega (arith, c.in-Ok.ensures.bound), c.in_ok-feed.ensures.cut overlap format text taken s)

@@ -5,7 +5,7 @@ use Rattle.kmc_tool.specs.Rounds.{AreCounts, AreCountsOf, HoldsPieces, IsFedBy}
 use Rattle.kmc_settings.specs.Shape.{shape_of}
 use Rattle.kmc_tool.specs.declared.error.InputError.TheVariants.{Memory}
 use Rattle.kmc_tool.specs.Errors.{input_error}
-use Rattle.kmc_tool.specs.Lemmas.Causes.{passed_on}
+use Rattle.kmc_base.specs.Lemmas.PassedOn.{passed_on}
 use Rattle.kmc_tool.specs.Lemmas.Fed.{unfaulted, risen, counts_on, fed_on, fed_by, fed_cause, last_input, memory_on, taken_fed, text_counts}
 use Rattle.kmc_tool.proofs.rounds.bins_of_input.Goals as goal
 

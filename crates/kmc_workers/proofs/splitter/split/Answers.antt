@@ -2,10 +2,10 @@ use Rattle.std.proofs.Common.{ℕ, ◌<◌, ◌≡◌, length, map, sym, ap, sub
 use Rattle.std.specs.Prelude.{Err}
 use Rattle.std.proofs.lemmas.List.{length-map}
 use Rattle.std.proofs.lemmas.Grind.{common_steps}
+use Rattle.kmc_base.specs.Lemmas.PassedOn.{passed_on}
 use Rattle.kmc_record.specs.Parts.{ArePartsOf}
 use Rattle.kmc_workers.specs.Causes.{IsWorkersCause}
 use Rattle.kmc_workers.specs.Workers.{chunks_of, IsSameWriter}
-use Rattle.kmc_workers.proofs.Passed.{passed_on}
 use Rattle.kmc_workers.proofs.Sent.{next_own, next_other, too_many, cause_of, same_seat}
 use Rattle.kmc_workers.proofs.splitter.split.Goals.{then-c-way+in_ok-parts+in_ok-put_all, else-c-way}
 use Rattle.kmc_workers.proofs.splitter.split.Goals as goal

@@ -10,7 +10,7 @@ const DUMP: &[u8] = b"ACGT\t2\nCGTA\t2\nGTAC\t1\n";
 /// A run that counts words of 4 symbols.
 fn run_at_4<R: Abort + Threads + Wait + Sync + Alloc<A = Global>>(
     rt: &R,
-    reader: PieceReader,
+    reader: BlockReader,
     writer: NarrowWriter,
 ) -> Outcome {
     let params = settings(rt, 4, 1, BILLION, 255);
@@ -35,24 +35,24 @@ fn refuses_faulty_texts_with_their_lines(rt: HostRuntime) {
     assert_refused(&rt, b"\n@r\nACGT\nx\nIIII\n", ReadsError::BadPlus(4));
 }
 
-/// Asserts that a run by pieces of so many bytes writes the dump, so many bytes at a time.
-fn assert_in_pieces<R: Abort + Threads + Wait + Sync + Alloc<A = Global>>(
+/// Asserts that a run by blocks of so many bytes writes the dump, so many bytes at a time.
+fn assert_in_blocks<R: Abort + Threads + Wait + Sync + Alloc<A = Global>>(
     rt: &R,
-    piece: usize,
+    block: usize,
     width: usize,
 ) {
-    assert!(rt; 1 <= piece);
-    let reader = PieceReader::new(TEXT, piece, 0);
+    assert!(rt; 1 <= block);
+    let reader = BlockReader::new(TEXT, block, 0);
     let writer = NarrowWriter::new(Vec::new(rt.alloc()), width, 1000, Full::Fails, true);
     let made = run_at_4(rt, reader, writer);
     assert_whole(rt, &made, DUMP);
 }
 
 #[test]
-fn gives_the_same_dump_in_any_pieces(rt: HostRuntime) {
-    for piece in [1, 2, 7, 22, 100] {
+fn gives_the_same_dump_in_any_blocks(rt: HostRuntime) {
+    for block in [1, 2, 7, 22, 100] {
         for width in [1, 3, 100] {
-            assert_in_pieces(&rt, piece, width);
+            assert_in_blocks(&rt, block, width);
         }
     }
 }
@@ -60,7 +60,7 @@ fn gives_the_same_dump_in_any_pieces(rt: HostRuntime) {
 #[test]
 fn writes_nothing_after_a_failed_read(rt: HostRuntime) {
     for failing in 1..=24 {
-        let reader = PieceReader::new(TEXT, 1, failing);
+        let reader = BlockReader::new(TEXT, 1, failing);
         let writer = NarrowWriter::new(Vec::new(rt.alloc()), 100, 1000, Full::Fails, true);
         let made = run_at_4(&rt, reader, writer);
         assert_outcome(&rt, &made, Err(RunError::Read), b"", (1, 0));
@@ -74,7 +74,7 @@ fn assert_front<R: Abort + Threads + Wait + Sync + Alloc<A = Global>>(
     full: Full,
 ) {
     assert!(rt; room <= DUMP.len());
-    let reader = PieceReader::new(TEXT, 100, 0);
+    let reader = BlockReader::new(TEXT, 100, 0);
     let writer = NarrowWriter::new(Vec::new(rt.alloc()), 4, room, full, true);
     let made = run_at_4(rt, reader, writer);
     assert_outcome(rt, &made, Err(RunError::Write), &DUMP[..room], (0, 1));
@@ -94,7 +94,7 @@ fn assert_failed_flush<R: Abort + Threads + Wait + Sync + Alloc<A = Global>>(
     text: &[u8],
     dump: &[u8],
 ) {
-    let reader = PieceReader::new(text, 100, 0);
+    let reader = BlockReader::new(text, 100, 0);
     let writer = NarrowWriter::new(Vec::new(rt.alloc()), 100, 1000, Full::Fails, false);
     let made = run_at_4(rt, reader, writer);
     assert_outcome(rt, &made, Err(RunError::Write), dump, (0, 1));
@@ -115,16 +115,16 @@ struct Flushed {
     device: FlushCounter,
 }
 
-/// A run over a text that comes in pieces of so many bytes, to a device of which one flush may fail.
+/// A run over a text that comes in blocks of so many bytes, to a device of which one flush may fail.
 fn run_flushing<R: Abort + Threads + Wait + Sync + Alloc<A = Global>>(
     rt: &R,
     text: &[u8],
-    piece: usize,
+    block: usize,
     failing: u64,
     params: &Params,
 ) -> Flushed {
-    assert!(rt; 1 <= piece);
-    let mut reader = Counted::new(PieceReader::new(text, piece, 0));
+    assert!(rt; 1 <= block);
+    let mut reader = Counted::new(BlockReader::new(text, block, 0));
     let mut writer = Counted::new(FlushCounter::new(Vec::new(rt.alloc()), failing));
     let answer = run(rt, rt.alloc(), &mut reader, &mut writer, params);
     Flushed {
@@ -159,9 +159,9 @@ fn a_dump_is_flushed_once(rt: HostRuntime) {
     assert_flushed_once(&rt, 2, Ok(3));
 }
 
-/// A reader that gives as much as it is asked for is asked for large pieces.
+/// A reader that gives as much as it is asked for is asked for large blocks.
 #[test]
-fn a_long_text_is_read_in_few_pieces(rt: HostRuntime) {
+fn a_long_text_is_read_in_few_blocks(rt: HostRuntime) {
     let text = fastq(&rt, rt.alloc(), &[[b'A'; 1000].as_slice(); 100]);
     assert!(rt; text.len() > 200_000);
     let made = run_flushing(

@@ -108,7 +108,7 @@ fn run_through<R: Threads + Wait + Sync, G: Gate + Sync>(
     params: &Params,
     gate: &G,
 ) -> Result<u64, RunError> {
-    let mut reader = Counted::new(PieceReader::new(text, 1000, 0));
+    let mut reader = Counted::new(BlockReader::new(text, 1000, 0));
     let device = NarrowWriter::new(Vec::new(alloc), 1000, 1000, Full::Fails, true);
     let mut writer = Counted::new(device);
     run_with_gate(rt, alloc, &mut reader, &mut writer, params, gate)

@@ -36,11 +36,11 @@ fn assert_run<R: Abort + Threads + Wait + Sync>(
     alloc: Global,
     text: &[u8],
     dump: &[u8],
-    piece: usize,
+    block: usize,
     params: &Params,
 ) {
-    assert!(rt; 1 <= piece);
-    let reader = PieceReader::new(text, piece, 0);
+    assert!(rt; 1 <= block);
+    let reader = BlockReader::new(text, block, 0);
     let writer = NarrowWriter::new(Vec::new(alloc), 77, 100_000, Full::Fails, true);
     let made = run_between(rt, alloc, reader, writer, params);
     assert_whole(rt, &made, dump);

@@ -21,7 +21,7 @@ fn a_run_of_three_rounds_counts_each_read(rt: HostRuntime) {
     let text = repeated(alloc, b"ACGTA", READS).expect(&rt, "memory");
     let words = words_of(alloc, "-k5 -ci1 -cs1000000").expect(&rt, "memory");
     let params = settings(alloc, words).expect(&rt, "settings");
-    let reader = PieceReader::new(&text, 65_536, 0);
+    let reader = BlockReader::new(&text, 65_536, 0);
     let writer = NarrowWriter::new(Vec::new(alloc), 1000, 1000, Full::Fails, true);
     let made = run_between(&rt, alloc, reader, writer, &params);
     assert_whole(&rt, &made, b"ACGTA\t140000\n");

@@ -1,5 +1,4 @@
 //! What comes of a run: how many parts each writer put, and the bins of all readers together.
-ghost use Rattle.std.specs.Prelude.{◌<◌};
 
 use super::{TWICE, one_read_a_chunk, reads_of};
 use kmc_partcore::{QueueShape, Totals};

@@ -8,9 +8,9 @@ use std::process::Abort;
 use std::test::Fail;
 
 /// Whether the signature of each word has the bin.
-fn belongs(rt: &impl Abort, piece: &SuperKmer, shape: Shape, bin: usize) -> bool {
-    for i in 0..piece.words() {
-        let word = piece.word_at(i);
+fn belongs(rt: &impl Abort, super_kmer: &SuperKmer, shape: Shape, bin: usize) -> bool {
+    for i in 0..super_kmer.words() {
+        let word = super_kmer.word_at(i);
         assert!(rt; word.k() >= shape.m());
         if signature(&word, shape.m()).bin(shape.n()) != bin {
             return false;
@@ -34,15 +34,15 @@ fn plain_words(
             break;
         }
         let offset = body.len().wrapping_sub(rest.len());
-        let (piece, behind) = match decode(alloc, rest, shape.k()) {
+        let (super_kmer, behind) = match decode(alloc, rest, shape.k()) {
             Ok(found) => found,
             Err(RecordError::Damaged(fault)) => return Err(PartError::Damaged(fault, offset)),
             Err(RecordError::Memory) => return Err(PartError::Memory),
         };
-        if !belongs(rt, &piece, shape, bin) {
+        if !belongs(rt, &super_kmer, shape, bin) {
             return Err(PartError::WrongBin(offset));
         }
-        words = words.saturating_add(piece.words() as u64);
+        words = words.saturating_add(super_kmer.words() as u64);
         rest = behind;
     }
     Ok(words)

@@ -28,16 +28,16 @@ fn empty_bins(alloc: Global, n: usize) -> Result<Vec<Gathered>, AllocError> {
 }
 
 /// Writes a super-k-mer behind the records of a bin.
-fn gather(bin: &mut Gathered, piece: &SuperKmer) -> Result<(), AllocError> {
-    encode(piece, &mut bin.body)?;
-    bin.words = bin.words.saturating_add(piece.words() as u64);
+fn gather(bin: &mut Gathered, super_kmer: &SuperKmer) -> Result<(), AllocError> {
+    encode(super_kmer, &mut bin.body)?;
+    bin.words = bin.words.saturating_add(super_kmer.words() as u64);
     Ok(())
 }
 
 /// The bin of the first word of a super-k-mer.
-fn bin_of_first_word(rt: &impl Abort, piece: &SuperKmer, shape: Shape) -> usize {
-    assert!(rt; piece.words() > 0);
-    let first = piece.word_at(0);
+fn bin_of_first_word(rt: &impl Abort, super_kmer: &SuperKmer, shape: Shape) -> usize {
+    assert!(rt; super_kmer.words() > 0);
+    let first = super_kmer.word_at(0);
     assert!(rt; first.k() >= shape.m());
     signature(&first, shape.m()).bin(shape.n())
 }
@@ -51,10 +51,10 @@ fn gather_segment(
     shape: Shape,
 ) -> Result<(), AllocError> {
     assert!(rt; segment.codes.len() >= shape.k());
-    for piece in &super_kmers(alloc, segment, shape.k(), shape.m())? {
-        let bin = bin_of_first_word(rt, piece, shape);
+    for super_kmer in &super_kmers(alloc, segment, shape.k(), shape.m())? {
+        let bin = bin_of_first_word(rt, super_kmer, shape);
         assert!(rt; bin < bins.len());
-        gather(&mut bins[bin], piece)?;
+        gather(&mut bins[bin], super_kmer)?;
     }
     Ok(())
 }

@@ -1,6 +1,6 @@
-use Rattle.std.proofs.Common.{rules, arith, refl, sym, ap, ◌∙◌, ℕ, ◌+◌, ◌*◌, ◌/◌, ◌%◌, ◌<◌, ◌≤◌, ◌++◌, ◌∷◌, [], Some, None, length, subst, mod-lt, length-append}
+use Rattle.std.proofs.Common.{arith, refl, sym, ap, ◌∙◌, ℕ, ◌+◌, ◌*◌, ◌/◌, ◌%◌, ◌<◌, ◌≤◌, ◌++◌, ◌∷◌, [], Some, None, length, subst, mod-lt, length-append}
 use Rattle.kmc_partqueue.specs.Seats.{sent_of, AtRest}
-use Rattle.kmc_partqueue.proofs.Turns.{lane_within}
+use Rattle.kmc_partqueue.proofs.Turns.{div_le, lane_within}
 use Rattle.kmc_partqueue.proofs.WriterCalls.{free_call, send_call, held_after, full_after, sent_after, rests}
 use Rattle.kmc_partqueue.proofs.lanes.Lanes.try_put.Goals as goal
 
@@ -8,9 +8,6 @@ pub overflow_mul-turn : goal.overflow_mul-turn
 overflow_mul-turn g c =
     let at = c.s.invariant in let q : ℕ = c.s.inside.count / c.args.self.now.shape.per_writer in
     let le : q ≤ c.s.inside.count = div_le c.s.inside.count c.args.self.now.shape.per_writer in omega arith
-  where
-    div_le : (a b : ℕ) → a / b ≤ a
-    div_le a b = search rules
 
 pub load-found-requires : goal.load-found-requires
 load-found-requires g c =

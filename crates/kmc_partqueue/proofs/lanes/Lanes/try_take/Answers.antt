@@ -1,11 +1,9 @@
-use Rattle.std.proofs.Common.{Bool, ◌++◌, ◌∷◌, [], arith, sym, ap, ◌∙◌, ◌≡◌, ℕ, ◌<◌, slice_get, false, true, subst}
+use Rattle.std.proofs.Common.{◌++◌, ◌∷◌, [], arith, sym, ap, ◌∙◌, ◌≡◌, ℕ, ◌<◌, slice_get, false, true, subst}
+use Rattle.std.proofs.lemmas.Bool.{both_ways}
 use Rattle.kmc_partqueue.specs.Seats.{AllEnded}
 use Rattle.kmc_partqueue.proofs.ReaderCalls.{open_or_ended}
 use Rattle.kmc_partqueue.proofs.lanes.Lanes.try_take.Goals as goal
 use Rattle.kmc_partqueue.proofs.lanes.Lanes.try_take.Goals.{then-is_open+in-None, else-is_open, then-lane-self, else-lane-self}
-
-was_false : {A : Type 0} {b : Bool} → b ≡ false → b ≡ true → A
-was_false {A} {b} x y = let e : false ≡ true = sym x ∙ y in cc
 
 pub returns-in-Some-clause-again : goal.returns-in-Some-clause-again
 returns-in-Some-clause-again g c = λ all. let inv = c.loop.invariant in let same = inv.7 all in
@@ -48,7 +46,7 @@ loop-preserved g c =
 
 pub returns-else-finished-clause-again : goal.returns-else-finished-clause-again
 returns-else-finished-clause-again g c = λ all. let same = c.loop.invariant.7 all in absurd
-    (was_false c.if-finished.false (c.finished.ensures.1 (subst (λ v. AllEnded v.writers v.totals) (sym same) all)))
+    (absurd (both_ways _ c.if-finished.false (c.finished.ensures.1 (subst (λ v. AllEnded v.writers v.totals) (sym same) all))))
 
 pub returns-in-Some-clause-answer : goal.returns-in-Some-clause-answer
 returns-in-Some-clause-answer g c = let inv = c.loop.invariant in let e = c.in-Some.ensures in (

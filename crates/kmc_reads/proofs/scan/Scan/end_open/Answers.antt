@@ -1,6 +1,6 @@
 use Rattle.std.proofs.Common.{[], sym, ap, subst, ◌∙◌, append-nil}
 use Rattle.std.specs.Io.BufRead.{strip_last}
-use Rattle.kmc_reads.specs.Pieces.{last_line}
+use Rattle.kmc_reads.specs.OpenLines.{last_line}
 use Rattle.kmc_reads.specs.Stages.{reads_from, past, given_by, answer_past, answer_at_end}
 use Rattle.kmc_reads.specs.Standing.{At}
 use Rattle.kmc_reads.proofs.Feeding.{last_is_line}

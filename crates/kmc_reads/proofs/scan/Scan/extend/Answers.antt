@@ -8,46 +8,46 @@ use Rattle.kmc_reads.proofs.Feeding.{no_items}
 use Rattle.kmc_reads.proofs.Walking.{here, open_leads, name_leads}
 use Rattle.kmc_reads.proofs.scan.Scan.extend.Goals as goal
 
-pub returns-then-piece-eq0-clause-goes : goal.returns-then-piece-eq0-clause-goes
-returns-then-piece-eq0-clause-goes c = λ rows spot front at unbroken.
-    let none : length c.args.piece.now ≡ 0 = grind (arith, nat_tests) in
-    subst (λ t. Goes rows spot front t c.args.self.now) (sym (no_items c.args.piece.now none)) (here rows spot front c.args.self.now at)
+pub returns-then-bytes-eq0-clause-goes : goal.returns-then-bytes-eq0-clause-goes
+returns-then-bytes-eq0-clause-goes c = λ rows spot front at unbroken.
+    let none : length c.args.bytes.now ≡ 0 = grind (arith, nat_tests) in
+    subst (λ t. Goes rows spot front t c.args.self.now) (sym (no_items c.args.bytes.now none)) (here rows spot front c.args.self.now at)
 
 pub returns-then-begins_name-clause-goes : goal.returns-then-begins_name-clause-goes
 returns-then-begins_name-clause-goes c = λ rows spot front at unbroken.
-    let piece = c.args.piece.now in
-    let some : 0 < length piece = grind (arith, nat_tests) in
+    let bytes = c.args.bytes.now in
+    let some : 0 < length bytes = grind (arith, nat_tests) in
     let is = c.begins_name.ensures.name rows spot front at c.if-begins_name.true in
     let next : Spot = record { number = spot.number; stage = Name; read = [] } in
     let named = c.in_ok-name.ensures.at rows spot (subst (λ t. At rows spot t c.args.self.now) is.none at) is.body in
     record {
       more = spot.read ∷ [];
       next = next;
-      left = piece;
-      leads = subst (λ t. Leads spot t piece (spot.read ∷ []) next piece) (sym is.none)
-          (subst (λ st. Leads (record { number = spot.number; stage = st; read = spot.read }) [] piece (spot.read ∷ []) next piece) (sym is.body)
-          (name_leads spot.number spot.read piece is.header unbroken));
+      left = bytes;
+      leads = subst (λ t. Leads spot t bytes (spot.read ∷ []) next bytes) (sym is.none)
+          (subst (λ st. Leads (record { number = spot.number; stage = st; read = spot.read }) [] bytes (spot.read ∷ []) next bytes) (sym is.body)
+          (name_leads spot.number spot.read bytes is.header unbroken));
       stands = c.in_ok-grow.ensures.at (rows ++ spot.read ∷ []) next [] named some refl;
     }
 
 pub returns-clause-goes : goal.returns-clause-goes
 returns-clause-goes c = λ rows spot front at unbroken.
-    let piece = c.args.piece.now in
-    let some : 0 < length piece = grind (arith, nat_tests) in
+    let bytes = c.args.bytes.now in
+    let some : 0 < length bytes = grind (arith, nat_tests) in
     let settled = c.begins_name.ensures.none rows spot front at c.if-begins_name.false in
     record {
       more = [];
       next = spot;
-      left = front ++ piece;
-      leads = open_leads spot front piece unbroken;
-      stands = subst (λ t. At t spot (front ++ piece) c.grow-2.new.self) (sym (append-nil rows)) (c.in_ok-grow-2.ensures.at rows spot front at some settled);
+      left = front ++ bytes;
+      leads = open_leads spot front bytes unbroken;
+      stands = subst (λ t. At t spot (front ++ bytes) c.grow-2.new.self) (sym (append-nil rows)) (c.in_ok-grow-2.ensures.at rows spot front at some settled);
     }
 
-pub returns-then-piece-eq0-clause-bytes : goal.returns-then-piece-eq0-clause-bytes
-returns-then-piece-eq0-clause-bytes c = grind (arith, common_steps)
+pub returns-then-bytes-eq0-clause-bytes : goal.returns-then-bytes-eq0-clause-bytes
+returns-then-bytes-eq0-clause-bytes c = grind (arith, common_steps)
 
-pub returns-then-piece-eq0-clause-ends : goal.returns-then-piece-eq0-clause-ends
-returns-then-piece-eq0-clause-ends c = grind (arith, common_steps)
+pub returns-then-bytes-eq0-clause-ends : goal.returns-then-bytes-eq0-clause-ends
+returns-then-bytes-eq0-clause-ends c = grind (arith, common_steps)
 
 pub returns-in_err-name-clause-bytes : goal.returns-in_err-name-clause-bytes
 returns-in_err-name-clause-bytes c = grind (arith, common_steps)

@@ -9,12 +9,12 @@ pub returns-clause-at : goal.returns-clause-at
 returns-clause-at c = λ rows spot front at some settled.
     let released = c.in_ok-release.ensures.keeps rows spot front at in
     let added = c.in_ok-add.ensures.keeps rows spot front released in
-    let content : front ++ c.cut_return-held.result.0.now ≡ strip_last 13 (front ++ c.args.piece.now) = ap
-    (λ t. front ++ t) c.cut_return-held.ensures.content ∙ sym (strip_more front c.args.piece.now some) in
+    let content : front ++ c.cut_return-held.result.0.now ≡ strip_last 13 (front ++ c.args.bytes.now) = ap
+    (λ t. front ++ t) c.cut_return-held.ensures.content ∙ sym (strip_more front c.args.bytes.now some) in
     let k = subst (λ t. Keeps rows spot t c.add.new.self) content added in
     record {
       keeps = record { stage = k.stage; number = k.number; bytes = k.bytes; ends = k.ends; start = k.start; many = k.many; first = k.first };
-      held = c.cut_return-held.ensures.held ∙ sym (ends_more front c.args.piece.now some);
+      held = c.cut_return-held.ensures.held ∙ sym (ends_more front c.args.bytes.now some);
       settled = settled;
     }
 

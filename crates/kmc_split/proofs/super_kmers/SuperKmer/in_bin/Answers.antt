@@ -2,12 +2,12 @@ use Rattle.std.proofs.Common.{◌≡◌, ℕ, ◌%◌, ◌↔◌, IsTrue, List, 
 use Rattle.std.specs.List.{All}
 use Rattle.kmc_base.specs.Words.{windows}
 use Rattle.kmc_split.specs.Signature.{signature_of}
-use Rattle.kmc_split.specs.SuperKmer.{piece_words}
+use Rattle.kmc_split.specs.SuperKmer.{super_kmer_words}
 use Rattle.kmc_split.proofs.super_kmers.SuperKmer.in_bin.Goals as goal
 
 pub returns : goal.returns
 returns c =
-    let same : windows c.self.inside.k c.deref.result.now ≡ piece_words c.args.self.now = ap (windows c.self.inside.k) c.deref.ensures.value
-    ∙ ap piece_words c.self.view_is in
+    let same : windows c.self.inside.k c.deref.result.now ≡ super_kmer_words c.args.self.now = ap (windows c.self.inside.k) c.deref.ensures.value
+    ∙ ap super_kmer_words c.self.view_is in
     subst (λ (ws : List (List ℕ)). IsTrue c.words_in_bin.result ↔ All
     (λ (w : List ℕ). signature_of c.args.m w % c.args.n ≡ c.args.bin) ws) same c.words_in_bin.ensures

@@ -1,4 +1,4 @@
--- A refusal that is passed on.
+-- A refusal that is passed on has what the first one had.
 use Rattle.std.proofs.Common.{◌≡◌, sym, subst}
 use Rattle.std.specs.Prelude.{Result, Ok, Err, IfErr, IsErrAnd}
 

@@ -1,9 +1,0 @@
--- The super-k-mer of a run.
-use Rattle.std.specs.Prelude.{ℕ, List}
-use Rattle.kmc_split.specs.declared.runs.Run.{Run}
-use Rattle.kmc_split.specs.Cut.{run_codes}
-use Rattle.kmc_split.specs.SuperKmer.{Piece}
-
--- the super-k-mer of a run
-abbrev pub piece : ℕ → List ℕ → Run → Piece
-piece k codes r = record { k = k; codes = run_codes k codes r }
