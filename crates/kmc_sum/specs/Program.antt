@@ -2,9 +2,12 @@
 use Rattle.std.specs.Prelude.{◌≡◌, ℕ, List, length, Option}
 use Rattle.kmc_settings.specs.Words.{Word}
 use Rattle.kmc_count.specs.declared.limits.Limits.{Limits}
+use Rattle.kmc_device.specs.Device.{Watched}
+use Rattle.kmc_sum.specs.Answer.{IsCause}
 use Rattle.kmc_sum.specs.Request.{IsRequest}
 use Rattle.kmc_sum.specs.State.{IsBegun, IsSumWritten}
 use Rattle.kmc_sum.specs.Numbers.{most_sources}
+use Rattle.kmc_sum.specs.declared.error.SumError.{SumError}
 
 -- the words ask for the sum of files within limits, and as many readers gave bytes
 pub record AreRead (words : List Word) : Type 0 where
@@ -21,8 +24,13 @@ pub record IsAnswered (words : List Word) (old new : Option (List ℕ)) : Type 0
   pub lines : ℕ
   pub written : IsSumWritten read.limits read.starts read.nows lines old new
 
--- a front of the dump of the sum of what the readers gave first for the words was written
-pub record IsGivenUp (words : List Word) (old new : Option (List ℕ)) : Type 0 where
+-- the merge for the words was given up for a cause, by the readers' numbers of failures before and after, and a front of the
+-- dump of the sum of what they gave first was written
+pub record IsGivenUp {W : Type 0} (words : List Word) (contents : W → Option (List ℕ)) (writer written : Watched W) : Type 0 where
   pub read : AreRead words
+  pub olds : List ℕ
+  pub news : List ℕ
+  pub error : SumError
+  pub cause : IsCause read.starts read.nows olds news writer.failures written.failures error
   pub k : ℕ
-  pub begun : IsBegun k read.limits read.starts read.nows old new
+  pub begun : IsBegun k read.limits read.starts read.nows (contents writer.inner) (contents written.inner)

@@ -2,6 +2,7 @@
 ghost use Rattle.std.specs.Prelude.{◌≡◌, ℕ, ◌-◌, ◌^◌, ◌<◌, ◌≤◌, ◌⊎◌, List, length, map, MatchResult, string_bytes};
 ghost use Rattle.std.specs.Process.{exit_status};
 ghost use Rattle.kmc_settings.specs.Words.{Word};
+ghost use Rattle.kmc_sum.specs.Answer.{IsCause};
 ghost use Rattle.kmc_sum.specs.Request.{Explains};
 ghost use Rattle.kmc_sum.specs.Numbers.{most_sources};
 ghost use Rattle.kmc_sum.specs.Program.{IsAnswered, IsGivenUp};
@@ -84,7 +85,10 @@ pub fn sum_readers<T: Eprint + Alloc<A = Global>, R: Read, W: Write>(
         × (failures_of readers.new ≡ failures_of readers.old)
         × (writer.new.failures ≡ writer.old.failures) }
     ensures failed { exit_status result ≡ 1
-        → (k : ℕ) × IsBegun k limits.now (lefts_of R.remaining readers.old)
+        → (error : SumError) × IsCause (lefts_of R.remaining readers.old)
+        (lefts_of R.remaining readers.new) (failures_of readers.old) (failures_of readers.new)
+        writer.old.failures writer.new.failures error
+        × (k : ℕ) × IsBegun k limits.now (lefts_of R.remaining readers.old)
         (lefts_of R.remaining readers.new)
         (W.contents writer.old.inner) (W.contents writer.new.inner) }
     ensures statuses { exit_status result ≤ 1 }
@@ -112,8 +116,7 @@ pub fn sum_files<T: Files + Eprint + Alloc<A = Global>, W: Write>(
         → ((e : RequestError) × Explains most_sources (map string_bytes words.items) e)
         × (writer.new ≡ writer.old) }
     ensures failed { exit_status result ≡ 1 → (writer.new ≡ writer.old)
-        ⊎ IsGivenUp (map string_bytes words.items) (W.contents writer.old.inner)
-        (W.contents writer.new.inner) }
+        ⊎ IsGivenUp (map string_bytes words.items) W.contents writer.old writer.new }
     ensures statuses { exit_status result ≤ 2 }
 {
     let asked = match asked_for(words, MOST_SOURCES) {
@@ -145,7 +148,7 @@ pub fn program<T: Files + Env + Eprint + Alloc<A = Global>, W: Write>(
     ensures misused { exit_status result ≡ 2 → writer.new ≡ writer.old }
     ensures failed { exit_status result ≡ 1 → (writer.new ≡ writer.old)
         ⊎ ((words : List Word)
-        × IsGivenUp words (W.contents writer.old.inner) (W.contents writer.new.inner)) }
+        × IsGivenUp words W.contents writer.old writer.new) }
     ensures statuses { exit_status result ≤ 2 }
 {
     match arguments(rt) {

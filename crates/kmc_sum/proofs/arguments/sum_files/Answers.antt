@@ -20,8 +20,12 @@ pub returns-clause-failed : goal.returns-clause-failed
 returns-clause-failed g c = λ is. let begun = c.sum_readers.ensures.failed is in inr (record {
   read = are_read _ _ string_bytes c.in-Ok.asked.files.items c.in-Ok.ensures _ _
       (length-map c.as_mut_slice.result.now _ ∙ ap length c.as_mut_slice.ensures.value ∙ c.in-Ok-opened.ensures ∙ ap length c.deref.ensures.value);
-  k = begun.0;
-  begun = begun.1;
+  olds = _;
+  news = _;
+  error = begun.0;
+  cause = begun.1;
+  k = begun.2;
+  begun = begun.3;
 })
 
 pub sum_readers-requires-clause-some : goal.sum_readers-requires-clause-some
