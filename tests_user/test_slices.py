@@ -90,6 +90,17 @@ def test_100000_names_are_one_command_line(room):
         assert (done.returncode, done.stdout) == (status, b"") and done.stderr.startswith(told), done
 
 
+def test_a_list_tells_a_full_device_and_no_closed_pipe(room):
+    need_programs()
+    ran(room, "kmc_cut", "-slices2", "a", text=content(READS))
+    reader, writer = os.pipe()
+    os.close(reader)
+    for out, told in ((open("/dev/full", "wb"), b"kmc_list: cannot write\n"), (os.fdopen(writer, "wb"), b"")):
+        with out:
+            done = subprocess.run([program("kmc_list"), "a.0"], cwd=room.folder, stdin=subprocess.DEVNULL, stdout=out, stderr=subprocess.PIPE, check=False)
+        assert (done.returncode, done.stderr) == (1, told), done
+
+
 def test_files_that_exist_are_not_written_over(room):
     need_programs()
     room.write("a.0", "mine")
