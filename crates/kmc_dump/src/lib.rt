@@ -8,6 +8,7 @@ mod bin;
 mod bins;
 mod buffers;
 mod counts;
+mod group;
 mod keys;
 pub mod laws;
 mod lists;

@@ -1,9 +1,9 @@
 use Rattle.std.proofs.Common.{◌+◌, ◌*◌}
-use Rattle.kmc_dump.proofs.bins.+rows.Given as goal
+use Rattle.kmc_dump.proofs.group.+takers.Given as goal
 
 -- each side has fewer threads
-abbrev pub decreases-list_bodies : goal.decreases-list_bodies
-decreases-list_bodies g l = 2 * l.threads
+abbrev pub decreases-take_by_threads : goal.decreases-take_by_threads
+decreases-take_by_threads g l = 2 * l.threads
 
 abbrev pub decreases-front : goal.decreases-front
 decreases-front g l = 2 * l.few + 1

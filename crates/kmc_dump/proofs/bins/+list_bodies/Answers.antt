@@ -4,9 +4,9 @@ use Rattle.kmc_count.specs.Lemmas.PassedOn.{passed_on}
 use Rattle.kmc_count.specs.Bodies.{IsFirstDamaged}
 use Rattle.kmc_dump.proofs.ManyBodies.{texts, first_damaged, second_damaged}
 use Rattle.kmc_dump.specs.Listed.{pairs_of}
-use Rattle.kmc_dump.specs.Bodies.{AreListsOfBodies, IsListingOfBodies}
+use Rattle.kmc_dump.specs.Bodies.{AreListsOfBodies}
 use Rattle.kmc_dump.proofs.ListedBodies.{both_listed}
-use Rattle.kmc_dump.proofs.bins.+rows.Goals as goal
+use Rattle.kmc_dump.proofs.bins.+list_bodies.Goals as goal
 
 -- the bodies of both sides are all bodies
 both : (bodies low high : List (Vec ℕ Global)) (at : ℕ) → low ≡ take at bodies → high ≡ drop at bodies → texts low ++ texts high ≡ texts bodies
@@ -16,27 +16,25 @@ both bodies low high at front back =
 pub returns-in_err-lists-clause-damaged : goal.returns-in_err-lists-clause-damaged
 returns-in_err-lists-clause-damaged g t c = λ fault offset h.
     let a = c.args in let low = c.split_off.new.self.items in let high = c.in_ok-high.high.items in
-    subst (IsFirstDamaged a.rule.k fault offset) (both a.bodies.items low high c.share-at.result c.in_ok-high.ensures.items c.in_ok-high.ensures.tail)
+    subst (IsFirstDamaged a.rule.k fault offset) (both a.bodies.items low high _ c.in_ok-high.ensures.items c.in_ok-high.ensures.tail)
     (first_damaged a.rule.strands a.rule.k a.limits (texts low) (texts high) fault offset
-    (c.join-first.ensures.first.damaged fault offset
-    (passed_on c.join-first.result.0 c.from_residual-in_err-lists.result _ _ c.in_err-lists.was c.from_residual-in_err-lists.ensures.1 h)))
+    (c.list_bodies.ensures.damaged fault offset
+    (passed_on c.list_bodies.result c.from_residual-in_err-lists.result _ _ c.in_err-lists.was c.from_residual-in_err-lists.ensures.1 h)))
 
 pub returns-in_err-more-clause-damaged : goal.returns-in_err-more-clause-damaged
 returns-in_err-more-clause-damaged g t c = λ fault offset h.
     let a = c.args in let low = c.split_off.new.self.items in let high = c.in_ok-high.high.items in
-    let first = subst (IsListingOfBodies a.rule.strands a.rule.k a.limits low) c.in_ok-lists.was c.join-first.ensures.first in
-    subst (IsFirstDamaged a.rule.k fault offset) (both a.bodies.items low high c.share-at.result c.in_ok-high.ensures.items c.in_ok-high.ensures.tail)
-    (second_damaged a.rule.strands a.rule.k a.limits (texts low) (texts high) (map pairs_of c.in_ok-lists.lists.items) fault offset first.ok.dumps
-    (c.join-first.ensures.second.damaged fault offset
-    (passed_on c.join-first.result.1 c.from_residual-in_err-more.result _ _ c.in_err-more.was c.from_residual-in_err-more.ensures.1 h)))
+    subst (IsFirstDamaged a.rule.k fault offset) (both a.bodies.items low high _ c.in_ok-high.ensures.items c.in_ok-high.ensures.tail)
+    (second_damaged a.rule.strands a.rule.k a.limits (texts low) (texts high) (map pairs_of c.in_ok-lists.lists.items) fault offset
+    c.in_ok-lists.ensures.ok.dumps
+    (c.list_bodies-2.ensures.damaged fault offset
+    (passed_on c.list_bodies-2.result c.from_residual-in_err-more.result _ _ c.in_err-more.was c.from_residual-in_err-more.ensures.1 h)))
 
 pub returns-clause-ok : goal.returns-clause-ok
 returns-clause-ok g t c =
     let a = c.args in let low = c.split_off.new.self.items in let high = c.in_ok-high.high.items in
-    let first = subst (IsListingOfBodies a.rule.strands a.rule.k a.limits low) c.in_ok-lists.was c.join-first.ensures.first in
-    let second = subst (IsListingOfBodies a.rule.strands a.rule.k a.limits high) c.in_ok-more.was c.join-first.ensures.second in
     let front = c.in_ok-lists.lists.items in let back = c.in_ok-more.more.items in
     subst (AreListsOfBodies a.rule.strands a.rule.k a.limits (texts a.bodies.items)) (sym c.in_ok-append.ensures.items)
     (subst (λ (t : List (List ℕ)). AreListsOfBodies a.rule.strands a.rule.k a.limits t (front ++ back))
-    (both a.bodies.items low high c.share-at.result c.in_ok-high.ensures.items c.in_ok-high.ensures.tail)
-    (both_listed a.rule.strands a.rule.k a.limits (texts low) (texts high) front back first.ok second.ok))
+    (both a.bodies.items low high _ c.in_ok-high.ensures.items c.in_ok-high.ensures.tail)
+    (both_listed a.rule.strands a.rule.k a.limits (texts low) (texts high) front back c.in_ok-lists.ensures.ok c.in_ok-more.ensures.ok))
