@@ -1,7 +1,7 @@
 -- What the program that lists a slice does.
 use Rattle.std.specs.Prelude.{◌≡◌, ◌⊎◌, ◌<◌, ℕ, List, Option, Result, Ok, Err, length}
 use Rattle.std.specs.Io.KnownBytes.{Appends}
-use Rattle.kmc_device.specs.Device.{AppendsFront, RisesByOne, Watched}
+use Rattle.kmc_device.specs.Device.{AppendsFront}
 use Rattle.kmc_device.specs.Line.{text_of}
 use Rattle.kmc_settings.specs.declared.params.Params.{Params}
 use Rattle.kmc_settings.specs.declared.setting.Setting.{Setting}
@@ -33,12 +33,11 @@ pub record IsListed (files : ℕ) (params : Params) (old new : Option (List ℕ)
   pub are : AreListed files params pairs
   pub out : Appends old new (text_of pairs)
 
--- a write failed once, and a front of the dump of so many files of one slice is out
-pub record LeavesFront {W : Type 0} (files : ℕ) (params : Params) (contents : W → Option (List ℕ)) (writer written : Watched W) : Type 0 where
+-- a front of the dump of so many files of one slice was written
+pub record LeavesFront (files : ℕ) (params : Params) (old new : Option (List ℕ)) : Type 0 where
   pub pairs : List (List ℕ × ℕ)
   pub are : AreListed files params pairs
-  pub out : AppendsFront (contents writer.inner) (contents written.inner) (text_of pairs)
-  pub failed : RisesByOne writer.failures written.failures
+  pub out : AppendsFront old new (text_of pairs)
 
 -- a fault of the first file, or of memory for the records
 abbrev pub IsOfFirst : ListFault → Type 0

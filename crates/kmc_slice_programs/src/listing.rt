@@ -39,7 +39,8 @@ fn listed<T: Threads + Sync + Files + Alloc<A = Global>, W: Write>(
         × (writer.new.failures ≡ writer.old.failures)) }
     ensures silent { IfErr result (λ e. e ≢ ListFault.Dump ListError.Write → writer.new ≡ writer.old) }
     ensures front { IsErrOf result (ListFault.Dump ListError.Write)
-        → LeavesFront (length files.now) params.now W.contents writer.old writer.new }
+        → LeavesFront (length files.now) params.now
+        (W.contents writer.old.inner) (W.contents writer.new.inner) }
     ensures sound { IfErr result (λ e. (r : ListRequestError) → e ≢ ListFault.Request r) }
     ensures fault { IfErr result (IsListFault (length files.now)) }
 {
@@ -86,7 +87,8 @@ pub fn list_files<T: Threads + Sync + Files + Eprint + Alloc<A = Global>, W: Wri
         (W.contents writer.old.inner) (W.contents writer.new.inner)
         × (writer.new.failures ≡ writer.old.failures) }
     ensures failed { exit_status result ≡ 1 → (writer.new ≡ writer.old)
-        ⊎ LeavesFront (length request.now.files.items) request.now.params W.contents writer.old writer.new }
+        ⊎ LeavesFront (length request.now.files.items) request.now.params
+        (W.contents writer.old.inner) (W.contents writer.new.inner) }
     ensures statuses { exit_status result ≤ 1 }
 {
     let answer = listed(rt, &request.files, &request.params, writer);
@@ -112,7 +114,7 @@ pub fn list_words<T: Threads + Sync + Files + Eprint + Alloc<A = Global>, W: Wri
         → ShowsFront W.contents (text_asked HELP.now (map string_bytes words.items)) writer.old writer.new }
     ensures failed { exit_status result ≡ 1 → is_asked (map string_bytes words.items) ≡ false
         → (writer.new ≡ writer.old) ⊎ ((r : ListRequest) × IsListRequest (map string_bytes words.items) r
-        × LeavesFront (length r.files.items) r.params W.contents writer.old writer.new) }
+        × LeavesFront (length r.files.items) r.params (W.contents writer.old.inner) (W.contents writer.new.inner)) }
     ensures statuses { exit_status result ≤ 2 }
 {
     if let Some(text) = asked_text(&words, HELP) {
@@ -137,7 +139,7 @@ pub fn list_program<T: Threads + Sync + Files + Env + Eprint + Alloc<A = Global>
         × (is_asked words ≡ true → Shows W.contents (text_asked HELP.now words) writer.old writer.new) }
     ensures failed { exit_status result ≡ 1 → (writer.new ≡ writer.old) ⊎ ((words : List Word)
         × (is_asked words ≡ false → (writer.new ≡ writer.old) ⊎ ((r : ListRequest) × IsListRequest words r
-        × LeavesFront (length r.files.items) r.params W.contents writer.old writer.new))
+        × LeavesFront (length r.files.items) r.params (W.contents writer.old.inner) (W.contents writer.new.inner)))
         × (is_asked words ≡ true → ShowsFront W.contents (text_asked HELP.now words) writer.old writer.new)) }
     ensures misused { exit_status result ≡ 2 → writer.new ≡ writer.old }
     ensures statuses { exit_status result ≤ 2 }
