@@ -36,8 +36,10 @@ module _ (shape : Sizes) (batch : ℕ) (reads : List (List ℕ)) (sp w : ℕ) wh
   with_own c before own parts same is few most = go where
     place : c / sp * sp + w ≡ c
     place = subst (λ r. c / sp * sp + r ≡ c) same (div-add-mod' c sp)
+
     long : length parts ≡ length before + length own
     long = ap length is ∙ length-append before own
+
     go : (m : ℕ) → suc c ≤ w + m * sp → length parts ≤ m * shape.n
     go zero le = absurd (omega (arith, place, le))
     go (suc m) le =
