@@ -10,7 +10,7 @@ use kmc_partcore::{MAX_PER_WRITER, MAX_READERS, QueueShape};
 use kmc_reads::Format;
 use kmc_record::Shape;
 
-/// Most reads in a chunk.
+/// Most reads of a round for each splitter.
 pub const MAX_BATCH: usize = 65536;
 
 /// The symbols of a signature of words of at most `SHORT_WORD` symbols.
@@ -53,7 +53,7 @@ pub struct Params {
     pub readers: usize,
     /// The parts that one writer may have in the queue, 1 to 64.
     pub per_writer: usize,
-    /// The reads of a chunk, 1 to 65536.
+    /// The reads of a round for each splitter, 1 to 65536.
     pub batch: usize,
     pub ghost in_range: { AreSettings k p n sp sr × AreQueueSettings readers per_writer batch },
 }
