@@ -36,7 +36,7 @@ def worked_file():
 
 def test_the_worked_file_is_cut(room):
     wanted = worked_file()
-    assert len(wanted) == 82
+    assert len(wanted) == 84
     assert cut(room, "a", read_of(b"ACGTACGT"), "-k4", "-n7", "-slices2")[0] == wanted
 
 

@@ -15,7 +15,7 @@ use Rattle.kmc_record.specs.Lemmas.Taken.{moved_keys}
 use Rattle.kmc_count.specs.declared.limits.Limits.{Limits}
 use Rattle.kmc_count.specs.Occurrences.{same_word, occurrences, weight_of}
 use Rattle.kmc_count.specs.Dump.{IsDump}
-use Rattle.kmc_count.specs.Bodies.{AreSortedItems, IsDumpOfBody}
+use Rattle.kmc_count.specs.Bodies.{AreItemsOfBody, AreSortedItems, IsDumpOfBody}
 use Rattle.kmc_count.specs.Tables.{ComeToAsMuch}
 use Rattle.kmc_count.specs.Lemmas.Runs.{weight_of_cons}
 
@@ -42,27 +42,39 @@ weight_is x (p ∷ ps) =
 pub sorted_long : (k : ℕ) (ks sorted : List ℕ) → IsPermutation ks sorted → All (IsRecordKey k) ks → All (IsRecordKey k) sorted
 sorted_long k ks sorted moved h = All-permutation (IsRecordKey k) ks sorted moved h
 
-pub as_much_themselves : (k f : ℕ) (ns : List ℕ) → ComeToAsMuch k f ns ns
-as_much_themselves k f ns = record {
-  each = λ g. refl;
-  fit = λ are. are;
-}
-
 -- ---- all of it
 
 module _ (strands : Strands) (k f : ℕ) where
-  -- records were taken in, their numbers moved and unpacked, and the items moved
-  pub items_sorted : (body ks sorted now all summed rising : List ℕ) (ss : List (List ℕ)) → IsBodyOf k ss body → IsTaken strands k f ks now ss
-      → IsPermutation ks sorted → Gains k f now all (key_words strands k sorted) 1 → ComeToAsMuch k f all summed
-      → IsPermutation summed rising → IsSorted nat_cmp rising → AreSortedItems strands k f body rising
-  items_sorted body ks sorted now all summed rising ss records taken keys_moved gains much moved up = record {
+  -- records were taken in, their numbers moved and unpacked
+  pub items_unpacked : (body ks sorted now all : List ℕ) (ss : List (List ℕ)) → IsBodyOf k ss body → IsTaken strands k f ks now ss
+      → IsPermutation ks sorted → Gains k f now all (key_words strands k sorted) 1 → AreItemsOfBody strands k f body all
+  items_unpacked body ks sorted now all ss records taken keys_moved gains = record {
     super_kmers = ss;
     records = records;
+    each = λ g. omega (arith, gains.each g, moved_keys strands k g ks sorted keys_moved, taken.each g);
+    fit = gains.fit taken.fit;
+  }
+
+  -- all records were taken in as items
+  pub items_of_all : (body now : List ℕ) (ss : List (List ℕ)) → IsBodyOf k ss body → IsTaken strands k f [] now ss → AreItemsOfBody strands k f body now
+  items_of_all body now ss records taken = record {
+    super_kmers = ss;
+    records = records;
+    each = λ g. omega (arith, taken.each g);
+    fit = taken.fit;
+  }
+
+  -- items that are moved
+  pub items_sorted : (body all rising : List ℕ) → AreItemsOfBody strands k f body all → IsPermutation all rising → IsSorted nat_cmp rising
+      → AreSortedItems strands k f body rising
+  items_sorted body all rising are moved up = record {
+    super_kmers = are.super_kmers;
+    records = are.records;
     each = λ g.
-        let same : worth g (items k f rising) ≡ worth g (items k f summed) =
-        worth_is k f g rising ∙ sum_by-IsPermutation (λ n. item_weight f n * g (unpack k (n / 2 ^ f))) summed rising moved ∙ sym (worth_is k f g summed) in
-        omega (arith, same, much.each g, gains.each g, moved_keys strands k g ks sorted keys_moved, taken.each g);
-    fit = All-permutation (λ n. n / 2 ^ f < 4 ^ k) summed rising moved (much.fit (gains.fit taken.fit));
+        let same : worth g (items k f rising) ≡ worth g (items k f all) =
+        worth_is k f g rising ∙ sum_by-IsPermutation (λ n. item_weight f n * g (unpack k (n / 2 ^ f))) all rising moved ∙ sym (worth_is k f g all) in
+        omega (arith, same, are.each g);
+    fit = All-permutation (λ n. n / 2 ^ f < 4 ^ k) all rising moved are.fit;
     sorted = up;
   }
 
@@ -76,3 +88,12 @@ module _ (strands : Strands) (k f : ℕ) where
     where
       counts : (x : List ℕ) → weight_of (items k f ns) x ≡ occurrences (record_keys strands k are.super_kmers) x
       counts x = weight_is x (items k f ns) ∙ are.each (λ w. cond (same_word w x) 1 0)
+
+-- items that come to as much as those taken in
+pub much_taken : (strands : Strands) (k f : ℕ) (now new : List ℕ) (ss : List (List ℕ)) → IsTaken strands k f [] now ss → ComeToAsMuch k f now new
+    → IsTaken strands k f [] new ss
+much_taken strands k f now new ss taken much = record {
+  each = λ g. omega (arith, much.each g, taken.each g);
+  fit = much.fit taken.fit;
+  long = taken.long;
+}

@@ -14,6 +14,13 @@ use Rattle.kmc_count.specs.declared.limits.Limits.{Limits}
 use Rattle.kmc_count.specs.Occurrences.{occurrences}
 use Rattle.kmc_count.specs.Dump.{IsDump}
 
+-- the body is whole records, and the items come to the keys of all their words
+pub record AreItemsOfBody (strands : Strands) (k f : ℕ) (body numbers : List ℕ) : Type 0 where
+  pub super_kmers : List (List ℕ)
+  pub records : IsBodyOf k super_kmers body
+  pub each : (g : List ℕ → ℕ) → worth g (items k f numbers) ≡ sum_by g (record_keys strands k super_kmers)
+  pub fit : AreItems k f numbers
+
 -- the body is whole records, and the items, rising, come to the keys of all their words
 pub record AreSortedItems (strands : Strands) (k f : ℕ) (body numbers : List ℕ) : Type 0 where
   pub super_kmers : List (List ℕ)

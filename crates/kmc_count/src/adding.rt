@@ -1,9 +1,14 @@
 //! Items of short words, those of equal words added up: a counter for each word takes the place of a sort.
-ghost use Rattle.std.specs.Prelude.{◌≡◌, ℕ, ◌+◌, ◌*◌, ◌/◌, ◌^◌, ◌<◌, ◌≤◌, ◌++◌, ◌∷◌, [], List, map, drop, length, replicate, true, OnOk};
+ghost use Rattle.std.specs.Prelude.{◌≡◌, ℕ, ◌+◌, ◌*◌, ◌/◌, ◌^◌, ◌<◌, ◌≤◌, ◌++◌, ◌∷◌, [], List, map, drop, length, replicate, true, OnOk, IsErrOf};
 ghost use Rattle.kmc_base.specs.Weights.{items, worth, AreItems};
+ghost use Rattle.kmc_record.specs.Faults.{IsFirstFault};
+ghost use Rattle.kmc_record.specs.declared.fault.RecordFault.{RecordFault};
+ghost use Rattle.kmc_count.specs.Bodies.{AreItemsOfBody, WantsMemory};
 ghost use Rattle.kmc_count.specs.Tables.{table_worth, ComeToAsMuch, IsTable, TakesIn};
 
-use kmc_base::{MOST_WEIGHT_BITS, Weight, Word};
+use crate::room::CountingRoom;
+use kmc_base::{KeyRule, MOST_WEIGHT_BITS, Weight, Word};
+use kmc_record::{BodyError, take_words};
 use std::alloc::AllocError;
 
 /// The most symbols of a word that has a counter: the counters of all words of 12 symbols take 64 MiB.
@@ -140,5 +145,56 @@ pub(crate) fn add_up<W: Word + Drop>(
     items.clear();
     items.append(over)?;
     push_counters(items, table, k, bits)?;
+    Ok(())
+}
+
+/// So many items at least wait before they are added up.
+const FEWEST_ITEMS: usize = 1 << 14;
+
+/// So many items for each counter wait before they are added up.
+const ITEMS_OF_A_COUNTER: usize = 2;
+
+/// How many items of short words may wait before they are added up.
+fn most_items(k: usize) -> usize
+    requires { k ≤ MOST_SYMBOLS }
+{
+    FEWEST_ITEMS.max(ITEMS_OF_A_COUNTER << (2 * k))
+}
+
+/// Takes in the words of a body as items, and adds up those of equal words each time that there are many, so that items do not
+/// grow with the body.
+pub(crate) fn take_and_add<W: Word + Drop>(
+    room: &mut CountingRoom<W>,
+    body: &[u8],
+    rule: KeyRule,
+    bits: u32,
+) -> Result<(), BodyError>
+    requires most { rule.k ≤ MOST_SYMBOLS }
+    requires beside { 2 * rule.k + bits ≤ 2 * W.most }
+    requires bits { bits ≤ MOST_WEIGHT_BITS }
+    ensures ok { OnOk result (AreItemsOfBody rule.strands rule.k bits body.now
+        (map W.number room.new.items.items)) }
+    ensures damaged { (fault : RecordFault) (offset : ℕ)
+        → IsErrOf result (BodyError.Damaged fault offset)
+        → IsFirstFault rule.k fault offset body.now }
+    ensures memory { IsErrOf result BodyError.Memory → WantsMemory rule.k body.now }
+{
+    let CountingRoom {
+        items,
+        table,
+        over,
+        ..
+    } = room;
+    let k = rule.k;
+    let most = most_items(k);
+    items.clear();
+    let mut offset = 0;
+    while offset < body.len() {
+        offset = take_words(items, body, offset, rule, bits)?;
+        if items.len() >= most {
+            add_up(items, table, over, k, bits)?;
+        }
+    }
+    add_up(items, table, over, k, bits)?;
     Ok(())
 }

@@ -3,9 +3,9 @@ ghost use Rattle.std.specs.Prelude.{◌≡◌, ℕ, ◌+◌, ◌*◌, ◌≤◌,
 ghost use Rattle.std.specs.List.Sorted.{IsPermutation};
 ghost use Rattle.kmc_record.specs.Faults.{IsFirstFault};
 ghost use Rattle.kmc_record.specs.declared.fault.RecordFault.{RecordFault};
-ghost use Rattle.kmc_count.specs.Bodies.{AreSortedItems, IsDumpOfBody, WantsMemory};
+ghost use Rattle.kmc_count.specs.Bodies.{AreItemsOfBody, AreSortedItems, IsDumpOfBody, WantsMemory};
 
-use crate::adding::{add_up, takes_table};
+use crate::adding::{take_and_add, takes_table};
 use crate::limits::Limits;
 use crate::pair_list::PairList;
 use crate::room::CountingRoom;
@@ -22,9 +22,35 @@ fn sort_numbers(numbers: &mut Vec<u128>)
     }
 }
 
-/// The words of a body as sorted items. Where equal records are looked for, they are sorted first, each as the lesser of it and its
-/// reverse complement, so that those that are equal stand side by side and their words are unpacked once. Many short words are added
-/// up in a table.
+/// The words of a body as items. Where equal records are looked for, they are sorted first, each as the lesser of it and its
+/// reverse complement, so that those that are equal stand side by side and their words are unpacked once.
+fn take_and_sort<W: Word + Drop>(
+    room: &mut CountingRoom<W>,
+    body: &[u8],
+    rule: KeyRule,
+    bits: u32,
+) -> Result<(), BodyError>
+    requires most { rule.k ≤ W.most }
+    requires beside { 2 * rule.k + bits ≤ 2 * W.most }
+    requires bits { bits ≤ MOST_WEIGHT_BITS }
+    ensures ok { OnOk result (AreItemsOfBody rule.strands rule.k bits body.now
+        (map W.number room.new.items.items)) }
+    ensures damaged { (fault : RecordFault) (offset : ℕ)
+        → IsErrOf result (BodyError.Damaged fault offset)
+        → IsFirstFault rule.k fault offset body.now }
+    ensures memory { IsErrOf result BodyError.Memory → WantsMemory rule.k body.now }
+{
+    let short = room.repeats.short_records();
+    room.numbers.clear();
+    room.items.clear();
+    take_body(&mut room.numbers, &mut room.items, body, rule, bits, short)?;
+    sort_numbers(&mut room.numbers);
+    room.repeats.learn(&room.numbers);
+    push_rows(&mut room.items, &room.numbers, rule, bits)?;
+    Ok(())
+}
+
+/// The words of a body as sorted items. Many short words are added up in a table.
 fn sorted_items<W: Word + Drop>(
     room: &mut CountingRoom<W>,
     body: &[u8],
@@ -41,26 +67,10 @@ fn sorted_items<W: Word + Drop>(
         → IsFirstFault rule.k fault offset body.now }
     ensures memory { IsErrOf result BodyError.Memory → WantsMemory rule.k body.now }
 {
-    let in_table = takes_table(rule.k, body.len());
-    let short = if in_table {
-        0
+    if takes_table(rule.k, body.len()) {
+        take_and_add(room, body, rule, bits)?;
     } else {
-        room.repeats.short_records()
-    };
-    room.numbers.clear();
-    room.items.clear();
-    take_body(&mut room.numbers, &mut room.items, body, rule, bits, short)?;
-    sort_numbers(&mut room.numbers);
-    room.repeats.learn(&room.numbers);
-    push_rows(&mut room.items, &room.numbers, rule, bits)?;
-    if in_table {
-        add_up(
-            &mut room.items,
-            &mut room.table,
-            &mut room.over,
-            rule.k,
-            bits,
-        )?;
+        take_and_sort(room, body, rule, bits)?;
     }
     W::sort(&mut room.items);
     Ok(())

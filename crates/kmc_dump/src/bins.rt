@@ -15,7 +15,7 @@ use std::thread::Threads;
 
 /// The most bodies of a group: enough that threads which take one after the other end at about one time, and few enough that
 /// little memory waits to be freed.
-const GROUP: usize = 64;
+const GROUP: usize = 128;
 
 /// The list of each body, in the order of the bodies, by at most so many threads. The bodies are halved until a half is a group;
 /// the records of a group are freed once it is counted. Where a body is damaged, the fault is that of the first such body. Where no

@@ -1,5 +1,5 @@
-//! A group of bodies, counted by several threads side by side: each takes the next body that none has taken, so a thread that is
-//! slow, or has great bodies, takes fewer.
+//! A group of bodies, counted by several threads side by side: each takes the largest body that none has taken, so a thread that
+//! is slow, or has great bodies, takes fewer.
 ghost use Rattle.std.specs.Prelude.{◌≡◌, ◌≤◌, ℕ, List, length, map, IfOk, IfSome, IsErrOf};
 ghost use Rattle.std.specs.List.{All};
 ghost use Rattle.std.specs.Thread.{IsSync};
@@ -11,12 +11,12 @@ ghost use Rattle.kmc_dump.specs.Bodies.{AreListsOfBodies, IsListAt};
 
 use crate::bin::list_body;
 use crate::counts::Counts;
+use crate::largest_first::LargestFirst;
 use crate::shown::Shown;
 use kmc_base::{KeyRule, Word};
 use kmc_count::{CountingRoom, Limits};
 use kmc_record::BodyError;
 use std::alloc::Global;
-use std::sync::atomic::{AtomicUsize, Ordering};
 use std::thread;
 use std::thread::Threads;
 
@@ -30,7 +30,7 @@ pub(crate) struct Placed<W: Word, C: Shown> {
 /// The lists of the bodies that this thread takes, one after the other, in the same room.
 fn take_bodies<W: Word + Drop, C: Shown + Drop>(
     alloc: Global,
-    next: &AtomicUsize,
+    order: &LargestFirst,
     bodies: &[Vec<u8>],
     rule: KeyRule,
     limits: &Limits,
@@ -43,10 +43,9 @@ fn take_bodies<W: Word + Drop, C: Shown + Drop>(
     let mut room: CountingRoom<W> = CountingRoom::new(alloc);
     let mut lists = Vec::new(alloc);
     for _ in 0..bodies.len() {
-        let place = next.fetch_add(1, Ordering::SeqCst);
-        if place >= bodies.len() {
+        let Some(place) = order.take(bodies.len()) else {
             break;
-        }
+        };
         let list = list_body(&mut room, alloc, &bodies[place], rule, limits)?;
         match lists.push(Placed { place, list }) {
             Ok(()) => {}
@@ -61,7 +60,7 @@ fn take_bodies<W: Word + Drop, C: Shown + Drop>(
 fn take_by_threads<R: Threads + Sync, W: Word + Drop + Send, C: Shown + Drop + Send>(
     rt: &R,
     alloc: Global,
-    next: &AtomicUsize,
+    order: &LargestFirst,
     bodies: &[Vec<u8>],
     rule: KeyRule,
     limits: Limits,
@@ -74,7 +73,7 @@ fn take_by_threads<R: Threads + Sync, W: Word + Drop + Send, C: Shown + Drop + S
         (map (λ b. b.items) bodies.now) p.place p.list) lists.items) }
 {
     if threads == 1 {
-        return take_bodies(alloc, next, bodies, rule, &limits);
+        return take_bodies(alloc, order, bodies, rule, &limits);
     }
     let few = threads / 2;
     let others = threads - few;
@@ -82,17 +81,36 @@ fn take_by_threads<R: Threads + Sync, W: Word + Drop + Send, C: Shown + Drop + S
         requires { IsSync R.row × (rule.k ≤ W.most) × (limits.cs ≤ C.greatest) × (1 ≤ few) }
         ensures { IfOk result (λ lists. All (λ p. IsListAt rule.strands rule.k limits
             (map (λ b. b.items) bodies.entry.now) p.place p.list) lists.items) }
-    { take_by_threads(rt, alloc, next, bodies, rule, limits, few) };
+    { take_by_threads(rt, alloc, order, bodies, rule, limits, few) };
     let back = move || -> Result<Vec<Placed<W, C>>, BodyError>
         requires { IsSync R.row × (rule.k ≤ W.most) × (limits.cs ≤ C.greatest) × (1 ≤ others) }
         ensures { IfOk result (λ lists. All (λ p. IsListAt rule.strands rule.k limits
             (map (λ b. b.items) bodies.entry.now) p.place p.list) lists.items) }
-    { take_by_threads(rt, alloc, next, bodies, rule, limits, others) };
+    { take_by_threads(rt, alloc, order, bodies, rule, limits, others) };
     let (first, second) = thread::join(rt, front, back);
     let mut lists = first?;
     let mut more = second?;
     lists.append(&mut more)?;
     Ok(lists)
+}
+
+/// The lists of all bodies, which at most so many threads take, the largest first.
+fn take_all<R: Threads + Sync, W: Word + Drop + Send, C: Shown + Drop + Send>(
+    rt: &R,
+    alloc: Global,
+    bodies: &[Vec<u8>],
+    rule: KeyRule,
+    limits: Limits,
+    threads: usize,
+) -> Result<Vec<Placed<W, C>>, BodyError>
+    requires most { rule.k ≤ W.most }
+    requires wide { limits.cs ≤ C.greatest }
+    requires threads { 1 ≤ threads }
+    ensures { IfOk result (λ lists. All (λ p. IsListAt rule.strands rule.k limits
+        (map (λ b. b.items) bodies.now) p.place p.list) lists.items) }
+{
+    let order = LargestFirst::new(alloc, bodies)?;
+    take_by_threads(rt, alloc, &order, bodies, rule, limits, threads)
 }
 
 /// The lists in the order of their places, where there is one for each of so many places.
@@ -172,8 +190,7 @@ pub(crate) fn list_group<R: Threads + Sync, W: Word + Drop + Send, C: Shown + Dr
         → IsFirstDamaged rule.k fault offset (map (λ b. b.items) bodies.now) }
 {
     if threads > 1 {
-        let next = AtomicUsize::new(0);
-        if let Ok(placed) = take_by_threads(rt, alloc, &next, bodies, rule, limits, threads) {
+        if let Ok(placed) = take_all(rt, alloc, bodies, rule, limits, threads) {
             if let Some(lists) = in_order(alloc, placed, bodies.len()) {
                 return Ok(lists);
             }

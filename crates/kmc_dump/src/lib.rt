@@ -10,6 +10,7 @@ mod buffers;
 mod counts;
 mod group;
 mod keys;
+mod largest_first;
 pub mod laws;
 mod lists;
 mod parting;

@@ -69,8 +69,8 @@ fn list_sized<R: Threads + Sync, W: Word + Drop + Send>(
 }
 
 /// The list of each bin's records, in the order of the bins, by at most so many threads. A pair takes 9 bytes up to k = 32
-/// and 17 above where cs is below 256, 4 more bytes in place of 1 where it is below 2^32, and 8 else. Records are freed as
-/// they are counted. Where a bin is damaged, the fault is that of the first such bin.
+/// and 17 above where cs is below 256, 4 more bytes in place of 1 where it is below 2^32, and 8 else. The records of some
+/// neighbouring bins are freed once these are counted. Where a bin is damaged, the fault is that of the first such bin.
 pub fn list_bins<R: Threads + Sync>(
     rt: &R,
     alloc: Global,

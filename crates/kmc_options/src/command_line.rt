@@ -49,8 +49,8 @@ const STORERS: usize = 1;
 /// The parts that one splitter may have in the queue.
 const WAITING_PARTS: usize = 64;
 
-/// The reads of a chunk: fewer make many small parts. As many chunks as there are splitters make a round.
-const CHUNK_READS: usize = 32768;
+/// The reads of a round for each splitter: fewer make many small parts.
+const SPLITTER_READS: usize = 32768;
 
 /// The settings of a run that the words of a command line give, glued or in long form, with the program's own queue.
 pub fn settings(alloc: Global, argv: Vec<String>) -> Result<Params, ParamsError>
@@ -63,7 +63,7 @@ pub fn settings(alloc: Global, argv: Vec<String>) -> Result<Params, ParamsError>
 {
     let words = words(alloc, argv)?;
     let params = params(alloc, words)?;
-    match params.with_queue(STORERS, WAITING_PARTS, CHUNK_READS) {
+    match params.with_queue(STORERS, WAITING_PARTS, SPLITTER_READS) {
         Some(params) => Ok(params),
         None => unreachable!(),
     }

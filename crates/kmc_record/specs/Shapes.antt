@@ -2,7 +2,7 @@
 use Rattle.std.specs.Prelude.{ℕ, ◌≤◌}
 use Rattle.kmc_base.specs.declared.kmer.TheConstants.{MAX_K}
 use Rattle.kmc_split.specs.declared.signatures.TheConstants.{MAX_M}
-use Rattle.kmc_record.specs.declared.shape.TheConstants.{LEAST_P, MOST_BINS}
+use Rattle.kmc_record.specs.declared.shape.TheConstants.{MOST_BINS}
 
 -- the symbols of a word, those of an m-mer that signatures are made of, and the number of bins
 pub record Sizes : Type 0 where
@@ -14,7 +14,7 @@ pub record Sizes : Type 0 where
 pub record AreWithinLimits (k p n : ℕ) : Type 0 where
   pub some_k : 1 ≤ k
   pub most_k : k ≤ MAX_K
-  pub some_p : LEAST_P ≤ p
+  pub some_p : 1 ≤ p
   pub most_p : p ≤ MAX_M
   pub some_n : 1 ≤ n
   pub most_n : n ≤ MOST_BINS

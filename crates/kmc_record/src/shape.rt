@@ -6,9 +6,6 @@ use kmc_base::MAX_K;
 use kmc_split::MAX_M;
 use std::marker::Model;
 
-/// The fewest symbols that may be asked for as those of a signature; the most are [`MAX_M`].
-pub const LEAST_P: usize = 5;
-
 /// The most bins; every limit on bins is this one.
 pub const MOST_BINS: usize = 2000;
 
@@ -34,14 +31,14 @@ impl Model for Shape {
 }
 
 impl Shape {
-    /// The shape for words of 1 to 64 symbols, m-mers of p symbols, 5 to 11, or of k where that is less, and 1 to 2000
+    /// The shape for words of 1 to 64 symbols, m-mers of p symbols, 1 to 11, or of k where that is less, and 1 to 2000
     /// bins; none beyond these limits.
     pub fn new(k: usize, p: usize, n: usize) -> Option<Shape>
         ensures { MatchOption result (¬ (AreWithinLimits k p n))
             (λ s. (s.k ≡ k) × (s.m ≡ min p k) × (s.n ≡ n) × AreWithinLimits k p n) }
     {
         let words = 1 <= k && k <= MAX_K;
-        let mmers = LEAST_P <= p && p <= MAX_M;
+        let mmers = 1 <= p && p <= MAX_M;
         if words && mmers && 1 <= n && n <= MOST_BINS {
             Some(Shape { k, m: p.min(k), n })
         } else {

@@ -1,5 +1,5 @@
 //! A body's records, taken in to be counted: as numbers, the long ones as those of their pieces; or their words as items.
-ghost use Rattle.std.specs.Prelude.{◌≡◌, ℕ, ◌+◌, ◌*◌, ◌<◌, ◌≤◌, ◌++◌, ◌∷◌, [], List, length, map, take, OnOk, IsErrOf};
+ghost use Rattle.std.specs.Prelude.{◌≡◌, ℕ, ◌+◌, ◌*◌, ◌<◌, ◌≤◌, ◌++◌, ◌∷◌, [], List, length, map, take, OnOk, IfOk, IsErrOf};
 ghost use Rattle.kmc_record.specs.Record.{codes_in, size_of, IsBodyOf};
 ghost use Rattle.kmc_record.specs.RecordKeys.{GainsWords, IsTaken};
 ghost use Rattle.kmc_record.specs.Faults.{IsFirstFault};
@@ -145,4 +145,38 @@ pub fn take_body<W: Word + Drop>(
         offset += 1 + size;
     }
     Ok(())
+}
+
+/// Appends the words of the record at an offset of a body as items, each of weight 1. The answer is the offset behind the record.
+pub fn take_words<W: Word + Drop>(
+    items: &mut Vec<W>,
+    body: &[u8],
+    offset: usize,
+    rule: KeyRule,
+    bits: u32,
+) -> Result<usize, BodyError>
+    requires most { rule.k ≤ W.most }
+    requires beside { 2 * rule.k + bits ≤ 2 * W.most }
+    requires inside { offset < length body.now }
+    ensures on { IfOk result (λ next. (offset < next) × (next ≤ length body.now)) }
+    ensures ok { (ss : List (List ℕ)) → IsBodyOf rule.k ss (take offset body.now)
+        → IfOk result (λ next. (s : List ℕ) × IsBodyOf rule.k (ss ++ s ∷ []) (take next body.now)
+        × (IsTaken rule.strands rule.k bits [] (map W.number items.old.items) ss
+        → IsTaken rule.strands rule.k bits [] (map W.number items.new.items) (ss ++ s ∷ []))
+        × StopsAtRecord rule.k body.now) }
+    ensures damaged { (ss : List (List ℕ)) → IsBodyOf rule.k ss (take offset body.now)
+        → (fault : RecordFault) (at : ℕ) → IsErrOf result (BodyError.Damaged fault at)
+        → IsFirstFault rule.k fault at body.now }
+    ensures memory { (ss : List (List ℕ)) → IsBodyOf rule.k ss (take offset body.now)
+        → IsErrOf result BodyError.Memory → StopsAtRecord rule.k body.now }
+{
+    let rest = &body[offset..];
+    let symbols = match first_symbols(rest, rule.k) {
+        Ok(symbols) => symbols,
+        Err(fault) => return Err(BodyError::Damaged(fault, offset)),
+    };
+    let size = (symbols + 3) / 4;
+    let weight = Weight { bits, times: 1 };
+    push_record(items, rule, &rest[1..1 + size], symbols, weight)?;
+    Ok(offset + 1 + size)
 }

@@ -18,7 +18,7 @@ KeepsQueue a b =
 abbrev pub KeepsOptions : Params → Params → Type 0
 KeepsOptions a b = (b.format ≡ a.format) × (b.limits ≡ a.limits) × KeepsNumbers a b
 
--- one storer, up to 8 parts of a writer in the queue, 1024 reads in a chunk
+-- one storer, up to 8 parts of a writer in the queue, 1024 reads of a round for each writer
 abbrev pub HasUsualQueue : Params → Type 0
 HasUsualQueue a = (a.readers ≡ 1) × (a.per_writer ≡ 8) × (a.batch ≡ 1024)
 

@@ -10,14 +10,18 @@ use kmc_partcore::{MAX_PER_WRITER, MAX_READERS, QueueShape};
 use kmc_reads::Format;
 use kmc_record::Shape;
 
-/// Most reads in a chunk.
+/// Most reads of a round for each splitter.
 pub const MAX_BATCH: usize = 65536;
 
-/// A signature has at least so many symbols, but for shorter words.
-const LEAST_SYMBOLS: usize = 5;
+/// The symbols of a signature of words of at most `SHORT_WORD` symbols.
+const SHORT_SIGNATURE: usize = 3;
 
-/// Words of at most so many symbols have the shortest signatures.
-const SHORT_WORD: usize = 14;
+const SHORT_WORD: usize = 9;
+
+/// The symbols of a signature of words of `MIDDLE_WORD` symbols, and of those that are a little shorter.
+const MIDDLE_SIGNATURE: usize = 5;
+
+const MIDDLE_WORD: usize = 14;
 
 const READERS: usize = 1;
 
@@ -49,7 +53,7 @@ pub struct Params {
     pub readers: usize,
     /// The parts that one writer may have in the queue, 1 to 64.
     pub per_writer: usize,
-    /// The reads of a chunk, 1 to 65536.
+    /// The reads of a round for each splitter, 1 to 65536.
     pub batch: usize,
     pub ghost in_range: { AreSettings k p n sp sr × AreQueueSettings readers per_writer batch },
 }
@@ -96,12 +100,14 @@ impl Params {
         })
     }
 
-    /// How the reads of a chunk are cut into parts. Short words have short signatures, so that neighbours share one: 5 symbols where
-    /// a word has at most 14, and one more for each symbol above, up to the setting. The dump is the same for every length.
+    /// How the reads of a chunk are cut into parts. Short words have short signatures, so that neighbours share one: 3 symbols where
+    /// a word has at most 9, 5 from 11 to 14, and one more for each symbol above, up to the setting. The dump is the same for every
+    /// length.
     pub fn shape(&self) -> Shape
         ensures { result ≡ shape_of self.now }
     {
-        let most = LEAST_SYMBOLS + self.k.saturating_sub(SHORT_WORD);
+        let short = SHORT_SIGNATURE + self.k.saturating_sub(SHORT_WORD);
+        let most = MIDDLE_SIGNATURE.min(short) + self.k.saturating_sub(MIDDLE_WORD);
         match Shape::new(self.k, self.p.min(most), self.n) {
             Some(shape) => shape,
             None => unreachable!(),

@@ -5,7 +5,7 @@ use crate::digits::number;
 use kmc_base::MAX_K;
 use kmc_count::GREATEST_COUNT;
 use kmc_partcore::MAX_WRITERS;
-use kmc_record::{LEAST_P, MOST_BINS};
+use kmc_record::MOST_BINS;
 use kmc_split::MAX_M;
 
 /// A range of numbers, both ends included, with the number that stands where none is given.
@@ -62,7 +62,7 @@ impl Setting {
     {
         match self {
             Setting::K => Bounds::new(1, MAX_K as u64, 25),
-            Setting::P => Bounds::new(LEAST_P as u64, MAX_M as u64, 9),
+            Setting::P => Bounds::new(5, MAX_M as u64, 9),
             Setting::N => Bounds::new(1, MOST_BINS as u64, 512),
             Setting::Ci => Bounds::new(0, GREATEST_COUNT, 2),
             Setting::Cx => Bounds::new(0, GREATEST_COUNT, 1_000_000_000),

@@ -7,7 +7,7 @@ ghost use Rattle.kmc_slice_files.specs.Headers.{IsTold, IsOutOfRange, IsSlicingO
 
 use crate::check::check_word;
 use kmc_device::{Counted, ReadFault, WriteFault, fill_behind, write_text};
-use kmc_record::{LEAST_P, Shape};
+use kmc_record::Shape;
 use std::io::{Read, Write};
 
 /// The bytes of a header.
@@ -124,7 +124,7 @@ fn slicing_of(told: &Told) -> Option<Slicing>
     ensures { MatchOption result (IsOutOfRange told.now) (IsSlicingOf told.now) }
 {
     let m = usize::from(told.m);
-    let shape = Shape::new(usize::from(told.k), m.max(LEAST_P), usize::from(told.bins))?;
+    let shape = Shape::new(usize::from(told.k), m, usize::from(told.bins))?;
     if shape.m() == m && told.slice < told.slices {
         Some(Slicing {
             shape,

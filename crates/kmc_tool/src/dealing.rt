@@ -43,7 +43,7 @@ fn pieces_of(alloc: Global, reads: &Reads, k: usize, limit: usize) -> Result<Vec
     Ok(out)
 }
 
-/// Adds the reads of a round to the bins, each as its pieces: a chunk of pieces for each splitter, so that all of them work
+/// Adds the reads of a round to the bins, each as its pieces: a few chunks of pieces for each splitter, so that all of them work
 /// on a round of one long read too. Where memory is refused, what the bins held may be lost.
 pub(crate) fn store_round<T: Threads + Wait + Sync, G: Gate + Sync>(
     rt: &T,

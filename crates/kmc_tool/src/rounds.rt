@@ -22,7 +22,7 @@ use std::io::Read;
 use std::sync::Wait;
 use std::thread::{Threads, join_mut};
 
-/// So many reads fill a round: a chunk for each splitter, as far as a `usize` tells.
+/// So many reads fill a round: `batch` for each splitter, as far as a `usize` tells.
 pub fn round_of(params: &Params) -> usize
     ensures { result ≡ min (params.now.sp * params.now.batch) (2 ^ 64 - 1) }
 {

@@ -7,26 +7,31 @@ use kmc_partqueue::Gate;
 use kmc_settings::Params;
 use kmc_store::Bins;
 use kmc_store::laws::empty_bins_hold_no_reads;
-use kmc_workers::laws::a_chunk_each_spends_no_numbers;
+use kmc_workers::laws::few_chunks_spend_no_numbers;
 use kmc_workers::{Plan, Refusal, fill_bins};
 use std::alloc::{AllocError, Global};
 use std::sync::Wait;
 use std::thread::Threads;
 
-/// So many reads a chunk make no more chunks than there are splitters.
-fn a_chunk_each(reads: usize, splitters: usize) -> usize
+/// The most chunks of a round that a splitter cuts. One chunk would let the storer wait for the first, and work alone after the
+/// last; very many make small parts.
+const CHUNKS_OF_A_SPLITTER: usize = 4;
+
+/// So many reads a chunk make few chunks for each splitter.
+fn few_chunks_each(reads: usize, splitters: usize) -> usize
     requires { 0 < splitters }
     ensures some { 0 < result }
-    ensures all { reads ≤ splitters * result }
+    ensures all { reads ≤ CHUNKS_OF_A_SPLITTER * splitters * result }
 {
-    let each = reads.div_ceil(splitters);
+    let share = reads.div_ceil(splitters);
+    let each = share.div_ceil(CHUNKS_OF_A_SPLITTER);
     if each == 0 { 1 } else { each }
 }
 
-/// Bins that hold the reads too, beside those that they held: each of `sp` splitters cuts one chunk of the reads into parts,
-/// which pass through the queue to the storers; the first storer goes on with these bins, and those of the others are
-/// merged with them. It fails only for want of memory, and then the bins are lost: a splitter puts at most a part for each
-/// bin, so numbers are never spent.
+/// Bins that hold the reads too, beside those that they held: each of `sp` splitters cuts a few chunks of the reads into parts,
+/// which pass through the queue to the storers while it cuts the next chunk; the first storer goes on with these bins, and those
+/// of the others are merged with them. It fails only for want of memory, and then the bins are lost: a splitter puts at most a
+/// part for each bin and chunk, so numbers are never spent.
 pub fn store_reads<R: Threads + Wait + Sync, G: Gate + Sync>(
     rt: &R,
     alloc: Global,
@@ -41,10 +46,10 @@ pub fn store_reads<R: Threads + Wait + Sync, G: Gate + Sync>(
         → IfOk result
         (λ b. HoldsReads (shape_of params.now) (held ++ map (λ r. r.now) reads.now) b.bodies) }
 {
-    a_chunk_each_spends_no_numbers();
+    few_chunks_spend_no_numbers();
     let plan = Plan {
         shape: params.shape(),
-        batch: a_chunk_each(reads.len(), params.sp),
+        batch: few_chunks_each(reads.len(), params.sp),
     };
     match fill_bins(rt, alloc, bins, reads, plan, params.queue(), gate) {
         Ok((bins, _)) => Ok(bins),

@@ -5,7 +5,7 @@ use Rattle.kmc_partcore.specs.declared.shape.TheConstants.{MAX_ITEMS}
 use Rattle.kmc_workers.specs.Causes.{IsCause}
 use Rattle.kmc_workers.specs.declared.refusal.Refusal.TheVariants.{NumbersSpent}
 
--- where each writer has at most one chunk, it puts at most a part for each bin, and no numbers are spent
-abbrev pub AChunkEachSpendsNoNumbers : Type 0
-AChunkEachSpendsNoNumbers = (shape : Sizes) (batch : ℕ) (reads : List (List ℕ)) (sp : ℕ)
-    → shape.n ≤ MAX_ITEMS → 0 < batch → length reads ≤ sp * batch → IsCause shape batch reads sp NumbersSpent → ⊥
+-- where no writer has more than so many chunks, it puts at most a part for each bin and chunk, and no numbers are spent
+abbrev pub FewChunksSpendNoNumbers : Type 0
+FewChunksSpendNoNumbers = (each : ℕ) (shape : Sizes) (batch : ℕ) (reads : List (List ℕ)) (sp : ℕ)
+    → each * shape.n ≤ MAX_ITEMS → 0 < batch → length reads ≤ each * sp * batch → IsCause shape batch reads sp NumbersSpent → ⊥

@@ -1,7 +1,7 @@
 //! Laws of dealing, each the contract of a function that does nothing.
-ghost use Rattle.kmc_workers.specs.Laws.{AChunkEachSpendsNoNumbers};
+ghost use Rattle.kmc_workers.specs.Laws.{FewChunksSpendNoNumbers};
 
-/// Where no splitter has more than one chunk, none has more parts than have numbers.
-pub fn a_chunk_each_spends_no_numbers()
-    ensures { AChunkEachSpendsNoNumbers }
+/// Where the chunks of no splitter can give more parts than have numbers, no numbers are spent.
+pub fn few_chunks_spend_no_numbers()
+    ensures { FewChunksSpendNoNumbers }
 {}

@@ -114,17 +114,17 @@ fn assert_read_told(rt: &impl Abort, alloc: Global, failing: u64) {
     assert_read_fault(rt, fault.expect(rt, "a fault"), failing <= 28);
 }
 
-/// The file has 82 bytes, of which 28 are the header.
+/// The file has 84 bytes, of which 28 are the header.
 #[test]
 fn a_read_of_a_file_that_fails_is_told(rt: HostRuntime) {
-    for failing in 1..84 {
+    for failing in 1..86 {
         assert_read_told(&rt, rt.alloc(), failing);
     }
 }
 
 /// Asserts that a list of the worked file to a writer that fails is told, and that a front of the dump is written.
 fn assert_list_told<R: Abort + Threads + Sync>(rt: &R, alloc: Global, room: usize, flushes: bool) {
-    let dump = b"ACGT\t2\nGTAC\t1\n";
+    let dump = b"ACGT\t2\nCGTA\t2\nGTAC\t1\n";
     let params = settings(rt, 25, 512, Strands::Joined, 1);
     let records = gathered(rt, alloc, None, &FILE);
     let out = NarrowWriter::new(Vec::new(alloc), 3, room, Full::Fails, flushes);
@@ -139,7 +139,7 @@ fn assert_list_told<R: Abort + Threads + Sync>(rt: &R, alloc: Global, room: usiz
 
 #[test]
 fn a_write_of_a_list_that_fails_is_told(rt: HostRuntime) {
-    for room in 0..14 {
+    for room in 0..21 {
         assert_list_told(&rt, rt.alloc(), room, true);
     }
     assert_list_told(&rt, rt.alloc(), 1000, false);

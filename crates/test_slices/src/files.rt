@@ -1,4 +1,4 @@
-//! The file of slice 0 of 2 of the read ACGTACGT, k 4, 7 bins: bin 2 has the record of GTAC, bin 6 that of ACGT, twice. Its
+//! The file of slice 0 of 2 of the read ACGTACGT, k 4, m 3, 7 bins: bin 2 has the record of GTAC, bin 6 those of ACGTA and TACGT. Its
 //! bytes were worked by another program, from docs/DEFINITIONS.md.
 ghost use Rattle.std.specs.Prelude.{◌≤◌};
 
@@ -14,21 +14,21 @@ use std::test::Fail;
 use test_support::{BlockReader, Full, NarrowWriter};
 
 /// The bytes of the file.
-pub(crate) const LENGTH: usize = 82;
+pub(crate) const LENGTH: usize = 84;
 
 pub(crate) const FILE: [u8; LENGTH] = [
-    0x4b, 0x4d, 0x43, 0x53, 0x4c, 0x49, 0x43, 0x45, 0x01, 0x00, 0x00, 0x00, 0x04, 0x04, 0x07, 0x00,
-    0x02, 0x00, 0x00, 0x00, 0x97, 0x20, 0x78, 0xc7, 0xe1, 0x0b, 0x7b, 0xc6, 0x02, 0x00, 0x00, 0x00,
+    0x4b, 0x4d, 0x43, 0x53, 0x4c, 0x49, 0x43, 0x45, 0x01, 0x00, 0x00, 0x00, 0x04, 0x03, 0x07, 0x00,
+    0x02, 0x00, 0x00, 0x00, 0x27, 0x4d, 0x18, 0x67, 0x61, 0xd2, 0x33, 0xce, 0x02, 0x00, 0x00, 0x00,
     0x02, 0x00, 0x00, 0x00, 0xae, 0x77, 0x22, 0xc6, 0xdf, 0x94, 0xf4, 0xa4, 0x00, 0xb1, 0x06, 0x00,
-    0x00, 0x00, 0x04, 0x00, 0x00, 0x00, 0x78, 0x88, 0x51, 0x44, 0x08, 0x1d, 0x7b, 0xa9, 0x00, 0x1b,
-    0x00, 0x1b, 0xff, 0xff, 0x00, 0x00, 0x00, 0x00, 0x00, 0x00, 0x02, 0x00, 0x00, 0x00, 0x00, 0x00,
-    0x00, 0x00,
+    0x00, 0x00, 0x06, 0x00, 0x00, 0x00, 0x5d, 0x84, 0xb0, 0x8a, 0xe1, 0x72, 0xe4, 0x18, 0x01, 0x1b,
+    0x00, 0x01, 0xc6, 0xc0, 0xff, 0xff, 0x00, 0x00, 0x00, 0x00, 0x00, 0x00, 0x02, 0x00, 0x00, 0x00,
+    0x00, 0x00, 0x00, 0x00,
 ];
 
 /// What the bins 2 and 6 have.
 const SECOND: [u8; 2] = [0, 0xb1];
 
-const SIXTH: [u8; 4] = [0, 0x1b, 0, 0x1b];
+const SIXTH: [u8; 6] = [1, 0x1b, 0, 1, 0xc6, 0xc0];
 
 /// What a read of the bytes as the file of a slice answers, and what the bins have then; the reader gives so many
 /// bytes at a time and fails in this read.
@@ -41,7 +41,7 @@ fn read(
 ) -> Result<(Result<(), SliceFault>, [Vec<u8>; 7]), Fail>
     requires { 1 ≤ block }
 {
-    let Some(shape) = Shape::new(4, 5, 7) else {
+    let Some(shape) = Shape::new(4, 3, 7) else {
         return Err(Fail::from("there is no such shape"));
     };
     let expected = Slicing {
@@ -65,7 +65,7 @@ fn read(
 
 #[test]
 fn file_has_the_bytes_of_the_example(rt: HostRuntime) -> Result<(), Fail> {
-    let Some(shape) = Shape::new(4, 5, 7) else {
+    let Some(shape) = Shape::new(4, 3, 7) else {
         return Err(Fail::from("there is no such shape"));
     };
     let slicing = Slicing {
@@ -112,7 +112,7 @@ fn each_changed_byte_is_refused(rt: HostRuntime) -> Result<(), Fail> {
         for change in 1..256u16 {
             let mut bytes = FILE;
             bytes[i] ^= change as u8;
-            let (answer, _) = read(&rt, &bytes, 0, 82, 0)?;
+            let (answer, _) = read(&rt, &bytes, 0, LENGTH, 0)?;
             assert!(rt; answer.is_err());
         }
     }
@@ -131,7 +131,7 @@ fn each_front_is_refused(rt: HostRuntime) -> Result<(), Fail> {
                     frames: 0,
                     byte: 28,
                 }
-            } else if n < 66 {
+            } else if n < 68 {
                 Place {
                     frames: 1,
                     byte: 46,
@@ -139,7 +139,7 @@ fn each_front_is_refused(rt: HostRuntime) -> Result<(), Fail> {
             } else {
                 Place {
                     frames: 2,
-                    byte: 66,
+                    byte: 68,
                 }
             };
             SliceFault::File(FileFault {
@@ -162,7 +162,7 @@ fn bytes_behind_the_end_are_refused(rt: HostRuntime) -> Result<(), Fail> {
     let fault = FileFault {
         place: Place {
             frames: 2,
-            byte: 66,
+            byte: 68,
         },
         why: FramesFault::Behind,
     };
@@ -182,7 +182,7 @@ fn file_of_another_slice_is_told(rt: HostRuntime) -> Result<(), Fail> {
 
 #[test]
 fn failed_reads_are_told(rt: HostRuntime) -> Result<(), Fail> {
-    // 28, 16, 2, 16, 4 and 16 bytes, and the end of the bytes: the third read is that of the first body
+    // 28, 16, 2, 16, 6 and 16 bytes, and the end of the bytes: the third read is that of the first body
     let header = SliceFault::Header(HeaderFault::Read);
     let body = FileFault {
         place: Place {
@@ -194,7 +194,7 @@ fn failed_reads_are_told(rt: HostRuntime) -> Result<(), Fail> {
     let behind = FileFault {
         place: Place {
             frames: 2,
-            byte: 66,
+            byte: 68,
         },
         why: FramesFault::Next(FrameFault::Read),
     };

@@ -16,7 +16,7 @@ use test_support::{BlockReader, NarrowWriter};
 const TEXT: &[u8] = b">r\nACGTACGT\n>s\nACGTACGT\n";
 
 /// The dumps of the text's two slices, each read twice.
-const DUMPS: [&'static str; 2] = ["ACGT\t8\nGTAC\t4\n", "CGTA\t8\n"];
+const DUMPS: [&'static str; 2] = ["GTAC\t4\n", "ACGT\t8\nCGTA\t8\n"];
 
 /// No writer fails or asks for memory.
 const READY: Weak = Weak {
@@ -60,7 +60,7 @@ fn assert_listed_or_refused<R: Abort + Threads + Sync>(
     file: &[u8],
     dump: &str,
 ) {
-    let params = settings(rt, 4, 7, Strands::Joined, 1);
+    let params = settings(rt, 4, 5, Strands::Joined, 1);
     let Ok(room) = Vec::with_capacity(alloc, 64) else {
         return;
     };
@@ -106,7 +106,7 @@ fn assert_cut_or_refused<R: Abort + Threads + Sync>(
 }
 
 fn cut_or_refuse<R: Abort + Threads + Wait + Sync>(rt: &R, alloc: Global) {
-    let params = settings(rt, 4, 7, Strands::Joined, 1);
+    let params = settings(rt, 4, 5, Strands::Joined, 1);
     let mut reader = Counted::new(BlockReader::new(TEXT, 1, 0));
     let Ok(writers) = writers_of(alloc, 2, &READY) else {
         return;

@@ -250,6 +250,30 @@ fn a_full_counter_of_a_short_word_begins_anew(rt: HostRuntime) -> Result<(), Fai
     assert_repeated(&rt, rt.alloc(), 9, 1, (1 << 20) + 1)
 }
 
+/// Asserts the counts of a body with more words than wait to be added up.
+fn assert_many_plain<R: Abort + Threads + Sync>(
+    rt: &R,
+    alloc: Global,
+    strands: Strands,
+) -> Result<(), Fail> {
+    for k in [1, 4, 5, 7] {
+        let mut dice = Dice { state: 71 };
+        let mut body = Vec::new(alloc);
+        for _ in 0..700 {
+            let codes = thrown_codes(alloc, &mut dice, k.saturating_add(99))?;
+            push_copies(alloc, &mut body, &codes, k, 1)?;
+        }
+        assert_plain(rt, alloc, body, k, strands)?;
+    }
+    Ok(())
+}
+
+#[test]
+fn many_short_words_are_added_up_as_they_come(rt: HostRuntime) -> Result<(), Fail> {
+    assert_many_plain(&rt, rt.alloc(), Strands::Joined)?;
+    assert_many_plain(&rt, rt.alloc(), Strands::Apart)
+}
+
 /// Records that are all different.
 fn single_records(alloc: Global, dice: &mut Dice, k: usize) -> Result<Vec<u8>, AllocError> {
     let mut body = Vec::new(alloc);

@@ -97,7 +97,7 @@ fn the_order_of_words_stays(rt: HostRuntime) {
     assert!(rt; words.expect(&rt, "memory") == long);
 }
 
-/// The numbers of k, p, n, ci, cx, cs, sp and sr, and those of readers, of parts a writer and of reads a chunk.
+/// The numbers of k, p, n, ci, cx, cs, sp and sr, and those of readers, of parts a writer and of reads a splitter.
 fn numbers_of(given: &Params) -> [u64; 11] {
     [
         given.k as u64,

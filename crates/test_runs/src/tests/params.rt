@@ -13,7 +13,7 @@ fn sizes_of(params: &Params) -> [usize; 5] {
     [params.k, params.p, params.n, params.sp, params.sr]
 }
 
-/// The numbers of readers, of parts a writer and of reads a chunk.
+/// The numbers of readers, of parts a writer and of reads a splitter.
 fn queue_of(params: &Params) -> [usize; 3] {
     [params.readers, params.per_writer, params.batch]
 }

@@ -1,33 +1,30 @@
-use Rattle.std.proofs.Common.{map, All, subst, sym}
-use Rattle.kmc_record.specs.RecordKeys.{IsRecordKey, Gains, key_words}
+use Rattle.std.proofs.Common.{map, subst, sym}
+use Rattle.kmc_count.specs.Bodies.{AreItemsOfBody}
 use Rattle.kmc_count.specs.Lemmas.PassedOn.{passed_on}
-use Rattle.kmc_count.specs.Tables.{ComeToAsMuch}
-use Rattle.kmc_count.proofs.Counted.{as_much_themselves, items_sorted, sorted_long}
+use Rattle.kmc_count.proofs.Counted.{items_sorted}
 use Rattle.kmc_count.proofs.bin.sorted_items.Goals as goal
-use Rattle.kmc_count.proofs.bin.sorted_items.Goals.{then-in_table-2+in_ok-add_up, else-in_table-2}
-
-pub push_rows-requires-clause-long : goal.push_rows-requires-clause-long
-push_rows-requires-clause-long g c =
-    subst (All (IsRecordKey c.args.rule.k)) (sym c.deref-2.ensures.value)
-    (sorted_long c.args.rule.k _ _ c.sort_numbers.ensures c.in_ok-take_body.ensures.ok.2.long)
+use Rattle.kmc_count.proofs.bin.sorted_items.Goals.{then-takes_table+in_ok-take_and_add, else-takes_table+in_ok-take_and_sort}
 
 pub returns-clause-ok : goal.returns-clause-ok
 returns-clause-ok g c =
     let num = g.W.Word.number in
     let rule = c.args.rule in
-    let taken = c.in_ok-take_body.ensures.ok in
-    let gains = subst (λ t. Gains rule.k c.args.bits (map num c.take_body.new.items.items) (map num c.push_rows.new.items.items)
-    (key_words rule.strands rule.k t) 1) c.deref-2.ensures.value c.in_ok-push_rows.ensures in
-    let all = map num c.push_rows.new.items.items in
-    let much : ComeToAsMuch rule.k c.args.bits all (map num c.if-in_table-2.room.items.items) = elim c.if-in_table-2.branch [
-      | then-in_table-2+in_ok-add_up w ↦
-          subst (λ room. ComeToAsMuch rule.k c.args.bits all (map num room.items.items)) (sym w.room-is) w.in_ok-add_up.ensures
-      | else-in_table-2 w ↦
-          subst (λ room. ComeToAsMuch rule.k c.args.bits all (map num room.items.items)) (sym w.room-is) (as_much_themselves rule.k c.args.bits all)
+    let f = c.args.bits in
+    let body = c.args.body.now in
+    let are : AreItemsOfBody rule.strands rule.k f body (map num c.if-takes_table.room.items.items) = elim c.if-takes_table.branch [
+      | then-takes_table+in_ok-take_and_add w ↦
+          subst (λ room. AreItemsOfBody rule.strands rule.k f body (map num room.items.items)) (sym w.room-is) w.in_ok-take_and_add.ensures.ok
+      | else-takes_table+in_ok-take_and_sort w ↦
+          subst (λ room. AreItemsOfBody rule.strands rule.k f body (map num room.items.items)) (sym w.room-is) w.in_ok-take_and_sort.ensures.ok
     ] in
-    items_sorted rule.strands rule.k c.args.bits c.args.body.now _ _ _ _ _ _ taken.0 taken.1 taken.2 c.sort_numbers.ensures gains much c.sort.ensures.moved
-    c.sort.ensures.sorted
+    items_sorted rule.strands rule.k f body _ _ are c.sort.ensures.moved c.sort.ensures.sorted
 
-pub returns-in_err-take_body-clause-damaged : goal.returns-in_err-take_body-clause-damaged
-returns-in_err-take_body-clause-damaged g c = λ fault offset is.
-    c.take_body.ensures.damaged fault offset (passed_on c.take_body.result c.from_residual.result _ _ c.in_err-take_body.was c.from_residual.ensures.1 is)
+pub returns-in_err-take_and_add-clause-damaged : goal.returns-in_err-take_and_add-clause-damaged
+returns-in_err-take_and_add-clause-damaged g c = λ fault offset is.
+    c.take_and_add.ensures.damaged fault offset
+    (passed_on c.take_and_add.result c.from_residual.result _ _ c.in_err-take_and_add.was c.from_residual.ensures.1 is)
+
+pub returns-in_err-take_and_sort-clause-damaged : goal.returns-in_err-take_and_sort-clause-damaged
+returns-in_err-take_and_sort-clause-damaged g c = λ fault offset is.
+    c.take_and_sort.ensures.damaged fault offset
+    (passed_on c.take_and_sort.result c.from_residual-in_err-take_and_sort.result _ _ c.in_err-take_and_sort.was c.from_residual-in_err-take_and_sort.ensures.1 is)

@@ -12,9 +12,9 @@ loop-preserved g c =
     let rule = c.args.rule in
     let l = c.args.limits.now in
     let bodies = texts c.args.bodies.now in
-    let place = c.fetch_add-place.result in
+    let place = c.in-Some.place in
     let list = c.in_ok-list.list in
-    let inside : place < length c.args.bodies.now = omega (arith, c.if-place-bodies.false) in
+    let inside : place < length c.args.bodies.now = c.in-Some.ensures in
     let within : place < length bodies = omega (arith, inside, length-map c.args.bodies.now (λ (b : Vec ℕ Global). b.items)) in
     let body : c.deref.result.now ≡ get_or bodies place [] =
     c.deref.ensures.value ∙ ap (λ (b : Vec ℕ Global). b.items) c.index-bodies-place.is

@@ -1,5 +1,5 @@
 use Rattle.kmc_workers.proofs.Few.{no_numbers_spent}
-use Rattle.kmc_workers.proofs.laws.a_chunk_each_spends_no_numbers.Goals as goal
+use Rattle.kmc_workers.proofs.laws.few_chunks_spend_no_numbers.Goals as goal
 
 pub returns : goal.returns
 returns c = no_numbers_spent
