@@ -17,7 +17,7 @@ pub dump_fault : {W : Type 0} (r : Records) (params : Params) (contents : W → 
     → ((fault : BinFault) → e ≡ Foreign fault → IsBinFault r.shape r.bodies fault)
     → (e ≡ Memory → (words : List ℕ) × AreBins r.shape r.bodies words)
     → (e ≡ Write → (pairs : List (List ℕ × ℕ)) × IsDumpOfBins params.strands r.shape.k params.limits r.bodies pairs
-      × AppendsFront (contents writer.inner) (contents written.inner) (text_of pairs))
+    × AppendsFront (contents writer.inner) (contents written.inner) (text_of pairs))
     → (e ≡ Write → RisesByOne writer.failures written.failures) → (e ≢ Write → written ≡ writer)
     → IsDumpFault r params contents writer written e
 dump_fault r params contents writer written (Foreign fault) foreign judged front failed silent = (foreign fault refl, silent (λ is. cc))
