@@ -1,2 +1,3 @@
 mod Statuses
 mod Uncut
+mod Unlisted

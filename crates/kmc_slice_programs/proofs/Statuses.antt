@@ -1,5 +1,6 @@
 -- What an exit status tells.
-use Rattle.std.proofs.Common.{◌≡◌, List, Result, Ok, Err, inl, inr, refl, arith}
+use Rattle.std.proofs.Common.{◌≡◌, ℕ, List, Result, Ok, Err, inl, inr, refl, sym, subst, arith}
+use Rattle.std.specs.Result.{IsErrAnd}
 use Rattle.std.specs.Prelude.{IfErr, OnOk}
 use Rattle.kmc_settings.specs.Words.{Word}
 use Rattle.kmc_settings.specs.declared.setting.Setting.{Setting}
@@ -13,6 +14,7 @@ use Rattle.kmc_slice_programs.specs.Cutting as cutting
 use Rattle.kmc_slice_programs.specs.Listing as listing
 use Rattle.kmc_slice_programs.specs.declared.cut_fault.CutFault.{CutFault}
 use Rattle.kmc_slice_programs.specs.declared.cut_fault.CutFault.TheVariants.{Request, NotMade, Cut}
+use Rattle.kmc_slice_programs.specs.declared.list_fault.ListFault.{ListFault}
 use Rattle.kmc_slice_programs.specs.declared.list_fault.ListFault.TheVariants as list_fault
 
 pub asks_for_nothing : (words : List Word) (e : ListRequestError) → (e ≡ list.Usage → AsksForList words → ⊥)
@@ -46,3 +48,13 @@ done (Err fault) P h is = absurd (never_none fault is)
 pub failed : (r : Result (Unit {0}) CutFault) (P : CutFault → Type 0) → IfErr r P → cutting.status_of_answer r ≡ 1 → (fault : CutFault) × P fault
 failed (Ok u) P h is = absurd (omega (arith, is))
 failed (Err fault) P h is = (fault, h)
+
+-- and so of a list
+pub list_failed : (r : Result ℕ ListFault) (P : ListFault → Type 0) → IfErr r P → listing.status_of_answer r ≡ 1 → (fault : ListFault) × P fault
+list_failed (Ok lines) P h is = absurd (omega (arith, is))
+list_failed (Err fault) P h is = (fault, h)
+
+-- what holds of an error holds of the result that a `?` makes of it
+pub on_error : {A E : Type 0} (to : Result A E) (P : E → Type 0) (e : E) → IsErrAnd to (λ x. x ≡ e) → P e → IfErr to P
+on_error (Ok x) P e is h = tt
+on_error (Err x) P e is h = subst P (sym is) h

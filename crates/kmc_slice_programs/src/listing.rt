@@ -1,12 +1,13 @@
 //! The program that lists a slice.
-ghost use Rattle.std.specs.Prelude.{◌≡◌, ◌≢◌, ◌≤◌, ◌-◌, ◌^◌, ◌<◌, ◌⊎◌, List, length, map, string_bytes, true, false, IfOk, IfErr, IsErrOf};
+ghost use Rattle.std.specs.Prelude.{◌≡◌, ◌≢◌, ◌≤◌, ◌-◌, ◌^◌, ◌<◌, ◌⊎◌, List, length, map, string_bytes, true, false, IfOk, IfErr};
 ghost use Rattle.std.specs.Process.{exit_status};
 ghost use Rattle.kmc_settings.specs.Words.{Word};
 ghost use Rattle.kmc_slice_options.specs.Requests.{IsListRequest};
 ghost use Rattle.kmc_slice_options.specs.declared.listing.ListRequest.{ListRequest};
 ghost use Rattle.kmc_slice_options.specs.declared.listing.ListRequestError.{ListRequestError};
 ghost use Rattle.kmc_slice_programs.specs.Asking.{is_asked, text_asked, Shows, ShowsFront};
-ghost use Rattle.kmc_slice_programs.specs.Listing.{AsksForNothing, IsListed, IsListFault, LeavesFront, status_of_answer};
+ghost use Rattle.kmc_slice_programs.specs.Listing.{AsksForNothing, FailsToList, IsListed, IsListFault, status_of_answer};
+ghost use Rattle.kmc_slice_programs.specs.declared.list_fault.ListFault.{ListFault};
 ghost use Rattle.kmc_slice_programs.specs.declared.listing.TheConstants.{HELP};
 
 use crate::asking::{asked_text, shown};
@@ -15,7 +16,7 @@ use crate::list_fault::{ListFault, ListMessage};
 use kmc_device::Counted;
 use kmc_settings::{Params, arguments};
 use kmc_slice_options::{ListRequest, ListRequestError, list_request};
-use kmc_slices::{ListError, list_records};
+use kmc_slices::list_records;
 use std::alloc::{AllocError, Global};
 use std::io::Write;
 use std::process::ExitCode;
@@ -37,12 +38,8 @@ fn listed<T: Threads + Sync + Files + Alloc<A = Global>, W: Write>(
     ensures ok { IfOk result (λ lines. IsListed (length files.now) params.now
         (W.contents writer.old.inner) (W.contents writer.new.inner)
         × (writer.new.failures ≡ writer.old.failures)) }
-    ensures silent { IfErr result (λ e. e ≢ ListFault.Dump ListError.Write → writer.new ≡ writer.old) }
-    ensures front { IsErrOf result (ListFault.Dump ListError.Write)
-        → LeavesFront (length files.now) params.now
-        (W.contents writer.old.inner) (W.contents writer.new.inner) }
     ensures sound { IfErr result (λ e. (r : ListRequestError) → e ≢ ListFault.Request r) }
-    ensures fault { IfErr result (IsListFault (length files.now)) }
+    ensures fault { IfErr result (IsListFault (length files.now) params.now W.contents writer.old writer.new) }
 {
     let records = gather_files(rt, files)?;
     match list_records(rt, rt.alloc(), records, params, writer) {
@@ -74,8 +71,8 @@ fn ended(
 
 /// Reads the files, opened one after the other, which must be of one slice, and writes the dump of their records by the settings.
 /// A fault is shown in one line on standard error, but for a write to a pipe whose other end is closed. The exit status is 0
-/// where the dump was written and no device failed, and else 1; then nothing was written, or a write failed and a front of the
-/// dump is out.
+/// where the dump was written and no device failed, and else 1; then a file or the records are at fault or memory was refused, and
+/// nothing was written, or one write failed and a front of the dump is out.
 pub fn list_files<T: Threads + Sync + Files + Eprint + Alloc<A = Global>, W: Write>(
     rt: &T,
     request: &ListRequest,
@@ -86,9 +83,8 @@ pub fn list_files<T: Threads + Sync + Files + Eprint + Alloc<A = Global>, W: Wri
     ensures done { exit_status result ≡ 0 → IsListed (length request.now.files.items) request.now.params
         (W.contents writer.old.inner) (W.contents writer.new.inner)
         × (writer.new.failures ≡ writer.old.failures) }
-    ensures failed { exit_status result ≡ 1 → (writer.new ≡ writer.old)
-        ⊎ LeavesFront (length request.now.files.items) request.now.params
-        (W.contents writer.old.inner) (W.contents writer.new.inner) }
+    ensures failed { exit_status result ≡ 1 → (fault : ListFault)
+        × IsListFault (length request.now.files.items) request.now.params W.contents writer.old writer.new fault }
     ensures statuses { exit_status result ≤ 1 }
 {
     let answer = listed(rt, &request.files, &request.params, writer);
@@ -113,8 +109,7 @@ pub fn list_words<T: Threads + Sync + Files + Eprint + Alloc<A = Global>, W: Wri
     ensures unshown { exit_status result ≡ 1 → is_asked (map string_bytes words.items) ≡ true
         → ShowsFront W.contents (text_asked HELP.now (map string_bytes words.items)) writer.old writer.new }
     ensures failed { exit_status result ≡ 1 → is_asked (map string_bytes words.items) ≡ false
-        → (writer.new ≡ writer.old) ⊎ ((r : ListRequest) × IsListRequest (map string_bytes words.items) r
-        × LeavesFront (length r.files.items) r.params (W.contents writer.old.inner) (W.contents writer.new.inner)) }
+        → FailsToList W.contents (map string_bytes words.items) writer.old writer.new }
     ensures statuses { exit_status result ≤ 2 }
 {
     if let Some(text) = asked_text(&words, HELP) {
@@ -138,8 +133,7 @@ pub fn list_program<T: Threads + Sync + Files + Env + Eprint + Alloc<A = Global>
         × (writer.new.failures ≡ writer.old.failures))
         × (is_asked words ≡ true → Shows W.contents (text_asked HELP.now words) writer.old writer.new) }
     ensures failed { exit_status result ≡ 1 → (writer.new ≡ writer.old) ⊎ ((words : List Word)
-        × (is_asked words ≡ false → (writer.new ≡ writer.old) ⊎ ((r : ListRequest) × IsListRequest words r
-        × LeavesFront (length r.files.items) r.params (W.contents writer.old.inner) (W.contents writer.new.inner)))
+        × (is_asked words ≡ false → FailsToList W.contents words writer.old writer.new)
         × (is_asked words ≡ true → ShowsFront W.contents (text_asked HELP.now words) writer.old writer.new)) }
     ensures misused { exit_status result ≡ 2 → writer.new ≡ writer.old }
     ensures statuses { exit_status result ≤ 2 }

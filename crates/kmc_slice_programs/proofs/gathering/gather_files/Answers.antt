@@ -1,4 +1,5 @@
-use Rattle.std.proofs.Common.{[], ◌∷◌, ◌++◌, arith, length-append}
+use Rattle.std.proofs.Common.{[], ◌∷◌, ◌++◌, inr, arith, length-append}
+use Rattle.kmc_slice_programs.proofs.Statuses.{on_error}
 use Rattle.kmc_slice_programs.proofs.gathering.gather_files.Goals as goal
 
 pub loop-i-preserved : goal.loop-i-preserved
@@ -9,3 +10,12 @@ loop-i-preserved g c =
       omega (arith, h.1, length-append h.0 ((more.0, more.1) ∷ [])),
       more.2,
     )
+
+pub returns-in_err-next_file-clause-fault : goal.returns-in_err-next_file-clause-fault
+returns-in_err-next_file-clause-fault g c =
+    let h = c.loop-i.invariant in
+    on_error c.from_residual-in_err-next_file.result _ c.in_err-next_file.field-0.0 c.from_residual-in_err-next_file.ensures.1 (inr (
+      c.loop-i.i,
+      omega (arith, c.loop-i-test.true, c.loop-i.auto.i),
+      record { readings = h.0; many = h.1; records = _; gathered = h.2; next = c.in_err-next_file.ensures.fault },
+    ))

@@ -8,10 +8,12 @@ returns-in-Ok-clause-done g c = λ status _.
     (c.in-Ok.request, c.in-Ok.ensures.asked, done.0, done.1)
 
 pub returns-in-Ok-clause-failed : goal.returns-in-Ok-clause-failed
-returns-in-Ok-clause-failed g c = λ status _. elim (c.list_files.ensures.failed status) [
-  | inl same ↦ inl same
-  | inr front ↦ inr (c.in-Ok.request, c.in-Ok.ensures.asked, front)
-]
+returns-in-Ok-clause-failed g c = λ status _.
+    let why = c.list_files.ensures.failed status in
+    inr (c.in-Ok.request, c.in-Ok.ensures.asked, why.0, why.1)
+
+pub returns-in-Err-clause-failed : goal.returns-in-Err-clause-failed
+returns-in-Err-clause-failed g c = λ status _. inl refl
 
 pub returns-in-Err-clause-misused : goal.returns-in-Err-clause-misused
 returns-in-Err-clause-misused g c = λ status. (
