@@ -2,14 +2,15 @@
 # What `futoncrane count` takes beside the program alone: one plain file against `kmc < file`, and one gzip file against `pigz -dc | kmc` and
 # `gzip -dc | kmc`. Prints a Markdown table: the least wall time of each, the least processor time, and ours as a part of the other.
 #
-# usage: bench/feeding.sh [READS [TURNS]]      (1500000 reads of 100: 0.3 GB; nine turns)
+# usage: bench/feeding.sh [READS [TURNS]]      (6000000 reads of 100: 1.3 GB; three turns)
 #
 # Wants GNU time and gzip; pigz where it is installed. The programs run in turn, with as many threads as there are processors. The dumps are
-# compared. The files are made in a folder of $TMPDIR or /tmp, which is removed at the end.
+# compared. The files are made in a folder of $TMPDIR or /tmp, which is removed at the end. Where TEXT names a file of so many reads, and
+# TEXT.gz is it by gzip, these are taken in their place.
 set -eu
 top=$(cd "$(dirname "$0")/.." && pwd)
-reads=${1:-1500000}
-turns=${2:-9}
+reads=${1:-6000000}
+turns=${2:-3}
 threads=$(nproc)
 [ "$threads" -le 16 ] || threads=16
 kmc="$top/kmc -k31 -cx9223372036854775808 -sp$threads -sr$threads"
@@ -19,8 +20,13 @@ futoncrane="$top/futoncrane/futoncrane count -k 31"
 work=$(mktemp -d)
 trap 'rm -rf "$work"' EXIT
 cd "$work"
-python3 "$top/bench/simulate_reads.py" "$reads" 100 5000000 1 > reads.fastq
-gzip -1 -c reads.fastq > reads.fastq.gz
+if [ -n "${TEXT:-}" ]; then
+    ln -s "$TEXT" reads.fastq
+    ln -s "$TEXT.gz" reads.fastq.gz
+else
+    python3 "$top/bench/simulate_reads.py" "$reads" 100 20000000 1 > reads.fastq
+    gzip -1 -c reads.fastq > reads.fastq.gz
+fi
 
 # timed NAME COMMAND: runs it, notes 'wall processor' under the name, and compares the dump with the first one
 timed() {

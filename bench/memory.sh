@@ -31,7 +31,9 @@ row "1.5 million reads of 100" short.fq -ci1000
 row "1.5 million reads of 100" short.fq -k25
 row "1.5 million reads of 100" short.fq "-k25 -ci1"
 row "1.5 million reads of 100" short.fq "-k50 -ci1"
+row "1.5 million reads of 100" short.fq -k5
 row "1.5 million reads of 100" short.fq -k9
+row "1.5 million reads of 100" short.fq -k12
 row "1.5 million reads of 100" short.fq "-k25 -cs1000000"
 row "10000 reads of 5000 to 25000" long.fq -ci1000
 row "10000 reads of 5000 to 25000" long.fq "-k25 -ci1"
