@@ -79,3 +79,12 @@ def test_300_dumps_are_summed(room):
         assert status == 0
         names.append(room.write("part %d" % part, dump))
     assert ended(room, "kmc_merge", *names) == (0, plainly(content(READS), 25), b"")
+
+
+def test_a_run_of_many_rounds_is_counted(room):
+    reads = content(READS).splitlines()[1::4]
+    copies = 1 + 30 * 10**6 // sum(map(len, reads))
+    assert len(reads) * copies >= 100000
+    once = [line.split(b"\t") for line in plainly(content(READS), 25, 1, MOST, MOST).splitlines()]
+    wanted = b"".join(b"%b\t%d\n" % (word, int(count) * copies) for word, count in once)
+    assert ended(room, "kmc", "-ci1", "-cx%d" % MOST, "-cs%d" % MOST, text=content(READS) * copies) == (0, wanted, b"")
