@@ -42,7 +42,7 @@ def one_of_many(number, symbols):
 # options and text
 TEXTS = {
     "small": ([b"-k4", b"-ci1", b"-n7"], b"@r\nACGTACGTTTGACGATTACA\n+\nIIIIIIIIIIIIIIIIIIII\n"),
-    "three waves": ([b"-k14", b"-ci1", b"-n8", b"-sp1", b"-sr1"], one_of_many(70000, 140000)),
+    "three waves": ([b"-k14", b"-ci1", b"-n8", b"-sp1", b"-sr1"], one_of_many(140000, 280000)),
 }
 DUMPS = {size: fuzz.answer_of(*text)[1] for size, text in TEXTS.items()}
 

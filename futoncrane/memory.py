@@ -7,7 +7,7 @@ from futoncrane.faults import Fault
 MEGA = 10**6
 ROUNDS = (20 * MEGA, 150 * MEGA)
 BYTES_OF_A_SYMBOL = 1.2
-BYTES_OF_A_COUNTER = 7 * MEGA
+BYTES_OF_A_COUNTER = 13 * MEGA
 # addresses are asked for that are not used: so many for each byte that is, and for each thread
 ADDRESSES_OF_A_BYTE = 2
 ADDRESSES_OF_A_THREAD = 10 * MEGA

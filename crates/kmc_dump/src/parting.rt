@@ -10,8 +10,9 @@ use crate::word_size::WordSize;
 use kmc_base::Word;
 use std::alloc::{AllocError, Global};
 
-/// Slots that follow one another are one range while they have no more pairs than this.
-const USUAL: usize = 65536;
+/// Slots that follow one another are one range while they have no more pairs than this: so many that the threads which fill
+/// buffers work for longer than they take to begin.
+const USUAL: usize = 131072;
 
 /// The least and the greatest number of leading symbols that tell a slot, where k has so many.
 const LEAST: usize = 6;
@@ -71,7 +72,7 @@ fn leading(total: usize, size: WordSize) -> usize
     symbols.min(size.k)
 }
 
-/// Ranges of about 64 Ki pairs for lists that have so many pairs in all. The leading symbols of a word tell its slot. It takes
+/// Ranges of about 128 Ki pairs for lists that have so many pairs in all. The leading symbols of a word tell its slot. It takes
 /// memory for a number for each slot, 8 MiB at the most, and fails only where that is refused.
 pub fn part_words<W: Word + Drop, C: Shown + Drop>(
     alloc: Global,

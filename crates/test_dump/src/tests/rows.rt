@@ -134,11 +134,11 @@ fn random_reads_have_the_dump_of_their_direct_count(rt: HostRuntime) -> Result<(
 #[test]
 fn several_waves_have_the_dump_of_their_direct_count(rt: HostRuntime) -> Result<(), Fail> {
     let alloc = rt.alloc();
-    // three ranges of 64 Ki pairs, the last one short
-    let reads = thrown_alone(alloc, &mut Dice { state: 37 }, 140_000)?;
+    // three ranges of 128 Ki pairs, the last one short
+    let reads = thrown_alone(alloc, &mut Dice { state: 37 }, 280_000)?;
     for (k, threads) in [(14, 1), (14, 2), (40, 2)] {
         let lines = assert_direct(&rt, alloc, &reads, &settings(k, 255, threads)?)?;
-        assert!(rt; lines > 2 * 65536);
+        assert!(rt; lines > 2 * 131_072);
     }
     Ok(())
 }
