@@ -83,10 +83,10 @@ def framed(number, body):
 def test_records_of_another_bin_are_told_with_their_place(room):
     program("kmc_list")
     whole = worked_file()
-    # the records of ACGT, which is a word of bin 6, and of GTAC, a word of bin 2
-    first, second = b"\0\x1b", b"\0\xb1"
+    # the records of ACGT, which is a word of bin 6, and of GTAC, a word of bin 2; those of the worked file in bin 6
+    first, second, worked = b"\0\x1b", b"\0\xb1", b"\1\x1b\0\1\xc6\xc0"
     header, end = whole[:28], struct.pack("<HHIQ", 65535, 0, 0, 2)
-    assert header + framed(2, second) + framed(6, first + first) + end == whole
+    assert header + framed(2, second) + framed(6, worked) + end == whole
     for bodies, told in (((first, first), "bin 2: the record at byte 0 has words of another bin"), ((second, first + second), "bin 6: the record at byte 2 has words of another bin"),
                          ((second[:1], second), "bin 2: the record at byte 0 is damaged"), ((second, first + first[:1]), "bin 6: the record at byte 2 is damaged")):
         room.write("a", header + framed(2, bodies[0]) + framed(6, bodies[1]) + end)
