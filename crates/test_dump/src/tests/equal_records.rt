@@ -256,7 +256,7 @@ fn assert_many_plain<R: Abort + Threads + Sync>(
     alloc: Global,
     strands: Strands,
 ) -> Result<(), Fail> {
-    for k in [1, 4, 5, 7] {
+    for k in [1_usize, 4, 5, 7] {
         let mut dice = Dice { state: 71 };
         let mut body = Vec::new(alloc);
         for _ in 0..700 {
