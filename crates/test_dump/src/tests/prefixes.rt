@@ -75,7 +75,7 @@ fn crowded(alloc: Global, count: usize) -> Result<Vec<Vec<u8>>, AllocError> {
 /// No prefix that is looked at parts these words, and together they are more than a range should have.
 #[test]
 fn a_crowded_prefix_is_one_range(rt: HostRuntime) -> Result<(), Fail> {
-    let reads = crowded(rt.alloc(), 140_000)?;
+    let reads = crowded(rt.alloc(), 160_000)?;
     let params = settings(20, 255, 2)?.with_strands(Strands::Apart);
     let lines = assert_direct(&rt, rt.alloc(), &reads, &params)?;
     assert!(rt; lines > 131_072);
