@@ -73,7 +73,7 @@ ROWS = (
     ("100 reads, all bins", [b"-k25"], simulated(100, 80), True),
     ("4200 reads", [b"-k11", b"-n8"], simulated(4200, 30, 3), True),
     ("17000 reads", [b"-k11", b"-n8"], simulated(17000, 30), False),
-    ("3 rounds, 2 waves", [b"-k14", b"-ci1", b"-n8"], far_apart(70000, 140000), True),
+    ("3 rounds, 2 waves", [b"-k14", b"-ci1", b"-n8"], far_apart(280000, 140000), True),
 )
 
 

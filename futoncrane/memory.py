@@ -1,11 +1,16 @@
 """How much memory a run takes, and whether it fits: the figures are README's, 'Limits', which were measured."""
 import collections
+import math
 import os
 
 from futoncrane.faults import Fault
 
 MEGA = 10**6
-ROUNDS = (20 * MEGA, 150 * MEGA)
+# the least and the most that rounds take, and what comes with each symbol: of one run, and of the cut to files of records
+ROUNDS = (20 * MEGA, 70 * MEGA, 0.2)
+ROUNDS_OF_A_CUT = (20 * MEGA, 150 * MEGA, 3)
+# of the records, while reads are cut and while their k-mers are listed
+BYTES_OF_A_SYMBOL_CUT = 1.1
 BYTES_OF_A_SYMBOL = 1.2
 BYTES_OF_A_COUNTER = 13 * MEGA
 # addresses are asked for that are not used: so many for each byte that is, and for each thread
@@ -15,8 +20,9 @@ ADDRESSES_OF_A_THREAD = 10 * MEGA
 LISTED_WITH_ERRORS = 0.5
 LISTED_WITHOUT = 0.1
 MOST_SLICES = 1000
-# how much greater than the mean the greatest slice is taken to be
-UNEVEN = 1.5
+# slices are of unequal size, as signatures are of unequal frequency: where the mean is 1, the greatest is taken to be 1, and
+# so much more for each time that the number of slices is doubled (as measured on sequences of which 41 in 100 letters are C or G)
+UNEVEN = 0.25
 # of the files of records: bytes of the disk for each symbol
 DISK_OF_A_SYMBOL = 1.1
 
@@ -39,20 +45,21 @@ def listing(symbols, listed, k, cap, threads):
     return BYTES_OF_A_SYMBOL * symbols + bytes_of_a_line(k, cap) * listed + BYTES_OF_A_COUNTER * threads
 
 
-def rounds(symbols):
+def rounds(symbols, bounds=ROUNDS):
     """The bytes of memory that reading takes beside the records."""
-    return min(ROUNDS[0] + 3 * symbols, ROUNDS[1])
+    least, most, more = bounds
+    return min(least + more * symbols, most)
 
 
 def wanted(symbols, listed, k, cap, threads):
     """The bytes of memory that one run takes: the greater of what it takes while it cuts, and while it lists."""
-    return int(max(BYTES_OF_A_SYMBOL * symbols + rounds(symbols), listing(symbols, listed, k, cap, threads)))
+    return int(max(BYTES_OF_A_SYMBOL_CUT * symbols + rounds(symbols), listing(symbols, listed, k, cap, threads)))
 
 
 def of_slice(slices, symbols, listed, k, cap, threads):
     """The bytes of memory that one of so many slices takes: the greater of what cutting all takes, and listing the greatest slice."""
-    share = UNEVEN / slices
-    return int(max(rounds(symbols), listing(symbols * share, listed * share, k, cap, threads)))
+    share = (1 + UNEVEN * math.log2(slices)) / slices
+    return int(max(rounds(symbols, ROUNDS_OF_A_CUT), listing(symbols * share, listed * share, k, cap, threads)))
 
 
 def plan(symbols, listed, k, cap, threads, room):

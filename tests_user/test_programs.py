@@ -83,8 +83,8 @@ def test_300_dumps_are_summed(room):
 
 def test_a_run_of_many_rounds_is_counted(room):
     reads = content(READS).splitlines()[1::4]
-    copies = 1 + 30 * 10**6 // sum(map(len, reads))
-    assert len(reads) * copies >= 100000
+    # a round of one splitter has 65536 reads
+    copies = 1 + 150000 // len(reads)
     once = [line.split(b"\t") for line in plainly(content(READS), 25, 1, MOST, MOST).splitlines()]
     wanted = b"".join(b"%b\t%d\n" % (word, int(count) * copies) for word, count in once)
-    assert ended(room, "kmc", "-ci1", "-cx%d" % MOST, "-cs%d" % MOST, text=content(READS) * copies) == (0, wanted, b"")
+    assert ended(room, "kmc", "-ci1", "-cx%d" % MOST, "-cs%d" % MOST, "-sp1", text=content(READS) * copies) == (0, wanted, b"")

@@ -30,14 +30,14 @@ def read_of(*sequences):
 def worked_file():
     """The bytes of the example in docs/DEFINITIONS.md."""
     text = content(os.path.join(TOP, "docs", "DEFINITIONS.md")).decode()
-    lines = text[text.index("4B 4D 43 53 4C 49 43 45"):].split("\n\n")[0].splitlines()
-    return b"".join(bytes.fromhex(re.match(r" *((?:[0-9A-F]{2}(?: |$))+)", line)[1]) for line in lines)
+    lines = text[text.index("4b 4d 43 53 4c 49 43 45"):].split("\n\n")[0].splitlines()
+    return b"".join(bytes.fromhex(re.match(r" *((?:[0-9a-f]{2}(?: |$))+)", line)[1]) for line in lines)
 
 
 def test_the_worked_file_is_cut(room):
     wanted = worked_file()
-    assert len(wanted) == 84
-    assert cut(room, "a", read_of(b"ACGTACGT"), "-k4", "-n7", "-slices2")[0] == wanted
+    assert len(wanted) == 81
+    assert cut(room, "a", read_of(b"ACGTCCGG"), "-k4", "-n7", "-slices1") == [wanted]
 
 
 def refused(room, name):
@@ -51,7 +51,7 @@ def refused(room, name):
 def test_each_byte_left_out_doubled_or_changed_is_refused(room):
     program("kmc_list")
     source = random.Random(5)
-    files = [*cut(room, "a", read_of(b"ACGTACGT"), "-k4", "-n7", "-slices2"), cut(room, "b", read_of(b"GATTACAGATTACAGCCTGA"), "-k9", "-n5", "-slices1")[0]]
+    files = [*cut(room, "a", read_of(b"ACGTCCGG"), "-k4", "-n7", "-slices2"), cut(room, "b", read_of(b"GATTACAGATTACAGCCTGA"), "-k9", "-n5", "-slices1")[0]]
     for whole in files:
         assert 44 <= len(whole) <= 160, len(whole)
         for place, byte in enumerate(whole):
@@ -83,13 +83,13 @@ def framed(number, body):
 def test_records_of_another_bin_are_told_with_their_place(room):
     program("kmc_list")
     whole = worked_file()
-    # the records of ACGT, which is a word of bin 6, and of GTAC, a word of bin 2; those of the worked file in bin 6
-    first, second, worked = b"\0\x1b", b"\0\xb1", b"\1\x1b\0\1\xc6\xc0"
+    # the records of CCGG, which is a word of bin 1, and of ACGT, a word of bin 0; that of the worked file in bin 0
+    first, second, worked = b"\0\x5a", b"\0\x1b", b"\3\x1b\x58"
     header, end = whole[:28], struct.pack("<HHIQ", 65535, 0, 0, 2)
-    assert header + framed(2, second) + framed(6, worked) + end == whole
-    for bodies, told in (((first, first), "bin 2: the record at byte 0 has words of another bin"), ((second, first + second), "bin 6: the record at byte 2 has words of another bin"),
-                         ((second[:1], second), "bin 2: the record at byte 0 is damaged"), ((second, first + first[:1]), "bin 6: the record at byte 2 is damaged")):
-        room.write("a", header + framed(2, bodies[0]) + framed(6, bodies[1]) + end)
+    assert header + framed(0, worked) + framed(1, first) + end == whole
+    for bodies, told in (((first, first), "bin 0: the record at byte 0 has words of another bin"), ((second, first + second), "bin 1: the record at byte 2 has words of another bin"),
+                         ((second[:1], second), "bin 0: the record at byte 0 is damaged"), ((second, first + first[:1]), "bin 1: the record at byte 2 is damaged")):
+        room.write("a", header + framed(0, bodies[0]) + framed(1, bodies[1]) + end)
         done = subprocess.run([program("kmc_list"), "-ci1", "a"], cwd=room.folder, stdin=subprocess.DEVNULL, stdout=subprocess.PIPE, stderr=subprocess.PIPE,
                               timeout=LONG, check=False)
         assert (done.returncode, done.stdout, done.stderr.decode()) == (1, b"", "kmc_list: %s\n" % told), done

@@ -3,8 +3,7 @@ use Rattle.std.proofs.Common.{◌≡◌, ℕ, ◌+◌, ◌*◌, ◌/◌, ◌^◌
 use Rattle.std.proofs.lemmas.List.Sorted.{sum_by-IsPermutation, All-permutation}
 use Rattle.std.proofs.lemmas.List.Sums.{sum_by-cons}
 use Rattle.std.specs.List.{sum_by, All}
-use Rattle.std.specs.List.Sorted.{IsPermutation, IsSorted}
-use Rattle.std.specs.Ordering.{nat_cmp}
+use Rattle.std.specs.List.Sorted.{IsPermutation}
 use Rattle.kmc_base.specs.declared.strands.Strands.{Strands}
 use Rattle.kmc_base.specs.Packed.{unpack}
 use Rattle.kmc_base.specs.Weights.{item, items, item_weight, worth}
@@ -15,7 +14,7 @@ use Rattle.kmc_record.specs.Lemmas.Taken.{moved_keys}
 use Rattle.kmc_count.specs.declared.limits.Limits.{Limits}
 use Rattle.kmc_count.specs.Occurrences.{same_word, occurrences, weight_of}
 use Rattle.kmc_count.specs.Dump.{IsDump}
-use Rattle.kmc_count.specs.Bodies.{AreItemsOfBody, AreSortedItems, IsDumpOfBody}
+use Rattle.kmc_count.specs.Bodies.{AreItemsOfBody, IsDumpOfBody}
 use Rattle.kmc_count.specs.Tables.{ComeToAsMuch}
 use Rattle.kmc_count.specs.Lemmas.Runs.{weight_of_cons}
 
@@ -65,20 +64,18 @@ module _ (strands : Strands) (k f : ℕ) where
   }
 
   -- items that are moved
-  pub items_sorted : (body all rising : List ℕ) → AreItemsOfBody strands k f body all → IsPermutation all rising → IsSorted nat_cmp rising
-      → AreSortedItems strands k f body rising
-  items_sorted body all rising are moved up = record {
+  pub items_moved : (body all moved : List ℕ) → IsPermutation all moved → AreItemsOfBody strands k f body all → AreItemsOfBody strands k f body moved
+  items_moved body all moved moves are = record {
     super_kmers = are.super_kmers;
     records = are.records;
     each = λ g.
-        let same : worth g (items k f rising) ≡ worth g (items k f all) =
-        worth_is k f g rising ∙ sum_by-IsPermutation (λ n. item_weight f n * g (unpack k (n / 2 ^ f))) all rising moved ∙ sym (worth_is k f g all) in
+        let same : worth g (items k f moved) ≡ worth g (items k f all) =
+        worth_is k f g moved ∙ sum_by-IsPermutation (λ n. item_weight f n * g (unpack k (n / 2 ^ f))) all moved moves ∙ sym (worth_is k f g all) in
         omega (arith, same, are.each g);
-    fit = All-permutation (λ n. n / 2 ^ f < 4 ^ k) all rising moved are.fit;
-    sorted = up;
+    fit = All-permutation (λ n. n / 2 ^ f < 4 ^ k) all moved moves are.fit;
   }
 
-  pub body_dump : (body ns : List ℕ) (l : Limits) (pairs : List (List ℕ × ℕ)) → AreSortedItems strands k f body ns → IsDump
+  pub body_dump : (body ns : List ℕ) (l : Limits) (pairs : List (List ℕ × ℕ)) → AreItemsOfBody strands k f body ns → IsDump
       (weight_of (items k f ns)) l pairs → IsDumpOfBody strands k l body pairs
   body_dump body ns l pairs are dump = record {
     super_kmers = are.super_kmers;

@@ -1,8 +1,6 @@
 -- What is counted in bodies of records.
 use Rattle.std.specs.Prelude.{◌≡◌, ℕ, ◌<◌, ◌⊎◌, List, [], length, take, slice_index_or}
 use Rattle.std.specs.List.{All, AllZip, sum_by}
-use Rattle.std.specs.List.Sorted.{IsSorted}
-use Rattle.std.specs.Ordering.{nat_cmp}
 use Rattle.kmc_base.specs.Weights.{items, worth, AreItems}
 use Rattle.kmc_base.specs.declared.strands.Strands.{Strands}
 use Rattle.kmc_record.specs.declared.fault.RecordFault.{RecordFault}
@@ -20,14 +18,6 @@ pub record AreItemsOfBody (strands : Strands) (k f : ℕ) (body numbers : List �
   pub records : IsBodyOf k super_kmers body
   pub each : (g : List ℕ → ℕ) → worth g (items k f numbers) ≡ sum_by g (record_keys strands k super_kmers)
   pub fit : AreItems k f numbers
-
--- the body is whole records, and the items, rising, come to the keys of all their words
-pub record AreSortedItems (strands : Strands) (k f : ℕ) (body numbers : List ℕ) : Type 0 where
-  pub super_kmers : List (List ℕ)
-  pub records : IsBodyOf k super_kmers body
-  pub each : (g : List ℕ → ℕ) → worth g (items k f numbers) ≡ sum_by g (record_keys strands k super_kmers)
-  pub fit : AreItems k f numbers
-  pub sorted : IsSorted nat_cmp numbers
 
 -- the body is whole records, and the pairs are the dump of the keys of their words
 pub record IsDumpOfBody (strands : Strands) (k : ℕ) (l : Limits) (body : List ℕ) (pairs : List (List ℕ × ℕ)) : Type 0 where

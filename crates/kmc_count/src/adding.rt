@@ -1,5 +1,5 @@
 //! Items of short words, those of equal words added up: a counter for each word takes the place of a sort.
-ghost use Rattle.std.specs.Prelude.{◌≡◌, ℕ, ◌+◌, ◌*◌, ◌/◌, ◌^◌, ◌<◌, ◌≤◌, ◌++◌, ◌∷◌, [], List, map, drop, length, replicate, true, OnOk, IsErrOf};
+ghost use Rattle.std.specs.Prelude.{◌≡◌, ℕ, ◌+◌, ◌*◌, ◌/◌, ◌^◌, ◌<◌, ◌≤◌, ◌++◌, ◌∷◌, [], List, map, drop, length, replicate, true, OnOk, IfOk, IsErrOf};
 ghost use Rattle.kmc_base.specs.Weights.{items, worth, AreItems};
 ghost use Rattle.kmc_record.specs.Faults.{IsFirstFault};
 ghost use Rattle.kmc_record.specs.declared.fault.RecordFault.{RecordFault};
@@ -9,19 +9,19 @@ ghost use Rattle.kmc_count.specs.Tables.{table_worth, ComeToAsMuch, IsTable, Tak
 use crate::room::CountingRoom;
 use kmc_base::{KeyRule, MOST_WEIGHT_BITS, Weight, Word};
 use kmc_record::{BodyError, take_words};
-use std::alloc::AllocError;
+use std::alloc::{AllocError, Global};
 
 /// The most symbols of a word that has a counter: the counters of all words of 12 symbols take 64 MiB.
-const MOST_SYMBOLS: usize = 12;
+pub const MOST_TABLE_SYMBOLS: usize = 12;
 
 /// A table is worth its while where it has at most so many counters for each byte of the body.
 const COUNTERS_OF_A_BYTE: usize = 8;
 
 /// Whether the words of a body of so many bytes are counted in a table.
-pub(crate) fn takes_table(k: usize, bytes: usize) -> bool
-    ensures { result ≡ true → k ≤ MOST_SYMBOLS }
+pub fn takes_table(k: usize, bytes: usize) -> bool
+    ensures { result ≡ true → k ≤ MOST_TABLE_SYMBOLS }
 {
-    k <= MOST_SYMBOLS && (1 << (2 * k)) / COUNTERS_OF_A_BYTE <= bytes
+    k <= MOST_TABLE_SYMBOLS && (1 << (2 * k)) / COUNTERS_OF_A_BYTE <= bytes
 }
 
 /// Adds an item to the counter of its word. Where that is full, what it counted becomes an item, and it begins anew.
@@ -33,7 +33,7 @@ fn add_item<W: Word + Drop>(
     bits: u32,
 ) -> Result<(), AllocError>
     requires some { 1 ≤ k }
-    requires most { k ≤ MOST_SYMBOLS }
+    requires most { k ≤ MOST_TABLE_SYMBOLS }
     requires beside { 2 * k + bits ≤ 2 * W.most }
     requires bits { bits ≤ MOST_WEIGHT_BITS }
     requires table { IsTable k bits table.old }
@@ -67,7 +67,7 @@ fn add_items<W: Word + Drop>(
     bits: u32,
 ) -> Result<(), AllocError>
     requires some { 1 ≤ k }
-    requires most { k ≤ MOST_SYMBOLS }
+    requires most { k ≤ MOST_TABLE_SYMBOLS }
     requires beside { 2 * k + bits ≤ 2 * W.most }
     requires bits { bits ≤ MOST_WEIGHT_BITS }
     requires table { IsTable k bits table.old }
@@ -89,7 +89,7 @@ fn push_counters<W: Word + Drop>(
     bits: u32,
 ) -> Result<(), AllocError>
     requires some { 1 ≤ k }
-    requires most { k ≤ MOST_SYMBOLS }
+    requires most { k ≤ MOST_TABLE_SYMBOLS }
     requires beside { 2 * k + bits ≤ 2 * W.most }
     requires bits { bits ≤ MOST_WEIGHT_BITS }
     requires table { IsTable k bits table.now }
@@ -114,7 +114,7 @@ fn push_counters<W: Word + Drop>(
 
 /// Makes the table of counters, each 0, in its room.
 fn make_table(table: &mut Vec<u32>, k: usize) -> Result<(), AllocError>
-    requires { k ≤ MOST_SYMBOLS }
+    requires { k ≤ MOST_TABLE_SYMBOLS }
     ensures { OnOk result (table.new.items ≡ replicate (4 ^ k) 0) }
 {
     table.clear();
@@ -132,7 +132,7 @@ pub(crate) fn add_up<W: Word + Drop>(
     bits: u32,
 ) -> Result<(), AllocError>
     requires some { 1 ≤ k }
-    requires most { k ≤ MOST_SYMBOLS }
+    requires most { k ≤ MOST_TABLE_SYMBOLS }
     requires beside { 2 * k + bits ≤ 2 * W.most }
     requires bits { bits ≤ MOST_WEIGHT_BITS }
     requires fit { AreItems k bits (map W.number items.old.items) }
@@ -156,7 +156,7 @@ const ITEMS_OF_A_COUNTER: usize = 2;
 
 /// How many items of short words may wait before they are added up.
 fn most_items(k: usize) -> usize
-    requires { k ≤ MOST_SYMBOLS }
+    requires { k ≤ MOST_TABLE_SYMBOLS }
 {
     FEWEST_ITEMS.max(ITEMS_OF_A_COUNTER << (2 * k))
 }
@@ -169,7 +169,7 @@ pub(crate) fn take_and_add<W: Word + Drop>(
     rule: KeyRule,
     bits: u32,
 ) -> Result<(), BodyError>
-    requires most { rule.k ≤ MOST_SYMBOLS }
+    requires most { rule.k ≤ MOST_TABLE_SYMBOLS }
     requires beside { 2 * rule.k + bits ≤ 2 * W.most }
     requires bits { bits ≤ MOST_WEIGHT_BITS }
     ensures ok { OnOk result (AreItemsOfBody rule.strands rule.k bits body.now
@@ -197,4 +197,29 @@ pub(crate) fn take_and_add<W: Word + Drop>(
     }
     add_up(items, table, over, k, bits)?;
     Ok(())
+}
+
+/// The words of a body as items, for words that are short enough for a table: those of equal words are added up. How often a word
+/// comes is the sum of the weights of its items, which stand in no order. Items of bodies that are put behind one another are those
+/// of the bodies joined.
+pub fn added_items<W: Word + Drop>(
+    alloc: Global,
+    body: &[u8],
+    rule: KeyRule,
+    bits: u32,
+) -> Result<Vec<W>, BodyError>
+    requires most { rule.k ≤ MOST_TABLE_SYMBOLS }
+    requires beside { 2 * rule.k + bits ≤ 2 * W.most }
+    requires bits { bits ≤ MOST_WEIGHT_BITS }
+    ensures ok { IfOk result (λ items. AreItemsOfBody rule.strands rule.k bits body.now
+        (map W.number items.items)) }
+    ensures damaged { (fault : RecordFault) (offset : ℕ)
+        → IsErrOf result (BodyError.Damaged fault offset)
+        → IsFirstFault rule.k fault offset body.now }
+    ensures memory { IsErrOf result BodyError.Memory → WantsMemory rule.k body.now }
+{
+    let mut room = CountingRoom::new(alloc);
+    take_and_add(&mut room, body, rule, bits)?;
+    let CountingRoom { items, .. } = room;
+    Ok(items)
 }

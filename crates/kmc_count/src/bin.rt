@@ -1,9 +1,10 @@
-//! The count of a bin: equal records once, and their words with weights in one list, sorted.
-ghost use Rattle.std.specs.Prelude.{◌≡◌, ℕ, ◌+◌, ◌*◌, ◌≤◌, [], map, OnOk, IsErrOf};
+//! The count of a bin: equal records once, their words with weights as items in one list, and the dump of items.
+ghost use Rattle.std.specs.Prelude.{◌≡◌, ℕ, ◌+◌, ◌*◌, ◌≤◌, [], List, map, OnOk, IsErrOf};
 ghost use Rattle.std.specs.List.Sorted.{IsPermutation};
+ghost use Rattle.kmc_base.specs.Weights.{AreItems};
 ghost use Rattle.kmc_record.specs.Faults.{IsFirstFault};
 ghost use Rattle.kmc_record.specs.declared.fault.RecordFault.{RecordFault};
-ghost use Rattle.kmc_count.specs.Bodies.{AreItemsOfBody, AreSortedItems, IsDumpOfBody, WantsMemory};
+ghost use Rattle.kmc_count.specs.Bodies.{AreItemsOfBody, IsDumpOfBody, WantsMemory};
 
 use crate::adding::{take_and_add, takes_table};
 use crate::limits::Limits;
@@ -12,6 +13,7 @@ use crate::room::CountingRoom;
 use crate::tallying::tally;
 use kmc_base::{KeyRule, MOST_WEIGHT_BITS, Word};
 use kmc_record::{BodyError, push_rows, take_body};
+use std::alloc::AllocError;
 
 /// Sorts the numbers of records, by the faster way for their width where there is memory for that.
 fn sort_numbers(numbers: &mut Vec<u128>)
@@ -50,8 +52,8 @@ fn take_and_sort<W: Word + Drop>(
     Ok(())
 }
 
-/// The words of a body as sorted items. Many short words are added up in a table.
-fn sorted_items<W: Word + Drop>(
+/// The words of a body as items. Many short words are added up in a table.
+fn take_items<W: Word + Drop>(
     room: &mut CountingRoom<W>,
     body: &[u8],
     rule: KeyRule,
@@ -60,7 +62,7 @@ fn sorted_items<W: Word + Drop>(
     requires most { rule.k ≤ W.most }
     requires beside { 2 * rule.k + bits ≤ 2 * W.most }
     requires bits { bits ≤ MOST_WEIGHT_BITS }
-    ensures ok { OnOk result (AreSortedItems rule.strands rule.k bits body.now
+    ensures ok { OnOk result (AreItemsOfBody rule.strands rule.k bits body.now
         (map W.number room.new.items.items)) }
     ensures damaged { (fault : RecordFault) (offset : ℕ)
         → IsErrOf result (BodyError.Damaged fault offset)
@@ -68,12 +70,32 @@ fn sorted_items<W: Word + Drop>(
     ensures memory { IsErrOf result BodyError.Memory → WantsMemory rule.k body.now }
 {
     if takes_table(rule.k, body.len()) {
-        take_and_add(room, body, rule, bits)?;
+        take_and_add(room, body, rule, bits)
     } else {
-        take_and_sort(room, body, rule, bits)?;
+        take_and_sort(room, body, rule, bits)
     }
-    W::sort(&mut room.items);
-    Ok(())
+}
+
+/// Puts the dump of items into an empty list of pairs, and sorts the items for that.
+pub fn dump_items<W: Word + Drop, L: PairList<W>>(
+    items: &mut Vec<W>,
+    pairs: &mut L,
+    rule: KeyRule,
+    bits: u32,
+    limits: &Limits,
+) -> Result<(), AllocError>
+    requires takes { L.takes rule.k pairs.old }
+    requires empty { L.pairs pairs.old ≡ [] }
+    requires wide { limits.now.cs ≤ L.greatest }
+    requires bits { bits ≤ MOST_WEIGHT_BITS }
+    requires fit { AreItems rule.k bits (map W.number items.old.items) }
+    ensures takes { OnOk result (L.takes rule.k pairs.new) }
+    ensures ok { (body : List ℕ)
+        → AreItemsOfBody rule.strands rule.k bits body (map W.number items.old.items)
+        → OnOk result (IsDumpOfBody rule.strands rule.k limits.now body (L.pairs pairs.new)) }
+{
+    W::sort(items);
+    tally(pairs, items, rule, bits, limits)
 }
 
 /// Puts the dump of a body into an empty list of pairs. The room may be used again for the next body.
@@ -97,7 +119,7 @@ pub fn count_into<W: Word + Drop, L: PairList<W>>(
     ensures memory { IsErrOf result BodyError.Memory → WantsMemory rule.k body.now }
 {
     let bits = W::weight_bits(rule.k);
-    sorted_items(room, body, rule, bits)?;
-    tally(pairs, &room.items, rule, bits, limits)?;
+    take_items(room, body, rule, bits)?;
+    dump_items(&mut room.items, pairs, rule, bits, limits)?;
     Ok(())
 }

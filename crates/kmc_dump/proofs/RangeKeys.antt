@@ -1,5 +1,6 @@
 -- Pairs of a range as keys.
-use Rattle.std.proofs.Common.{◌≡◌, ℕ, ◌+◌, ◌-◌, ◌*◌, ◌/◌, ◌%◌, ◌^◌, ◌<◌, ◌≤◌, List, [], ◌∷◌, ◌++◌, bit_and, All, length, get_or, map, take, drop, ap, sym, subst, ◌∙◌, arith, le_refl, mod-eq_of_lt, length-drop, append-nil}
+use Rattle.std.proofs.Common.{◌≡◌, ℕ, ◌+◌, ◌-◌, ◌*◌, ◌/◌, ◌%◌, ◌^◌, ◌<◌, ◌≤◌, List, [], ◌∷◌, ◌++◌, bit_and, All, length, get_or, map, take, drop, ap, sym}
+use Rattle.std.proofs.Common.{subst, ◌∙◌, arith, le_refl, mod-eq_of_lt, length-drop, append-nil}
 use Rattle.std.specs.List.Sorted.{IsSorted, IsNonDecreasingBy}
 use Rattle.std.specs.Ordering.{nat_cmp}
 use Rattle.std.proofs.Math.Nat.{add-mul}

@@ -12,6 +12,7 @@ ghost use Rattle.kmc_dump.specs.Bodies.{AreListsOfBodies, IsListAt};
 use crate::bin::list_body;
 use crate::counts::Counts;
 use crate::largest_first::LargestFirst;
+use crate::shared::{is_shared, list_shared_body};
 use crate::shown::Shown;
 use kmc_base::{KeyRule, Word};
 use kmc_count::{CountingRoom, Limits};
@@ -143,15 +144,36 @@ fn in_order<W: Word + Drop, C: Shown + Drop>(
     }
 }
 
-/// The list of each body, one after the other, in the same room.
-fn list_row<W: Word + Drop, C: Shown + Drop>(
+/// Whether a thread with the largest body alone would end after so many threads that count all bodies one after the other, the large
+/// ones together.
+fn has_giant(bodies: &[Vec<u8>], k: usize, threads: usize) -> bool {
+    let mut largest = 0;
+    let mut shared: usize = 0;
+    let mut alone: usize = 0;
+    for body in bodies {
+        let bytes = body.len();
+        largest = largest.max(bytes);
+        if is_shared(k, bytes) {
+            shared = shared.saturating_add(bytes);
+        } else {
+            alone = alone.saturating_add(bytes);
+        }
+    }
+    largest.saturating_sub(alone).saturating_mul(threads) > shared
+}
+
+/// The list of each body, one after the other, in the same room; so many threads count a large one together.
+fn list_row<R: Threads + Sync, W: Word + Drop + Send, C: Shown + Drop>(
+    rt: &R,
     alloc: Global,
     bodies: &[Vec<u8>],
     rule: KeyRule,
     limits: &Limits,
+    threads: usize,
 ) -> Result<Vec<Counts<W, C>>, BodyError>
     requires most { rule.k ≤ W.most }
     requires wide { limits.now.cs ≤ C.greatest }
+    requires threads { 1 ≤ threads }
     ensures ok { IfOk result (λ lists. AreListsOfBodies rule.strands rule.k limits.now
         (map (λ b. b.items) bodies.now) lists.items) }
     ensures damaged { (fault : RecordFault) (offset : ℕ)
@@ -161,7 +183,7 @@ fn list_row<W: Word + Drop, C: Shown + Drop>(
     let mut room: CountingRoom<W> = CountingRoom::new(alloc);
     let mut lists = Vec::new(alloc);
     for body in bodies {
-        let list = list_body(&mut room, alloc, body, rule, limits)?;
+        let list = list_shared_body(rt, &mut room, alloc, body, rule, limits, threads)?;
         match lists.push(list) {
             Ok(()) => {}
             Err(_) => return Err(BodyError::Memory),
@@ -170,8 +192,9 @@ fn list_row<W: Word + Drop, C: Shown + Drop>(
     Ok(lists)
 }
 
-/// The list of each body of a group, in the order of the bodies, by at most so many threads. Where one of them meets a fault or
-/// is refused memory, the calling thread counts the group anew, so that the fault is that of the first body that is damaged.
+/// The list of each body of a group, in the order of the bodies, by at most so many threads: each takes bodies, or where one body is
+/// so large that the other threads would wait for it, they count it together. Where one of them meets a fault or is refused memory,
+/// the bodies are counted anew, one after the other, so that the fault is that of the first body that is damaged.
 pub(crate) fn list_group<R: Threads + Sync, W: Word + Drop + Send, C: Shown + Drop + Send>(
     rt: &R,
     alloc: Global,
@@ -189,12 +212,12 @@ pub(crate) fn list_group<R: Threads + Sync, W: Word + Drop + Send, C: Shown + Dr
         → IsErrOf result (BodyError.Damaged fault offset)
         → IsFirstDamaged rule.k fault offset (map (λ b. b.items) bodies.now) }
 {
-    if threads > 1 {
+    if threads > 1 && !has_giant(bodies, rule.k, threads) {
         if let Ok(placed) = take_all(rt, alloc, bodies, rule, limits, threads) {
             if let Some(lists) = in_order(alloc, placed, bodies.len()) {
                 return Ok(lists);
             }
         }
     }
-    list_row(alloc, bodies, rule, &limits)
+    list_row(rt, alloc, bodies, rule, &limits, threads)
 }

@@ -16,6 +16,7 @@ mod lists;
 mod parting;
 mod range;
 mod ranges;
+mod shared;
 mod shown;
 mod slots;
 mod turn;

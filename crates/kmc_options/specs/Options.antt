@@ -31,9 +31,9 @@ pub record AreGiven (rows : List Row) (r : Params) : Type 0 where
   pub sp : value_of rows Sp ≡ Some r.sp
   pub sr : value_of rows Sr ≡ Some r.sr
 
--- the program's own queue: one storer, up to 64 parts of a splitter in the queue, 32768 reads of a round for each splitter
+-- the program's own queue: one storer, up to 64 parts of a splitter in the queue, 65536 reads of a round for each splitter
 abbrev pub HasProgramQueue : Params → Type 0
-HasProgramQueue r = (r.readers ≡ 1) × (r.per_writer ≡ 64) × (r.batch ≡ 32768)
+HasProgramQueue r = (r.readers ≡ 1) × (r.per_writer ≡ 64) × (r.batch ≡ 65536)
 
 -- why the options give no settings
 abbrev pub Faults : List Row → ParamsError → Type 0

@@ -50,7 +50,7 @@ const STORERS: usize = 1;
 const WAITING_PARTS: usize = 64;
 
 /// The reads of a round for each splitter: fewer make many small parts.
-const SPLITTER_READS: usize = 32768;
+const SPLITTER_READS: usize = 65536;
 
 /// The settings of a run that the words of a command line give, glued or in long form, with the program's own queue.
 pub fn settings(alloc: Global, argv: Vec<String>) -> Result<Params, ParamsError>

@@ -1,5 +1,6 @@
 -- Numbers of parts, the slots that they use, and the uses.
-use Rattle.std.proofs.Common.{◌≡◌, ℕ, suc, ◌+◌, ◌*◌, ◌/◌, ◌%◌, ◌<◌, ◌≤◌, ◌≢◌, sym, ap, ap₂, ◌∙◌, mod-lt, suc-mul, mul-le-mul_right, div-add-mod', lt_of_not-le, arith, rules}
+use Rattle.std.proofs.Common.{◌≡◌, ℕ, suc, ◌+◌, ◌*◌, ◌/◌, ◌%◌, ◌<◌, ◌≤◌, ◌≢◌, sym, ap, ap₂, ◌∙◌, mod-lt, suc-mul, mul-le-mul_right, div-add-mod'}
+use Rattle.std.proofs.Common.{lt_of_not-le, arith, rules}
 use mathlib.Core.Logic.{dite}
 use native.Mathlib.Decide.{dec_le}
 use native.Mathlib.Nat.{add-mod_right}

@@ -1,5 +1,6 @@
 -- What one call makes of the object, and of the live part that it holds.
-use Rattle.std.proofs.Common.{◌≡◌, ◌≢◌, ℕ, suc, ◌+◌, ◌-◌, ◌*◌, ◌<◌, ◌≤◌, eqb, cond, Bool, true, false, List, [], ◌∷◌, ◌++◌, length, drop, get_or, set, refl, sym, ap, ◌∙◌, subst, arith, add-zero, eq-eqb, length-append, length-set, get_or-set_same, get_or-set_other, ⊎_elim}
+use Rattle.std.proofs.Common.{◌≡◌, ◌≢◌, ℕ, suc, ◌+◌, ◌-◌, ◌*◌, ◌<◌, ◌≤◌, eqb, cond, Bool, true, false, List, [], ◌∷◌, ◌++◌, length, drop, get_or, set, refl}
+use Rattle.std.proofs.Common.{sym, ap, ◌∙◌, subst, arith, add-zero, eq-eqb, length-append, length-set, get_or-set_same, get_or-set_other, ⊎_elim}
 use Rattle.std.proofs.lemmas.List.{append-nil, get_or_read, get_or-replicate}
 use Rattle.std.proofs.lemmas.Bool.Decides.{eqb_tells}
 use Rattle.std.proofs.lemmas.Grind.{common_steps}
@@ -15,7 +16,8 @@ use Rattle.kmc_partcore.specs.declared.event.Received.{Received}
 use Rattle.kmc_partcore.specs.History.{Entry, Leaving, registers, completes, item_accepted, item_left}
 use Rattle.kmc_partcore.specs.State.{LiveWriter, LiveQueue, state_of, live_of, advanced, live_after}
 use Rattle.kmc_partcore.specs.Legal.{Fits, FitsPut, FitsTake}
-use Rattle.kmc_plain_queue.specs.CoreState.{CoreState, IsCore, AllKnown, unknown, counters_of, items_of, live_writer, live_in, queued, Becomes, Holds, MovesOn, opening}
+use Rattle.kmc_plain_queue.specs.CoreState.{CoreState, IsCore, AllKnown, unknown, counters_of, items_of, live_writer, live_in, queued, Becomes, Holds}
+use Rattle.kmc_plain_queue.specs.CoreState.{MovesOn, opening}
 use Rattle.kmc_plain_queue.proofs.Advancing.{live_advances}
 use Rattle.kmc_plain_queue.proofs.Room.{items_push, known_push, length_room}
 

@@ -31,7 +31,7 @@ impl Model for Shape {
 }
 
 impl Shape {
-    /// The shape for words of 1 to 64 symbols, m-mers of p symbols, 1 to 11, or of k where that is less, and 1 to 2000
+    /// The shape for words of 1 to 64 symbols, m-mers of p symbols, 1 to 8, or of k where that is less, and 1 to 2000
     /// bins; none beyond these limits.
     pub fn new(k: usize, p: usize, n: usize) -> Option<Shape>
         ensures { MatchOption result (¬ (AreWithinLimits k p n))

@@ -9,18 +9,20 @@ use kmc_count::Limits;
 use kmc_partcore::{MAX_PER_WRITER, MAX_READERS, QueueShape};
 use kmc_reads::Format;
 use kmc_record::Shape;
+use kmc_split::MAX_M;
 
 /// Most reads of a round for each splitter.
 pub const MAX_BATCH: usize = 65536;
 
 /// The symbols of a signature of words of at most `SHORT_WORD` symbols.
-const SHORT_SIGNATURE: usize = 3;
+const SHORT_SIGNATURE: usize = 1;
 
-const SHORT_WORD: usize = 9;
+const SHORT_WORD: usize = 10;
 
-/// The symbols of a signature of words of `MIDDLE_WORD` symbols, and of those that are a little shorter.
-const MIDDLE_SIGNATURE: usize = 5;
+/// So many more have those of longer words.
+const MIDDLE_MORE: usize = 4;
 
+/// And one more for each symbol above so many.
 const MIDDLE_WORD: usize = 14;
 
 const READERS: usize = 1;
@@ -41,7 +43,7 @@ pub struct Params {
     pub limits: Limits,
     /// The symbols of a counted word, 1 to 64.
     pub k: usize,
-    /// The most symbols of a signature, 5 to 11.
+    /// The most symbols of a signature, 5 to 11; more than 8 are as 8.
     pub p: usize,
     /// The bins, 1 to 2000.
     pub n: usize,
@@ -100,15 +102,15 @@ impl Params {
         })
     }
 
-    /// How the reads of a chunk are cut into parts. Short words have short signatures, so that neighbours share one: 3 symbols where
-    /// a word has at most 9, 5 from 11 to 14, and one more for each symbol above, up to the setting. The dump is the same for every
-    /// length.
+    /// How the reads of a chunk are cut into parts. Short words have short signatures, so that neighbours share one: one symbol where
+    /// a word has at most 10, 5 from 11 to 14, and one more for each symbol above, up to the setting and to 8. The dump is the same for
+    /// every length.
     pub fn shape(&self) -> Shape
         ensures { result ≡ shape_of self.now }
     {
-        let short = SHORT_SIGNATURE + self.k.saturating_sub(SHORT_WORD);
-        let most = MIDDLE_SIGNATURE.min(short) + self.k.saturating_sub(MIDDLE_WORD);
-        match Shape::new(self.k, self.p.min(most), self.n) {
+        let middle = MIDDLE_MORE.min(MIDDLE_MORE * self.k.saturating_sub(SHORT_WORD));
+        let most = SHORT_SIGNATURE + middle + self.k.saturating_sub(MIDDLE_WORD);
+        match Shape::new(self.k, self.p.min(most).min(MAX_M), self.n) {
             Some(shape) => shape,
             None => unreachable!(),
         }

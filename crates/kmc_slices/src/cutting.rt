@@ -112,7 +112,7 @@ pub(crate) fn cut_rounds<T: Threads + Wait + Sync, R: Read, W: Write, G: Gate + 
     let params = &dealing.params;
     let mut feeder = Feeder::new(dealing.alloc, params.format);
     let most = reader.reads() + max_reads;
-    let mut more = match fill_round(reader, &mut feeder, most, round_of(params)) {
+    let mut more = match fill_round(reader, &mut feeder, most, round_of(params), dealing.symbols) {
         Ok(more) => more,
         Err(e) => return Err(told(e)),
     };

@@ -17,6 +17,9 @@ use std::io::{Read, Write};
 use std::sync::Wait;
 use std::thread::Threads;
 
+/// A round of a cut is full with so many symbols: two rounds and the records of one are most of its memory.
+const ROUND: usize = 1 << 23;
+
 /// The headers, the rounds and the ends: the end of a file is written once all rounds are.
 fn cut_files<T: Threads + Wait + Sync, R: Read, W: Write, G: Gate + Sync>(
     rt: &T,
@@ -133,6 +136,7 @@ pub fn cut_slices_with<T: Threads + Wait + Sync, R: Read, W: Write, G: Gate + Sy
         alloc,
         params: *params,
         limit: PIECE_SYMBOLS,
+        symbols: ROUND,
         gate,
     };
     cut_files(

@@ -14,7 +14,7 @@ word_of_windows k codes i d inside = get_or-map-range_with_len (window k codes) 
 
 module _ (m k n bin : ℕ) (codes values : List ℕ) (some : 1 ≤ m) (within : m ≤ k) (inside : k ≤ length codes) (long : length values + m ≡ length codes + 1)
     (is : (i : ℕ) → i < length values → slice_index values i ≡ offer m (window m codes i))
-    (fit : (i : ℕ) → i < length values → slice_index values i ≤ 4 ^ m) where
+    (fit : (i : ℕ) → i < length values → slice_index values i < 4 ^ m) where
   low_signature : (i : ℕ) → i + k ≤ length codes → low (slice_index values) (k + 1 - m) i ≡ signature_of m (window k codes i)
   low_signature i here =
       let width : k + 1 - m ≡ suc (k - m) = omega arith in

@@ -1,10 +1,10 @@
 -- Neighbouring A by bits.
-use Rattle.std.proofs.Common.{◌≡◌, ℕ, zero, suc, ◌+◌, ◌-◌, ◌*◌, ◌/◌, ◌%◌, ◌^◌, ◌<◌, ◌≤◌, ◌==◌, ◌||◌, ◌&&◌, Bool, true, false, not, cond, nat_eq, List, [], ◌∷◌, ◌++◌, length, drop, take, refl, sym, ap, ◌∙◌, arith, add-one, ◌⊎◌, inl, inr, bit_and, bit_or}
+use Rattle.std.proofs.Common.{◌≡◌, ℕ, zero, suc, ◌+◌, ◌-◌, ◌*◌, ◌/◌, ◌%◌, ◌^◌, ◌<◌, ◌≤◌, ◌==◌, ◌||◌, ◌&&◌, Bool, true, false, not, cond, nat_eq, List, []}
+use Rattle.std.proofs.Common.{◌∷◌, ◌++◌, length, drop, take, refl, sym, ap, ◌∙◌, arith, add-one, ◌⊎◌, inl, inr, bit_and, bit_or}
 use Rattle.std.proofs.lemmas.Nat.{and_block, or_shr, or_mod, and_le_r}
 use Rattle.std.proofs.lemmas.Bool.Decides.{nat_tests}
 use Rattle.std.specs.Cmp.Lexicographic.{pointwise}
 use Rattle.kmc_base.specs.Packed.{unpack}
-use Rattle.std.proofs.lemmas.Nat.{one_shl}
 use Rattle.std.proofs.Math.Nat.{div-div-eq-div-mul, pow-succ'}
 use Rattle.kmc_base.specs.Lemmas.Packing.{length_unpack}
 use Rattle.kmc_base.specs.Lemmas.Powers.{pow_up, pow_quad}
@@ -229,14 +229,15 @@ pair_marks_fit (suc n) = let h = pair_marks_fit n in omega arith
 pub pair_marks_more : (n : ℕ) → pair_marks (n + 1) ≡ pair_marks n * 4 + 1
 pair_marks_more n = rw add-one refl
 
-pub marks_room : (n : ℕ) → n < 15 → pair_marks n * 4 + 1 < 2 ^ 32
+pub marks_room : (n : ℕ) → n < 8 → pair_marks n * 4 + 1 < 2 ^ 16
 marks_room n less =
-    let parts : (14 - n) + n ≡ 14 = omega arith in
-    let up : 4 ^ n ≤ 4 ^ 14 = rw parts at (pow_up n (14 - n)) in
+    let parts : (7 - n) + n ≡ 7 = omega arith in
+    let up : 4 ^ n ≤ 4 ^ 7 = rw parts at (pow_up n (7 - n)) in
     omega (arith, pair_marks_fit n)
 
-pub none_is : (m : ℕ) → m ≤ 15 → (1 * 2 ^ (2 * m)) % 2 ^ 32 ≡ 4 ^ m
-none_is m most = one_shl (2 * m) 32 (omega arith) ∙ sym (pow_quad m)
+pub none_is : (m : ℕ) → 3 * pair_marks m + 1 ≡ 4 ^ m
+none_is zero = omega arith
+none_is (suc m) = let h = none_is m in omega arith
 
 -- fewer than three codes begin with neither, and have no AA after the first
 pub short_allowed : (w : List ℕ) → length w < 3 → is_allowed w ≡ true

@@ -6,9 +6,9 @@ use Rattle.kmc_split.specs.declared.runs.Run.{Run}
 use Rattle.kmc_split.specs.Signature.{signature_of}
 use Rattle.kmc_split.specs.Cut.{IsCut, run_words, IsRunOf}
 
--- no signature is above 4 ^ m
+-- each signature is below 4 ^ m
 abbrev pub SignatureFits : Type 0
-SignatureFits = (m : ℕ) (w : List ℕ) → signature_of m w ≤ 4 ^ m
+SignatureFits = (m : ℕ) (w : List ℕ) → signature_of m w < 4 ^ m
 
 -- a word and its reverse complement have one signature
 abbrev pub StrandsShareSignature : Type 0

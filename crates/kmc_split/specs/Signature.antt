@@ -1,5 +1,5 @@
 -- Signatures of words (KMC 2's minimizers; which m-mers are allowed is this project's rule).
-use Rattle.std.specs.Prelude.{ℕ, ◌^◌, ◌==◌, ◌&&◌, ◌||◌, Bool, false, not, nat_eq, min, List, [], ◌∷◌, map, take, drop}
+use Rattle.std.specs.Prelude.{ℕ, ◌-◌, ◌^◌, ◌==◌, ◌&&◌, ◌||◌, Bool, false, not, nat_eq, min, List, [], ◌∷◌, map, take, drop}
 use Rattle.std.specs.List.{filter}
 use Rattle.std.specs.Cmp.Lexicographic.{pointwise}
 use Rattle.kmc_base.specs.Words.{canonical, windows}
@@ -24,6 +24,7 @@ abbrev pub least : ℕ → List ℕ → ℕ
 least most [] = most
 least most (x ∷ xs) = min x (least most xs)
 
--- the least value of the allowed canonical forms of the m-mers of a word, and 4 ^ m where there is none
+-- the least value of the allowed canonical forms of the m-mers of a word, and 4 ^ m - 1, which is the value of no canonical form,
+-- where there is none
 abbrev pub signature_of : ℕ → List ℕ → ℕ
-signature_of m w = least (4 ^ m) (map pack (filter is_allowed (map canonical (windows m w))))
+signature_of m w = least (4 ^ m - 1) (map pack (filter is_allowed (map canonical (windows m w))))

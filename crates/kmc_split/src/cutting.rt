@@ -13,8 +13,8 @@ use std::alloc::{AllocError, Global};
 /// Room that a cut works in, to be used again for the next segment.
 #[derive(Drop)]
 pub struct Scratch {
-    values: Vec<u32>,
-    spare: Vec<u32>,
+    values: Vec<u16>,
+    spare: Vec<u16>,
     ends: Vec<usize>,
 }
 

@@ -10,7 +10,7 @@ use crate::rolling::canonical_values;
 use crate::signatures::MAX_M;
 
 /// 1 in each of n pairs of bits.
-pub(crate) fn marks_for(n: usize) -> u32
+pub(crate) fn marks_for(n: usize) -> u16
     requires { n ≤ MAX_M }
     ensures { result ≡ pair_marks n }
 {
@@ -22,7 +22,7 @@ pub(crate) fn marks_for(n: usize) -> u32
 }
 
 /// Whether a canonical form of m codes may be a signature, given a mark for each code but the first.
-pub(crate) fn is_allowed_with(p: u32, m: usize, marks: u32) -> bool
+pub(crate) fn is_allowed_with(p: u16, m: usize, marks: u16) -> bool
     requires some { 1 ≤ m }
     requires most { m ≤ MAX_M }
     requires fits { p < 4 ^ m }
@@ -43,17 +43,17 @@ pub(crate) fn is_allowed_with(p: u32, m: usize, marks: u32) -> bool
 pub(crate) const HEAD: usize = 3;
 
 /// The forbidden beginnings, packed.
-const AAA: u32 = 0;
+const AAA: u16 = 0;
 
-const ACA: u32 = 4;
+const ACA: u16 = 4;
 
 /// A canonical form of m codes, or `none` where it is not allowed.
-fn offer_with(p: u32, m: usize, marks: u32, none: u32) -> u32
+fn offer_with(p: u16, m: usize, marks: u16, none: u16) -> u16
     requires some { 1 ≤ m }
     requires most { m ≤ MAX_M }
     requires fits { p < 4 ^ m }
     requires marks { marks ≡ pair_marks (m - 1) }
-    requires none { none ≡ 4 ^ m }
+    requires none { none ≡ 4 ^ m - 1 }
     ensures { result ≡ packed_offer m p }
 {
     if is_allowed_with(p, m, marks) {
@@ -63,8 +63,8 @@ fn offer_with(p: u32, m: usize, marks: u32, none: u32) -> u32
     }
 }
 
-/// 4^m takes the place of each canonical form that is not allowed.
-fn judge(values: &mut [u32], m: usize)
+/// 4^m - 1, which is no canonical form, takes the place of each that is not allowed.
+fn judge(values: &mut [u16], m: usize)
     requires some { 1 ≤ m }
     requires most { m ≤ MAX_M }
     requires fit { (i : ℕ) → i < length values.old → slice_index values.old i < 4 ^ m }
@@ -72,21 +72,21 @@ fn judge(values: &mut [u32], m: usize)
         → slice_index values.new i ≡ packed_offer m (slice_index values.old i) }
 {
     let marks = marks_for(m - 1);
-    let none = 1 << (2 * m);
+    let none = 3 * marks_for(m);
     for i in 0..values.len() {
         values[i] = offer_with(values[i], m, marks, none);
     }
 }
 
 /// What the m-mer at each place offers, in two passes that the compiler turns into vector code.
-pub(crate) fn offers(codes: &[u8], m: usize, out: &mut [u32])
+pub(crate) fn offers(codes: &[u8], m: usize, out: &mut [u16])
     requires some { 1 ≤ m }
     requires most { m ≤ MAX_M }
     requires long { length out.old + m ≡ length codes.now + 1 }
     requires codes { All (λ c. c < 4) codes.now }
     ensures each { (i : ℕ) → i < length out.new
         → slice_index out.new i ≡ offer m (window m codes.now i) }
-    ensures fit { (i : ℕ) → i < length out.new → slice_index out.new i ≤ 4 ^ m }
+    ensures fit { (i : ℕ) → i < length out.new → slice_index out.new i < 4 ^ m }
 {
     canonical_values(codes, m, out);
     judge(out, m);

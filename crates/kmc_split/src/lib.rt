@@ -9,6 +9,7 @@ mod cutting;
 mod judge;
 pub mod laws;
 mod minima;
+mod remainder;
 mod rolling;
 mod runs;
 mod signatures;

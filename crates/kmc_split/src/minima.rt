@@ -6,7 +6,7 @@ use std::alloc::AllocError;
 use std::mem;
 
 /// The lesser of the values at each place and d places on.
-fn lower(values: &[u32], d: usize, out: &mut [u32])
+fn lower(values: &[u16], d: usize, out: &mut [u16])
     requires { length out.old + d ≤ length values.now }
     ensures { (i : ℕ) → i < length out.new
         → slice_index out.new i ≡ min (slice_index values.now i) (slice_index values.now (i + d)) }
@@ -17,7 +17,7 @@ fn lower(values: &[u32], d: usize, out: &mut [u32])
 }
 
 /// The least of each w values in a row takes their place: windows double, so that each pass is vector code.
-pub(crate) fn lows(values: &mut Vec<u32>, spare: &mut Vec<u32>, w: usize) -> Result<(), AllocError>
+pub(crate) fn lows(values: &mut Vec<u16>, spare: &mut Vec<u16>, w: usize) -> Result<(), AllocError>
     requires some { 1 ≤ w }
     requires most { w ≤ length values.old.items }
     ensures long { OnOk result (length values.new.items + w ≡ length values.old.items + 1) }
@@ -37,7 +37,7 @@ pub(crate) fn lows(values: &mut Vec<u32>, spare: &mut Vec<u32>, w: usize) -> Res
 }
 
 /// The least of these values.
-pub(crate) fn lowest(values: &[u32]) -> u32
+pub(crate) fn lowest(values: &[u16]) -> u16
     requires { 1 ≤ length values.now }
     ensures { result ≡ low (slice_index values.now) (length values.now) 0 }
 {
@@ -50,7 +50,7 @@ pub(crate) fn lowest(values: &[u32]) -> u32
 
 /// The least of `width` values from place i + 1 on, given that of those from place i on. Only where that one leaves, and
 /// what comes is greater, does it look again.
-pub(crate) fn next_low(values: &[u32], width: usize, i: usize, least: u32) -> u32
+pub(crate) fn next_low(values: &[u16], width: usize, i: usize, least: u16) -> u16
     requires some { 1 ≤ width }
     requires inside { i + width < length values.now }
     requires least { least ≡ low (slice_index values.now) width i }

@@ -7,7 +7,7 @@ ghost use Rattle.kmc_base.specs.Packed.{unpack};
 use crate::signatures::MAX_M;
 
 /// The canonical form, packed, of the m codes at each place: the word and its reverse complement roll along.
-pub(crate) fn canonical_values(codes: &[u8], m: usize, out: &mut [u32])
+pub(crate) fn canonical_values(codes: &[u8], m: usize, out: &mut [u16])
     requires some { 1 ≤ m }
     requires most { m ≤ MAX_M }
     requires long { length out.old + m ≡ length codes.now + 1 }
@@ -29,7 +29,7 @@ pub(crate) fn canonical_values(codes: &[u8], m: usize, out: &mut [u32])
         let code = u32::from(codes[j + before]);
         forward = ahead(forward, code, top);
         back = behind(back, code, top);
-        out[j] = forward.min(back);
+        out[j] = forward.min(back) as u16;
     }
 }
 

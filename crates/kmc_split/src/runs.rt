@@ -21,7 +21,7 @@ const MOST_WORDS: usize = 256;
 
 /// Where the maximal rows of equal values end, but for the last one: at the front of `ends`, and how many they are. Each place
 /// is written, and counted where its value is new, so that there is no branch to be guessed.
-fn row_ends(values: &[u32], ends: &mut [usize]) -> usize
+fn row_ends(values: &[u16], ends: &mut [usize]) -> usize
     requires some { 0 < length values.now }
     requires long { length ends.old ≡ length values.now }
     ensures within { result ≤ length ends.new }
@@ -39,7 +39,7 @@ fn row_ends(values: &[u32], ends: &mut [usize]) -> usize
 
 /// Appends the runs of a row of equal signatures from one place to before another.
 fn push_row(
-    signatures: &[u32],
+    signatures: &[u16],
     start: usize,
     end: usize,
     runs: &mut Vec<Run>,
@@ -47,7 +47,7 @@ fn push_row(
     requires some { start < end }
     requires inside { end ≤ length signatures.now }
     requires row { IsRow (λ i. slice_index signatures.now i) start end }
-    requires fit { (i : ℕ) → i < length signatures.now → slice_index signatures.now i ≤ 4 ^ MAX_M }
+    requires fit { (i : ℕ) → i < length signatures.now → slice_index signatures.now i < 4 ^ MAX_M }
     requires runs { AreRuns (λ i. slice_index signatures.now i) 0 start runs.old.items }
     requires apart { MayFollow (slice_index signatures.now start) runs.old.items }
     ensures runs { OnOk result (AreRuns (λ i. slice_index signatures.now i) 0 end runs.new.items) }
@@ -74,12 +74,12 @@ fn push_row(
 
 /// The runs of these signatures. `ends` is to be used again.
 pub(crate) fn group(
-    signatures: &[u32],
+    signatures: &[u16],
     ends: &mut Vec<usize>,
     runs: &mut Vec<Run>,
 ) -> Result<(), AllocError>
     requires some { 0 < length signatures.now }
-    requires fit { (i : ℕ) → i < length signatures.now → slice_index signatures.now i ≤ 4 ^ MAX_M }
+    requires fit { (i : ℕ) → i < length signatures.now → slice_index signatures.now i < 4 ^ MAX_M }
     ensures { OnOk result (AreRuns (λ i. slice_index signatures.now i) 0
         (length signatures.now) runs.new.items) }
 {

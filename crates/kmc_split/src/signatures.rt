@@ -7,46 +7,47 @@ ghost use Rattle.kmc_split.specs.Signature.{is_allowed, signature_of};
 
 use crate::judge::{HEAD, is_allowed_with, marks_for, offers};
 use crate::minima::lowest;
+use crate::remainder::remainder;
 use kmc_base::{Kmer, MAX_K};
 use std::marker::Model;
 
-/// The most symbols of the m-mers that signatures are made of; every limit on m is this one.
-pub const MAX_M: usize = 11;
+/// The most symbols of the m-mers that signatures are made of, so that their values take 16 bits; every limit on m is this one.
+pub const MAX_M: usize = 8;
 
 /// The signature of a word, which contracts see as a number: the least value of the allowed canonical forms of
-/// its m-mers, and 4^m where there is none (KMC 2, Bioinformatics 2015; which m-mers are allowed is this project's
+/// its m-mers, and 4^m - 1 where there is none (KMC 2, Bioinformatics 2015; which m-mers are allowed is this project's
 /// rule).
 #[derive(Clone, Copy, Debug, PartialEq, Eq)]
 pub struct Sig {
-    value: u32,
+    value: u16,
 }
 
 impl Model for Sig {
-    ghost use Rattle.std.specs.Prelude.{ℕ, ◌≤◌, ◌^◌};
+    ghost use Rattle.std.specs.Prelude.{ℕ, ◌<◌, ◌^◌};
     ghost use Rattle.kmc_split.specs.declared.signatures.TheConstants.{MAX_M};
 
     ghost Value = { ℕ };
 
     ghost view = { λ a. a.value };
 
-    ghost invariant = { λ a. a.value ≤ 4 ^ MAX_M };
+    ghost invariant = { λ a. a.value < 4 ^ MAX_M };
 
     ghost inverse = { λ n. record { value = n } };
 }
 
 impl Sig {
     /// The signature that is this number.
-    pub(crate) fn of_value(value: u32) -> Sig
-        requires { value ≤ 4 ^ MAX_M }
+    pub(crate) fn of_value(value: u16) -> Sig
+        requires { value < 4 ^ MAX_M }
         ensures { result ≡ value }
     {
         Sig { value }
     }
 
-    /// The number, from 0 to 4^m.
-    pub fn value(self) -> u32
+    /// The number, from 0 to 4^m - 1.
+    pub fn value(self) -> u16
         ensures is { result ≡ self }
-        ensures most { result ≤ 4 ^ MAX_M }
+        ensures most { result < 4 ^ MAX_M }
     {
         self.value
     }
@@ -57,7 +58,7 @@ impl Sig {
         ensures is { result ≡ self % n }
         ensures within { result < n }
     {
-        self.value as usize % n
+        remainder(usize::from(self.value), n)
     }
 }
 
@@ -76,14 +77,14 @@ pub fn allowed(mmer: &Kmer) -> bool
 }
 
 /// The codes of a short word as digits to base 4, the first one highest.
-fn packed(w: &Kmer) -> u32
+fn packed(w: &Kmer) -> u16
     requires { length w.now ≤ MAX_M }
     ensures fits { result < 4 ^ length w.now }
     ensures is { unpack (length w.now) result ≡ w.now }
 {
     let mut number = 0;
     for i in 0..w.k() {
-        number = number * 4 + u32::from(w.code_at(i));
+        number = number * 4 + u16::from(w.code_at(i));
     }
     number
 }
@@ -94,7 +95,7 @@ pub fn signature(w: &Kmer, m: usize) -> Sig
     requires most { m ≤ MAX_M }
     requires within { m ≤ length w.now }
     ensures is { result ≡ signature_of m w.now }
-    ensures most { result ≤ 4 ^ m }
+    ensures most { result < 4 ^ m }
 {
     let k = w.k();
     let codes = codes_of(w);
@@ -103,14 +104,14 @@ pub fn signature(w: &Kmer, m: usize) -> Sig
 }
 
 /// The signature of a word, worked out in room for the offers of its m-mers.
-fn signature_in(codes: &[u8], m: usize, room: &mut [u32]) -> Sig
+fn signature_in(codes: &[u8], m: usize, room: &mut [u16]) -> Sig
     requires some { 1 ≤ m }
     requires most { m ≤ MAX_M }
     requires within { m ≤ length codes.now }
     requires long { length room.old + m ≡ length codes.now + 1 }
     requires codes { All (λ c. c < 4) codes.now }
     ensures is { result ≡ signature_of m codes.now }
-    ensures most { result ≤ 4 ^ m }
+    ensures most { result < 4 ^ m }
 {
     offers(codes, m, room);
     Sig::of_value(lowest(room))

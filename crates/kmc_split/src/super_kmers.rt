@@ -9,6 +9,7 @@ ghost use Rattle.kmc_split.specs.SuperKmers.{super_kmer_of_run};
 
 use crate::judge::offers;
 use crate::minima::{lowest, next_low};
+use crate::remainder::remainder;
 use crate::runs::Run;
 use crate::signatures::MAX_M;
 use kmc_base::{Kmer, MAX_K};
@@ -123,7 +124,7 @@ pub fn words_in_bin(codes: &[u8], k: usize, m: usize, n: usize, bin: usize) -> b
 }
 
 /// Whether the signature of each word has a bin, worked out in room for the offers of all m-mers.
-fn offers_in_bin(codes: &[u8], k: usize, m: usize, n: usize, bin: usize, room: &mut [u32]) -> bool
+fn offers_in_bin(codes: &[u8], k: usize, m: usize, n: usize, bin: usize, room: &mut [u16]) -> bool
     requires some { 1 ≤ m }
     requires most { m ≤ MAX_M }
     requires within { m ≤ k }
@@ -138,7 +139,7 @@ fn offers_in_bin(codes: &[u8], k: usize, m: usize, n: usize, bin: usize, room: &
 }
 
 /// Whether the least of each `width` values in a row has a bin, of n bins. It divides only where the least one changes.
-fn lows_in_bin(values: &[u32], width: usize, n: usize, bin: usize) -> bool
+fn lows_in_bin(values: &[u16], width: usize, n: usize, bin: usize) -> bool
     requires some { 1 ≤ width }
     requires most { width ≤ length values.now }
     requires bins { 1 ≤ n }
@@ -147,12 +148,12 @@ fn lows_in_bin(values: &[u32], width: usize, n: usize, bin: usize) -> bool
         → low (slice_index values.now) width i % n ≡ bin) }
 {
     let mut least = lowest(&values[..width]);
-    if least as usize % n != bin {
+    if remainder(usize::from(least), n) != bin {
         return false;
     }
     for i in 0..values.len() - width {
         let next = next_low(values, width, i, least);
-        if next != least && next as usize % n != bin {
+        if next != least && remainder(usize::from(next), n) != bin {
             return false;
         }
         least = next;

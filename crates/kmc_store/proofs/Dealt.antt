@@ -1,5 +1,6 @@
 -- Cutting reads into chunks and dealing these loses nothing.
-use Rattle.std.proofs.Common.{◌≡◌, ℕ, zero, suc, ◌+◌, ◌*◌, ◌%◌, ◌<◌, ◌≤◌, nat_eq, nat_lt, Bool, true, false, cond, List, length, map, drop, refl, sym, ap, ◌∙◌, arith, zero-mul}
+use Rattle.std.proofs.Common.{◌≡◌, ℕ, zero, suc, ◌+◌, ◌*◌, ◌%◌, ◌<◌, ◌≤◌, nat_eq, nat_lt, Bool, true, false, cond, List, length, map, drop, refl, sym, ap}
+use Rattle.std.proofs.Common.{◌∙◌, arith, zero-mul}
 use Rattle.std.proofs.Math.Nat.{mod-lt, suc-mul}
 use Rattle.std.proofs.lemmas.List.{drop_all}
 use Rattle.std.proofs.lemmas.List.Folds.{drop_split}

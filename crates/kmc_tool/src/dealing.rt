@@ -16,7 +16,7 @@ use std::mem::replace;
 use std::sync::Wait;
 use std::thread::Threads;
 
-/// How the reads of each round are dealt to the splitters. `PIECE_SYMBOLS` and `NoGate` are what a run takes.
+/// How reads are taken in rounds, and dealt to the splitters. `PIECE_SYMBOLS` and `NoGate` are what a run takes.
 #[derive(Drop)]
 pub struct Dealing<'a, G> {
     /// The source of the memory for pieces and records.
@@ -25,6 +25,8 @@ pub struct Dealing<'a, G> {
     pub params: Params,
     /// A read is dealt as its pieces of at most so many symbols, and at least of the symbols of a word.
     pub limit: usize,
+    /// A round is full with so many symbols, however few its reads are.
+    pub symbols: usize,
     /// It is told of the points that the parts of the reads pass.
     pub gate: &'a G,
     pub ghost some: { params.k ≤ limit },

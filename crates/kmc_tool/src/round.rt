@@ -14,9 +14,6 @@ use std::io::Read;
 /// A read asks for at most so many bytes.
 const BLOCK: usize = 65536;
 
-/// A round is full with so many symbols, however few its reads are.
-const ROUND: usize = 1 << 23;
-
 /// One read goes to the feeder, by way of this buffer. The answer is whether it gave bytes.
 fn read_and_feed<R: Read>(
     reader: &mut Counted<R>,
@@ -49,7 +46,7 @@ fn read_and_feed<R: Read>(
     Ok(n > 0)
 }
 
-/// Reads and feeds until so many reads wait, or their symbols or those of an open read fill a round, or the text ends. The answer is
+/// Reads and feeds until so many reads wait, or so many symbols of them or of an open read, or the text ends. The answer is
 /// whether it goes on. A round that is full takes nothing more. No read is made once `most` of them gave bytes: then the input is
 /// too long. A faulty text is refused with its first fault, as soon as the line is read that has it.
 pub fn fill_round<R: Read>(
@@ -57,6 +54,7 @@ pub fn fill_round<R: Read>(
     feeder: &mut Feeder,
     most: u64,
     reads: usize,
+    symbols: usize,
 ) -> Result<bool, InputError>
     requires failures { reader.old.failures < 2 ^ 64 - 1 }
     requires reads { reader.old.reads ≤ most }
@@ -69,7 +67,7 @@ pub fn fill_round<R: Read>(
     ensures filled { (overlap : ℕ) (format : Format) (text : List ℕ) (taken : List (List ℕ))
         → StandsCut overlap format text taken feeder.old
         → OnOk result
-        (IsFilled reads ROUND BLOCK overlap format text taken feeder.old feeder.new) }
+        (IsFilled reads symbols BLOCK overlap format text taken feeder.old feeder.new) }
 {
     let mut block = [0u8; BLOCK];
     for _ in 0..1u64 << 32 {
@@ -81,8 +79,8 @@ pub fn fill_round<R: Read>(
             return Ok(false);
         }
         if feeder.waiting() >= reads
-            || feeder.waiting_symbols() >= ROUND
-            || feeder.open_symbols() >= ROUND
+            || feeder.waiting_symbols() >= symbols
+            || feeder.open_symbols() >= symbols
         {
             return Ok(true);
         }

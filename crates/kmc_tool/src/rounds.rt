@@ -22,6 +22,9 @@ use std::io::Read;
 use std::sync::Wait;
 use std::thread::{Threads, join_mut};
 
+/// A run's round is full with so many symbols: fewer make more rounds, each of which waits for its slowest thread.
+const ROUND: usize = 1 << 25;
+
 /// So many reads fill a round: `batch` for each splitter, as far as a `usize` tells.
 pub fn round_of(params: &Params) -> usize
     ensures { result ≡ min (params.now.sp * params.now.batch) (2 ^ 64 - 1) }
@@ -60,6 +63,7 @@ pub fn feed_round<T: Threads + Wait + Sync, R: Read, G: Gate + Sync>(
     ensures at_end { result.1 ≡ Ok false → IsAtEnd (R.remaining reader.new.inner) }
 {
     let reads = round_of(&dealing.params);
+    let symbols = dealing.symbols;
     join_mut(
         rt,
         &mut || -> Result<(), AllocError>
@@ -81,7 +85,7 @@ pub fn feed_round<T: Threads + Wait + Sync, R: Read, G: Gate + Sync>(
                 → IsFedBy overlap format (R.remaining reader.entry.now.inner)
                 (R.remaining reader.exit.now.inner) reader.entry.now.reads reader.exit.now.reads text taken feeder.exit.now result }
             ensures at_end { result ≡ Ok false → IsAtEnd (R.remaining reader.exit.now.inner) }
-        { fill_round(reader, feeder, most, reads) },
+        { fill_round(reader, feeder, most, reads, symbols) },
     )
 }
 
@@ -151,12 +155,13 @@ pub fn bins_of_input<T: Threads + Wait + Sync, R: Read, G: Gate + Sync>(
         alloc,
         params: *params,
         limit,
+        symbols: ROUND,
         gate,
     };
     let mut bins = Bins::new(alloc, params.shape())?;
     let mut feeder = Feeder::new(alloc, params.format);
     let most = reader.reads() + max_reads;
-    let mut more = fill_round(reader, &mut feeder, most, round_of(params))?;
+    let mut more = fill_round(reader, &mut feeder, most, round_of(params), ROUND)?;
     for _ in 0..1u64 << 32 {
         if !more {
             return Ok(last_round(rt, bins, feeder, &dealing)?);

@@ -3,6 +3,7 @@ mod bodies;
 mod compared;
 mod equal_records;
 mod failing;
+mod large_bodies;
 mod letters;
 mod listed;
 mod prefixes;

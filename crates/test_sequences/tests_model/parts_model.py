@@ -27,7 +27,7 @@ def value(word):
 
 def signature(word, m):
     forms = (canonical(word[i:i + m]) for i in range(len(word) - m + 1))
-    return min((value(form) for form in forms if allowed(form)), default=4 ** m)
+    return min((value(form) for form in forms if allowed(form)), default=4 ** m - 1)
 
 
 def record(letters, k):
@@ -75,12 +75,12 @@ def random_read(source):
 
 def rows():
     source = random.Random(20150513)
-    shapes = [(4, 9), (5, 5), (7, 5), (9, 11), (12, 5), (16, 9), (25, 9), (32, 9), (33, 7), (1, 5)]
+    shapes = [(4, 8), (5, 5), (7, 5), (9, 8), (12, 5), (16, 8), (25, 8), (32, 8), (33, 7), (1, 5)]
     for number, (k, p) in enumerate(shapes * 3):
         n = [1, 7, 512, 2000][number % 4]
         reads = [random_read(source) for _ in range(source.randrange(1, 4))]
         yield k, p, n, reads
-    yield 25, 9, 512, ["A" * 300]
+    yield 25, 8, 512, ["A" * 300]
 
 
 def main():

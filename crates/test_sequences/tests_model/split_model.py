@@ -38,7 +38,7 @@ def windows(text, n):
 
 
 def signature(word, m):
-    return min((value(canonical(v)) for v in windows(word, m) if allowed(v)), default=4 ** m)
+    return min((value(canonical(v)) for v in windows(word, m) if allowed(v)), default=4 ** m - 1)
 
 
 def cut(text, k, m):
@@ -66,8 +66,8 @@ def random_text(source, length):
 
 def rows():
     source = random.Random(20150512)
-    sizes = [(1, 1), (2, 1), (2, 2), (3, 3), (4, 2), (5, 3), (5, 5), (7, 5), (9, 9), (11, 11)]
-    sizes += [(12, 11), (16, 3), (25, 9), (25, 5), (31, 7), (32, 9), (32, 11), (33, 9), (64, 11), (64, 1)]
+    sizes = [(1, 1), (2, 1), (2, 2), (3, 3), (4, 2), (5, 3), (5, 5), (7, 5), (8, 8), (9, 7)]
+    sizes += [(12, 8), (16, 3), (25, 8), (25, 5), (31, 7), (32, 8), (32, 6), (33, 8), (64, 8), (64, 1)]
     for k, m in sizes * 2:
         length = k + source.choice([0, 1, 7, 20, 35])
         yield k, m, random_text(source, length)

@@ -64,7 +64,7 @@ fn read(
 }
 
 #[test]
-fn file_has_the_bytes_of_the_example(rt: HostRuntime) -> Result<(), Fail> {
+fn file_has_the_bytes_that_were_worked_out(rt: HostRuntime) -> Result<(), Fail> {
     let Some(shape) = Shape::new(4, 3, 7) else {
         return Err(Fail::from("there is no such shape"));
     };

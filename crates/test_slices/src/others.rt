@@ -68,10 +68,9 @@ fn assert_told(rt: &impl Abort, alloc: Global, file: &[u8], other: &[u8], told: 
     assert_eq!(rt; fault, Some(SliceFault::Other(told)));
 }
 
-/// The place of a slice where reads are cut so, by signatures of 3 symbols, and of 4 for words of 10.
+/// The place of a slice where reads are cut so, by signatures of one symbol.
 fn place(rt: &impl Abort, k: usize, n: usize, slices: u16, slice: u16) -> Slicing {
-    let m = if k == 10 { 4 } else { 3 };
-    let shape = Shape::new(k, m, n).expect(rt, "a shape");
+    let shape = Shape::new(k, 1, n).expect(rt, "a shape");
     Slicing {
         shape,
         slices,

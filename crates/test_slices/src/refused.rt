@@ -13,10 +13,10 @@ use std::sync::Wait;
 use std::thread::Threads;
 use test_support::{BlockReader, NarrowWriter};
 
-const TEXT: &[u8] = b">r\nACGTACGT\n>s\nACGTACGT\n";
+const TEXT: &[u8] = b">r\nACGTCCGG\n>s\nACGTCCGG\n";
 
 /// The dumps of the text's two slices, each read twice.
-const DUMPS: [&'static str; 2] = ["GTAC\t4\n", "ACGT\t8\nCGTA\t8\n"];
+const DUMPS: [&'static str; 2] = ["ACGT\t4\nCGGA\t4\nCGTC\t4\nGGAC\t4\n", "CCGG\t4\n"];
 
 /// No writer fails or asks for memory.
 const READY: Weak = Weak {

@@ -68,7 +68,7 @@ fn print_bins(rt: &impl Print, name: &str, bins: &Bins) {
 
 /// Fills bins.
 pub fn absorb_parts(rt: &(impl Print + Eprint), alloc: Global) -> Result<(), AllocError> {
-    let shape = Shape::new(4, 9, 7).ok_or(AllocError)?;
+    let shape = Shape::new(4, 8, 7).ok_or(AllocError)?;
     let bins = fill(rt, alloc, shape, 3)?;
     print_bins(rt, "absorbed", &bins);
     Ok(())
@@ -90,7 +90,7 @@ fn merge(rt: &impl Eprint, bins: &mut Bins, others: Bins) -> Result<(), AllocErr
 
 /// Merges bins with others.
 pub fn merge_bins(rt: &(impl Print + Eprint), alloc: Global) -> Result<(), AllocError> {
-    let shape = Shape::new(4, 9, 7).ok_or(AllocError)?;
+    let shape = Shape::new(4, 8, 7).ok_or(AllocError)?;
     let mut bins = fill(rt, alloc, shape, 2)?;
     let others = fill(rt, alloc, shape, 3)?;
     merge(rt, &mut bins, others)?;

@@ -69,7 +69,7 @@ fn print_part(rt: &impl Print, made: &Result<Part, (PartError, Vec<u8>)>) {
 
 /// Judges a body that is that of a part, and one whose last record is of another bin.
 pub fn judge_bodies(rt: &impl Print, alloc: Global) -> Result<(), AllocError> {
-    let shape = Shape::new(4, 9, 7).ok_or(AllocError)?;
+    let shape = Shape::new(4, 8, 7).ok_or(AllocError)?;
     if shape.n() <= 6 {
         return Ok(());
     }

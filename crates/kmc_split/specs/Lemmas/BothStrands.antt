@@ -41,16 +41,16 @@ window_back m j w inside =
 offer_same : (m : ℕ) (v : List ℕ) → AreCodes v → offer m (rev_comp v) ≡ offer m v
 offer_same m v h =
     let e = canonical_rev_comp v h in
-    (λ i. cond (is_allowed (e i)) (pack (e i)) (4 ^ m))
+    (λ i. cond (is_allowed (e i)) (pack (e i)) (4 ^ m - 1))
 
 pub strands_share : (m : ℕ) (w : List ℕ) → m ≤ length w → AreCodes w → signature_of m (rev_comp w) ≡ signature_of m w
 strands_share m w within h =
     let n = length w - m in
-    let at : ℕ → ℕ = λ j. min (4 ^ m) (offer m (window m w j)) in
-    let bt : ℕ → ℕ = λ j. min (4 ^ m) (offer m (window m (rev_comp w) j)) in
+    let at : ℕ → ℕ = λ j. min (4 ^ m - 1) (offer m (window m w j)) in
+    let bt : ℕ → ℕ = λ j. min (4 ^ m - 1) (offer m (window m (rev_comp w) j)) in
     sym (signature_is m n (rev_comp w) bt (omega (arith, length_rev_comp w)) (λ j less. refl))
     ∙ low_back at bt n
-    (λ j less. ap (λ v. min (4 ^ m) (offer m v)) (window_back m j w (omega arith)) ∙ ap (min (4 ^ m))
+    (λ j less. ap (λ v. min (4 ^ m - 1) (offer m v)) (window_back m j w (omega arith)) ∙ ap (min (4 ^ m - 1))
     (offer_same m (window m w (n - j)) (codes_part m (n - j) w h)))
     ∙ signature_is m n w at (omega arith) (λ j less. refl)
 

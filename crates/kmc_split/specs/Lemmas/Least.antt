@@ -5,6 +5,7 @@ use Rattle.std.proofs.lemmas.List.{drop-drop}
 use Rattle.kmc_base.specs.Words.{canonical, window, windows}
 use Rattle.kmc_base.specs.Packed.{pack, unpack}
 use Rattle.kmc_base.specs.Lemmas.Packing.{pack_of_unpack}
+use Rattle.kmc_base.specs.Lemmas.Powers.{pow_some}
 use Rattle.kmc_split.specs.declared.runs.Run.{Run}
 use Rattle.kmc_split.specs.Cut.{AreRuns, IsCut}
 use Rattle.kmc_split.specs.Signature.{is_allowed, least, signature_of}
@@ -17,8 +18,8 @@ least_le : (most : ℕ) (xs : List ℕ) → least most xs ≤ most
 least_le most [] = le_refl most
 least_le most (x ∷ xs) = omega (arith, least_le most xs)
 
-pub signature_le : (m : ℕ) (w : List ℕ) → signature_of m w ≤ 4 ^ m
-signature_le m w = least_le (4 ^ m) (map pack (filter is_allowed (map canonical (windows m w))))
+pub signature_fits : (m : ℕ) (w : List ℕ) → signature_of m w < 4 ^ m
+signature_fits m w = omega (arith, pow_some m, least_le (4 ^ m - 1) (map pack (filter is_allowed (map canonical (windows m w)))))
 
 -- the value of a canonical form, or `most`
 abbrev worth : ℕ → List ℕ → ℕ
@@ -73,24 +74,27 @@ window_window m k i j xs h = window_take m k j (drop i xs) h ∙ ap (take m) (dr
 pub packed_offer_is : (m x : ℕ) (v : List ℕ) → x < 4 ^ m → unpack m x ≡ canonical v → packed_offer m x ≡ offer m v
 packed_offer_is m x v fits is =
     let number : x ≡ pack (canonical v) = sym (pack_of_unpack m x fits) ∙ ap pack is in
-    (λ i. cond (is_allowed (is i)) (number i) (4 ^ m))
+    (λ i. cond (is_allowed (is i)) (number i) (4 ^ m - 1))
 
 -- of a whole word, whose m-mers offer what stands at their places, capped
 pub signature_is : (m n : ℕ) (w : List ℕ) (at : ℕ → ℕ) → length w ≡ m + n
-    → ((j : ℕ) → j ≤ n → at j ≡ min (4 ^ m) (offer m (window m w j)))
+    → ((j : ℕ) → j ≤ n → at j ≡ min (4 ^ m - 1) (offer m (window m w j)))
     → low at (suc n) 0 ≡ signature_of m w
 signature_is m n w at long each =
     let count : length w + 1 - m ≡ suc n = omega arith in
-    sym (ap (λ (c : ℕ). least (4 ^ m) (map pack (filter is_allowed (map canonical (map (window m w) (range_with_len 0 c)))))) count
-    ∙ least_is (4 ^ m) (window m w) at n 0 0
-    (λ j h. let e : 0 + j ≡ j = omega arith in ap at e ∙ each j h ∙ ap (λ (x : ℕ). min (4 ^ m) (offer m (window m w x))) (sym e)))
+    sym (ap (λ (c : ℕ). least (4 ^ m - 1) (map pack (filter is_allowed (map canonical (map (window m w) (range_with_len 0 c)))))) count
+    ∙ least_is (4 ^ m - 1) (window m w) at n 0 0
+    (λ j h. let e : 0 + j ≡ j = omega arith in ap at e ∙ each j h ∙ ap (λ (x : ℕ). min (4 ^ m - 1) (offer m (window m w x))) (sym e)))
+
+below_last : {a b : ℕ} → a < b → a ≤ b - 1
+below_last h = omega arith
 
 pub min_is : (a b c : ℕ) → a ≡ c → a ≤ b → a ≡ min b c
 min_is a b c e h = omega arith
 
 -- of the word at place i, by what the m-mers of the whole list offer
 pub signature_at : (m n k i : ℕ) (xs : List ℕ) (at : ℕ → ℕ) → m + n ≡ k → i + k ≤ length xs
-    → ((j : ℕ) → j + m ≤ length xs → at j ≡ offer m (window m xs j)) → ((j : ℕ) → j + m ≤ length xs → at j ≤ 4 ^ m)
+    → ((j : ℕ) → j + m ≤ length xs → at j ≡ offer m (window m xs j)) → ((j : ℕ) → j + m ≤ length xs → at j < 4 ^ m)
     → low at (suc n) i ≡ signature_of m (window k xs i)
 signature_at m n k i xs at whole inside is fit =
     low_shift at (λ (j : ℕ). at (i + j)) n i 0 (λ d h. let e : i + d ≡ i + (0 + d) = omega arith in ap at e)
@@ -98,8 +102,8 @@ signature_at m n k i xs at whole inside is fit =
     (λ j h.
     let here : at (i + j) ≡ offer m (window m xs (i + j)) = is (i + j) (omega arith) in
     let same : offer m (window m (window k xs i) j) ≡ offer m (window m xs (i + j)) = ap (offer m) (window_window m k i j xs (omega arith)) in
-    let below : at (i + j) ≤ 4 ^ m = fit (i + j) (omega arith) in
-    min_is (at (i + j)) (4 ^ m) (offer m (window m (window k xs i) j)) (here ∙ sym same) below)
+    let below : at (i + j) ≤ 4 ^ m - 1 = below_last (fit (i + j) (omega arith)) in
+    min_is (at (i + j)) (4 ^ m - 1) (offer m (window m (window k xs i) j)) (here ∙ sym same) below)
 
 -- ---- runs for signatures that agree up to the end
 
@@ -117,7 +121,7 @@ module _ (at bt : ℕ → ℕ) (end : ℕ) (same : (i : ℕ) → i < end → at 
 -- ---- the cut, from offers, least values and runs
 
 pub cut_is : (m k : ℕ) (codes values lowest : List ℕ) (runs : List Run) → 1 ≤ m → m ≤ k → k ≤ length codes → length values + m ≡ length codes + 1
-    → ((i : ℕ) → i < length values → slice_index values i ≡ offer m (window m codes i)) → ((i : ℕ) → i < length values → slice_index values i ≤ 4 ^ m)
+    → ((i : ℕ) → i < length values → slice_index values i ≡ offer m (window m codes i)) → ((i : ℕ) → i < length values → slice_index values i < 4 ^ m)
     → length lowest + (k - (m - 1)) ≡ length values + 1 → ((i : ℕ) → i < length lowest → slice_index lowest i ≡ low (slice_index values) (k - (m - 1)) i)
     → AreRuns (slice_index lowest) 0 (length lowest) runs → IsCut k m codes runs
 cut_is m k codes values lowest runs some within long values_long is fit lowest_long least_each h =

@@ -107,7 +107,7 @@ low_back at bt n back =
     let low_two : low bt (suc n) 0 ≤ bt (n - two.0) = low_le bt (suc n) 0 (n - two.0) (omega arith) (omega arith) in
     omega (arith, one.3, two.3)
 
-pub fits_most : (m : ℕ) → m ≤ 11 → 4 ^ m ≤ 4 ^ 11
+pub fits_most : (m : ℕ) → m ≤ 8 → 4 ^ m ≤ 4 ^ 8
 fits_most m h =
-    let parts : (11 - m) + m ≡ 11 = omega arith in
-    rw parts at (pow_up m (11 - m))
+    let parts : (8 - m) + m ≡ 8 = omega arith in
+    rw parts at (pow_up m (8 - m))

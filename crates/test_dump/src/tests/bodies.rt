@@ -23,9 +23,13 @@ fn thrown_byte(dice: &mut Dice, left: usize) -> u8 {
     byte
 }
 
-/// Appends a record of k or up to 15 symbols more, with zeros behind the last.
-fn push_record(body: &mut Vec<u8>, dice: &mut Dice, k: usize) -> Result<(), AllocError> {
-    let above = dice.roll(4) as u8 * 5;
+/// Appends a record of so many symbols above k, with zeros behind the last.
+pub(crate) fn push_record(
+    body: &mut Vec<u8>,
+    dice: &mut Dice,
+    k: usize,
+    above: u8,
+) -> Result<(), AllocError> {
     body.push(above)?;
     let mut left = k.saturating_add(usize::from(above));
     for _ in 0..left.div_ceil(4) {
@@ -41,7 +45,8 @@ fn thrown_bodies(alloc: Global, dice: &mut Dice, k: usize) -> Result<Vec<Vec<u8>
     for records in [5, 0, 40, 1, 17, 0, 3] {
         let mut body = Vec::new(alloc);
         for _ in 0..records {
-            push_record(&mut body, dice, k)?;
+            let above = dice.roll(4) as u8 * 5;
+            push_record(&mut body, dice, k, above)?;
         }
         bodies.push(body)?;
     }

@@ -92,7 +92,7 @@ const TWO: &str = "2 2 00b100b1;3 4 006c00c6006c00c6;6 4 001b001b001b001b;";
 #[test]
 fn new_bins_are_empty(rt: HostRuntime) -> Result<(), Fail> {
     let alloc = rt.alloc();
-    let shape = shape_of(&rt, 4, 9, 7);
+    let shape = shape_of(&rt, 4, 8, 7);
     let bins = Bins::new(alloc, shape)?;
     assert!(rt; bins.shape() == shape);
     assert_number(&rt, bins.bodies().len(), 7);
@@ -104,7 +104,7 @@ fn new_bins_are_empty(rt: HostRuntime) -> Result<(), Fail> {
 
 /// Asserts that the bins of these chunks are these.
 fn assert_bins_of(rt: &impl Abort, alloc: Global, chunks: &[&str], want: &str) -> Result<(), Fail> {
-    let bins = bins_of(rt, alloc, shape_of(rt, 4, 9, 7), chunks)?;
+    let bins = bins_of(rt, alloc, shape_of(rt, 4, 8, 7), chunks)?;
     assert_bins(rt, alloc, &bins, want)
 }
 
@@ -123,14 +123,14 @@ fn bins_of_a_run(rt: &impl Abort, alloc: Global) -> Result<Bins, AllocError> {
     for _ in 0..300 {
         read.push('A')?;
     }
-    bins_of(rt, alloc, shape_of(rt, 25, 9, 512), &[read.as_str()])
+    bins_of(rt, alloc, shape_of(rt, 25, 8, 512), &[read.as_str()])
 }
 
 #[test]
 fn a_long_run_is_two_records(rt: HostRuntime) -> Result<(), Fail> {
     let bins = bins_of_a_run(&rt, rt.alloc())?;
     for (bin, body) in bins.bodies().iter().enumerate() {
-        let want = if bin == 0 { (83, 276) } else { (0, 0) };
+        let want = if bin == 511 { (83, 276) } else { (0, 0) };
         assert_number(&rt, body.len(), want.0);
         assert_sizes(&rt, &bins, bin, want);
     }
@@ -148,7 +148,7 @@ fn part_from_outside(rt: &impl Abort, alloc: Global, shape: Shape) -> Result<Par
 #[test]
 fn takes_in_a_body_from_outside(rt: HostRuntime) -> Result<(), Fail> {
     let alloc = rt.alloc();
-    let shape = shape_of(&rt, 4, 9, 7);
+    let shape = shape_of(&rt, 4, 8, 7);
     let part = part_from_outside(&rt, alloc, shape)?;
     let mut bins = bins_of(&rt, alloc, shape, &["ACGTACGT"])?;
     take_in(&rt, &mut bins, part);
@@ -189,7 +189,7 @@ fn assert_merged(
 #[test]
 fn merges_bin_by_bin(rt: HostRuntime) -> Result<(), Fail> {
     let alloc = rt.alloc();
-    let mut bins = Bins::new(alloc, shape_of(&rt, 4, 9, 7))?;
+    let mut bins = Bins::new(alloc, shape_of(&rt, 4, 8, 7))?;
     for (chunks, want) in [
         ([].as_slice(), ""),
         (["ACGTACGT"].as_slice(), ONE),
@@ -242,7 +242,7 @@ fn merged_with_itself(
 fn takes_in_and_merges_the_words_of_a_long_read(rt: HostRuntime) -> Result<(), Fail> {
     let read = long_read(rt.alloc(), 10_000)?;
     for n in [1, 2000] {
-        let shape = shape_of(&rt, 25, 9, n);
+        let shape = shape_of(&rt, 25, 8, n);
         let bins = merged_with_itself(&rt, rt.alloc(), shape, read.as_str())?;
         assert_eq!(rt; all_words(&bins), 2 * 9976);
     }

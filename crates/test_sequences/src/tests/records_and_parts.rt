@@ -116,17 +116,17 @@ fn assert_shape(rt: &impl Abort, (k, p, n): (usize, usize, usize), m: usize) {
 
 #[test]
 fn m_is_the_lesser_of_p_and_k(rt: HostRuntime) {
-    assert_shape(&rt, (64, 11, 2000), 11);
-    assert_shape(&rt, (4, 9, 7), 4);
+    assert_shape(&rt, (64, 8, 2000), 8);
+    assert_shape(&rt, (4, 8, 7), 4);
     assert_shape(&rt, (25, 5, 1), 5);
 }
 
 #[test]
 fn refuses_shapes_out_of_range(rt: HostRuntime) {
     for k in [0, 65] {
-        assert!(rt; Shape::new(k, 9, 7).is_none(), "{k}");
+        assert!(rt; Shape::new(k, 8, 7).is_none(), "{k}");
     }
-    for (p, n) in [(0, 7), (12, 7), (9, 0), (9, 2001)] {
+    for (p, n) in [(0, 7), (9, 7), (8, 0), (8, 2001)] {
         assert!(rt; Shape::new(25, p, n).is_none(), "{p}, {n}");
     }
 }
@@ -175,7 +175,7 @@ fn assert_plain_parts(
 #[test]
 fn gives_each_bin_its_records(rt: HostRuntime) -> Result<(), Fail> {
     let alloc = rt.alloc();
-    let four = shape_of(&rt, 4, 9, 7);
+    let four = shape_of(&rt, 4, 8, 7);
     let seven = shape_of(&rt, 7, 5, 7);
     for (reads, shape, want) in [
         ("ACGTACGT", four, "2 1 00b1;3 2 006c00c6;6 2 001b001b;"),
@@ -267,7 +267,7 @@ fn assert_words(
 #[test]
 fn takes_bodies_of_whole_records(rt: HostRuntime) -> Result<(), Fail> {
     let alloc = rt.alloc();
-    let shape = shape_of(&rt, 4, 9, 7);
+    let shape = shape_of(&rt, 4, 8, 7);
     let short = RecordFault::Short;
     assert_words(&rt, alloc, shape, 6, &[0, 0x1B, 0, 0x1B], Ok(2))?;
     assert_words(&rt, alloc, shape, 6, &[0, 0x1B, 0], damaged(short, 2))?;
@@ -278,7 +278,7 @@ fn takes_bodies_of_whole_records(rt: HostRuntime) -> Result<(), Fail> {
 #[test]
 fn takes_bodies_of_records_of_the_bin(rt: HostRuntime) -> Result<(), Fail> {
     let alloc = rt.alloc();
-    let shape = shape_of(&rt, 4, 9, 7);
+    let shape = shape_of(&rt, 4, 8, 7);
     assert_words(&rt, alloc, shape, 6, &[0, 0x1B, 0, 0x6C], of_another_bin(2))?;
     assert_words(&rt, alloc, shape, 6, &[0, 0x6C, 0], of_another_bin(0))?;
     assert_words(&rt, alloc, shape, 6, &[1, 0x1B, 0], of_another_bin(0))?;
@@ -288,7 +288,7 @@ fn takes_bodies_of_records_of_the_bin(rt: HostRuntime) -> Result<(), Fail> {
 #[test]
 fn takes_bodies_of_records_of_two_words(rt: HostRuntime) -> Result<(), Fail> {
     let alloc = rt.alloc();
-    let four = shape_of(&rt, 4, 9, 1);
+    let four = shape_of(&rt, 4, 8, 1);
     assert_words(&rt, alloc, four, 0, &[1, 0x1B, 0], Ok(2))?;
     let five = shape_of(&rt, 5, 5, 1);
     let padding = damaged(RecordFault::Padding, 0);

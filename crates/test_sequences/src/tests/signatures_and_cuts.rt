@@ -27,7 +27,7 @@ fn super_kmers_of(
 }
 
 /// The signature of the first word of a super-k-mer.
-fn first_signature(rt: &impl Abort, super_kmer: &SuperKmer, m: usize) -> u32 {
+fn first_signature(rt: &impl Abort, super_kmer: &SuperKmer, m: usize) -> u16 {
     assert!(rt; super_kmer.k() <= super_kmer.codes().len());
     let first = super_kmer.word_at(0);
     assert!(rt; 1 <= m && m <= MAX_M && m <= first.k());
@@ -35,7 +35,7 @@ fn first_signature(rt: &impl Abort, super_kmer: &SuperKmer, m: usize) -> u32 {
 }
 
 /// Writes a number of words and their signature, behind a space where something stands before.
-fn push_run(text: &mut String, alloc: Global, words: usize, signature: u32) -> Result<(), Fail> {
+fn push_run(text: &mut String, alloc: Global, words: usize, signature: u16) -> Result<(), Fail> {
     if !text.is_empty() {
         text.push(' ')?;
     }
@@ -179,7 +179,7 @@ fn assert_lengths(
     want: &[usize],
 ) -> Result<(), Fail> {
     let letters = same_bytes(alloc, b'A', symbols)?;
-    let super_kmers = super_kmers_of(rt, alloc, &letters, 25, 9)?;
+    let super_kmers = super_kmers_of(rt, alloc, &letters, 25, 8)?;
     let lengths = lengths_of(alloc, &super_kmers)?;
     assert!(rt; lengths.as_slice() == want, "{symbols}");
     Ok(())
@@ -196,11 +196,11 @@ fn cuts_after_256_words(rt: HostRuntime) -> Result<(), Fail> {
 }
 
 #[test]
-fn a_word_without_allowed_mmers_has_the_signature_above_all(rt: HostRuntime) -> Result<(), Fail> {
+fn a_word_without_allowed_mmers_has_the_greatest_signature(rt: HostRuntime) -> Result<(), Fail> {
     let word = word_of(&rt, rt.alloc(), b"AAAAAAAAAAAAAAAAAAAAAAAAA")?;
-    assert!(rt; word.k() >= 9);
-    assert!(rt; signature(&word, 9).value() == 262144);
-    assert!(rt; signature(&word, 9).bin(512) == 0);
+    assert!(rt; word.k() >= 8);
+    assert!(rt; signature(&word, 8).value() == 65535);
+    assert!(rt; signature(&word, 8).bin(512) == 511);
     Ok(())
 }
 
@@ -224,8 +224,8 @@ fn bins_are_the_remainders_of_signatures(rt: HostRuntime) -> Result<(), Fail> {
 fn both_strands_have_one_signature(rt: HostRuntime) -> Result<(), Fail> {
     let word = word_of(&rt, rt.alloc(), b"GATTACAGATTACAGATTACACCGGT")?;
     let other = word.rev_comp();
-    assert!(rt; word.k() >= 9 && other.k() >= 9);
-    assert!(rt; signature(&word, 9) == signature(&other, 9));
+    assert!(rt; word.k() >= 8 && other.k() >= 8);
+    assert!(rt; signature(&word, 8) == signature(&other, 8));
     Ok(())
 }
 

@@ -1,4 +1,4 @@
-use Rattle.std.proofs.Common.{◌++◌, All, IfOk, map, sym, subst}
+use Rattle.std.proofs.Common.{All, IfOk, sym, subst}
 use Rattle.std.proofs.lemmas.List.Elements.{All-append}
 use Rattle.kmc_dump.specs.Bodies.{IsListAt}
 use Rattle.kmc_dump.proofs.ManyBodies.{texts}

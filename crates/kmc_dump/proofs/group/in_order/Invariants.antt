@@ -1,4 +1,4 @@
-use Rattle.std.proofs.Common.{ℕ, List, All, length, take, vec_len}
+use Rattle.std.proofs.Common.{ℕ, List, All, take, vec_len}
 use Rattle.std.specs.Vec.Iter.{into_iter_items}
 use Rattle.kmc_base.specs.declared.strands.Strands.{Strands}
 use Rattle.kmc_count.specs.declared.limits.Limits.{Limits}

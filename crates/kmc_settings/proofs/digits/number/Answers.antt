@@ -1,5 +1,6 @@
 -- The parse of a text of digits is the number that they write.
-use Rattle.std.proofs.Common.{◌≡◌, ◌∙◌, ◌^◌, ◌<◌, ◌≤◌, ℕ, true, List, [], ◌∷◌, length, Option, Some, Result, Ok, Err, MatchOption, inl, inr, refl, sym, ap, arith, ◌&&◌}
+use Rattle.std.proofs.Common.{◌≡◌, ◌∙◌, ◌^◌, ◌<◌, ◌≤◌, ℕ, true, List, [], ◌∷◌, length, Option, Some, Result, Ok, Err, MatchOption, inl, inr, refl, sym, ap}
+use Rattle.std.proofs.Common.{arith, ◌&&◌}
 use Rattle.std.specs.List.{list_all}
 use Rattle.std.specs.Char.{is_ascii_digit}
 use Rattle.std.specs.Prelude.{nat_lt}

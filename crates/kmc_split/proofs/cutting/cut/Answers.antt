@@ -40,13 +40,15 @@ group-requires-clause-fit c =
     let fill = refilled len values c.resize.new.self.items values_fill in
     let long : length lowest + w ≡ length values + 1 = c.in_ok-lows.ensures.long ∙ ap (λ (l : List ℕ). length l + 1) fill in
     let up = fits_most c.args.m (omega arith) in
-    subst (λ (l : List ℕ). (i : ℕ) → i < length l → slice_index l i ≤ 4 ^ 11) (sym c.deref.ensures.value)
-    (lows_fit (4 ^ 11) w values lowest (omega arith) long
-    (λ i inside. c.in_ok-lows.ensures.each i inside ∙ ap (λ (l : List ℕ). low (slice_index l) w i) fill)
-    (λ i inside. le_trans_of (c.offers.ensures.fit i inside) up))
+    subst (λ (l : List ℕ). (i : ℕ) → i < length l → slice_index l i < 4 ^ 8) (sym c.deref.ensures.value)
+    (λ i inside.
+    let below : slice_index lowest i ≤ 4 ^ 8 - 1 = lows_fit (4 ^ 8 - 1) w values lowest (omega arith) long
+    (λ j within. c.in_ok-lows.ensures.each j within ∙ ap (λ (l : List ℕ). low (slice_index l) w j) fill)
+    (λ j within. before_last (c.offers.ensures.fit j within) up) i inside in
+    omega arith)
   where
-    le_trans_of : {a b d : ℕ} → a ≤ b → b ≤ d → a ≤ d
-    le_trans_of h k = omega arith
+    before_last : {a b d : ℕ} → a < b → b ≤ d → a ≤ d - 1
+    before_last h k = omega arith
 
 pub returns-clause-each : goal.returns-clause-each
 returns-clause-each c = runs_are c.args.k c.args.m c.args.codes.now _ (omega arith) c.requires.long (returns-clause-cut c)

@@ -43,6 +43,19 @@ behind-back-requires-in-loop-j-clause-back c =
     (recursion_from_All (λ (x : ℕ). x < 4) codes c.requires.codes)
     (omega arith) c.weight-top.ensures c.loop-j.invariant.0
 
+pub overflow_cast-out : goal.overflow_cast-out
+overflow_cast-out c =
+    let codes = c.args.codes.now in
+    let m = c.args.m in
+    let i = c.loop-j.j + (m - 1) in
+    let are_codes = recursion_from_All (λ (x : ℕ). x < 4) codes c.requires.codes in
+    let rolled = step_at m c.requires.some codes i c.from-code-in-loop-j.result c.loop-j.forward c.loop-j.back c.ahead-forward-in-loop-j.result c.behind-back-in-loop-j.result c.weight-top.result
+    are_codes (omega arith) c.from-code-in-loop-j.ensures c.weight-top.ensures c.ahead-forward-in-loop-j.ensures c.behind-back-in-loop-j.ensures c.loop-j.invariant.0 in
+    let here : Holds m (window m codes c.loop-j.j) c.min.result =
+    lesser_holds m codes c.loop-j.j (i + 1) c.ahead-forward-in-loop-j.result c.behind-back-in-loop-j.result c.min.result are_codes (omega arith)
+    (omega arith) rolled c.min.ensures in
+    omega (arith, here.fits, fits_most m (omega arith))
+
 pub loop-j-preserved : goal.loop-j-preserved
 loop-j-preserved c =
     let codes = c.args.codes.now in

@@ -13,10 +13,10 @@ first_low xs w r some inside e =
     e ∙ ap (λ n. low (slice_index (take w xs)) n 0) long ∙ ap (λ n. low (slice_index (take n xs)) w 0) (sym all)
     ∙ low_slice w 0 w xs some (omega arith)
 
-pub returns-then-least-n : goal.returns-then-least-n
-returns-then-least-n c =
+pub returns-then-remainder-bin : goal.returns-then-remainder-bin
+returns-then-remainder-bin c =
     let here = first_low c.args.values.now c.args.width c.lowest-least.result c.requires.some c.requires.most c.lowest-least.ensures in
-    ((λ h. absurd (cc)), (λ all. absurd (c.if-least-n.true (ap (λ (s : ℕ). s % c.args.n) here ∙ all 0 (omega arith)))))
+    ((λ h. absurd (cc)), (λ all. absurd (c.if-remainder-bin.true (c.remainder.ensures ∙ ap (λ (s : ℕ). s % c.args.n) (c.from.ensures ∙ here) ∙ all 0 (omega arith)))))
 
 pub loop-i-init : goal.loop-i-init
 loop-i-init c =
@@ -24,5 +24,6 @@ loop-i-init c =
       here,
       λ j least.
           let first : j ≡ 0 = omega arith in
-          ap (λ i. low (slice_index c.args.values.now) c.args.width i % c.args.n) first ∙ ap (λ (s : ℕ). s % c.args.n) (sym here) ∙ c.if-least-n.false,
+          ap (λ i. low (slice_index c.args.values.now) c.args.width i % c.args.n) first ∙ ap (λ (s : ℕ). s % c.args.n) (sym (c.from.ensures ∙ here))
+          ∙ sym c.remainder.ensures ∙ c.if-remainder-bin.false,
     )

@@ -2,7 +2,7 @@ use Rattle.std.proofs.Common.{inl, inr, ◌+◌, ◌++◌, Ok, true, false, refl
 use Rattle.kmc_tool.specs.Rounds.{AreCounts, IsFedBy}
 use Rattle.kmc_tool.specs.Lemmas.Causes.{same_err}
 use Rattle.kmc_tool.specs.Lemmas.Fed.{fed_none, fed_on, fed_by}
-use Rattle.kmc_tool.specs.declared.round.TheConstants.{BLOCK, ROUND}
+use Rattle.kmc_tool.specs.declared.round.TheConstants.{BLOCK}
 use Rattle.kmc_tool.proofs.Filled.{filled, not_full}
 use Rattle.kmc_tool.proofs.round.fill_round.Goals as goal
 
@@ -29,9 +29,9 @@ loop-preserved g c =
       room = inr (record {
         waiting = λ overlap format text taken s. (
           omega (arith, c.waiting.ensures.cut overlap format text taken s, c.if-waiting-reads.false),
-          omega (arith, c.waiting_symbols.ensures.cut overlap format text taken s, c.if-waiting_symbols-ge-ROUND.false),
+          omega (arith, c.waiting_symbols.ensures.cut overlap format text taken s, c.if-waiting_symbols-symbols.false),
         );
-        open_read = λ at. omega (arith, c.open_symbols.ensures at, c.if-open_symbols-ge-ROUND.false);
+        open_read = λ at. omega (arith, c.open_symbols.ensures at, c.if-open_symbols-symbols.false);
       });
       way = record {
         kept = h.0 ∙ way.kept;
@@ -64,16 +64,16 @@ returns-then-waiting-reads-clause-fed g c = λ overlap format text taken s.
 pub returns-then-not-more-clause-filled : goal.returns-then-not-more-clause-filled
 returns-then-not-more-clause-filled g c = λ overlap format text taken s.
     let f = c.loop.invariant.way.fed overlap format text taken s in
-    filled c.args.reads ROUND BLOCK overlap format _ _ _ _ text taken c.args.feeder.now c.loop.feeder f c.loop.invariant.room
+    filled c.args.reads c.args.symbols BLOCK overlap format _ _ _ _ text taken c.args.feeder.now c.loop.feeder f c.loop.invariant.room
     c.read_and_feed.new.feeder (c.in_ok-more.ensures.block overlap format _ taken f.stands)
 
 pub returns-then-waiting-reads-clause-filled : goal.returns-then-waiting-reads-clause-filled
 returns-then-waiting-reads-clause-filled g c = λ overlap format text taken s.
     let f = c.loop.invariant.way.fed overlap format text taken s in
-    filled c.args.reads ROUND BLOCK overlap format _ _ _ _ text taken c.args.feeder.now c.loop.feeder f c.loop.invariant.room
+    filled c.args.reads c.args.symbols BLOCK overlap format _ _ _ _ text taken c.args.feeder.now c.loop.feeder f c.loop.invariant.room
     c.read_and_feed.new.feeder (c.in_ok-more.ensures.block overlap format _ taken f.stands)
 
 pub returns-clause-filled : goal.returns-clause-filled
 returns-clause-filled g c = λ overlap format text taken s.
-    not_full c.args.reads ROUND BLOCK overlap format _ _ _ _ text taken c.args.feeder.now c.loop.feeder
+    not_full c.args.reads c.args.symbols BLOCK overlap format _ _ _ _ text taken c.args.feeder.now c.loop.feeder
     (c.loop.invariant.way.fed overlap format text taken s) c.loop.invariant.room

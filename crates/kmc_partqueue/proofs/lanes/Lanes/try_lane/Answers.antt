@@ -1,4 +1,5 @@
-use Rattle.std.proofs.Common.{arith, refl, sym, ap, ◌∙◌, ◌≡◌, ℕ, suc, ◌+◌, ◌*◌, ◌/◌, ◌%◌, ◌<◌, ◌≤◌, ◌≢◌, ◌++◌, ◌∷◌, [], Some, subst, mod-lt, slice_get, length-set}
+use Rattle.std.proofs.Common.{arith, refl, sym, ap, ◌∙◌, ◌≡◌, ℕ, suc, ◌+◌, ◌*◌, ◌/◌, ◌%◌, ◌<◌, ◌≤◌, ◌≢◌, ◌++◌, ◌∷◌, [], Some, subst, mod-lt, slice_get}
+use Rattle.std.proofs.Common.{length-set}
 use Rattle.std.proofs.lemmas.Grind.{elements}
 use mathlib.Core.Option.{none}
 use Rattle.atomic_table.specs.Table.{step}
@@ -6,7 +7,8 @@ use Rattle.kmc_partqueue.specs.declared.views.Reading.{Reading}
 use Rattle.kmc_partqueue.specs.Seats.{got_of}
 use Rattle.kmc_partqueue.specs.Plays.{Seated, looking, seeing, taking, freeing, ending, saw_published_part}
 use Rattle.kmc_partqueue.proofs.Turns.{div_le, lane_within}
-use Rattle.kmc_partqueue.proofs.ReaderCalls.{alone, after_head, after_ready, after_not_ready, after_take, after_miss, after_out, after_free, after_end, after_no_end, head_call, ready_call, end_call, take_call, free_call, noted_more, not_all_seen, between}
+use Rattle.kmc_partqueue.proofs.ReaderCalls.{alone, after_head, after_ready, after_not_ready, after_take, after_miss, after_out, after_free, after_end}
+use Rattle.kmc_partqueue.proofs.ReaderCalls.{after_no_end, head_call, ready_call, end_call, take_call, free_call, noted_more, not_all_seen, between}
 use Rattle.kmc_partqueue.proofs.lanes.Lanes.try_lane.Given.{Over}
 use Rattle.kmc_partqueue.proofs.lanes.Lanes.try_lane.Goals.{After-load-head, Then-was-head, After-store, After-load-end, then-lane-self, else-lane-self}
 use Rattle.kmc_partqueue.proofs.lanes.Lanes.try_lane.Goals as goal

@@ -1,0 +1,140 @@
+//! A large body of short words, counted by several threads together: each takes records that follow one another.
+ghost use Rattle.std.specs.Prelude.{◌≡◌, ℕ, ◌+◌, ◌*◌, ◌≤◌, length, map, true, IfOk, IsErrOf};
+ghost use Rattle.std.specs.Thread.{IsSync};
+ghost use Rattle.kmc_base.specs.declared.word.TheConstants.{MOST_WEIGHT_BITS};
+ghost use Rattle.kmc_record.specs.Faults.{IsFirstFault};
+ghost use Rattle.kmc_record.specs.declared.fault.RecordFault.{RecordFault};
+ghost use Rattle.kmc_count.specs.Bodies.{AreItemsOfBody, IsDumpOfBody};
+ghost use Rattle.kmc_count.specs.declared.adding.TheConstants.{MOST_TABLE_SYMBOLS};
+ghost use Rattle.kmc_dump.specs.Listed.{IsListOf, pairs_of};
+
+use crate::bin::list_body;
+use crate::counts::Counts;
+use crate::shown::Shown;
+use kmc_base::{KeyRule, MOST_WEIGHT_BITS, Word};
+use kmc_count::{CountingRoom, Limits, MOST_TABLE_SYMBOLS, added_items, dump_items, takes_table};
+use kmc_record::BodyError;
+use std::alloc::Global;
+use std::thread;
+use std::thread::Threads;
+
+/// A body of fewer bytes is not worth the start of threads.
+const LEAST_SHARED: usize = 1 << 20;
+
+/// Whether several threads count a body of so many bytes together.
+pub(crate) fn is_shared(k: usize, bytes: usize) -> bool
+    ensures { result ≡ true → k ≤ MOST_TABLE_SYMBOLS }
+{
+    bytes >= LEAST_SHARED && takes_table(k, bytes)
+}
+
+/// Where the first record begins that has so many bytes before it; the end of the body where there is none. Of a body that is
+/// damaged it is any place.
+fn record_behind(body: &[u8], rule: KeyRule, bytes: usize) -> usize
+    ensures { result ≤ length body.now }
+{
+    let least = bytes.min(body.len());
+    let mut offset = 0;
+    while offset < least {
+        offset += 1 + (usize::from(body[offset]) + rule.k + 3) / 4;
+    }
+    offset.min(body.len())
+}
+
+/// The words of a body as items, which so many threads take, each of a piece that is about as long as the others. A body whose
+/// pieces are whole records is whole records. Where no thread can be made, the calling thread takes them all.
+#[cycle(sharers)]
+fn take_shared<R: Threads + Sync, W: Word + Drop + Send>(
+    rt: &R,
+    alloc: Global,
+    body: &[u8],
+    rule: KeyRule,
+    bits: u32,
+    threads: usize,
+) -> Result<Vec<W>, BodyError>
+    requires most { rule.k ≤ MOST_TABLE_SYMBOLS }
+    requires beside { 2 * rule.k + bits ≤ 2 * W.most }
+    requires bits { bits ≤ MOST_WEIGHT_BITS }
+    requires threads { 1 ≤ threads }
+    ensures { IfOk result (λ items. AreItemsOfBody rule.strands rule.k bits body.now
+        (map W.number items.items)) }
+{
+    if threads == 1 {
+        return added_items(alloc, body, rule, bits);
+    }
+    let few = threads / 2;
+    let others = threads - few;
+    let middle = record_behind(body, rule, body.len() / threads * few);
+    let (low, high) = body.split_at(middle);
+    let front = move || -> Result<Vec<W>, BodyError>
+        requires { IsSync R.row × (rule.k ≤ MOST_TABLE_SYMBOLS)
+            × (2 * rule.k + bits ≤ 2 * W.most) × (bits ≤ MOST_WEIGHT_BITS) × (1 ≤ few) }
+        ensures { IfOk result (λ items. AreItemsOfBody rule.strands rule.k bits low.entry.now
+            (map W.number items.items)) }
+    { take_shared(rt, alloc, low, rule, bits, few) };
+    let back = move || -> Result<Vec<W>, BodyError>
+        requires { IsSync R.row × (rule.k ≤ MOST_TABLE_SYMBOLS)
+            × (2 * rule.k + bits ≤ 2 * W.most) × (bits ≤ MOST_WEIGHT_BITS) × (1 ≤ others) }
+        ensures { IfOk result (λ items. AreItemsOfBody rule.strands rule.k bits high.entry.now
+            (map W.number items.items)) }
+    { take_shared(rt, alloc, high, rule, bits, others) };
+    let (first, second) = thread::join(rt, front, back);
+    let mut items = first?;
+    let mut more = second?;
+    items.append(&mut more)?;
+    Ok(items)
+}
+
+/// The dump of a body of short words in packed form, counted by so many threads together.
+fn list_by_threads<R: Threads + Sync, W: Word + Drop + Send, C: Shown + Drop>(
+    rt: &R,
+    alloc: Global,
+    body: &[u8],
+    rule: KeyRule,
+    limits: &Limits,
+    threads: usize,
+) -> Result<Counts<W, C>, BodyError>
+    requires short { rule.k ≤ MOST_TABLE_SYMBOLS }
+    requires most { rule.k ≤ W.most }
+    requires wide { limits.now.cs ≤ C.greatest }
+    requires threads { 1 ≤ threads }
+    ensures list { IfOk result (λ c. IsListOf rule.k c) }
+    ensures ok { IfOk result (λ c. IsDumpOfBody rule.strands rule.k limits.now body.now
+        (pairs_of c)) }
+{
+    let bits = W::weight_bits(rule.k);
+    let mut items = take_shared(rt, alloc, body, rule, bits, threads)?;
+    let mut pairs = Counts::new(alloc, rule.k);
+    dump_items(&mut items, &mut pairs, rule, bits, limits)?;
+    pairs.shrink();
+    Ok(pairs)
+}
+
+/// The dump of a body in packed form. A large body of short words is counted by so many threads together. Where one of them meets
+/// a fault or is refused memory, the calling thread counts the body anew, in its room, so that the fault is the first one.
+pub(crate) fn list_shared_body<R: Threads + Sync, W: Word + Drop + Send, C: Shown + Drop>(
+    rt: &R,
+    room: &mut CountingRoom<W>,
+    alloc: Global,
+    body: &[u8],
+    rule: KeyRule,
+    limits: &Limits,
+    threads: usize,
+) -> Result<Counts<W, C>, BodyError>
+    requires most { rule.k ≤ W.most }
+    requires wide { limits.now.cs ≤ C.greatest }
+    requires threads { 1 ≤ threads }
+    ensures list { IfOk result (λ c. IsListOf rule.k c) }
+    ensures ok { IfOk result (λ c. IsDumpOfBody rule.strands rule.k limits.now body.now
+        (pairs_of c)) }
+    ensures damaged { (fault : RecordFault) (offset : ℕ)
+        → IsErrOf result (BodyError.Damaged fault offset)
+        → IsFirstFault rule.k fault offset body.now }
+{
+    if threads > 1 && is_shared(rule.k, body.len()) {
+        if let Ok(list) = list_by_threads(rt, alloc, body, rule, limits, threads) {
+            return Ok(list);
+        }
+    }
+    list_body(room, alloc, body, rule, limits)
+}

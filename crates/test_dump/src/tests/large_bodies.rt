@@ -1,0 +1,130 @@
+//! Bodies so large that several threads count them together: their packed lists against their plain counts, and their faults.
+
+use crate::tests::bodies::{are_plain, push_record};
+use kmc_base::{Kmer, Strands};
+use kmc_count::Limits;
+use kmc_dump::list_bins;
+use kmc_plain::count_bin;
+use kmc_record::{BodyError, RecordFault};
+use std::alloc::{AllocError, Global};
+use std::process::Abort;
+use std::test::Fail;
+use std::thread::Threads;
+use test_support::Dice;
+
+const LIMITS: Limits = Limits {
+    ci: 1,
+    cx: 1 << 63,
+    cs: 1 << 63,
+};
+
+/// The bytes of a body that threads count together, for words of at most 11 symbols, and for those of 12.
+const SHARED: usize = 1 << 20;
+
+const SHARED_OF_TWELVE: usize = 1 << 21;
+
+/// Records that look random, most of them of one word, again and again: so many bytes or a few more.
+fn thrown_body(alloc: Global, k: usize, bytes: usize) -> Result<Vec<u8>, AllocError> {
+    let mut dice = Dice { state: 4711 };
+    let mut block = Vec::new(alloc);
+    for record in 0..3000 {
+        let above = if record % 30 == 0 { 15 } else { 0 };
+        push_record(&mut block, &mut dice, k, above)?;
+    }
+    let mut body = Vec::new(alloc);
+    for _ in 0..bytes {
+        if body.len() >= bytes {
+            break;
+        }
+        body.extend_from_slice(&block)?;
+    }
+    Ok(body)
+}
+
+/// A body between an empty one and a small one.
+fn between_others(alloc: Global, body: &[u8], k: usize) -> Result<Vec<Vec<u8>>, AllocError> {
+    let mut bodies = Vec::new(alloc);
+    bodies.push(Vec::new(alloc))?;
+    let mut large = Vec::new(alloc);
+    large.extend_from_slice(body)?;
+    bodies.push(large)?;
+    bodies.push(thrown_body(alloc, k, 100)?)?;
+    Ok(bodies)
+}
+
+/// Asserts that the packed lists of a large body and its neighbours are their plain counts with each number of threads.
+fn assert_plain<R: Abort + Threads + Sync>(
+    rt: &R,
+    alloc: Global,
+    k: usize,
+    bytes: usize,
+    strands: Strands,
+) -> Result<(), Fail> {
+    assert!(rt; 1 <= k && k <= 64);
+    let body = thrown_body(alloc, k, bytes)?;
+    let mut plain: Vec<Vec<(Kmer, u64)>> = Vec::new(alloc);
+    for one in &between_others(alloc, &body, k)? {
+        let pairs = count_bin(alloc, one, k, strands, &LIMITS);
+        plain.push(pairs.ok().ok_or("records")?)?;
+    }
+    for threads in [1, 2, 3, 4, 7] {
+        let bodies = between_others(alloc, &body, k)?;
+        let lists = list_bins(rt, alloc, bodies, k, strands, &LIMITS, threads);
+        let lists = lists.ok().ok_or("records")?;
+        assert!(rt;
+            are_plain(&lists, &plain),
+            "k {k}, {strands:?}, {threads} threads"
+        );
+    }
+    Ok(())
+}
+
+#[test]
+fn a_large_body_is_counted_as_one_thread_counts_it(rt: HostRuntime) -> Result<(), Fail> {
+    for k in [1, 5, 9] {
+        assert_plain(&rt, rt.alloc(), k, SHARED, Strands::Joined)?;
+        assert_plain(&rt, rt.alloc(), k, SHARED, Strands::Apart)?;
+    }
+    Ok(())
+}
+
+#[test]
+fn a_large_body_of_the_longest_short_words(rt: HostRuntime) -> Result<(), Fail> {
+    assert_plain(&rt, rt.alloc(), 12, SHARED_OF_TWELVE, Strands::Joined)?;
+    assert_plain(&rt, rt.alloc(), 12, SHARED_OF_TWELVE, Strands::Apart)
+}
+
+/// Asserts that a damaged body is told so with each number of threads.
+fn assert_damaged<R: Abort + Threads + Sync>(
+    rt: &R,
+    alloc: Global,
+    body: &[u8],
+    want: BodyError,
+) -> Result<(), Fail> {
+    for threads in [1, 2, 3, 4, 7] {
+        let bodies = between_others(alloc, body, 5)?;
+        let lists = list_bins(rt, alloc, bodies, 5, Strands::Joined, &LIMITS, threads);
+        assert!(rt; lists.err() == Some(want), "{want:?}, {threads} threads");
+    }
+    Ok(())
+}
+
+#[test]
+fn the_first_fault_of_a_large_body_is_told(rt: HostRuntime) -> Result<(), Fail> {
+    let alloc = rt.alloc();
+    let front = thrown_body(alloc, 5, SHARED / 3)?;
+    let rest = thrown_body(alloc, 5, SHARED)?;
+    let mut body = Vec::new(alloc);
+    body.extend_from_slice(&front)?;
+    // a record of five symbols whose last byte has more than the fifth
+    body.extend_from_slice(&[0x00, 0x1b, 0xff])?;
+    body.extend_from_slice(&rest)?;
+    // and a record at the end that is cut off
+    body.extend_from_slice(&[0xff, 0x1b])?;
+    let padded = BodyError::Damaged(RecordFault::Padding, front.len());
+    assert_damaged(&rt, alloc, &body, padded)?;
+    let short = BodyError::Damaged(RecordFault::Short, rest.len());
+    let mut body = rest;
+    body.extend_from_slice(&[0xff, 0x1b])?;
+    assert_damaged(&rt, alloc, &body, short)
+}
