@@ -43,9 +43,9 @@ def windows(codes, length):
 
 
 def bin_of(word, m, n):
-    """The bin of the least allowed m-mer of a word."""
+    """The bin of the least allowed m-mer of a word; where none is allowed, that of the greatest value that m symbols have."""
     mmers = map(key, windows(word, m))
-    return min(map(value, filter(is_allowed, mmers)), default=4**m) % n
+    return min(map(value, filter(is_allowed, mmers)), default=4**m - 1) % n
 
 
 def record_at(body, offset, k):
@@ -93,7 +93,7 @@ def answer(row):
     """The lines for a row of the program's input."""
     k, p, n, bin, body = row.split(" ")
     k, p, n, bin, body = int(k), int(p), int(n), int(bin), bytes.fromhex(body)
-    if not (1 <= k <= 64 and 5 <= p <= 11 and 1 <= n <= 2000 and bin < n):
+    if not (1 <= k <= 64 and 1 <= p <= 8 and 1 <= n <= 2000 and bin < n):
         return ["no body"]
     return count_verdict(k, body) + [part_verdict(k, p, n, bin, body)]
 
@@ -125,7 +125,7 @@ def super_kmer(source, k, m, n, bin):
 def row(source):
     """A row of the program's input."""
     k = source.choice((1, 2, 3, 4, 5, 7, 8, 11, 16, 25, 31, 32, 33, 47, 63, 64))
-    p = source.randint(5, 11)
+    p = source.randint(1, 8)
     n = source.choice((1, 1, 2, 3, 7, 31))
     body, bin = [], None
     for _ in range(source.randrange(6)):
