@@ -8,7 +8,7 @@ use Rattle.kmc_base.specs.Packed.{unpack}
 use Rattle.std.proofs.Math.Nat.{div-div-eq-div-mul, pow-succ'}
 use Rattle.kmc_base.specs.Lemmas.Packing.{length_unpack}
 use Rattle.kmc_base.specs.Lemmas.Powers.{pow_up, pow_quad}
-use Rattle.kmc_split.specs.Signature.{has_pair, begins, is_allowed}
+use Rattle.kmc_split.specs.Signature.{has_pair, begins, is_short, is_allowed}
 use Rattle.kmc_split.specs.Offers.{pair_marks}
 
 -- 1 for an A
@@ -182,6 +182,12 @@ head_fits (suc j) p h =
     let same : p / 4 / 4 ^ j ≡ p / 4 ^ suc j = div-div-eq-div-mul p 4 (4 ^ j) ∙ ap (λ d. p / d) (sym (pow-succ' 4 j)) in
     omega arith
 
+long_enough : (w : List ℕ) → 3 ≤ length w → is_short w ≡ false
+long_enough [] h = absurd (omega arith)
+long_enough (a ∷ []) h = absurd (omega arith)
+long_enough (a ∷ b ∷ []) h = absurd (omega arith)
+long_enough (a ∷ b ∷ c ∷ w) h = refl
+
 pub allowed_long : (m p marks_given : ℕ) → 3 ≤ m → p < 4 ^ m → marks_given ≡ pair_marks (m - 1)
     → ((not (nat_eq (p / 2 ^ (2 * (m - 3))) 0) && not (nat_eq (p / 2 ^ (2 * (m - 3))) 4)) && nat_eq
     (bit_and (marks_given - bit_and (either p) marks_given) ((marks_given - bit_and (either p) marks_given) / 4)) 0) ≡ is_allowed (unpack m p)
@@ -204,23 +210,9 @@ allowed_long (suc (suc (suc j))) p g some fits e =
     ∙ ap (λ (t : List ℕ). not (has_pair t)) (sym (drop_unpack (suc (suc j)) p)) in
     let ra = sym is_aaa in
     let rc = sym is_aca in
+    let is_long = sym (long_enough w (omega (arith, length_unpack (suc (suc (suc j))) p))) in
     (λ i. (not (nat_eq (head i) 0) && not (nat_eq (head i) 4)) && is_apart i) ∙ (λ i. (not (ra i) && not (rc i)) && not (has_pair (drop 1 w)))
-
-pub allowed_short : (m p marks_given : ℕ) → 1 ≤ m → m < 3 → marks_given ≡ pair_marks (m - 1)
-    → nat_eq (bit_and (marks_given - bit_and (either p) marks_given) ((marks_given - bit_and (either p) marks_given) / 4)) 0 ≡ is_allowed (unpack m p)
-allowed_short zero p g some most e = absurd (omega arith)
-allowed_short (suc zero) p g some most e =
-    ap (λ (y : ℕ). nat_eq (bit_and (y - bit_and (either p) y) ((y - bit_and (either p) y) / 4)) 0) e ∙ no_pair zero p ∙ alone (p % 4)
-  where
-    alone : (c : ℕ) → true ≡ is_allowed (c ∷ [])
-    alone c = grind (arith, nat_tests)
-allowed_short (suc (suc zero)) p g some most e =
-    ap (λ (y : ℕ). nat_eq (bit_and (y - bit_and (either p) y) ((y - bit_and (either p) y) / 4)) 0) e ∙ no_pair (suc zero) p
-    ∙ alone (p / 4 % 4) (p % 4)
-  where
-    alone : (c d : ℕ) → true ≡ is_allowed (c ∷ d ∷ [])
-    alone c d = grind (arith, nat_tests)
-allowed_short (suc (suc (suc j))) p g some most e = absurd (omega arith)
+    ∙ (λ i. not (is_long i) && (not (begins (0 ∷ 0 ∷ 0 ∷ []) w) && not (begins (0 ∷ 1 ∷ 0 ∷ []) w) && not (has_pair (drop 1 w))))
 
 pub pair_marks_fit : (n : ℕ) → pair_marks n < 4 ^ n
 pair_marks_fit zero = omega arith
@@ -239,9 +231,9 @@ pub none_is : (m : ℕ) → 3 * pair_marks m + 1 ≡ 4 ^ m
 none_is zero = omega arith
 none_is (suc m) = let h = none_is m in omega arith
 
--- fewer than three codes begin with neither, and have no AA after the first
-pub short_allowed : (w : List ℕ) → length w < 3 → is_allowed w ≡ true
-short_allowed [] h = refl
-short_allowed (a ∷ []) h = grind (arith, nat_tests)
-short_allowed (a ∷ b ∷ []) h = grind (arith, nat_tests)
-short_allowed (a ∷ b ∷ d ∷ w) h = absurd (omega arith)
+-- fewer than three codes are not allowed
+pub short_is_not_allowed : (w : List ℕ) → length w < 3 → is_allowed w ≡ false
+short_is_not_allowed [] h = refl
+short_is_not_allowed (a ∷ []) h = refl
+short_is_not_allowed (a ∷ b ∷ []) h = refl
+short_is_not_allowed (a ∷ b ∷ d ∷ w) h = absurd (omega arith)

@@ -29,17 +29,18 @@ pub(crate) fn is_allowed_with(p: u16, m: usize, marks: u16) -> bool
     requires marks { marks ≡ pair_marks (m - 1) }
     ensures { result ≡ is_allowed (unpack m p) }
 {
+    if m < HEAD {
+        return false;
+    }
     // a mark at each A but the first code: where both bits of its pair are zero
     let a = marks - ((p | (p >> 1)) & marks);
     let apart = (a & (a >> 2)) == 0;
-    if m < HEAD {
-        return apart;
-    }
     let head = p >> (2 * (m - HEAD));
     (head != AAA) & (head != ACA) & apart
 }
 
-/// How many codes the forbidden beginnings have: a shorter m-mer is always allowed.
+/// How many codes the forbidden beginnings have. A shorter m-mer is never allowed: there are so few of them that they would only cut
+/// reads in small pieces.
 pub(crate) const HEAD: usize = 3;
 
 /// The forbidden beginnings, packed.

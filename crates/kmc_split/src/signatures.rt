@@ -62,8 +62,8 @@ impl Sig {
     }
 }
 
-/// Whether an m-mer may be a signature, judged by its canonical form: that begins neither AAA nor ACA, and has AA
-/// nowhere but at its beginning.
+/// Whether an m-mer may be a signature, judged by its canonical form: that has at least three symbols, begins neither AAA nor
+/// ACA, and has AA nowhere but at its beginning.
 pub fn allowed(mmer: &Kmer) -> bool
     requires { length mmer.now ≤ MAX_M }
     ensures { result ≡ is_allowed (canonical mmer.now) }
@@ -71,7 +71,7 @@ pub fn allowed(mmer: &Kmer) -> bool
     let form = mmer.canon();
     let m = form.k();
     if m < HEAD {
-        return true;
+        return false;
     }
     is_allowed_with(packed(&form), m, marks_for(m - 1))
 }

@@ -1,9 +1,11 @@
-use Rattle.std.proofs.Common.{arith}
-use Rattle.kmc_split.proofs.Pairs.{allowed_long, allowed_short}
+use Rattle.std.proofs.Common.{sym, arith}
+use Rattle.kmc_base.specs.Packed.{unpack}
+use Rattle.kmc_base.specs.Lemmas.Packing.{length_unpack}
+use Rattle.kmc_split.proofs.Pairs.{allowed_long, short_is_not_allowed}
 use Rattle.kmc_split.proofs.judge.is_allowed_with.Goals as goal
 
 pub returns-then-m-lt-HEAD : goal.returns-then-m-lt-HEAD
-returns-then-m-lt-HEAD c = allowed_short c.args.m c.args.p c.args.marks c.requires.some c.if-m-lt-HEAD.true c.requires.marks
+returns-then-m-lt-HEAD c = sym (short_is_not_allowed (unpack c.args.m c.args.p) (omega (arith, length_unpack c.args.m c.args.p)))
 
 pub returns : goal.returns
 returns c = allowed_long c.args.m c.args.p c.args.marks (omega arith) c.requires.fits c.requires.marks

@@ -1,11 +1,11 @@
 use Rattle.std.proofs.Common.{ℕ, ap, sym, ◌∙◌, arith}
 use Rattle.kmc_base.specs.Packed.{unpack}
 use Rattle.kmc_split.specs.Signature.{is_allowed}
-use Rattle.kmc_split.proofs.Pairs.{short_allowed}
+use Rattle.kmc_split.proofs.Pairs.{short_is_not_allowed}
 use Rattle.kmc_split.proofs.signatures.allowed.Goals as goal
 
 pub returns-then-m-lt-HEAD : goal.returns-then-m-lt-HEAD
-returns-then-m-lt-HEAD c = sym (short_allowed c.canon-form.result (omega arith)) ∙ ap is_allowed c.canon-form.ensures
+returns-then-m-lt-HEAD c = sym (short_is_not_allowed c.canon-form.result (omega arith)) ∙ ap is_allowed c.canon-form.ensures
 
 pub returns : goal.returns
 returns c =
