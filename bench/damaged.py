@@ -35,7 +35,7 @@ def value(word):
 
 def is_allowed(mmer):
     """Whether a canonical m-mer may be a signature."""
-    return mmer[:3] not in ((0, 0, 0), (0, 1, 0)) and all(mmer[i:i + 2] != (0, 0) for i in range(1, len(mmer) - 1))
+    return len(mmer) >= 3 and mmer[:3] not in ((0, 0, 0), (0, 1, 0)) and all(mmer[i:i + 2] != (0, 0) for i in range(1, len(mmer) - 1))
 
 
 def windows(codes, length):

@@ -36,8 +36,8 @@ def worked_file():
 
 def test_the_worked_file_is_cut(room):
     wanted = worked_file()
-    assert len(wanted) == 81
-    assert cut(room, "a", read_of(b"ACGTCCGG"), "-k4", "-n7", "-slices1") == [wanted]
+    assert len(wanted) == 85
+    assert cut(room, "a", read_of(b"GGAACCCGAACCGT"), "-k11", "-n7", "-slices1") == [wanted]
 
 
 def refused(room, name):
@@ -51,7 +51,7 @@ def refused(room, name):
 def test_each_byte_left_out_doubled_or_changed_is_refused(room):
     program("kmc_list")
     source = random.Random(5)
-    files = [*cut(room, "a", read_of(b"ACGTCCGG"), "-k4", "-n7", "-slices2"), cut(room, "b", read_of(b"GATTACAGATTACAGCCTGA"), "-k9", "-n5", "-slices1")[0]]
+    files = [*cut(room, "a", read_of(b"GGAACCCGAACCGT"), "-k11", "-n7", "-slices2"), cut(room, "b", read_of(b"GATTACAGATTACAGCCTGA"), "-k11", "-n5", "-slices1")[0]]
     for whole in files:
         assert 44 <= len(whole) <= 160, len(whole)
         for place, byte in enumerate(whole):
@@ -83,12 +83,12 @@ def framed(number, body):
 def test_records_of_another_bin_are_told_with_their_place(room):
     program("kmc_list")
     whole = worked_file()
-    # the records of CCGG, which is a word of bin 1, and of ACGT, a word of bin 0; that of the worked file in bin 0
-    first, second, worked = b"\0\x5a", b"\0\x1b", b"\3\x1b\x58"
+    # the records of ACCCGAACCGT, which is a word of bin 1, and of GGAACCCGAAC, a word of bin 0; that of the worked file in bin 0
+    first, second, worked = b"\0\x15\x81\x6c", b"\0\xa0\x56\4", b"\2\xa0\x56\5\x80"
     header, end = whole[:28], struct.pack("<HHIQ", 65535, 0, 0, 2)
     assert header + framed(0, worked) + framed(1, first) + end == whole
-    for bodies, told in (((first, first), "bin 0: the record at byte 0 has words of another bin"), ((second, first + second), "bin 1: the record at byte 2 has words of another bin"),
-                         ((second[:1], second), "bin 0: the record at byte 0 is damaged"), ((second, first + first[:1]), "bin 1: the record at byte 2 is damaged")):
+    for bodies, told in (((first, first), "bin 0: the record at byte 0 has words of another bin"), ((second, first + second), "bin 1: the record at byte 4 has words of another bin"),
+                         ((second[:1], second), "bin 0: the record at byte 0 is damaged"), ((second, first + first[:1]), "bin 1: the record at byte 4 is damaged")):
         room.write("a", header + framed(0, bodies[0]) + framed(1, bodies[1]) + end)
         done = subprocess.run([program("kmc_list"), "-ci1", "a"], cwd=room.folder, stdin=subprocess.DEVNULL, stdout=subprocess.PIPE, stderr=subprocess.PIPE,
                               timeout=LONG, check=False)
@@ -122,7 +122,7 @@ def peak(words, room, source):
 
 
 def test_a_frame_that_lies_takes_no_memory(room):
-    whole = cut(room, "a", read_of(b"ACGTACGT"), "-k4", "-n7", "-slices2")[0]
+    whole = cut(room, "a", read_of(b"ACGTACGT"), "-k4", "-n7", "-slices1")[0]
     header, frame = whole[:28], whole[28:]
     bin_of_it, _, _, check = struct.unpack("<HHIQ", frame[:16])
     # the greatest body there is, the greatest that the field of its length can say, as many frames as would have 16 GB, and an end of many frames

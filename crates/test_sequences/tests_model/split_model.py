@@ -23,7 +23,7 @@ def canonical(word):
 
 def allowed(mmer):
     form = canonical(mmer)
-    return not form.startswith("AAA") and not form.startswith("ACA") and "AA" not in form[1:]
+    return len(form) >= 3 and not form.startswith("AAA") and not form.startswith("ACA") and "AA" not in form[1:]
 
 
 def value(mmer):

@@ -13,16 +13,18 @@ use std::sync::Wait;
 use std::thread::Threads;
 use test_support::{BlockReader, Full, NarrowWriter};
 
-/// A read whose word CCGG is of bin 1, of 7 bins, and whose other words are of bin 0, by signatures of one symbol.
-const TEXT: &[u8] = b">r\nACGTCCGG\n";
+/// A read of four words of 11 symbols. The first three have the signature of AACCC, 21, and are of bin 0 of 7 bins; the last has that of
+/// AACCG, 22, and is of bin 1.
+const TEXT: &[u8] = b">r\nGGAACCCGAACCGT\n";
 
-/// The file of slice 0 of 2 of that read, k 4: bin 0 has the record of ACGTCCG. Its bytes were worked by another program, from
+/// The file of slice 0 of 2 of that read: bin 0 has the record of GGAACCCGAACCG. Its bytes were worked by another program, from
 /// docs/DEFINITIONS.md.
-const CUT: [u8; 63] = [
-    0x4b, 0x4d, 0x43, 0x53, 0x4c, 0x49, 0x43, 0x45, 0x01, 0x00, 0x00, 0x00, 0x04, 0x01, 0x07, 0x00,
-    0x02, 0x00, 0x00, 0x00, 0x35, 0x9d, 0x35, 0x4b, 0x16, 0xf0, 0x42, 0x28, 0x00, 0x00, 0x00, 0x00,
-    0x03, 0x00, 0x00, 0x00, 0x1b, 0x0b, 0x0a, 0x7a, 0x9e, 0x43, 0x1c, 0x26, 0x03, 0x1b, 0x58, 0xff,
-    0xff, 0x00, 0x00, 0x00, 0x00, 0x00, 0x00, 0x01, 0x00, 0x00, 0x00, 0x00, 0x00, 0x00, 0x00,
+const CUT: [u8; 65] = [
+    0x4b, 0x4d, 0x43, 0x53, 0x4c, 0x49, 0x43, 0x45, 0x01, 0x00, 0x00, 0x00, 0x0b, 0x05, 0x07, 0x00,
+    0x02, 0x00, 0x00, 0x00, 0x4b, 0xc7, 0x6f, 0xbf, 0xb3, 0x31, 0x48, 0x1c, 0x00, 0x00, 0x00, 0x00,
+    0x05, 0x00, 0x00, 0x00, 0xf5, 0x32, 0x98, 0xfa, 0xf8, 0xc9, 0x34, 0xc9, 0x02, 0xa0, 0x56, 0x05,
+    0x80, 0xff, 0xff, 0x00, 0x00, 0x00, 0x00, 0x00, 0x00, 0x01, 0x00, 0x00, 0x00, 0x00, 0x00, 0x00,
+    0x00,
 ];
 
 /// A cut of the text, which comes byte by byte, into two files, and what they have.
@@ -32,7 +34,7 @@ fn cut<R: Abort + Threads + Wait + Sync>(
     failing: u64,
     weak: &Weak,
 ) -> (Result<(), CutError>, Vec<Vec<u8>>) {
-    let params = settings(rt, 4, 7, Strands::Joined, 1);
+    let params = settings(rt, 11, 7, Strands::Joined, 1);
     let mut reader = Counted::new(BlockReader::new(TEXT, 1, failing));
     let mut writers = writers_of(alloc, 2, weak).expect(rt, "memory");
     let answer = cut_slices(rt, alloc, &mut reader, writers.as_mut_slice(), &params);
@@ -53,17 +55,17 @@ fn a_cut_has_the_bytes_that_were_worked_out(rt: HostRuntime) {
     assert_eq!(rt; file.as_slice(), CUT.as_slice());
 }
 
-/// The text has 12 bytes; the read behind them tells that it ends.
+/// The text has 18 bytes; the read behind them tells that it ends.
 #[test]
 fn a_read_of_a_cut_that_fails_is_told(rt: HostRuntime) {
-    for failing in 1..14 {
+    for failing in 1..20 {
         let (answer, files) = cut(&rt, rt.alloc(), failing, &SOUND);
         assert_eq!(rt; answer, Err(CutError::Read));
         for file in &files {
             assert!(rt; !is_whole(rt.alloc(), file));
         }
     }
-    let (answer, _) = cut(&rt, rt.alloc(), 14, &SOUND);
+    let (answer, _) = cut(&rt, rt.alloc(), 20, &SOUND);
     assert_eq!(rt; answer, Ok(()));
 }
 

@@ -68,9 +68,9 @@ fn assert_told(rt: &impl Abort, alloc: Global, file: &[u8], other: &[u8], told: 
     assert_eq!(rt; fault, Some(SliceFault::Other(told)));
 }
 
-/// The place of a slice where reads are cut so, by signatures of one symbol.
+/// The place of a slice where reads are cut so, by signatures of 5 symbols.
 fn place(rt: &impl Abort, k: usize, n: usize, slices: u16, slice: u16) -> Slicing {
-    let shape = Shape::new(k, 1, n).expect(rt, "a shape");
+    let shape = Shape::new(k, 5, n).expect(rt, "a shape");
     Slicing {
         shape,
         slices,
@@ -81,32 +81,32 @@ fn place(rt: &impl Abort, k: usize, n: usize, slices: u16, slice: u16) -> Slicin
 #[test]
 fn a_file_of_another_slice_is_told(rt: HostRuntime) {
     let alloc = rt.alloc();
-    let files = small_files(&rt, alloc, 9, 7, 3);
+    let files = small_files(&rt, alloc, 11, 7, 3);
     let file = files.first().expect(&rt, "a file");
     assert_eq!(rt; add_fault(&rt, alloc, file, file), None);
     for slice in 1..3u16 {
         let other = files.get(usize::from(slice)).expect(&rt, "a file");
-        assert_told(&rt, alloc, file, other, place(&rt, 9, 7, 3, slice));
+        assert_told(&rt, alloc, file, other, place(&rt, 11, 7, 3, slice));
     }
 }
 
 #[test]
 fn a_file_that_was_cut_otherwise_is_told(rt: HostRuntime) {
     let alloc = rt.alloc();
-    let file = first_file(&rt, alloc, 9, 7, 3);
-    let other = first_file(&rt, alloc, 9, 7, 2);
-    assert_told(&rt, alloc, &file, &other, place(&rt, 9, 7, 2, 0));
-    let other = first_file(&rt, alloc, 10, 7, 3);
-    assert_told(&rt, alloc, &file, &other, place(&rt, 10, 7, 3, 0));
-    let other = first_file(&rt, alloc, 9, 8, 3);
-    assert_told(&rt, alloc, &file, &other, place(&rt, 9, 8, 3, 0));
-    let other = first_file(&rt, alloc, 5, 7, 3);
-    assert_told(&rt, alloc, &file, &other, place(&rt, 5, 7, 3, 0));
+    let file = first_file(&rt, alloc, 11, 7, 3);
+    let other = first_file(&rt, alloc, 11, 7, 2);
+    assert_told(&rt, alloc, &file, &other, place(&rt, 11, 7, 2, 0));
+    let other = first_file(&rt, alloc, 12, 7, 3);
+    assert_told(&rt, alloc, &file, &other, place(&rt, 12, 7, 3, 0));
+    let other = first_file(&rt, alloc, 11, 8, 3);
+    assert_told(&rt, alloc, &file, &other, place(&rt, 11, 8, 3, 0));
+    let other = first_file(&rt, alloc, 14, 7, 3);
+    assert_told(&rt, alloc, &file, &other, place(&rt, 14, 7, 3, 0));
 }
 
 #[test]
 fn each_front_of_a_file_is_refused(rt: HostRuntime) {
-    let file = first_file(&rt, rt.alloc(), 9, 7, 2);
+    let file = first_file(&rt, rt.alloc(), 11, 7, 2);
     for n in 0..file.len() {
         assert_refused(&rt, rt.alloc(), &file, &file[..n]);
     }
@@ -124,7 +124,7 @@ fn changed(rt: &impl Abort, alloc: Global, file: &[u8], at: usize) -> Vec<u8> {
 
 #[test]
 fn each_changed_byte_of_a_file_is_refused(rt: HostRuntime) {
-    let file = first_file(&rt, rt.alloc(), 9, 7, 2);
+    let file = first_file(&rt, rt.alloc(), 11, 7, 2);
     for at in 0..file.len() {
         let bytes = changed(&rt, rt.alloc(), &file, at);
         assert_refused(&rt, rt.alloc(), &file, &bytes);

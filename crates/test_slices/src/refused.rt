@@ -13,10 +13,13 @@ use std::sync::Wait;
 use std::thread::Threads;
 use test_support::{BlockReader, NarrowWriter};
 
-const TEXT: &[u8] = b">r\nACGTCCGG\n>s\nACGTCCGG\n";
+const TEXT: &[u8] = b">r\nGGAACCCGAACCGT\n>s\nGGAACCCGAACCGT\n";
 
 /// The dumps of the text's two slices, each read twice.
-const DUMPS: [&'static str; 2] = ["ACGT\t4\nCGGA\t4\nCGTC\t4\nGGAC\t4\n", "CCGG\t4\n"];
+const DUMPS: [&'static str; 2] = [
+    "AACCCGAACCG\t4\nGAACCCGAACC\t4\nGGAACCCGAAC\t4\n",
+    "ACCCGAACCGT\t4\n",
+];
 
 /// No writer fails or asks for memory.
 const READY: Weak = Weak {
@@ -60,7 +63,7 @@ fn assert_listed_or_refused<R: Abort + Threads + Sync>(
     file: &[u8],
     dump: &str,
 ) {
-    let params = settings(rt, 4, 5, Strands::Joined, 1);
+    let params = settings(rt, 11, 7, Strands::Joined, 1);
     let Ok(room) = Vec::with_capacity(alloc, 64) else {
         return;
     };
@@ -106,7 +109,7 @@ fn assert_cut_or_refused<R: Abort + Threads + Sync>(
 }
 
 fn cut_or_refuse<R: Abort + Threads + Wait + Sync>(rt: &R, alloc: Global) {
-    let params = settings(rt, 4, 5, Strands::Joined, 1);
+    let params = settings(rt, 11, 7, Strands::Joined, 1);
     let mut reader = Counted::new(BlockReader::new(TEXT, 1, 0));
     let Ok(writers) = writers_of(alloc, 2, &READY) else {
         return;
