@@ -103,8 +103,8 @@ impl Params {
     }
 
     /// How the reads of a chunk are cut into parts. Short words have short signatures, so that neighbours share one: one symbol where
-    /// a word has at most 10, 5 from 11 to 14, and one more for each symbol above, up to the setting and to 8. The dump is the same for
-    /// every length.
+    /// a word has at most 10, which is never allowed, so all of them are of one bin; 5 from 11 to 14, and one more for each symbol
+    /// above, up to the setting and to 8. The dump is the same for every length.
     pub fn shape(&self) -> Shape
         ensures { result ≡ shape_of self.now }
     {
