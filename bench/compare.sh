@@ -11,6 +11,9 @@
 #   long    10,000 reads of 5,000 to 25,000 symbols with errors in 5 of 100
 #   genome  five sequences of 20 million symbols, half of each twice, FASTA, 102 MB, all words
 #   alla    100 MB of the letter A in reads of 100, all words
+#   repeat  the same of the letters AC, over and over
+#   prefix  8 million sequences of 40 symbols whose first 11 are the same, FASTA, all words
+#   one_bin short, by ours with one bin
 #
 # For each k and each number of threads (-spN -srN against -tN) ours and both modes of KMC run in turn, ROUNDS (3) times each. KMC's modes are
 # `kmc -r`, in memory, and `kmc`, with files. The sorted dump is part of its time, and its memory is the greater of the two programs'.
@@ -34,6 +37,7 @@ trap 'rm -rf "$work"' EXIT
 
 # text_of WORKLOAD: makes its text where it is not there, and prints its name
 text_of() {
+    set -- "$(echo "$1" | sed s/one_bin/short/)"
     name="${TMPDIR:-/tmp}/kmc_bench_$1"
     if [ ! -f "$name" ]; then
         case $1 in
@@ -43,6 +47,9 @@ text_of() {
             long) python3 "$top/bench/simulate_reads.py" 10000 5000-25000 5000000 2 0.05 > "$name.part" ;;
             genome) python3 "$top/bench/simulate_genome.py" 5 20000000 3 > "$name.part" ;;
             alla) python3 -c 'a = "A" * 100; [print("@r\n%s\n+\n%s" % (a, a)) for _ in range(500000)]' > "$name.part" ;;
+            repeat) python3 -c 'a = "AC" * 50; [print("@r\n%s\n+\n%s" % (a, a)) for _ in range(500000)]' > "$name.part" ;;
+            prefix) python3 -c 'import random; random.seed(6)
+for _ in range(8000000): print(">r\nACGTTGCAGTC" + "".join(random.choices("ACGT", k=29)))' > "$name.part" ;;
             *) echo "compare.sh: no workload $1" >&2; return 2 ;;
         esac
         mv "$name.part" "$name"
@@ -53,8 +60,8 @@ text_of() {
 # options_of WORKLOAD: the format and the least count
 options_of() {
     case $1 in
-        genome) echo "-fm -ci1" ;;
-        alla) echo "-fq -ci1" ;;
+        genome | prefix) echo "-fm -ci1" ;;
+        alla | repeat) echo "-fq -ci1" ;;
         *) echo "-fq -ci2" ;;
     esac
 }
@@ -88,12 +95,14 @@ echo "|---|---|---|---|---|---|---|---|---|---|---|---|"
 for workload in "$@"; do
     text=$(text_of "$workload")
     options=$(options_of "$workload")
+    own=''
+    [ "$workload" != one_bin ] || own=-n1
     for k in $ks; do
         rm -f "$work"/*.times
         round=0
         while [ "$round" -lt "$rounds" ]; do
             for threads in $counts; do
-                timed "ours_$threads" "$top/kmc -k$k $options -sp$threads -sr$threads < $text > $work/ours.dump"
+                timed "ours_$threads" "$top/kmc -k$k $options $own -sp$threads -sr$threads < $text > $work/ours.dump"
                 theirs memory "-k$k $options -r" "$threads" "$text"
                 cmp "$work/ours.dump" "$work/theirs.dump"
                 theirs files "-k$k $options" "$threads" "$text"

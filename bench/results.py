@@ -24,8 +24,8 @@ TOLD = ("SHORT_READS", "LONG_READS", "CUT_TIMES", "SLICES", "K", "FOLDER")
 # name, heading, command, whether the last line alone is kept
 SECTIONS = [
     ("kmc3", "Time and memory beside KMC 3, k 25", ["bench/compare.sh", "-r", ROUNDS, "-t", THREADS], False),
-    ("k", "Other lengths of words, short reads", ["bench/compare.sh", "-r", ROUNDS, "-k", "1 3 5 7 9 11 12 31 55", "-t", "4", "short"], False),
-    ("skew", "One letter throughout", ["bench/compare.sh", "-t", "4", "-r", "2", "alla"], False),
+    ("k", "Other lengths of words, short reads", ["bench/compare.sh", "-r", ROUNDS, "-k", "1 2 3 4 5 6 7 8 9 10 11 12 31 55", "-t", "4", "short"], False),
+    ("skew", "Skewed inputs", ["bench/compare.sh", "-k", "25 55", "-t", "4", "-r", ROUNDS, "alla", "repeat", "prefix", "one_bin"], False),
     ("memory", "Memory", ["bench/memory.sh"], False),
     ("feeding", "What futoncrane takes beside the program", ["bench/feeding.sh"], False),
     ("slices", "Slices: what does not fit one memory", ["bench/slices.sh"], False),

@@ -12,6 +12,9 @@ ROUNDS_OF_A_CUT = (20 * MEGA, 150 * MEGA, 3)
 # of the records, while reads are cut and while their k-mers are listed
 BYTES_OF_A_SYMBOL_CUT = 1.1
 BYTES_OF_A_SYMBOL = 1.2
+# k-mers of at most so many symbols are all of one bin, so of one slice, and their reads are packed whole
+MOST_OF_ONE_BIN = 10
+BYTES_OF_A_PACKED_SYMBOL = 0.4
 BYTES_OF_A_COUNTER = 13 * MEGA
 # addresses are asked for that are not used: so many for each byte that is, and for each thread
 ADDRESSES_OF_A_BYTE = 2
@@ -40,9 +43,14 @@ def bytes_of_a_line(k, cap):
     return (17 if k > 32 else 10) + (7 if cap > 2**32 - 1 else 3 if cap > 255 else 0)
 
 
+def records(symbols, k, usual):
+    """The bytes of memory that the records of so many symbols take, of which k-mers usually take `usual` for each."""
+    return (BYTES_OF_A_PACKED_SYMBOL if k <= MOST_OF_ONE_BIN else usual) * symbols
+
+
 def listing(symbols, listed, k, cap, threads):
     """The bytes of memory that the listing of so many symbols takes."""
-    return BYTES_OF_A_SYMBOL * symbols + bytes_of_a_line(k, cap) * listed + BYTES_OF_A_COUNTER * threads
+    return records(symbols, k, BYTES_OF_A_SYMBOL) + bytes_of_a_line(k, cap) * listed + BYTES_OF_A_COUNTER * threads
 
 
 def rounds(symbols, bounds=ROUNDS):
@@ -53,12 +61,12 @@ def rounds(symbols, bounds=ROUNDS):
 
 def wanted(symbols, listed, k, cap, threads):
     """The bytes of memory that one run takes: the greater of what it takes while it cuts, and while it lists."""
-    return int(max(BYTES_OF_A_SYMBOL_CUT * symbols + rounds(symbols), listing(symbols, listed, k, cap, threads)))
+    return int(max(records(symbols, k, BYTES_OF_A_SYMBOL_CUT) + rounds(symbols), listing(symbols, listed, k, cap, threads)))
 
 
 def of_slice(slices, symbols, listed, k, cap, threads):
     """The bytes of memory that one of so many slices takes: the greater of what cutting all takes, and listing the greatest slice."""
-    share = (1 + UNEVEN * math.log2(slices)) / slices
+    share = 1 if k <= MOST_OF_ONE_BIN else (1 + UNEVEN * math.log2(slices)) / slices
     return int(max(rounds(symbols, ROUNDS_OF_A_CUT), listing(symbols * share, listed * share, k, cap, threads)))
 
 
