@@ -114,15 +114,15 @@ fn run_through<R: Threads + Wait + Sync, G: Gate + Sync>(
     run_with_gate(rt, alloc, &mut reader, &mut writer, params, gate)
 }
 
-/// Two reads, each a chunk of its own, give two parts each: the signature of a word with an A or a T is that of A, 0, which is of bin 0,
-/// and that of CCGG is 1, which is of bin 1.
+/// Two reads, each a chunk of its own, give two parts each: the signature of the first three words is that of AACCC, 21, which is of
+/// bin 0, and that of the last one is that of AACCG, 22, which is of bin 1.
 #[test]
 fn a_run_tells_its_gate_of_each_part(rt: HostRuntime) {
-    let text = fastq(&rt, rt.alloc(), &[b"ACGTCCGG", b"ACGTCCGG"]);
-    let params = queued(&rt, 4, 5, 7, Sizes(2, 2, 8, 1));
+    let text = fastq(&rt, rt.alloc(), &[b"GGAACCCGAACCGT", b"GGAACCCGAACCGT"]);
+    let params = queued(&rt, 11, 5, 7, Sizes(2, 2, 8, 1));
     let passes = Passes::new();
     let made = run_through(&rt, rt.alloc(), &text, &params, &passes);
-    assert_eq!(rt; made, Ok(5));
+    assert_eq!(rt; made, Ok(4));
     passes.assert_each(&rt, 4);
 }
 
@@ -132,11 +132,11 @@ fn assert_meeting<R: Abort + Threads + Wait + Sync + Alloc<A = Global>>(
     pair: Pair,
     storers: usize,
 ) {
-    let text = fastq(rt, rt.alloc(), &[b"ACGTCCGG", b"ACGTCCGG"]);
-    let params = queued(rt, 4, 5, 7, Sizes(2, storers, 8, 1));
+    let text = fastq(rt, rt.alloc(), &[b"GGAACCCGAACCGT", b"GGAACCCGAACCGT"]);
+    let params = queued(rt, 11, 5, 7, Sizes(2, storers, 8, 1));
     let gate = Meets::new(pair);
     let made = run_through(rt, rt.alloc(), &text, &params, &gate);
-    assert_eq!(rt; made, Ok(5));
+    assert_eq!(rt; made, Ok(4));
     assert!(rt; gate.is_held());
 }
 
