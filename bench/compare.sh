@@ -98,6 +98,7 @@ for workload in "$@"; do
     own=''
     [ "$workload" != one_bin ] || own=-n1
     for k in $ks; do
+        [ "$workload" != prefix ] || [ "$k" -le 40 ] || continue
         rm -f "$work"/*.times
         round=0
         while [ "$round" -lt "$rounds" ]; do

@@ -14,7 +14,7 @@ BYTES_OF_A_SYMBOL_CUT = 1.1
 BYTES_OF_A_SYMBOL = 1.2
 # k-mers of at most so many symbols are all of one bin, so of one slice, and their reads are packed whole
 MOST_OF_ONE_BIN = 10
-BYTES_OF_A_PACKED_SYMBOL = 0.4
+BYTES_OF_A_PACKED_SYMBOL = 0.3
 BYTES_OF_A_COUNTER = 13 * MEGA
 # addresses are asked for that are not used: so many for each byte that is, and for each thread
 ADDRESSES_OF_A_BYTE = 2

@@ -13,9 +13,10 @@ REAL = 10**9
 
 def test_the_amount_is_that_of_the_measured_table(room):
     # symbols, listed k-mers, k, threads and the measured peak in bytes: an estimate is above it, and at most a third
-    rows = ((50 * 10**6, 0, 25, 2, 82), (150 * 10**6, 0, 25, 2, 201), (150 * 10**6, 5600000, 25, 2, 217), (150 * 10**6, 29000000, 25, 2, 434),
-            (150 * 10**6, 33300000, 50, 2, 695), (150 * 10**6, 6200000, 12, 2, 253), (150 * 10**6, 105100000, 25, 2, 1035), (30 * 10**6, 15000000, 25, 2, 172),
-            (30 * 10**6, 15000000, 25, 4, 199), (600 * 10**6, 0, 25, 4, 702), (600 * 10**6, 22400000, 25, 4, 869), (300 * 10**6, 0, 25, 4, 349))
+    rows = ((50 * 10**6, 0, 25, 2, 83), (150 * 10**6, 0, 25, 2, 201), (150 * 10**6, 5600000, 25, 2, 222), (150 * 10**6, 29000000, 25, 2, 437),
+            (150 * 10**6, 33300000, 50, 2, 690), (150 * 10**6, 6200000, 12, 2, 259), (150 * 10**6, 105100000, 25, 2, 1033), (30 * 10**6, 15000000, 25, 2, 170),
+            (30 * 10**6, 15000000, 25, 4, 201), (600 * 10**6, 0, 25, 4, 702), (600 * 10**6, 22400000, 25, 4, 869), (300 * 10**6, 0, 25, 4, 349),
+            (150 * 10**6, 0, 5, 2, 79), (150 * 10**6, 100000, 9, 2, 83), (600 * 10**6, 100000, 9, 2, 201))
     for symbols, listed, k, threads, peak in rows:
         found = memory.wanted(symbols, listed, k, 255, threads)
         assert peak * 10**6 <= found <= 1.3 * peak * 10**6, (symbols, listed, found)
@@ -29,6 +30,9 @@ def test_a_run_or_slices_are_chosen(room):
     assert memory.plan(90 * REAL, 3 * REAL, 31, 255, 8, GB).slices == 512
     assert memory.plan(90 * REAL, 3 * REAL, 31, 255, 8, 64 << 20).slices is None
     assert memory.plan(0, 0, 31, 255, 1, 64 << 20) == (1, 20 * 10**6)
+    # short k-mers are all of one slice
+    assert memory.plan(90 * REAL, 10**5, 9, 255, 8, 32 * GB).slices == 1
+    assert memory.plan(90 * REAL, 10**5, 9, 255, 8, 16 * GB).slices is None
     # more room never wants more slices, and the room of so many slices is enough for each
     before = None
     for room_of_it in range(1, 200):
