@@ -12,7 +12,7 @@
 #   genome  five sequences of 20 million symbols, half of each twice, FASTA, 102 MB, all words
 #   alla    100 MB of the letter A in reads of 100, all words
 #   repeat  the same of the letters AC, over and over
-#   prefix  8 million sequences of 40 symbols whose first 11 are the same, FASTA, all words
+#   prefix  8 million sequences of 40 symbols whose first 11 are the same, FASTA, all words; k to 40
 #   one_bin short, by ours with one bin
 #
 # For each k and each number of threads (-spN -srN against -tN) ours and both modes of KMC run in turn, ROUNDS (3) times each. KMC's modes are
