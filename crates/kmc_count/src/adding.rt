@@ -1,5 +1,5 @@
 //! Items of short words, those of equal words added up: a counter for each word takes the place of a sort.
-ghost use Rattle.std.specs.Prelude.{◌≡◌, ℕ, ◌+◌, ◌*◌, ◌/◌, ◌^◌, ◌<◌, ◌≤◌, ◌++◌, ◌∷◌, [], List, map, drop, length, replicate, true, OnOk, IfOk, IsErrOf};
+ghost use Rattle.std.specs.Prelude.{◌≡◌, ℕ, ◌+◌, ◌*◌, ◌/◌, ◌^◌, ◌<◌, ◌≤◌, ◌++◌, ◌∷◌, [], List, map, drop, length, replicate, true, OnOk, IsErrOf};
 ghost use Rattle.kmc_base.specs.Weights.{items, worth, AreItems};
 ghost use Rattle.kmc_record.specs.Faults.{IsFirstFault};
 ghost use Rattle.kmc_record.specs.declared.fault.RecordFault.{RecordFault};
@@ -9,16 +9,16 @@ ghost use Rattle.kmc_count.specs.Tables.{table_worth, ComeToAsMuch, IsTable, Tak
 use crate::room::CountingRoom;
 use kmc_base::{KeyRule, MOST_WEIGHT_BITS, Weight, Word};
 use kmc_record::{BodyError, take_words};
-use std::alloc::{AllocError, Global};
+use std::alloc::AllocError;
 
 /// The most symbols of a word that has a counter: the counters of all words of 12 symbols take 64 MiB.
-pub const MOST_TABLE_SYMBOLS: usize = 12;
+const MOST_TABLE_SYMBOLS: usize = 12;
 
 /// A table is worth its while where it has at most so many counters for each byte of the body.
 const COUNTERS_OF_A_BYTE: usize = 8;
 
 /// Whether the words of a body of so many bytes are counted in a table.
-pub fn takes_table(k: usize, bytes: usize) -> bool
+pub(crate) fn takes_table(k: usize, bytes: usize) -> bool
     ensures { result ≡ true → k ≤ MOST_TABLE_SYMBOLS }
 {
     k <= MOST_TABLE_SYMBOLS && (1 << (2 * k)) / COUNTERS_OF_A_BYTE <= bytes
@@ -197,29 +197,4 @@ pub(crate) fn take_and_add<W: Word + Drop>(
     }
     add_up(items, table, over, k, bits)?;
     Ok(())
-}
-
-/// The words of a body as items, for words that are short enough for a table: those of equal words are added up. How often a word
-/// comes is the sum of the weights of its items, which stand in no order. Items of bodies that are put behind one another are those
-/// of the bodies joined.
-pub fn added_items<W: Word + Drop>(
-    alloc: Global,
-    body: &[u8],
-    rule: KeyRule,
-    bits: u32,
-) -> Result<Vec<W>, BodyError>
-    requires most { rule.k ≤ MOST_TABLE_SYMBOLS }
-    requires beside { 2 * rule.k + bits ≤ 2 * W.most }
-    requires bits { bits ≤ MOST_WEIGHT_BITS }
-    ensures ok { IfOk result (λ items. AreItemsOfBody rule.strands rule.k bits body.now
-        (map W.number items.items)) }
-    ensures damaged { (fault : RecordFault) (offset : ℕ)
-        → IsErrOf result (BodyError.Damaged fault offset)
-        → IsFirstFault rule.k fault offset body.now }
-    ensures memory { IsErrOf result BodyError.Memory → WantsMemory rule.k body.now }
-{
-    let mut room = CountingRoom::new(alloc);
-    take_and_add(&mut room, body, rule, bits)?;
-    let CountingRoom { items, .. } = room;
-    Ok(items)
 }

@@ -1,6 +1,7 @@
 //! The count of a bin: equal records once, their words with weights as items in one list, and the dump of items.
-ghost use Rattle.std.specs.Prelude.{◌≡◌, ℕ, ◌+◌, ◌*◌, ◌≤◌, [], List, map, OnOk, IsErrOf};
-ghost use Rattle.std.specs.List.Sorted.{IsPermutation};
+ghost use Rattle.std.specs.Prelude.{◌≡◌, ℕ, ◌+◌, ◌*◌, ◌≤◌, [], List, map, OnOk, IfOk, IsErrOf};
+ghost use Rattle.std.specs.List.Sorted.{IsPermutation, IsSorted};
+ghost use Rattle.std.specs.Ordering.{nat_cmp};
 ghost use Rattle.kmc_base.specs.Weights.{AreItems};
 ghost use Rattle.kmc_record.specs.Faults.{IsFirstFault};
 ghost use Rattle.kmc_record.specs.declared.fault.RecordFault.{RecordFault};
@@ -13,7 +14,7 @@ use crate::room::CountingRoom;
 use crate::tallying::tally;
 use kmc_base::{KeyRule, MOST_WEIGHT_BITS, Word};
 use kmc_record::{BodyError, push_rows, take_body};
-use std::alloc::AllocError;
+use std::alloc::{AllocError, Global};
 
 /// Sorts the numbers of records, by the faster way for their width where there is memory for that.
 fn sort_numbers(numbers: &mut Vec<u128>)
@@ -74,6 +75,32 @@ fn take_items<W: Word + Drop>(
     } else {
         take_and_sort(room, body, rule, bits)
     }
+}
+
+/// The words of a body as items, which rise, so that those of one word are neighbours. How often a word comes is the sum of the
+/// weights of its items.
+pub fn items_of_body<W: Word + Drop>(
+    alloc: Global,
+    body: &[u8],
+    rule: KeyRule,
+    bits: u32,
+) -> Result<Vec<W>, BodyError>
+    requires most { rule.k ≤ W.most }
+    requires beside { 2 * rule.k + bits ≤ 2 * W.most }
+    requires bits { bits ≤ MOST_WEIGHT_BITS }
+    ensures ok { IfOk result (λ items. AreItemsOfBody rule.strands rule.k bits body.now
+        (map W.number items.items)) }
+    ensures sorted { IfOk result (λ items. IsSorted nat_cmp (map W.number items.items)) }
+    ensures damaged { (fault : RecordFault) (offset : ℕ)
+        → IsErrOf result (BodyError.Damaged fault offset)
+        → IsFirstFault rule.k fault offset body.now }
+    ensures memory { IsErrOf result BodyError.Memory → WantsMemory rule.k body.now }
+{
+    let mut room = CountingRoom::new(alloc);
+    take_items(&mut room, body, rule, bits)?;
+    let CountingRoom { mut items, .. } = room;
+    W::sort(&mut items);
+    Ok(items)
 }
 
 /// Puts the dump of items into an empty list of pairs, and sorts the items for that.

@@ -1,5 +1,5 @@
-//! A group of bodies, counted by several threads side by side: each takes the largest body that none has taken, so a thread that
-//! is slow, or has great bodies, takes fewer.
+//! A group of bodies, counted by several threads: giants together, and of the others each takes the largest one that none has
+//! taken, so a thread that is slow, or has great bodies, takes fewer.
 ghost use Rattle.std.specs.Prelude.{◌≡◌, ◌≤◌, ℕ, List, length, map, IfOk, IfSome, IsErrOf};
 ghost use Rattle.std.specs.List.{All};
 ghost use Rattle.std.specs.Thread.{IsSync};
@@ -11,8 +11,8 @@ ghost use Rattle.kmc_dump.specs.Bodies.{AreListsOfBodies, IsListAt};
 
 use crate::bin::list_body;
 use crate::counts::Counts;
+use crate::giants::take_giants;
 use crate::largest_first::LargestFirst;
-use crate::shared::{is_shared, list_shared_body};
 use crate::shown::Shown;
 use kmc_base::{KeyRule, Word};
 use kmc_count::{CountingRoom, Limits};
@@ -95,7 +95,7 @@ fn take_by_threads<R: Threads + Sync, W: Word + Drop + Send, C: Shown + Drop + S
     Ok(lists)
 }
 
-/// The lists of all bodies, which at most so many threads take, the largest first.
+/// The lists of all bodies: so many threads count the giants together, and then each takes other bodies, the largest first.
 fn take_all<R: Threads + Sync, W: Word + Drop + Send, C: Shown + Drop + Send>(
     rt: &R,
     alloc: Global,
@@ -111,7 +111,10 @@ fn take_all<R: Threads + Sync, W: Word + Drop + Send, C: Shown + Drop + Send>(
         (map (λ b. b.items) bodies.now) p.place p.list) lists.items) }
 {
     let order = LargestFirst::new(alloc, bodies)?;
-    take_by_threads(rt, alloc, &order, bodies, rule, limits, threads)
+    let mut lists = take_giants(rt, alloc, &order, bodies, rule, &limits, threads)?;
+    let mut more = take_by_threads(rt, alloc, &order, bodies, rule, limits, threads)?;
+    lists.append(&mut more)?;
+    Ok(lists)
 }
 
 /// The lists in the order of their places, where there is one for each of so many places.
@@ -144,36 +147,15 @@ fn in_order<W: Word + Drop, C: Shown + Drop>(
     }
 }
 
-/// Whether a thread with the largest body alone would end after so many threads that count all bodies one after the other, the large
-/// ones together.
-fn has_giant(bodies: &[Vec<u8>], k: usize, threads: usize) -> bool {
-    let mut largest = 0;
-    let mut shared: usize = 0;
-    let mut alone: usize = 0;
-    for body in bodies {
-        let bytes = body.len();
-        largest = largest.max(bytes);
-        if is_shared(k, bytes) {
-            shared = shared.saturating_add(bytes);
-        } else {
-            alone = alone.saturating_add(bytes);
-        }
-    }
-    largest.saturating_sub(alone).saturating_mul(threads) > shared
-}
-
-/// The list of each body, one after the other, in the same room; so many threads count a large one together.
-fn list_row<R: Threads + Sync, W: Word + Drop + Send, C: Shown + Drop>(
-    rt: &R,
+/// The list of each body, one after the other, in the same room.
+fn list_row<W: Word + Drop, C: Shown + Drop>(
     alloc: Global,
     bodies: &[Vec<u8>],
     rule: KeyRule,
     limits: &Limits,
-    threads: usize,
 ) -> Result<Vec<Counts<W, C>>, BodyError>
     requires most { rule.k ≤ W.most }
     requires wide { limits.now.cs ≤ C.greatest }
-    requires threads { 1 ≤ threads }
     ensures ok { IfOk result (λ lists. AreListsOfBodies rule.strands rule.k limits.now
         (map (λ b. b.items) bodies.now) lists.items) }
     ensures damaged { (fault : RecordFault) (offset : ℕ)
@@ -183,7 +165,7 @@ fn list_row<R: Threads + Sync, W: Word + Drop + Send, C: Shown + Drop>(
     let mut room: CountingRoom<W> = CountingRoom::new(alloc);
     let mut lists = Vec::new(alloc);
     for body in bodies {
-        let list = list_shared_body(rt, &mut room, alloc, body, rule, limits, threads)?;
+        let list = list_body(&mut room, alloc, body, rule, limits)?;
         match lists.push(list) {
             Ok(()) => {}
             Err(_) => return Err(BodyError::Memory),
@@ -192,9 +174,9 @@ fn list_row<R: Threads + Sync, W: Word + Drop + Send, C: Shown + Drop>(
     Ok(lists)
 }
 
-/// The list of each body of a group, in the order of the bodies, by at most so many threads: each takes bodies, or where one body is
-/// so large that the other threads would wait for it, they count it together. Where one of them meets a fault or is refused memory,
-/// the bodies are counted anew, one after the other, so that the fault is that of the first body that is damaged.
+/// The list of each body of a group, in the order of the bodies, by at most so many threads. Where one of them meets a fault or is
+/// refused memory, the calling thread counts the bodies anew, one after the other, so that the fault is that of the first body that
+/// is damaged.
 pub(crate) fn list_group<R: Threads + Sync, W: Word + Drop + Send, C: Shown + Drop + Send>(
     rt: &R,
     alloc: Global,
@@ -212,12 +194,12 @@ pub(crate) fn list_group<R: Threads + Sync, W: Word + Drop + Send, C: Shown + Dr
         → IsErrOf result (BodyError.Damaged fault offset)
         → IsFirstDamaged rule.k fault offset (map (λ b. b.items) bodies.now) }
 {
-    if threads > 1 && !has_giant(bodies, rule.k, threads) {
+    if threads > 1 {
         if let Ok(placed) = take_all(rt, alloc, bodies, rule, limits, threads) {
             if let Some(lists) = in_order(alloc, placed, bodies.len()) {
                 return Ok(lists);
             }
         }
     }
-    list_row(rt, alloc, bodies, rule, &limits, threads)
+    list_row(alloc, bodies, rule, &limits)
 }

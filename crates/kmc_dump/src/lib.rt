@@ -8,6 +8,7 @@ mod bin;
 mod bins;
 mod buffers;
 mod counts;
+mod giants;
 mod group;
 mod keys;
 mod largest_first;

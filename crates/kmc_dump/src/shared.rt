@@ -1,32 +1,18 @@
-//! A large body of short words, counted by several threads together: each takes records that follow one another.
-ghost use Rattle.std.specs.Prelude.{◌≡◌, ℕ, ◌+◌, ◌*◌, ◌≤◌, length, map, true, IfOk, IsErrOf};
+//! A body that is counted by several threads together: each takes records that follow one another.
+ghost use Rattle.std.specs.Prelude.{ℕ, ◌+◌, ◌*◌, ◌≤◌, length, map, IfOk};
 ghost use Rattle.std.specs.Thread.{IsSync};
 ghost use Rattle.kmc_base.specs.declared.word.TheConstants.{MOST_WEIGHT_BITS};
-ghost use Rattle.kmc_record.specs.Faults.{IsFirstFault};
-ghost use Rattle.kmc_record.specs.declared.fault.RecordFault.{RecordFault};
 ghost use Rattle.kmc_count.specs.Bodies.{AreItemsOfBody, IsDumpOfBody};
-ghost use Rattle.kmc_count.specs.declared.adding.TheConstants.{MOST_TABLE_SYMBOLS};
 ghost use Rattle.kmc_dump.specs.Listed.{IsListOf, pairs_of};
 
-use crate::bin::list_body;
 use crate::counts::Counts;
 use crate::shown::Shown;
 use kmc_base::{KeyRule, MOST_WEIGHT_BITS, Word};
-use kmc_count::{CountingRoom, Limits, MOST_TABLE_SYMBOLS, added_items, dump_items, takes_table};
+use kmc_count::{Limits, dump_items, items_of_body, merged_items};
 use kmc_record::BodyError;
 use std::alloc::Global;
 use std::thread;
 use std::thread::Threads;
-
-/// A body of fewer bytes is not worth the start of threads.
-const LEAST_SHARED: usize = 1 << 20;
-
-/// Whether several threads count a body of so many bytes together.
-pub(crate) fn is_shared(k: usize, bytes: usize) -> bool
-    ensures { result ≡ true → k ≤ MOST_TABLE_SYMBOLS }
-{
-    bytes >= LEAST_SHARED && takes_table(k, bytes)
-}
 
 /// Where the first record begins that has so many bytes before it; the end of the body where there is none. Of a body that is
 /// damaged it is any place.
@@ -52,7 +38,7 @@ fn take_shared<R: Threads + Sync, W: Word + Drop + Send>(
     bits: u32,
     threads: usize,
 ) -> Result<Vec<W>, BodyError>
-    requires most { rule.k ≤ MOST_TABLE_SYMBOLS }
+    requires most { rule.k ≤ W.most }
     requires beside { 2 * rule.k + bits ≤ 2 * W.most }
     requires bits { bits ≤ MOST_WEIGHT_BITS }
     requires threads { 1 ≤ threads }
@@ -60,33 +46,32 @@ fn take_shared<R: Threads + Sync, W: Word + Drop + Send>(
         (map W.number items.items)) }
 {
     if threads == 1 {
-        return added_items(alloc, body, rule, bits);
+        return items_of_body(alloc, body, rule, bits);
     }
     let few = threads / 2;
     let others = threads - few;
     let middle = record_behind(body, rule, body.len() / threads * few);
     let (low, high) = body.split_at(middle);
     let front = move || -> Result<Vec<W>, BodyError>
-        requires { IsSync R.row × (rule.k ≤ MOST_TABLE_SYMBOLS)
+        requires { IsSync R.row × (rule.k ≤ W.most)
             × (2 * rule.k + bits ≤ 2 * W.most) × (bits ≤ MOST_WEIGHT_BITS) × (1 ≤ few) }
         ensures { IfOk result (λ items. AreItemsOfBody rule.strands rule.k bits low.entry.now
             (map W.number items.items)) }
     { take_shared(rt, alloc, low, rule, bits, few) };
     let back = move || -> Result<Vec<W>, BodyError>
-        requires { IsSync R.row × (rule.k ≤ MOST_TABLE_SYMBOLS)
+        requires { IsSync R.row × (rule.k ≤ W.most)
             × (2 * rule.k + bits ≤ 2 * W.most) × (bits ≤ MOST_WEIGHT_BITS) × (1 ≤ others) }
         ensures { IfOk result (λ items. AreItemsOfBody rule.strands rule.k bits high.entry.now
             (map W.number items.items)) }
     { take_shared(rt, alloc, high, rule, bits, others) };
     let (first, second) = thread::join(rt, front, back);
-    let mut items = first?;
-    let mut more = second?;
-    items.append(&mut more)?;
-    Ok(items)
+    let items = first?;
+    let more = second?;
+    Ok(merged_items(alloc, &items, &more, rule.k, bits)?)
 }
 
-/// The dump of a body of short words in packed form, counted by so many threads together.
-fn list_by_threads<R: Threads + Sync, W: Word + Drop + Send, C: Shown + Drop>(
+/// The dump of a body in packed form, counted by so many threads together.
+pub(crate) fn list_by_threads<R: Threads + Sync, W: Word + Drop + Send, C: Shown + Drop>(
     rt: &R,
     alloc: Global,
     body: &[u8],
@@ -94,7 +79,6 @@ fn list_by_threads<R: Threads + Sync, W: Word + Drop + Send, C: Shown + Drop>(
     limits: &Limits,
     threads: usize,
 ) -> Result<Counts<W, C>, BodyError>
-    requires short { rule.k ≤ MOST_TABLE_SYMBOLS }
     requires most { rule.k ≤ W.most }
     requires wide { limits.now.cs ≤ C.greatest }
     requires threads { 1 ≤ threads }
@@ -108,33 +92,4 @@ fn list_by_threads<R: Threads + Sync, W: Word + Drop + Send, C: Shown + Drop>(
     dump_items(&mut items, &mut pairs, rule, bits, limits)?;
     pairs.shrink();
     Ok(pairs)
-}
-
-/// The dump of a body in packed form. A large body of short words is counted by so many threads together. Where one of them meets
-/// a fault or is refused memory, the calling thread counts the body anew, in its room, so that the fault is the first one.
-pub(crate) fn list_shared_body<R: Threads + Sync, W: Word + Drop + Send, C: Shown + Drop>(
-    rt: &R,
-    room: &mut CountingRoom<W>,
-    alloc: Global,
-    body: &[u8],
-    rule: KeyRule,
-    limits: &Limits,
-    threads: usize,
-) -> Result<Counts<W, C>, BodyError>
-    requires most { rule.k ≤ W.most }
-    requires wide { limits.now.cs ≤ C.greatest }
-    requires threads { 1 ≤ threads }
-    ensures list { IfOk result (λ c. IsListOf rule.k c) }
-    ensures ok { IfOk result (λ c. IsDumpOfBody rule.strands rule.k limits.now body.now
-        (pairs_of c)) }
-    ensures damaged { (fault : RecordFault) (offset : ℕ)
-        → IsErrOf result (BodyError.Damaged fault offset)
-        → IsFirstFault rule.k fault offset body.now }
-{
-    if threads > 1 && is_shared(rule.k, body.len()) {
-        if let Ok(list) = list_by_threads(rt, alloc, body, rule, limits, threads) {
-            return Ok(list);
-        }
-    }
-    list_body(room, alloc, body, rule, limits)
 }

@@ -19,9 +19,6 @@ pub record GotBelow (text : ℕ → List ℕ) (b : ℕ) (olds news : List (Optio
   pub got : (t : ℕ) → t < b → Appends (held_at olds t) (held_at news t) (text t)
   pub rest : (t : ℕ) → b ≤ t → held_at news t ≡ held_at olds t
 
-pub got_none : (text : ℕ → List ℕ) (olds : List (Option (List ℕ))) → GotBelow text 0 olds olds
-got_none text olds = record { got = λ t below. absurd (omega (arith, below)); rest = λ t above. refl }
-
 module _ (text : ℕ → List ℕ) (b : ℕ) (olds mids : List (Option (List ℕ))) (now : Option (List ℕ)) (inside : b < length mids)
     (before : GotBelow text b olds mids) where
   here : (t : ℕ) → t ≡ b → held_at (set mids b now) t ≡ now

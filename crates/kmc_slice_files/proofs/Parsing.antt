@@ -22,10 +22,6 @@ two_told n m small less e = sym (from_le_bytes-to_le_bytes_2 n small) ∙ ap (fr
 pub four_told : (n m : ℕ) → n < 2 ^ 32 → m < 2 ^ 32 → to_le_bytes w32 n ≡ to_le_bytes w32 m → n ≡ m
 four_told n m small less e = sym (from_le_bytes-to_le_bytes_4 n small) ∙ ap (from_le_bytes w32) e ∙ from_le_bytes-to_le_bytes_4 m less
 
-pub length-head : (bin long check : ℕ) → length (head_bytes bin long check) ≡ 16
-unfolding spare_head
-length-head bin long check = refl
-
 -- heads tell their bins and lengths
 pub heads_told : (a l c b m d : ℕ) (rest more : List ℕ) → a < 2 ^ 16 → b < 2 ^ 16 → l < 2 ^ 32 → m < 2 ^ 32
     → head_bytes a l c ++ rest ≡ head_bytes b m d ++ more → (a ≡ b) × (l ≡ m) × (rest ≡ more)

@@ -75,9 +75,6 @@ module _ (h : Head) (bytes : List ℕ) (is : IsHeadOf h bytes) (n S s count : �
         ap (λ (l : List ℕ). l ++ body) is.is
         ∙ (λ i. spare_head (saysf.bin i) (saysf.spare i) (sym long i) ((sym same ∙ ap (λ x. check_of x body) saysf.bin) i) ++ body)
 
-  pub end_is : SaysEnd count h → bytes ≡ end_bytes count
-  end_is e = let c : h.check ≡ capped count = omega (arith, e.check, fits) in is.is ∙ (λ i. spare_head (e.bin i) (e.spare i) (e.long i) (c i))
-
 -- less than a head begins nothing
 pub less_begins : (n S s count : ℕ) (bytes : List ℕ) → length bytes < 16 → BeginsNothing n S s count bytes
 less_begins n S s count bytes few = record {

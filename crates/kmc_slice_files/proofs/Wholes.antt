@@ -21,17 +21,6 @@ use Rattle.kmc_slice_files.specs.Lemmas.Heads.{length_spare}
 abbrev pub place : ℕ → ℕ → Place
 place frames byte = record { frames = frames; byte = byte }
 
-pub frames_none : (n S s : ℕ) (a : Option (List ℕ)) (bodies : List (List ℕ)) → TookFrames n S s a a bodies bodies (place 0 28)
-frames_none n S s a bodies = record {
-  fs = [];
-  frames = tt;
-  gave = Consumes-nil a;
-  many = refl;
-  byte = refl;
-  bodies = record { wide = refl; each = λ b inside. sym (append-nil (body_at bodies b)) };
-  held = omega arith;
-}
-
 -- a body behind what its bin has
 grown_body : (bodies : List (List ℕ)) (f : Frame) (b : ℕ) → b < length bodies
     → body_at (set bodies f.bin (body_at bodies f.bin ++ f.body)) b ≡ body_at bodies b ++ body_of b (f ∷ [])

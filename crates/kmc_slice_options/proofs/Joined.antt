@@ -17,7 +17,3 @@ Awaits f (Some x) = awaits_value (f x) ≡ true
 pub joined_alone : (word : Word) (words : List Word) → awaits_value word ≡ false → joined (word ∷ words) ≡ word ∷ joined words
 joined_alone word [] is = refl
 joined_alone word (next ∷ words) is = rw is refl
-
--- one that does takes the next
-pub joined_both : (word next : Word) (words : List Word) → awaits_value word ≡ true → joined (word ∷ next ∷ words) ≡ (word ++ 61 ∷ next) ∷ joined words
-joined_both word next words is = rw is refl

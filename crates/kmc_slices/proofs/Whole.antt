@@ -137,9 +137,6 @@ module _ (strands : Strands) (shape : Sizes) (S : ℕ) (some : 1 ≤ S) (parts :
           let d = dumps s inside in
           slice_count one s d.dump.super_kmers d.bodies d.are d.dump.records x ∙ chosen.2 s ∙ ap (λ n. cond (eqb chosen.0 s) n 0) (sym (all_is x))
 
-      count_in : (s : ℕ) → s < S → List ℕ → ℕ
-      count_in s inside = occurrences (joined (map (record_keys strands shape.k) ((dumps s inside).dump.super_kmers)))
-
       here : (s : ℕ) (inside : s < S) → s ≡ chosen.0 → occurrences
           (joined (map (record_keys strands shape.k) ((dumps s inside).dump.super_kmers))) x ≡ all_count x
       here s inside e = slice_has s inside ∙ ap (λ b. cond b (all_count x) 0) (eq-eqb chosen.0 s (sym e))

@@ -73,20 +73,3 @@ one_counted shape bodies from bin count front one h =
           subst (λ j. IsPart (bin + i) shape (body_at bodies (bin + i)) (get_or (count ∷ []) j 0)) first
           (subst (λ b. IsPart b shape (body_at bodies b) count) here h);
     })
-
-pub front_fault : (shape : Sizes) (bodies : List (List ℕ)) (from at to : ℕ) (e : BinFault) → at ≤ to → IsFaultIn shape bodies from at e
-    → IsFaultIn shape bodies from to e
-front_fault shape bodies from at to e order h = record {
-  inside = h.inside;
-  within = omega (arith, h.within);
-  before = h.before;
-  here = h.here;
-}
-
--- the first fault of all bins
-pub fault_of_all : (shape : Sizes) (bodies : List (List ℕ)) (to : ℕ) (e : BinFault) → IsFaultIn shape bodies 0 to e → IsBinFault shape bodies e
-fault_of_all shape bodies to e h = record {
-  inside = h.inside;
-  before = λ i less. h.before i (omega arith) less;
-  here = h.here;
-}

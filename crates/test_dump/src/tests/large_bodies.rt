@@ -18,10 +18,11 @@ const LIMITS: Limits = Limits {
     cs: 1 << 63,
 };
 
-/// The bytes of a body that threads count together, for words of at most 11 symbols, and for those of 12.
+/// The bytes of a body that threads count together.
 const SHARED: usize = 1 << 20;
 
-const SHARED_OF_TWELVE: usize = 1 << 21;
+/// And of one whose words of 12 symbols one thread adds up in a table.
+const ADDED_UP: usize = 1 << 21;
 
 /// Records that look random, most of them of one word, again and again: so many bytes or a few more.
 fn thrown_body(alloc: Global, k: usize, bytes: usize) -> Result<Vec<u8>, AllocError> {
@@ -90,8 +91,41 @@ fn a_large_body_is_counted_as_one_thread_counts_it(rt: HostRuntime) -> Result<()
 
 #[test]
 fn a_large_body_of_the_longest_short_words(rt: HostRuntime) -> Result<(), Fail> {
-    assert_plain(&rt, rt.alloc(), 12, SHARED_OF_TWELVE, Strands::Joined)?;
-    assert_plain(&rt, rt.alloc(), 12, SHARED_OF_TWELVE, Strands::Apart)
+    assert_plain(&rt, rt.alloc(), 12, ADDED_UP, Strands::Joined)?;
+    assert_plain(&rt, rt.alloc(), 12, ADDED_UP, Strands::Apart)
+}
+
+#[test]
+fn a_large_body_of_long_words(rt: HostRuntime) -> Result<(), Fail> {
+    // beside words of 13 to 22 symbols a weight has 20 bits, beside those of 31 two, and beside those of 32 and 64 none
+    for k in [13, 25, 31, 32, 33, 55, 64] {
+        assert_plain(&rt, rt.alloc(), k, SHARED, Strands::Joined)?;
+    }
+    for k in [25, 31, 64] {
+        assert_plain(&rt, rt.alloc(), k, SHARED, Strands::Apart)?;
+    }
+    Ok(())
+}
+
+#[test]
+fn two_large_bodies_of_a_group(rt: HostRuntime) -> Result<(), Fail> {
+    let alloc = rt.alloc();
+    let mut plain: Vec<Vec<(Kmer, u64)>> = Vec::new(alloc);
+    for bytes in [SHARED, 100, 2 * SHARED] {
+        let body = thrown_body(alloc, 21, bytes)?;
+        let pairs = count_bin(alloc, &body, 21, Strands::Joined, &LIMITS);
+        plain.push(pairs.ok().ok_or("records")?)?;
+    }
+    for threads in [2, 5] {
+        let mut bodies = Vec::new(alloc);
+        for bytes in [SHARED, 100, 2 * SHARED] {
+            bodies.push(thrown_body(alloc, 21, bytes)?)?;
+        }
+        let lists = list_bins(&rt, alloc, bodies, 21, Strands::Joined, &LIMITS, threads);
+        let lists = lists.ok().ok_or("records")?;
+        assert!(rt; are_plain(&lists, &plain), "{threads} threads");
+    }
+    Ok(())
 }
 
 /// Asserts that a damaged body is told so with each number of threads.

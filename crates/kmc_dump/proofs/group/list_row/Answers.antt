@@ -16,7 +16,7 @@ returns-in_err-list-clause-damaged g c = λ fault offset h.
     ∙ ap (λ (v : Vec ℕ Global). v ∷ drop (i + 1) xs) (sym c.body-item.is)) in
     next_damaged c.args.rule.strands c.args.rule.k c.args.limits.now xs (take i xs) (drop (i + 1) xs) b c.deref.result.now c.loop-body.lists.items fault offset split
     c.deref.ensures.value c.loop-body.invariant
-    (c.list_shared_body.ensures.damaged fault offset (passed_on c.list_shared_body.result c.from_residual.result _ _ c.in_err-list.was c.from_residual.ensures.1 h))
+    (c.list_body.ensures.damaged fault offset (passed_on c.list_body.result c.from_residual.result _ _ c.in_err-list.was c.from_residual.ensures.1 h))
 
 pub loop-body-preserved : goal.loop-body-preserved
 loop-body-preserved g c =
