@@ -4,16 +4,19 @@ use Rattle.std.proofs.Common.{append_assoc, drop}
 use Rattle.std.proofs.lemmas.List.{take_more, map_push, drop-drop}
 use Rattle.std.proofs.lemmas.List.FromFn.{length-map-range_with_len, get_or-map-range_with_len, fill_by_all}
 use Rattle.std.proofs.lemmas.Bool.Decides.{nat_tests}
-use Rattle.std.specs.List.{range_with_len}
+use Rattle.std.proofs.lemmas.List.Elements.{recursion_from_All}
+use Rattle.std.specs.List.{All, range_with_len}
 use Rattle.kmc_base.specs.Stretches.{Stretch, segments_of, stretches_from, leading}
 use Rattle.kmc_split.specs.declared.runs.Run.{Run}
-use Rattle.kmc_split.specs.Cut.{IsCut}
+use Rattle.kmc_split.specs.Cut.{IsCut, IsRunOf}
+use Rattle.kmc_record.specs.Record.{packed_codes, codes_in}
 use Rattle.kmc_record.specs.Shapes.{Sizes}
 use Rattle.kmc_record.specs.Parts.{Parcel, grown, empty_part, bin_runs, bin_super_kmers, all_segments}
 use Rattle.kmc_record.specs.Growing.{AreForBins, HaveGrown, HaveTaken}
 use Rattle.kmc_record.proofs.Whole.{flat_push}
 use Rattle.kmc_base.specs.Lemmas.Stretching.{long_enough, first_apart}
-use Rattle.kmc_record.proofs.Parcels.{grown_as, grown_more, cuts_append, super_kmers_append}
+use Rattle.kmc_record.proofs.Spelled.{codes_packed, zeros_to_byte}
+use Rattle.kmc_record.proofs.Parcels.{grown_as, grown_more, cuts_append, super_kmers_append, runs_before, bin_runs_before}
 
 taken_append : (shape : Sizes) (ss ts : List Stretch) (a b c : List Parcel) → HaveTaken shape ss a b → HaveTaken shape ts b c → HaveTaken shape (ss ++ ts) a c
 taken_append shape ss ts a b c h g = (
@@ -34,15 +37,30 @@ taken_one shape s runs a b cut h = (
       (λ j. sym (append-nil (bin_runs shape.k shape.n j s.codes runs))) h,
 )
 
-pub codes_taken : (shape : Sizes) (k m start : ℕ) (codes codes2 : List ℕ) (runs runs2 : List Run) (a b : List Parcel) → k ≡ shape.k → m ≡ shape.m
-    → codes2 ≡ codes → runs2 ≡ runs → k ≤ length codes
-    → IsCut k m codes runs → HaveGrown shape.k (λ j. bin_runs shape.k shape.n j codes2 runs2) a b
+-- the codes of a segment's bytes are its own, and zeros behind them
+segment_codes : (codes bytes : List ℕ) → All (λ c. c < 4) codes → bytes ≡ packed_codes codes → codes_in bytes ≡ codes ++ zeros_to_byte codes
+segment_codes codes bytes small is = ap codes_in is ∙ codes_packed codes (recursion_from_All (λ (c : ℕ). c < 4) codes small)
+
+pub packed_runs : (shape : Sizes) (k m : ℕ) (codes bytes : List ℕ) (runs runs2 : List Run) → k ≡ shape.k → m ≡ shape.m → All (λ c. c < 4) codes → bytes
+    ≡ packed_codes codes → runs2 ≡ runs → All (IsRunOf k m codes) runs → All (IsRunOf shape.k shape.m (codes_in bytes)) runs2
+packed_runs shape k m codes bytes runs runs2 ek em small is same h =
+    subst (λ (rs : List Run). All (IsRunOf shape.k shape.m (codes_in bytes)) rs) (sym same)
+    (subst (λ (w : List ℕ). All (IsRunOf shape.k shape.m w) runs) (sym (segment_codes codes bytes small is))
+    (runs_before shape.k shape.m codes (zeros_to_byte codes) runs
+    (subst (λ (x : Sizes). All (IsRunOf x.k x.m codes) runs) (λ t. record { k = ek t; m = em t; n = 0 }) h)))
+
+pub codes_taken : (shape : Sizes) (k m start : ℕ) (codes bytes : List ℕ) (runs runs2 : List Run) (a b : List Parcel) → k ≡ shape.k → m ≡ shape.m
+    → All (λ c. c < 4) codes → bytes ≡ packed_codes codes → runs2 ≡ runs → k ≤ length codes
+    → IsCut k m codes runs → All (IsRunOf k m codes) runs → HaveGrown shape.k (λ j. bin_runs shape.k shape.n j (codes_in bytes) runs2) a b
     → HaveTaken shape (long_enough shape.k (record { start = start; codes = codes } ∷ [])) a b
-codes_taken shape k m start codes codes2 runs runs2 a b ek em e2 same long cut g =
+codes_taken shape k m start codes bytes runs runs2 a b ek em small is same long cut each g =
     let cut2 : IsCut shape.k shape.m codes runs = subst (λ (x : Sizes). IsCut x.k x.m codes runs) (λ t. record { k = ek t; m = em t; n = 0 }) cut in
+    let each2 : All (IsRunOf shape.k m codes) runs = subst (λ (x : ℕ). All (IsRunOf x m codes) runs) ek each in
+    let own : (j : ℕ) → bin_runs shape.k shape.n j (codes_in bytes) runs2 ≡ bin_runs shape.k shape.n j codes runs =
+    λ j. (λ t. bin_runs shape.k shape.n j (segment_codes codes bytes small is t) (same t))
+    ∙ bin_runs_before shape.k m shape.n j codes (zeros_to_byte codes) runs each2 in
     let g2 : HaveGrown shape.k (λ j. bin_runs shape.k shape.n j codes runs) a b =
-    grown_as shape.k (λ j. bin_runs shape.k shape.n j codes2 runs2) (λ j. bin_runs shape.k shape.n j codes runs) a b
-    (λ j t. bin_runs shape.k shape.n j (e2 t) (same t)) g in
+    grown_as shape.k (λ j. bin_runs shape.k shape.n j (codes_in bytes) runs2) (λ j. bin_runs shape.k shape.n j codes runs) a b own g in
     let test : nat_le shape.k (length codes) ≡ true = grind (arith, nat_tests) in
     rw test (taken_one shape (record { start = start; codes = codes }) runs a b cut2 g2)
 

@@ -5,6 +5,7 @@ pub mod Unique
 pub mod Written
 pub mod Parcels
 pub mod Chunks
+pub mod Copied
 pub mod Belonging
 mod Turned
 pub mod Filling

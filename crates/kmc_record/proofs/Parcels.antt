@@ -1,12 +1,12 @@
 -- Parts while they grow.
-use Rattle.std.proofs.Common.{◌≡◌, ◌≢◌, ℕ, ◌+◌, ◌-◌, ◌%◌, ◌^◌, ◌<◌, ◌≤◌, nat_eq, Bool, true, false, cond, List, [], ◌∷◌, ◌++◌, length, map, get_or, set, take}
+use Rattle.std.proofs.Common.{◌≡◌, ◌≢◌, ℕ, ◌+◌, ◌-◌, ◌%◌, ◌^◌, ◌<◌, ◌≤◌, nat_eq, Bool, true, false, cond, List, [], ◌∷◌, ◌++◌, length, map, get_or, set}
 use Rattle.std.proofs.Common.{drop, refl, sym, ap, subst, ◌∙◌, arith, append_assoc, append-nil, length-append}
 use Rattle.std.proofs.lemmas.List.{get_or-set_same, get_or-set_other, length-set}
-use Rattle.std.proofs.lemmas.List.Elements.{All-append, All-take, All-drop, recursion_from_All}
+use Rattle.std.proofs.lemmas.List.Elements.{All-append, All-head, All-tail, All-filter, All-take, All-drop, recursion_from_All}
 use Rattle.std.proofs.lemmas.List.Concat.{flat_map-append}
 use Rattle.std.proofs.lemmas.Bool.Decides.{nat_tests}
-use Rattle.std.specs.List.{All, flat_map}
-use Rattle.kmc_base.specs.Words.{windows}
+use Rattle.std.specs.List.{All, flat_map, filter}
+use Rattle.kmc_base.specs.Words.{window, windows}
 use Rattle.kmc_base.specs.Stretches.{Stretch}
 use Rattle.kmc_split.specs.declared.runs.Run.{Run}
 use Rattle.kmc_split.specs.Cut.{IsRunOf, run_codes}
@@ -16,6 +16,7 @@ use Rattle.kmc_record.specs.Record.{spelling, IsSpelled, IsBodyOf}
 use Rattle.kmc_record.specs.Shapes.{Sizes}
 use Rattle.kmc_record.specs.Parts.{Parcel, IsPart, all_windows, capped, grown, bin_runs, AreCuts, bin_super_kmers}
 use Rattle.kmc_record.specs.Growing.{AreForBins, HaveGrown}
+use Rattle.kmc_record.proofs.Copied.{window_front}
 use Rattle.kmc_record.proofs.Whole.{body_push, flat_push}
 
 -- ---- one part
@@ -139,7 +140,33 @@ run_belongs k m n b codes x r h at is =
     (λ (t : List ℕ). All (λ w. signature_of m w ≡ r.signature) (windows k t)) (sym is) h.one in
     λ i d l. ap (λ s. s % n) (one i d l) ∙ sym at
 
-pub slice_of_run : (k kr : ℕ) (codes : List ℕ) (r : Run) → kr ≡ k → take (r.start + (r.words + (kr - 1)) - r.start) (drop r.start codes) ≡ run_codes k codes r
-slice_of_run k kr codes r is =
-    let count : r.start + (r.words + (kr - 1)) - r.start ≡ r.words + (k - 1) = omega arith in
-    ap (λ n. take n (drop r.start codes)) count
+pub packed_run : (k kr : ℕ) (codes : List ℕ) (r : Run) → kr ≡ k → window (r.words + (kr - 1)) codes r.start ≡ run_codes k codes r
+packed_run k kr codes r is = ap (λ n. window (r.words + (n - 1)) codes r.start) is
+
+-- ---- codes behind a segment change none of its runs
+
+run_before : (k m : ℕ) (codes more : List ℕ) (r : Run) → IsRunOf k m codes r → run_codes k (codes ++ more) r ≡ run_codes k codes r
+run_before k m codes more r h = window_front (r.words + (k - 1)) r.start codes more h.inside
+
+pub runs_before : (k m : ℕ) (codes more : List ℕ) (runs : List Run) → All (IsRunOf k m codes) runs → All (IsRunOf k m (codes ++ more)) runs
+runs_before k m codes more runs h = λ i d l.
+    let r = get_or runs i d in
+    let one = h i d l in
+    record {
+      some = one.some;
+      most = one.most;
+      inside = omega (arith, one.inside, length-append codes more);
+      one = subst (λ (t : List ℕ). All (λ w. signature_of m w ≡ r.signature) (windows k t)) (sym (run_before k m codes more r one)) one.one;
+    }
+
+map_same : (f g : Run → List ℕ) (runs : List Run) → All (λ r. f r ≡ g r) runs → map f runs ≡ map g runs
+map_same f g [] h = refl
+map_same f g (r ∷ runs) h =
+    (λ i. All-head (λ (x : Run). f x ≡ g x) r runs h i ∷ map_same f g runs (All-tail (λ (x : Run). f x ≡ g x) r runs h) i)
+
+pub bin_runs_before : (k m n j : ℕ) (codes more : List ℕ) (runs : List Run) → All (IsRunOf k m codes) runs → bin_runs k n j (codes ++ more) runs
+    ≡ bin_runs k n j codes runs
+bin_runs_before k m n j codes more runs h =
+    let kept = filter (λ (r : Run). nat_eq (r.signature % n) j) runs in
+    map_same (run_codes k (codes ++ more)) (run_codes k codes) kept
+    (λ i d l. run_before k m codes more _ (All-filter (λ (r : Run). nat_eq (r.signature % n) j) (IsRunOf k m codes) runs h i d l))

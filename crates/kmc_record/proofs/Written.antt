@@ -6,7 +6,7 @@ use Rattle.std.proofs.lemmas.List.Elements.{All-from_recursion}
 use Rattle.kmc_base.specs.Lemmas.Packs.{AreCodes}
 use Rattle.kmc_base.specs.declared.kmer.TheConstants.{MAX_K}
 use Rattle.kmc_split.specs.SuperKmer.{IsSuperKmer}
-use Rattle.kmc_record.specs.Record.{packed_codes, spelling, IsSpelled, size_of}
+use Rattle.kmc_record.specs.Record.{packed_codes, IsSpelled, size_of}
 use Rattle.kmc_record.proofs.Spelled.{length_packed}
 
 pub code_small : (w : List ℕ) (i : ℕ) → AreCodes w → get_or w i 0 < 4
@@ -63,18 +63,16 @@ byte_place (a ∷ b ∷ c ∷ d ∷ w) (suc j) h =
     let e : 4 * suc j ≡ suc (suc (suc (suc (4 * j)))) = omega arith in
     rw e (byte_place w j (omega arith))
 
-pub pushed_more : (k : ℕ) (w old before new : List ℕ) (j v : ℕ) → 4 * j < length w → v ≡ get_or (packed_codes (drop (4 * j) w)) 0 0
-    → before ≡ old ++ take (1 + j) (spelling k w) → new ≡ before ++ v ∷ [] → new ≡ old ++ take (1 + (j + 1)) (spelling k w)
-pushed_more k w old before new j v inside is h more =
-    let up : 1 + (j + 1) ≡ (1 + j) + 1 = omega arith in
-    let place : get_or (spelling k w) (1 + j) 0 ≡ v =
-    (let e : 1 + j ≡ suc j = omega arith in ap (λ n. get_or (spelling k w) n 0) e) ∙ byte_place w j inside ∙ sym is in
-    let front = take (1 + j) (spelling k w) in
-    more ∙ (λ i. h i ++ sym place i ∷ []) ∙ append_assoc old front (get_or (spelling k w) (1 + j) 0 ∷ [])
-    ∙ ap (λ (t : List ℕ). old ++ t) (sym (take_more (spelling k w) (1 + j) 0 (omega (arith, length_packed w))) ∙ ap (λ n. take n (spelling k w)) (sym up))
+pub pushed_more : (w old before new : List ℕ) (j v : ℕ) → 4 * j < length w → v ≡ get_or (packed_codes (drop (4 * j) w)) 0 0
+    → before ≡ old ++ take j (packed_codes w) → new ≡ before ++ v ∷ [] → new ≡ old ++ take (j + 1) (packed_codes w)
+pushed_more w old before new j v inside is h more =
+    let place : get_or (packed_codes w) j 0 ≡ v = byte_place w j inside ∙ sym is in
+    let front = take j (packed_codes w) in
+    more ∙ (λ i. h i ++ sym place i ∷ []) ∙ append_assoc old front (get_or (packed_codes w) j 0 ∷ [])
+    ∙ ap (λ (t : List ℕ). old ++ t) (sym (take_more (packed_codes w) j 0 (omega (arith, length_packed w))))
 
-pub pushed_all : (k n : ℕ) (w old new : List ℕ) → n ≡ 1 + size_of (length w) → new ≡ old ++ take n (spelling k w) → new ≡ old ++ spelling k w
-pushed_all k n w old new e h = h ∙ ap (λ (t : List ℕ). old ++ t) (take_all n (spelling k w) (omega (arith, length_packed w)))
+pub pushed_all : (n : ℕ) (w old new : List ℕ) → n ≡ size_of (length w) → new ≡ old ++ take n (packed_codes w) → new ≡ old ++ packed_codes w
+pushed_all n w old new e h = h ∙ ap (λ (t : List ℕ). old ++ t) (take_all n (packed_codes w) (omega (arith, length_packed w)))
 
 -- four codes gathered by one product
 pub gathered : (a b c d : ℕ) → a < 4 → b < 4 → c < 4 → d < 4

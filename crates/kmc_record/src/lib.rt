@@ -7,6 +7,7 @@
 
 mod belong;
 mod body;
+mod copying;
 mod decoding;
 mod fault;
 pub mod laws;

@@ -1,16 +1,16 @@
 //! The records of one chunk for one bin.
-ghost use Rattle.std.specs.Prelude.{◌≡◌, ◌%◌, ◌<◌, nat_lt, [], ◌∷◌, length, OnOk, OnErr, IfOk, IfErr};
+ghost use Rattle.std.specs.Prelude.{◌≡◌, ◌+◌, ◌*◌, ◌%◌, ◌<◌, ◌≤◌, nat_lt, [], ◌∷◌, length, OnOk, OnErr, IfOk, IfErr};
 ghost use Rattle.std.specs.List.{All};
-ghost use Rattle.kmc_base.specs.Words.{windows};
+ghost use Rattle.kmc_base.specs.Words.{window, windows};
 ghost use Rattle.kmc_split.specs.Signature.{signature_of};
-ghost use Rattle.kmc_record.specs.Record.{IsSpelled};
+ghost use Rattle.kmc_record.specs.Record.{IsSpelled, codes_in};
 ghost use Rattle.kmc_record.specs.Parts.{Parcel, grown, empty_part, IsPart};
 ghost use Rattle.kmc_record.specs.Bodies.{IsFirstError};
 
 use crate::belong::count_known;
+use crate::copying::push_record_from;
 use crate::fault::PartError;
 use crate::shape::Shape;
-use crate::spell::push_record_of;
 use std::alloc::{AllocError, Global};
 use std::marker::Model;
 
@@ -123,16 +123,25 @@ impl Part {
         }
     }
 
-    /// Appends the record of these codes of a super-k-mer of the bin, which has so many words.
-    pub(crate) fn push(&mut self, codes: &[u8], words: usize) -> Result<(), AllocError>
-        requires spelled { IsSpelled self.old.shape.k codes.now }
+    /// Appends the record of a super-k-mer of the bin of so many symbols and words, whose codes begin at a place of packed codes.
+    pub(crate) fn push(
+        &mut self,
+        packed: &[u8],
+        start: usize,
+        symbols: usize,
+        words: usize,
+    ) -> Result<(), AllocError>
+        requires inside { start + symbols ≤ 4 * length packed.now }
+        requires spelled { IsSpelled self.old.shape.k (window symbols (codes_in packed.now) start) }
         requires belong { All (λ w. signature_of self.old.shape.m w % self.old.shape.n
-            ≡ self.old.bin) (windows self.old.shape.k codes.now) }
-        requires words { words ≡ length (windows self.old.shape.k codes.now) }
-        ensures ok { OnOk result (self.new ≡ grown self.old.shape.k (codes.now ∷ []) self.old) }
+            ≡ self.old.bin) (windows self.old.shape.k (window symbols (codes_in packed.now) start)) }
+        requires words { words
+            ≡ length (windows self.old.shape.k (window symbols (codes_in packed.now) start)) }
+        ensures ok { OnOk result (self.new ≡ grown self.old.shape.k
+            (window symbols (codes_in packed.now) start ∷ []) self.old) }
         ensures err { OnErr result (self.new ≡ self.old) }
     {
-        push_record_of(codes, self.shape.k(), &mut self.body)?;
+        push_record_from(packed, start, symbols, self.shape.k(), &mut self.body)?;
         self.words = self.words.saturating_add(words as u64);
         Ok(())
     }

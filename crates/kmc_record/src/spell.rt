@@ -1,7 +1,7 @@
-//! How records are written.
-ghost use Rattle.std.specs.Prelude.{◌≡◌, ◌+◌, ◌-◌, ◌*◌, ◌/◌, ◌<◌, ◌≤◌, ◌++◌, length, drop, slice_index, OnOk, OnErr};
+//! How codes are packed, and records written.
+ghost use Rattle.std.specs.Prelude.{◌≡◌, ◌+◌, ◌-◌, ◌*◌, ◌/◌, ◌<◌, ◌≤◌, ◌++◌, length, drop, slice_index, vec_len, vec_capacity, OnOk, OnErr};
 ghost use Rattle.std.specs.List.{AllByRecursion};
-ghost use Rattle.kmc_record.specs.Record.{packed_codes, spelling, IsSpelled};
+ghost use Rattle.kmc_record.specs.Record.{packed_codes, spelling, IsSpelled, size_of};
 
 use kmc_base::MAX_K;
 use std::alloc::AllocError;
@@ -18,7 +18,6 @@ fn code_or_zero(codes: &[u8], i: usize) -> u8
 /// The byte of the four codes from a place on, with zeros behind the last.
 fn byte_at(codes: &[u8], i: usize) -> u8
     requires inside { i < length codes.now }
-    requires few { length codes.now < 1000 }
     requires codes { AllByRecursion (λ c. c < 4) codes.now }
     ensures { result ≡ slice_index (packed_codes (drop i codes.now)) 0 }
 {
@@ -47,6 +46,32 @@ fn whole_byte_at(codes: &[u8], i: usize) -> u8
     (((word * GATHER) >> 24) % 256) as u8
 }
 
+/// Appends codes, four a byte, where there is room for them.
+fn push_packed(codes: &[u8], out: &mut Vec<u8>)
+    requires codes { AllByRecursion (λ c. c < 4) codes.now }
+    requires room { vec_len out.old + size_of (length codes.now) ≤ vec_capacity out.old }
+    ensures { out.new.items ≡ out.old.items ++ packed_codes codes.now }
+{
+    let whole = codes.len() / 4;
+    for j in 0..whole {
+        out.push_reserved(whole_byte_at(codes, 4 * j));
+    }
+    if 4 * whole < codes.len() {
+        out.push_reserved(byte_at(codes, 4 * whole));
+    }
+}
+
+/// Packs codes, four a byte, into a vector that is to be used again: they take the place of what it had.
+pub(crate) fn pack_codes(codes: &[u8], packed: &mut Vec<u8>) -> Result<(), AllocError>
+    requires { AllByRecursion (λ c. c < 4) codes.now }
+    ensures { OnOk result (packed.new.items ≡ packed_codes codes.now) }
+{
+    packed.clear();
+    packed.reserve((codes.len() + 3) / 4)?;
+    push_packed(codes, packed);
+    Ok(())
+}
+
 /// Appends the record of these codes of a super-k-mer; `out` stays as it was where its growth is refused.
 pub fn push_record_of(codes: &[u8], k: usize, out: &mut Vec<u8>) -> Result<(), AllocError>
     requires most { k ≤ MAX_K }
@@ -54,14 +79,8 @@ pub fn push_record_of(codes: &[u8], k: usize, out: &mut Vec<u8>) -> Result<(), A
     ensures ok { OnOk result (out.new.items ≡ out.old.items ++ spelling k codes.now) }
     ensures err { OnErr result (out.new.items ≡ out.old.items) }
 {
-    let whole = codes.len() / 4;
     out.reserve(1 + (codes.len() + 3) / 4)?;
     out.push_reserved((codes.len() - k) as u8);
-    for j in 0..whole {
-        out.push_reserved(whole_byte_at(codes, 4 * j));
-    }
-    if 4 * whole < codes.len() {
-        out.push_reserved(byte_at(codes, 4 * whole));
-    }
+    push_packed(codes, out);
     Ok(())
 }
