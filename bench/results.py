@@ -27,6 +27,7 @@ SECTIONS = [
     ("k", "Other lengths of words, short reads", ["bench/compare.sh", "-r", ROUNDS, "-k", "1 2 3 4 5 6 7 8 9 10 11 12 31 55", "-t", "4", "short"], False),
     ("skew", "Skewed inputs", ["bench/compare.sh", "-k", "25 55", "-t", "4", "-r", ROUNDS, "alla", "repeat", "prefix", "one_bin"], False),
     ("memory", "Memory", ["bench/memory.sh"], False),
+    ("reading", "Reading and feeding alone", ["bench/reading.sh"], False),
     ("feeding", "What futoncrane takes beside the program", ["bench/feeding.sh"], False),
     ("slices", "Slices: what does not fit one memory", ["bench/slices.sh"], False),
     ("merge", "Merging two dumps of 5.6 million lines", ["bench/merge_time.sh"], True),

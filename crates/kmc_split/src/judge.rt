@@ -79,7 +79,7 @@ fn judge(values: &mut [u16], m: usize)
     }
 }
 
-/// What the m-mer at each place offers, in two passes that the compiler turns into vector code.
+/// What the m-mer at each place offers, in two passes. M-mers that are too short to be allowed are not looked at.
 pub(crate) fn offers(codes: &[u8], m: usize, out: &mut [u16])
     requires some { 1 ≤ m }
     requires most { m ≤ MAX_M }
@@ -89,6 +89,10 @@ pub(crate) fn offers(codes: &[u8], m: usize, out: &mut [u16])
         → slice_index out.new i ≡ offer m (window m codes.now i) }
     ensures fit { (i : ℕ) → i < length out.new → slice_index out.new i < 4 ^ m }
 {
+    if m < HEAD {
+        out.fill(3 * marks_for(m));
+        return;
+    }
     canonical_values(codes, m, out);
     judge(out, m);
 }
