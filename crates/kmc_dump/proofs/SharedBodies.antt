@@ -10,7 +10,6 @@ use Rattle.kmc_record.specs.Lemmas.Gaining.{worth_append}
 use Rattle.kmc_record.specs.Record.{spelling, IsSpelled}
 use Rattle.kmc_record.specs.RecordWords.{record_keys}
 use Rattle.kmc_count.specs.Bodies.{AreItemsOfBody}
-use Rattle.kmc_count.specs.Tables.{ComeToAsMuch}
 
 module _ (strands : Strands) (k f : ℕ) where
   -- the items of the front and those of the back are those of the whole body
@@ -30,12 +29,3 @@ module _ (strands : Strands) (k f : ℕ) where
             worth_append k f g ns ms ∙ (λ i. low.each g i + high.each g i) ∙ sym words;
         fit = All-append (λ n. n / 2 ^ f < 4 ^ k) ns ms low.fit high.fit;
       }
-
-  -- items of a body, and others that come to as much
-  pub items_of_as_much : (body ns ms : List ℕ) → AreItemsOfBody strands k f body ns → ComeToAsMuch k f ns ms → AreItemsOfBody strands k f body ms
-  items_of_as_much body ns ms are much = record {
-    super_kmers = are.super_kmers;
-    records = are.records;
-    each = λ g. much.each g ∙ are.each g;
-    fit = much.fit are.fit;
-  }

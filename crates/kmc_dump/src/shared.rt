@@ -8,7 +8,7 @@ ghost use Rattle.kmc_dump.specs.Listed.{IsListOf, pairs_of};
 use crate::counts::Counts;
 use crate::shown::Shown;
 use kmc_base::{KeyRule, MOST_WEIGHT_BITS, Word};
-use kmc_count::{Limits, dump_items, items_of_body, merged_items};
+use kmc_count::{Limits, dump_lists, items_of_body};
 use kmc_record::BodyError;
 use std::alloc::Global;
 use std::thread;
@@ -27,8 +27,9 @@ fn record_behind(body: &[u8], rule: KeyRule, bytes: usize) -> usize
     offset.min(body.len())
 }
 
-/// The words of a body as items, which so many threads take, each of a piece that is about as long as the others. A body whose
-/// pieces are whole records is whole records. Where no thread can be made, the calling thread takes them all.
+/// The words of a body as items, which so many threads take, each of a piece that is about as long as the others: a list that rises
+/// for each thread. A body whose pieces are whole records is whole records. Where no thread can be made, the calling thread takes
+/// them all.
 #[cycle(sharers)]
 fn take_shared<R: Threads + Sync, W: Word + Drop + Send>(
     rt: &R,
@@ -65,9 +66,10 @@ fn take_shared<R: Threads + Sync, W: Word + Drop + Send>(
             (map W.number items.items)) }
     { take_shared(rt, alloc, high, rule, bits, others) };
     let (first, second) = thread::join(rt, front, back);
-    let items = first?;
-    let more = second?;
-    Ok(merged_items(alloc, &items, &more, rule.k, bits)?)
+    let mut items = first?;
+    let mut more = second?;
+    items.append(&mut more)?;
+    Ok(items)
 }
 
 /// The dump of a body in packed form, counted by so many threads together.
@@ -89,7 +91,7 @@ pub(crate) fn list_by_threads<R: Threads + Sync, W: Word + Drop + Send, C: Shown
     let bits = W::weight_bits(rule.k);
     let mut items = take_shared(rt, alloc, body, rule, bits, threads)?;
     let mut pairs = Counts::new(alloc, rule.k);
-    dump_items(&mut items, &mut pairs, rule, bits, limits)?;
+    dump_lists(&mut items, &mut pairs, rule, bits, limits)?;
     pairs.shrink();
     Ok(pairs)
 }
