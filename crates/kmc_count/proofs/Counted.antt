@@ -1,5 +1,5 @@
 -- From records that were taken in to the dump of their words.
-use Rattle.std.proofs.Common.{◌≡◌, ℕ, ◌+◌, ◌*◌, ◌/◌, ◌^◌, ◌<◌, true, false, Bool, cond, List, [], ◌∷◌, refl, sym, ap, subst, ◌∙◌, arith}
+use Rattle.std.proofs.Common.{◌≡◌, ℕ, ◌+◌, ◌*◌, ◌/◌, ◌^◌, ◌<◌, List, [], ◌∷◌, refl, sym, ap, ◌∙◌, arith}
 use Rattle.std.proofs.lemmas.List.Sorted.{sum_by-IsPermutation, All-permutation}
 use Rattle.std.proofs.lemmas.List.Sums.{sum_by-cons}
 use Rattle.std.specs.List.{sum_by, All}
@@ -8,15 +8,10 @@ use Rattle.kmc_base.specs.declared.strands.Strands.{Strands}
 use Rattle.kmc_base.specs.Packed.{unpack}
 use Rattle.kmc_base.specs.Weights.{item, items, item_weight, worth}
 use Rattle.kmc_record.specs.Record.{IsBodyOf}
-use Rattle.kmc_record.specs.RecordWords.{record_keys}
 use Rattle.kmc_record.specs.RecordKeys.{key_words, Gains, IsRecordKey, IsTaken}
 use Rattle.kmc_record.specs.Lemmas.Taken.{moved_keys}
-use Rattle.kmc_count.specs.declared.limits.Limits.{Limits}
-use Rattle.kmc_count.specs.Occurrences.{same_word, occurrences, weight_of}
-use Rattle.kmc_count.specs.Dump.{IsDump}
-use Rattle.kmc_count.specs.Bodies.{AreItemsOfBody, IsDumpOfBody}
+use Rattle.kmc_count.specs.Bodies.{AreItemsOfBody}
 use Rattle.kmc_count.specs.Tables.{ComeToAsMuch}
-use Rattle.kmc_count.specs.Lemmas.Runs.{weight_of_cons}
 
 -- ---- what items are worth
 
@@ -26,17 +21,6 @@ worth_is k f g (n ∷ ns) =
     sum_by-cons (λ (p : List ℕ × ℕ). p.1 * g p.0) (item k f n) (items k f ns)
     ∙ ap (λ m. item_weight f n * g (unpack k (n / 2 ^ f)) + m) (worth_is k f g ns)
     ∙ sym (sum_by-cons (λ n. item_weight f n * g (unpack k (n / 2 ^ f))) n ns)
-
--- with 1 for x: the weight of x
-weight_is : (x : List ℕ) (ps : List (List ℕ × ℕ)) → weight_of ps x ≡ worth (λ w. cond (same_word w x) 1 0) ps
-weight_is x [] = refl
-weight_is x (p ∷ ps) =
-    weight_of_cons x p ps ∙ (λ i. one (same_word p.0 x) p.1 i + weight_is x ps i)
-    ∙ sym (sum_by-cons (λ (p : List ℕ × ℕ). p.1 * cond (same_word p.0 x) 1 0) p ps)
-  where
-    one : (b : Bool) (n : ℕ) → cond b n 0 ≡ n * cond b 1 0
-    one true n = omega arith
-    one false n = omega arith
 
 pub sorted_long : (k : ℕ) (ks sorted : List ℕ) → IsPermutation ks sorted → All (IsRecordKey k) ks → All (IsRecordKey k) sorted
 sorted_long k ks sorted moved h = All-permutation (IsRecordKey k) ks sorted moved h
@@ -74,17 +58,6 @@ module _ (strands : Strands) (k f : ℕ) where
         omega (arith, same, are.each g);
     fit = All-permutation (λ n. n / 2 ^ f < 4 ^ k) all moved moves are.fit;
   }
-
-  pub body_dump : (body ns : List ℕ) (l : Limits) (pairs : List (List ℕ × ℕ)) → AreItemsOfBody strands k f body ns → IsDump
-      (weight_of (items k f ns)) l pairs → IsDumpOfBody strands k l body pairs
-  body_dump body ns l pairs are dump = record {
-    super_kmers = are.super_kmers;
-    records = are.records;
-    dump = subst (λ c. IsDump c l pairs) (λ i x. counts x i) dump;
-  }
-    where
-      counts : (x : List ℕ) → weight_of (items k f ns) x ≡ occurrences (record_keys strands k are.super_kmers) x
-      counts x = weight_is x (items k f ns) ∙ are.each (λ w. cond (same_word w x) 1 0)
 
 -- items that come to as much as those taken in
 pub much_taken : (strands : Strands) (k f : ℕ) (now new : List ℕ) (ss : List (List ℕ)) → IsTaken strands k f [] now ss → ComeToAsMuch k f now new

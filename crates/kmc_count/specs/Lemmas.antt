@@ -10,3 +10,4 @@ pub mod OneDump
 pub mod Zips
 pub mod Apart
 pub mod WrittenBack
+pub mod BodyDumps

@@ -96,9 +96,12 @@ pub fn items_of_body<W: Word + Drop>(
         → IsFirstFault rule.k fault offset body.now }
     ensures memory { IsErrOf result BodyError.Memory → WantsMemory rule.k body.now }
 {
-    let mut room = CountingRoom::new(alloc);
-    take_items(&mut room, body, rule, bits)?;
-    let CountingRoom { mut items, .. } = room;
+    let mut items = {
+        let mut room = CountingRoom::new(alloc);
+        take_items(&mut room, body, rule, bits)?;
+        let CountingRoom { items, .. } = room;
+        items
+    };
     W::sort(&mut items);
     Ok(items)
 }
@@ -123,37 +126,6 @@ fn dump_items<W: Word + Drop, L: PairList<W>>(
 {
     W::sort(items);
     tally(pairs, items, rule, bits, limits)
-}
-
-/// Puts items that are a few lists which rise, one behind the other, in order: std's stable sort finds these lists and merges them.
-/// Where it gets no memory the items stay as they are.
-fn merge_lists<W: Word + Drop>(items: &mut Vec<W>)
-    ensures { IsPermutation (map W.number items.old.items) (map W.number items.new.items) }
-{
-    let _ = items.sort_by_key(|item| item.widen());
-}
-
-/// Puts the dump of items into an empty list of pairs. It takes least time where the items are a few lists which rise, one behind the
-/// other, as `items_of_body` makes them.
-pub fn dump_lists<W: Word + Drop, L: PairList<W>>(
-    items: &mut Vec<W>,
-    pairs: &mut L,
-    rule: KeyRule,
-    bits: u32,
-    limits: &Limits,
-) -> Result<(), AllocError>
-    requires takes { L.takes rule.k pairs.old }
-    requires empty { L.pairs pairs.old ≡ [] }
-    requires wide { limits.now.cs ≤ L.greatest }
-    requires bits { bits ≤ MOST_WEIGHT_BITS }
-    requires fit { AreItems rule.k bits (map W.number items.old.items) }
-    ensures takes { OnOk result (L.takes rule.k pairs.new) }
-    ensures ok { (body : List ℕ)
-        → AreItemsOfBody rule.strands rule.k bits body (map W.number items.old.items)
-        → OnOk result (IsDumpOfBody rule.strands rule.k limits.now body (L.pairs pairs.new)) }
-{
-    merge_lists(items);
-    dump_items(items, pairs, rule, bits, limits)
 }
 
 /// Puts the dump of a body into an empty list of pairs. The room may be used again for the next body.

@@ -31,7 +31,7 @@ module _ (k : ℕ) where
       let less : p < q.0 = grind (arith, nat_tests) in
       (less, less_numbers p qs fit fits.1 h.1)
 
-  rising_numbers : (ps : List (ℕ × ℕ)) → AllByRecursion (λ q. q.0 < 4 ^ k) ps → IsStrictlySortedBy kmer_cmp (words_of (spelled k ps)) → Rises ps
+  pub rising_numbers : (ps : List (ℕ × ℕ)) → AllByRecursion (λ q. q.0 < 4 ^ k) ps → IsStrictlySortedBy kmer_cmp (words_of (spelled k ps)) → Rises ps
   unfolding IsStrictlySortedBy
   rising_numbers [] fits h = tt
   rising_numbers (p ∷ ps) fits h = (less_numbers p.0 ps fits.0 fits.1 h.0, rising_numbers ps fits.1 h.1)
@@ -50,7 +50,7 @@ module _ (k : ℕ) where
   all_has P [] h = tt
   all_has P (p ∷ ps) h = (h p (inl refl), all_has P ps (λ q m. h q (inr m)))
 
-  all_both : (P : ℕ × ℕ → Type 0) (ps qs : List (ℕ × ℕ)) → AllByRecursion P ps → AllByRecursion P qs → AllByRecursion P (ps ++ qs)
+  pub all_both : (P : ℕ × ℕ → Type 0) (ps qs : List (ℕ × ℕ)) → AllByRecursion P ps → AllByRecursion P qs → AllByRecursion P (ps ++ qs)
   all_both P [] qs h g = g
   all_both P (p ∷ ps) qs h g = (h.0, all_both P ps qs h.1 g)
 

@@ -4,9 +4,9 @@ use Rattle.std.specs.Ordering.{nat_cmp, ord_max, is_lt}
 use Rattle.std.proofs.lemmas.Bool.Decides.{nat_tests}
 use Rattle.std.proofs.lemmas.List.{length-append, get_or_append_left, get_or-append-add}
 use Rattle.kmc_dump.specs.Listed.{Listed}
-use Rattle.kmc_dump.specs.Ranges.{is_within, within, joined, packs, count_within, AreBounds}
+use Rattle.kmc_dump.specs.Ranges.{is_within, within, joined, packs, count_within, AreBounds, ArePartedTo}
 
-more : (w from to : ℕ) (p : ℕ × ℕ) (ps : List (ℕ × ℕ)) → length (within w from to (p ∷ ps)) ≡ cond (is_within w from to p) 1 0 + length (within w from to ps)
+pub more : (w from to : ℕ) (p : ℕ × ℕ) (ps : List (ℕ × ℕ)) → length (within w from to (p ∷ ps)) ≡ cond (is_within w from to p) 1 0 + length (within w from to ps)
 more w from to p ps = go (is_within w from to p)
   where
     go : (t : Bool) → length (cond t (p ∷ within w from to ps) (within w from to ps)) ≡ cond t 1 0 + length (within w from to ps)
@@ -15,7 +15,7 @@ more w from to p ps = go (is_within w from to p)
 
 -- one range behind the other has as many pairs as both
 module _ (w a b c : ℕ) (low : a ≤ b) (high : b ≤ c) where
-  both : (ps : List (ℕ × ℕ)) → length (within w a b ps) + length (within w b c ps) ≡ length (within w a c ps)
+  pub both : (ps : List (ℕ × ℕ)) → length (within w a b ps) + length (within w b c ps) ≡ length (within w a c ps)
   both [] = omega arith
   both (p ∷ ps) =
       let one : cond (is_within w a b p) 1 0 + cond (is_within w b c p) 1 0 ≡ cond (is_within w a c p) 1 0 = grind (arith, nat_tests) in
@@ -27,14 +27,6 @@ max_above a b = go (is_lt (nat_cmp b a)) refl
     go : (x : Bool) → is_lt (nat_cmp b a) ≡ x → (a ≤ cond x a b) × (b ≤ cond x a b)
     go true e = let less : b < a = grind (arith, nat_tests) in (omega arith, omega (arith, less))
     go false e = let less : a ≤ b = grind (arith, nat_tests) in (omega (arith, less), omega arith)
-
--- the ranges are closed to the last bound, and so many pairs lie from there to before a slot
-pub record ArePartedTo (w widest : ℕ) (bounds : List ℕ) (to pending : ℕ) (lists : List Listed) : Type 0 where
-  pub some : 1 ≤ length bounds
-  pub first : get_or bounds 0 0 ≡ 0
-  pub low : get_or bounds (length bounds - 1) 0 ≤ to
-  pub are : AreBounds w widest bounds lists
-  pub held : pending ≡ count_within w (get_or bounds (length bounds - 1) 0) to lists
 
 pub along : (w to : ℕ) (lists : List Listed) (widest wider : ℕ) (bounds others : List ℕ) (n m : ℕ) → ArePartedTo w widest bounds to n lists → widest
     ≡ wider → bounds ≡ others → n ≡ m → ArePartedTo w wider others to m lists
@@ -55,35 +47,38 @@ no_range w lists = record {
   held = sym (none w 0 (joined (packs lists)));
 }
 
--- one slot more
-pub slot_more : (w widest : ℕ) (bounds : List ℕ) (to pending : ℕ) (lists : List Listed) (size next all : ℕ) → ArePartedTo w widest bounds to pending lists
-    → next ≡ to + 1 → size ≡ count_within w to (to + 1) lists → all ≡ pending + size → ArePartedTo w widest bounds next all lists
-slot_more w widest bounds to pending lists size next all h step is sum =
+-- the slots up to another more
+pub range_more : (w widest : ℕ) (bounds : List ℕ) (to pending : ℕ) (lists : List Listed) (size next all : ℕ) → ArePartedTo w widest bounds to pending lists
+    → to ≤ next → size ≡ count_within w to next lists → all ≡ pending + size → ArePartedTo w widest bounds next all lists
+range_more w widest bounds to pending lists size next all h up is sum =
     let last = get_or bounds (length bounds - 1) 0 in
-    let more = both w last to (to + 1) h.low (omega arith) (joined (packs lists)) in
-    let there : all ≡ count_within w last (to + 1) lists = omega (arith, h.held, is, sum, more) in
+    let more = both w last to next h.low up (joined (packs lists)) in
     record {
       some = h.some;
       first = h.first;
-      low = omega (arith, h.low, step);
+      low = omega (arith, h.low, up);
       are = h.are;
-      held = there ∙ ap (λ n. count_within w last n lists) (sym step);
+      held = omega (arith, h.held, is, sum, more);
     }
+
+-- the last of the bounds
+module _ (bounds : List ℕ) (to : ℕ) where
+  one_more : length (bounds ++ to ∷ []) ≡ length bounds + 1
+  one_more = length-append bounds (to ∷ [])
+
+  behind_all : get_or (bounds ++ to ∷ []) (length bounds) 0 ≡ to
+  behind_all = let e : length bounds ≡ length bounds + 0 = omega arith in ap (λ n. get_or (bounds ++ to ∷ []) n 0) e ∙ get_or-append-add bounds (to ∷ []) 0 0
+
+  pub last_bound : get_or (bounds ++ to ∷ []) (length (bounds ++ to ∷ []) - 1) 0 ≡ to
+  last_bound =
+      let e : length (bounds ++ to ∷ []) - 1 ≡ length bounds = omega (arith, one_more) in
+      ap (λ n. get_or (bounds ++ to ∷ []) n 0) e ∙ behind_all
 
 -- a range is closed
 module _ (w widest : ℕ) (bounds : List ℕ) (to pending wider : ℕ) (lists : List Listed) (h : ArePartedTo w widest bounds to pending lists)
     (less : widest ≤ wider) (fits : pending ≤ wider) where
   abbrev bs : List ℕ
   bs = bounds ++ to ∷ []
-
-  long : length bs ≡ length bounds + 1
-  long = length-append bounds (to ∷ [])
-
-  last_is : get_or bs (length bounds) 0 ≡ to
-  last_is = let e : length bounds ≡ length bounds + 0 = omega arith in ap (λ n. get_or bs n 0) e ∙ get_or-append-add bounds (to ∷ []) 0 0
-
-  last_place : get_or bs (length bs - 1) 0 ≡ to
-  last_place = let e : length bs - 1 ≡ length bounds = omega (arith, long) in ap (λ n. get_or bs n 0) e ∙ last_is
 
   abbrev IsRange : ℕ → ℕ → Type 0
   IsRange a b = (a ≤ b) × (count_within w a b lists ≤ wider)
@@ -102,20 +97,20 @@ module _ (w widest : ℕ) (bounds : List ℕ) (to pending wider : ℕ) (lists : 
           (omega (arith, a, b, old.0), omega (arith, same, old.1, less))
       go false e =
           let high : length bounds ≤ i + 1 = grind (arith, nat_tests) in
-          let next : i + 1 ≡ length bounds = omega (arith, high, inside, long) in
+          let next : i + 1 ≡ length bounds = omega (arith, high, inside, one_more bounds to) in
           let place : i ≡ length bounds - 1 = omega (arith, next) in
           let a : get_or bs i 0 ≡ get_or bounds (length bounds - 1) 0 = get_or_append_left bounds (to ∷ []) 0 i (omega (arith, next)) ∙ ap
           (λ n. get_or bounds n 0) place in
-          let b : get_or bs (i + 1) 0 ≡ to = ap (λ n. get_or bs n 0) next ∙ last_is in
+          let b : get_or bs (i + 1) 0 ≡ to = ap (λ n. get_or bs n 0) next ∙ behind_all bounds to in
           let same : count_within w (get_or bs i 0) (get_or bs (i + 1) 0) lists ≡ count_within w (get_or bounds (length bounds - 1) 0) to lists =
           (λ j. count_within w (a j) (b j) lists) in
           (omega (arith, a, b, h.low), omega (arith, same, h.held, fits))
 
   pub closed : ArePartedTo w wider bs to 0 lists
   closed = record {
-    some = omega (arith, long);
+    some = omega (arith, one_more bounds to);
     first = get_or_append_left bounds (to ∷ []) 0 0 (omega (arith, h.some)) ∙ h.first;
-    low = omega (arith, last_place);
+    low = omega (arith, last_bound bounds to);
     are = are;
-    held = sym (ap (λ n. count_within w n to lists) last_place ∙ none w to (joined (packs lists)));
+    held = sym (ap (λ n. count_within w n to lists) (last_bound bounds to) ∙ none w to (joined (packs lists)));
   }

@@ -24,9 +24,6 @@ key_holds word count least bits low few =
 
 -- how far the word lies behind the least fits, also above the bits of a count
 module _ (word least bits : ℕ) (room : (word - least + 1) * 2 ^ bits ≤ 2 ^ 64) where
-  pub far_fits : word - least < 2 ^ 64
-  far_fits = omega (arith, room, mul-le (word - least + 1) 1 (word - least + 1) (2 ^ bits) (le_refl (word - least + 1)) (pow_pos bits))
-
   pub far_whole : (word - least) * 2 ^ bits % 2 ^ 64 ≡ (word - least) * 2 ^ bits
   far_whole = mod-eq_of_lt (omega (arith, room, pow_pos bits))
 

@@ -93,6 +93,14 @@ pub record AreRanges (r : Ranges) (lists : List Listed) : Type 0 where
   pub first : slice_index_or r.bounds.items 0 0 ≡ 0
   pub last : All (λ p. p.0 / 2 ^ r.shift < slice_index_or r.bounds.items (length r.bounds.items - 1) 0) (joined (packs lists))
 
+-- the ranges are closed to the last bound, and so many pairs lie from there to before a slot
+pub record ArePartedTo (weight widest : ℕ) (bounds : List ℕ) (to pending : ℕ) (lists : List Listed) : Type 0 where
+  pub some : 1 ≤ length bounds
+  pub first : slice_index_or bounds 0 0 ≡ 0
+  pub low : slice_index_or bounds (length bounds - 1) 0 ≤ to
+  pub are : AreBounds weight widest bounds lists
+  pub held : pending ≡ count_within weight (slice_index_or bounds (length bounds - 1) 0) to lists
+
 -- at each slot how many pairs of the lists lie there
 abbrev pub AreSizes : ℕ → List ℕ → List Listed → Type 0
 AreSizes weight sizes lists = (i : ℕ) → i < length sizes → slice_index_or sizes i 0 ≡ count_within weight i (i + 1) lists

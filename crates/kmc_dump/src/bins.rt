@@ -20,7 +20,7 @@ const GROUP: usize = 128;
 /// The list of each body, in the order of the bodies, by at most so many threads. The bodies are halved until a half is a group;
 /// the records of a group are freed once it is counted. Where a body is damaged, the fault is that of the first such body. Where no
 /// thread can be made, the calling thread counts.
-pub fn list_bodies<R: Threads + Sync, W: Word + Drop + Send, C: Shown + Drop + Send>(
+pub fn list_bodies<R: Threads + Sync, W: Word + Drop + Send + Sync, C: Shown + Drop + Send>(
     rt: &R,
     alloc: Global,
     bodies: Vec<Vec<u8>>,

@@ -32,7 +32,7 @@ fn count_giants(bodies: &[Vec<u8>], threads: usize) -> usize {
 }
 
 /// The lists of the giants among the bodies, one after the other, each counted by so many threads together.
-pub(crate) fn take_giants<R: Threads + Sync, W: Word + Drop + Send, C: Shown + Drop>(
+pub(crate) fn take_giants<R: Threads + Sync, W: Word + Drop + Send + Sync, C: Shown + Drop + Send>(
     rt: &R,
     alloc: Global,
     order: &LargestFirst,

@@ -96,7 +96,7 @@ fn take_by_threads<R: Threads + Sync, W: Word + Drop + Send, C: Shown + Drop + S
 }
 
 /// The lists of all bodies: so many threads count the giants together, and then each takes other bodies, the largest first.
-fn take_all<R: Threads + Sync, W: Word + Drop + Send, C: Shown + Drop + Send>(
+fn take_all<R: Threads + Sync, W: Word + Drop + Send + Sync, C: Shown + Drop + Send>(
     rt: &R,
     alloc: Global,
     bodies: &[Vec<u8>],
@@ -177,7 +177,7 @@ fn list_row<W: Word + Drop, C: Shown + Drop>(
 /// The list of each body of a group, in the order of the bodies, by at most so many threads. Where one of them meets a fault or is
 /// refused memory, the calling thread counts the bodies anew, one after the other, so that the fault is that of the first body that
 /// is damaged.
-pub(crate) fn list_group<R: Threads + Sync, W: Word + Drop + Send, C: Shown + Drop + Send>(
+pub(crate) fn list_group<R: Threads + Sync, W: Word + Drop + Send + Sync, C: Shown + Drop + Send>(
     rt: &R,
     alloc: Global,
     bodies: &[Vec<u8>],

@@ -43,7 +43,7 @@ pub enum BinLists {
 }
 
 /// The lists of bodies, over words of one width.
-fn list_sized<R: Threads + Sync, W: Word + Drop + Send>(
+fn list_sized<R: Threads + Sync, W: Word + Drop + Send + Sync>(
     rt: &R,
     alloc: Global,
     bodies: Vec<Vec<u8>>,

@@ -1,6 +1,7 @@
 //! The choice of ranges.
-ghost use Rattle.std.specs.Prelude.{◌≡◌, ℕ, ◌+◌, ◌-◌, ◌/◌, ◌^◌, ◌<◌, ◌≤◌, length, All, IfOk};
-ghost use Rattle.kmc_dump.specs.Ranges.{CanBeMerged, joined, packs, AreRanges};
+ghost use Rattle.std.specs.Prelude.{◌≡◌, ℕ, ◌+◌, ◌-◌, ◌*◌, ◌/◌, ◌^◌, ◌<◌, ◌≤◌, length, All, IfOk};
+ghost use Rattle.std.specs.List.{AllByRecursion};
+ghost use Rattle.kmc_dump.specs.Ranges.{Rises, CanBeMerged, joined, packs, count_within, ArePartedTo, AreRanges};
 
 use crate::counts::Counts;
 use crate::ranges::Ranges;
@@ -22,7 +23,75 @@ const MOST: usize = 10;
 /// More symbols are taken while a slot would have more pairs than this.
 const SLOT: usize = 16384;
 
-/// Ranges of neighbouring slots. A slot with many pairs is a range of its own.
+/// A slot with more pairs than this is parted.
+const WIDE: usize = 2 * USUAL;
+
+/// Bounds leave out so many bits of a word, so that the end of the last range fits a number for words of any length.
+const FINEST: u32 = 2;
+
+/// How many pairs of the lists lie in a range. It fails only where there are more than a number tells, which no memory could hold.
+fn count_range<W: Word + Drop, C: Shown + Drop>(
+    lists: &[Counts<W, C>],
+    shift: u32,
+    from: u128,
+    to: u128,
+) -> Result<usize, AllocError>
+    requires rise { AllByRecursion Rises (packs lists.now) }
+    requires shift { shift < 128 }
+    requires range { from ≤ to }
+    ensures { IfOk result (λ n. n ≡ count_within (2 ^ shift) from to lists.now) }
+{
+    let mut total: usize = 0;
+    for list in lists {
+        let begin = list.below(shift, from);
+        let end = list.below(shift, to);
+        let Some(more) = total.checked_add(end - begin) else {
+            return Err(AllocError);
+        };
+        total = more;
+    }
+    Ok(total)
+}
+
+/// Puts bounds behind those of the ranges before, the last of them at the end of a range of so many pairs: it is halved, and so are
+/// its halves, until few pairs or one slot are left. The answer is the most pairs of a range.
+#[cycle(halves)]
+fn part_range<W: Word + Drop, C: Shown + Drop>(
+    bounds: &mut Vec<u128>,
+    lists: &[Counts<W, C>],
+    shift: u32,
+    from: u128,
+    to: u128,
+    count: usize,
+) -> Result<usize, AllocError>
+    requires rise { AllByRecursion Rises (packs lists.now) }
+    requires shift { shift < 128 }
+    requires range { from ≤ to }
+    requires count { count ≡ count_within (2 ^ shift) from to lists.now }
+    ensures { (widest wider : ℕ) → ArePartedTo (2 ^ shift) widest bounds.old.items from 0 lists.now
+        → IfOk result (λ most. widest ≤ wider → most ≤ wider
+        → ArePartedTo (2 ^ shift) wider bounds.new.items to 0 lists.now) }
+{
+    if count <= USUAL || to - from <= 1 {
+        bounds.push(to)?;
+        return Ok(count);
+    }
+    let middle = from + (to - from) / 2;
+    let low = count_range(lists, shift, from, middle)?;
+    let first = part_range(bounds, lists, shift, from, middle, low)?;
+    let second = part_range(bounds, lists, shift, middle, to, count - low)?;
+    Ok(first.max(second))
+}
+
+/// How many slots stand for one that leaves out so many bits more of a word.
+fn finer_slots(bits: u32) -> u128
+    requires { bits < 128 }
+    ensures { result ≡ 2 ^ bits }
+{
+    1 << bits
+}
+
+/// Ranges of neighbouring slots; a slot with very many pairs is parted.
 fn join_slots<W: Word + Drop, C: Shown + Drop>(
     alloc: Global,
     lists: &[Counts<W, C>],
@@ -32,28 +101,37 @@ fn join_slots<W: Word + Drop, C: Shown + Drop>(
 ) -> Result<Ranges, AllocError>
     requires merge { CanBeMerged size.k lists.now }
     requires shift { shift < 128 }
+    requires room { slots * 2 ^ shift ≤ 2 ^ 128 }
     requires inside { All (λ p. p.0 / 2 ^ shift < slots) (joined (packs lists.now)) }
     ensures k { IfOk result (λ r. r.k ≡ size.k) }
     ensures are { IfOk result (λ r. AreRanges r lists.now) }
 {
     let sizes = slot_sizes(alloc, lists, shift, slots)?;
+    let fine = shift.min(FINEST);
+    let step = finer_slots(shift - fine);
     let mut bounds = Vec::new(alloc);
     bounds.push(0)?;
     let mut widest = 0;
     let mut pending = 0;
     for slot in 0..slots {
         let size = sizes[slot];
+        let begin = slot as u128 * step;
         if pending > 0 && size > USUAL.saturating_sub(pending) {
-            bounds.push(slot as u128)?;
+            bounds.push(begin)?;
             widest = widest.max(pending);
             pending = 0;
         }
-        pending += size;
+        if pending == 0 && size > WIDE {
+            let most = part_range(&mut bounds, lists, fine, begin, begin + step, size)?;
+            widest = widest.max(most);
+        } else {
+            pending += size;
+        }
     }
-    bounds.push(slots as u128)?;
+    bounds.push(slots as u128 * step)?;
     Ok(Ranges {
         k: size.k,
-        shift,
+        shift: fine,
         bounds,
         widest: widest.max(pending),
     })

@@ -2,13 +2,16 @@
 ghost use Rattle.std.specs.Prelude.{ℕ, ◌+◌, ◌*◌, ◌≤◌, length, map, IfOk};
 ghost use Rattle.std.specs.Thread.{IsSync};
 ghost use Rattle.kmc_base.specs.declared.word.TheConstants.{MOST_WEIGHT_BITS};
-ghost use Rattle.kmc_count.specs.Bodies.{AreItemsOfBody, IsDumpOfBody};
+ghost use Rattle.kmc_count.specs.Bodies.{IsDumpOfBody};
 ghost use Rattle.kmc_dump.specs.Listed.{IsListOf, pairs_of};
+ghost use Rattle.kmc_dump.specs.Shares.{AreListsOfItems};
 
 use crate::counts::Counts;
+use crate::merging::list_share;
+use crate::share::Share;
 use crate::shown::Shown;
 use kmc_base::{KeyRule, MOST_WEIGHT_BITS, Word};
-use kmc_count::{Limits, dump_lists, items_of_body};
+use kmc_count::{Limits, items_of_body};
 use kmc_record::BodyError;
 use std::alloc::Global;
 use std::thread;
@@ -38,42 +41,51 @@ fn take_shared<R: Threads + Sync, W: Word + Drop + Send>(
     rule: KeyRule,
     bits: u32,
     threads: usize,
-) -> Result<Vec<W>, BodyError>
+) -> Result<Vec<Vec<W>>, BodyError>
     requires most { rule.k ≤ W.most }
     requires beside { 2 * rule.k + bits ≤ 2 * W.most }
     requires bits { bits ≤ MOST_WEIGHT_BITS }
     requires threads { 1 ≤ threads }
-    ensures { IfOk result (λ items. AreItemsOfBody rule.strands rule.k bits body.now
-        (map W.number items.items)) }
+    ensures { IfOk result (λ lists. AreListsOfItems rule.strands rule.k bits body.now
+        (map (λ v. map W.number v.items) lists.items)) }
 {
     if threads == 1 {
-        return items_of_body(alloc, body, rule, bits);
+        let items = items_of_body(alloc, body, rule, bits)?;
+        let mut lists = Vec::new(alloc);
+        return match lists.push(items) {
+            Ok(()) => Ok(lists),
+            Err(_) => Err(BodyError::Memory),
+        };
     }
     let few = threads / 2;
     let others = threads - few;
     let middle = record_behind(body, rule, body.len() / threads * few);
     let (low, high) = body.split_at(middle);
-    let front = move || -> Result<Vec<W>, BodyError>
+    let front = move || -> Result<Vec<Vec<W>>, BodyError>
         requires { IsSync R.row × (rule.k ≤ W.most)
             × (2 * rule.k + bits ≤ 2 * W.most) × (bits ≤ MOST_WEIGHT_BITS) × (1 ≤ few) }
-        ensures { IfOk result (λ items. AreItemsOfBody rule.strands rule.k bits low.entry.now
-            (map W.number items.items)) }
+        ensures { IfOk result (λ lists. AreListsOfItems rule.strands rule.k bits low.entry.now
+            (map (λ v. map W.number v.items) lists.items)) }
     { take_shared(rt, alloc, low, rule, bits, few) };
-    let back = move || -> Result<Vec<W>, BodyError>
+    let back = move || -> Result<Vec<Vec<W>>, BodyError>
         requires { IsSync R.row × (rule.k ≤ W.most)
             × (2 * rule.k + bits ≤ 2 * W.most) × (bits ≤ MOST_WEIGHT_BITS) × (1 ≤ others) }
-        ensures { IfOk result (λ items. AreItemsOfBody rule.strands rule.k bits high.entry.now
-            (map W.number items.items)) }
+        ensures { IfOk result (λ lists. AreListsOfItems rule.strands rule.k bits high.entry.now
+            (map (λ v. map W.number v.items) lists.items)) }
     { take_shared(rt, alloc, high, rule, bits, others) };
     let (first, second) = thread::join(rt, front, back);
-    let mut items = first?;
+    let mut lists = first?;
     let mut more = second?;
-    items.append(&mut more)?;
-    Ok(items)
+    lists.append(&mut more)?;
+    Ok(lists)
 }
 
 /// The dump of a body in packed form, counted by so many threads together.
-pub(crate) fn list_by_threads<R: Threads + Sync, W: Word + Drop + Send, C: Shown + Drop>(
+pub(crate) fn list_by_threads<
+    R: Threads + Sync,
+    W: Word + Drop + Send + Sync,
+    C: Shown + Drop + Send,
+>(
     rt: &R,
     alloc: Global,
     body: &[u8],
@@ -89,9 +101,13 @@ pub(crate) fn list_by_threads<R: Threads + Sync, W: Word + Drop + Send, C: Shown
         (pairs_of c)) }
 {
     let bits = W::weight_bits(rule.k);
-    let mut items = take_shared(rt, alloc, body, rule, bits, threads)?;
-    let mut pairs = Counts::new(alloc, rule.k);
-    dump_lists(&mut items, &mut pairs, rule, bits, limits)?;
+    let lists: Vec<Vec<W>> = take_shared(rt, alloc, body, rule, bits, threads)?;
+    let all = Share {
+        first: 0,
+        last: u128::MAX,
+        parts: threads,
+    };
+    let mut pairs = list_share(rt, alloc, &lists, rule, bits, *limits, all)?;
     pairs.shrink();
     Ok(pairs)
 }

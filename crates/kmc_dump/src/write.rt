@@ -52,22 +52,6 @@ fn count_pairs<W: Word + Drop, C: Shown + Drop>(lists: &[Counts<W, C>]) -> Resul
     Ok(total)
 }
 
-/// How many pairs all buffers together may have room for, where a sixteenth of the pairs are fewer.
-const USUAL_ROOM: usize = 1 << 22;
-
-/// How many buffers are made: two for each thread, or one where there is one thread. They hold no more than all pairs and the widest
-/// range once more; and where one range is so wide that few of its like fit the usual room, no more than fit, but one.
-fn count_buffers(total: usize, widest: usize, threads: usize) -> usize
-    requires widest { 1 ≤ widest }
-    requires threads { 1 ≤ threads }
-    ensures { 1 ≤ result }
-{
-    let rows = if threads == 1 { 1 } else { 2 };
-    let wanted = (total / widest).saturating_add(1);
-    let fitting = ((total / 16).max(USUAL_ROOM) / widest).max(1);
-    threads.saturating_mul(rows).min(wanted).min(fitting)
-}
-
 /// Writes the dump of lists that share no word: the lines of all their pairs in the order of the words, and nothing else.
 /// The answer is the number of lines. Ranges of words are gathered and sorted by so many threads, as many ranges at a
 /// time, while the calling thread writes those before; no list of all pairs is made. One thread does all in turn. All memory
@@ -102,7 +86,10 @@ pub fn write_lists<
 {
     let total = count_pairs(lists)?;
     let ranges = part_words(alloc, lists, size, total)?;
-    let count = count_buffers(total, ranges.widest.max(1), threads);
+    // No more than hold all pairs once and the widest range once more.
+    let wanted = (total / ranges.widest.max(1)).saturating_add(1);
+    let rows = if threads == 1 { 1 } else { 2 };
+    let count = threads.saturating_mul(rows).min(wanted);
     let mut buffers = make_buffers(alloc, count, ranges.widest, size)?;
     match write_ranges(rt, writer, lists, &ranges, &mut buffers) {
         Ok(()) => Ok(total as u64),

@@ -6,21 +6,12 @@ use Rattle.kmc_base.specs.Words.{windows}
 use Rattle.kmc_record.specs.Record.{spelling, IsSpelled, codes_in, size_of}
 use Rattle.kmc_record.specs.Shapes.{Sizes}
 use Rattle.kmc_record.specs.Parts.{Parcel, IsPart, capped}
-use Rattle.kmc_record.specs.Bodies.{AreRecordsOfBin, BeginsWithOtherBin, Belong, IsFirstError}
-use Rattle.kmc_record.specs.Faults.{HasFault}
-use Rattle.kmc_record.specs.declared.fault.RecordFault.{RecordFault}
-use Rattle.kmc_record.specs.declared.fault.PartError.TheVariants.{Damaged}
+use Rattle.kmc_record.specs.Bodies.{AreRecordsOfBin, BeginsWithOtherBin, Belong}
 use Rattle.kmc_record.proofs.Parcels.{part_grown}
 use Rattle.kmc_record.proofs.Whole.{begins_there, first_codes, rest_at, spelled_there}
 
 pub records_of_part : (bin : ℕ) (shape : Sizes) (body : List ℕ) (words : ℕ) → IsPart bin shape body words → AreRecordsOfBin bin shape body
 records_of_part bin shape body words h = record { super_kmers = h.super_kmers; records = h.records; belong = h.belong }
-
--- no record was read at the offset, behind records of the bin
-module _ (bin : ℕ) (shape : Sizes) (k offset : ℕ) (body : List ℕ) (same : k ≡ shape.k) (inside : offset < length body)
-    (front : AreRecordsOfBin bin shape (take offset body)) where
-  pub damaged_at : (fault : RecordFault) → HasFault k fault (drop offset body) → IsFirstError bin shape (Damaged fault offset) body
-  damaged_at fault h = (inside, front, subst (λ j. HasFault j fault (drop offset body)) same h)
 
 -- a record was found there, a word of which belongs to another bin
 pub other_there : (bin : ℕ) (shape : Sizes) (k n offset : ℕ) (body : List ℕ) → ((i : ℕ) → get_or body i 0 < 256)

@@ -33,17 +33,9 @@ not_ok P Q (Ok x) is = absurd is
 not_ok P Q (Err x) is = tt
 
 -- what follows from an answer, or from a refusal
-pub ok_then : {A E : Type 0} (P Q : A → Type 0) (r : Result A E) → ((a : A) → P a → Q a) → IfOk r P → IfOk r Q
-ok_then P Q (Ok a) go p = go a p
-ok_then P Q (Err e) go p = tt
-
 pub on_ok_then : {A E : Type 0} (P : A → Type 0) (Q : Type 0) (r : Result A E) → ((a : A) → P a → Q) → IfOk r P → OnOk r Q
 on_ok_then P Q (Ok a) go p = go a p
 on_ok_then P Q (Err e) go p = tt
-
-pub err_then : {A E : Type 0} (P Q : E → Type 0) (r : Result A E) → ((e : E) → P e → Q e) → IfErr r P → IfErr r Q
-err_then P Q (Ok a) go p = tt
-err_then P Q (Err e) go p = go e p
 
 pub same_err : {A E : Type 0} (r : Result A E) (e : E) → IsErrAnd r (λ x. x ≡ e) → r ≡ Err e
 same_err (Ok x) e is = absurd is

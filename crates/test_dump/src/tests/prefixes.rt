@@ -60,24 +60,50 @@ fn the_first_and_the_last_word_are_listed(rt: HostRuntime) -> Result<(), Fail> {
     Ok(())
 }
 
-/// So many reads that begin with ten letters T, each a word of 20 symbols.
-fn crowded(alloc: Global, count: usize) -> Result<Vec<Vec<u8>>, AllocError> {
+/// So many reads that begin with so many letters T, each a word with ten symbols more.
+fn crowded(alloc: Global, letters: usize, count: usize) -> Result<Vec<Vec<u8>>, AllocError> {
     let mut dice = Dice { state: 4711 };
     let mut reads = Vec::new(alloc);
     for _ in 0..count {
-        let mut read = equal(alloc, b'T', 10)?;
+        let mut read = equal(alloc, b'T', letters)?;
         push_thrown(&mut read, &mut dice, 10)?;
         reads.push(read)?;
     }
     Ok(reads)
 }
 
-/// No prefix that is looked at parts these words, and together they are more than a range should have.
+/// No prefix of up to ten symbols parts these words, and together they are more than a range should have.
 #[test]
 fn a_crowded_prefix_is_one_range(rt: HostRuntime) -> Result<(), Fail> {
-    let reads = crowded(rt.alloc(), 160_000)?;
+    let reads = crowded(rt.alloc(), 10, 160_000)?;
     let params = settings(20, 255, 2)?.with_strands(Strands::Apart);
     let lines = assert_direct(&rt, rt.alloc(), &reads, &params)?;
     assert!(rt; lines > 131_072);
     Ok(())
+}
+
+/// Words that share so many letters T, more than twice as many as a range should have.
+fn assert_very_crowded<R: Abort + Threads + Wait + Sync>(
+    rt: &R,
+    alloc: Global,
+    letters: usize,
+    threads: usize,
+) -> Result<(), Fail> {
+    let reads = crowded(alloc, letters, 310_000)?;
+    let params = settings(letters.saturating_add(10), 255, threads)?;
+    let lines = assert_direct(rt, alloc, &reads, &params.with_strands(Strands::Apart))?;
+    assert!(rt; lines > 262_144, "{letters} letters, {threads} threads");
+    Ok(())
+}
+
+#[test]
+fn a_very_crowded_prefix_is_parted(rt: HostRuntime) -> Result<(), Fail> {
+    assert_very_crowded(&rt, rt.alloc(), 10, 1)?;
+    assert_very_crowded(&rt, rt.alloc(), 11, 3)
+}
+
+#[test]
+fn a_very_crowded_long_prefix_is_parted(rt: HostRuntime) -> Result<(), Fail> {
+    assert_very_crowded(&rt, rt.alloc(), 30, 2)?;
+    assert_very_crowded(&rt, rt.alloc(), 54, 2)
 }

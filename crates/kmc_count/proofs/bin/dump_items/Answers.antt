@@ -4,7 +4,8 @@ use Rattle.std.proofs.lemmas.Result.{on_ok_weaker}
 use Rattle.kmc_base.specs.Weights.{items, AreItems}
 use Rattle.kmc_count.specs.Occurrences.{weight_of}
 use Rattle.kmc_count.specs.Dump.{IsDump}
-use Rattle.kmc_count.proofs.Counted.{body_dump, items_moved}
+use Rattle.kmc_count.specs.Lemmas.BodyDumps.{body_dump}
+use Rattle.kmc_count.proofs.Counted.{items_moved}
 use Rattle.kmc_count.proofs.bin.dump_items.Goals as goal
 
 pub tally-requires-clause-fit : goal.tally-requires-clause-fit

@@ -1,5 +1,6 @@
-use Rattle.std.proofs.Common.{◌*◌, arith}
+use Rattle.std.proofs.Common.{◌-◌, ◌*◌, ◌^◌, ap, arith}
 use Rattle.std.proofs.lemmas.Nat.{one_shl}
+use Rattle.kmc_dump.proofs.Finer.{all_slots}
 use Rattle.kmc_dump.proofs.Histogram.{slot_fits}
 use Rattle.kmc_dump.proofs.parting.part_words.Goals as goal
 
@@ -11,3 +12,11 @@ join_slots-requires-clause-inside g c = λ i d inside.
     let s = c.leading-symbols.result in
     let slots = one_shl (2 * s) 64 (omega (arith, c.leading-symbols.ensures.few)) in
     omega (arith, slot_fits c.args.size.k s _ c.leading-symbols.ensures.within (c.requires.fit i d inside), slots)
+
+pub join_slots-requires-clause-room : goal.join_slots-requires-clause-room
+join_slots-requires-clause-room g c =
+    let k = c.args.size.k in
+    let s = c.leading-symbols.result in
+    let slots = one_shl (2 * s) 64 (omega (arith, c.leading-symbols.ensures.few)) in
+    let product = ap (λ n. n * 2 ^ (2 * (k - s))) slots in
+    omega (arith, product, all_slots k s c.leading-symbols.ensures.within c.args.size.within.1)

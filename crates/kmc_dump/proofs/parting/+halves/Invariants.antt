@@ -1,0 +1,6 @@
+use Rattle.std.proofs.Common.{◌-◌}
+use Rattle.kmc_dump.proofs.parting.+halves.Given as goal
+
+-- each half has fewer slots
+abbrev pub decreases-part_range : goal.decreases-part_range
+decreases-part_range g l = l.to - l.from
