@@ -30,7 +30,7 @@ pub record AreSortedItems (k f : ℕ) (lists : List (List ℕ)) : Type 0 where
   pub sorted : All (IsSorted nat_cmp) lists
   pub fit : AreItems k f (joined lists)
 
--- together they are the items of a body
+-- lists that rise; together they are the items of a body
 pub record AreListsOfItems (strands : Strands) (k f : ℕ) (body : List ℕ) (lists : List (List ℕ)) : Type 0 where
   pub sorted : All (IsSorted nat_cmp) lists
   pub are : AreItemsOfBody strands k f body (joined lists)

@@ -7,3 +7,4 @@ pub mod Unique
 pub mod Kept
 pub mod Bins
 pub mod Sliding
+pub mod Short

@@ -38,7 +38,7 @@ fn row_ends(values: &[u16], ends: &mut [usize]) -> usize
 }
 
 /// Appends the runs of a row of equal signatures from one place to before another.
-fn push_row(
+pub(crate) fn push_row(
     signatures: &[u16],
     start: usize,
     end: usize,

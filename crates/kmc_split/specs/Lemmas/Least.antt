@@ -112,7 +112,7 @@ starts_within at end p [] h = omega arith
 starts_within at end p (r ∷ rs) h = omega (arith, starts_within at end (p + r.words) rs h.3)
 
 module _ (at bt : ℕ → ℕ) (end : ℕ) (same : (i : ℕ) → i < end → at i ≡ bt i) where
-  same_runs : (p : ℕ) (rs : List Run) → AreRuns at p end rs → AreRuns bt p end rs
+  pub same_runs : (p : ℕ) (rs : List Run) → AreRuns at p end rs → AreRuns bt p end rs
   same_runs p [] h = h
   same_runs p (r ∷ rs) h =
       let inside = starts_within at end (p + r.words) rs h.3 in

@@ -1,6 +1,7 @@
 use Rattle.std.proofs.Common.{◌≡◌, ℕ, ◌<◌, ◌≤◌, ◌++◌, length, take, drop, slice_index, ◌+◌, ◌-◌, List, sym, ap, subst, ◌∙◌, arith, ◌^◌}
 use Rattle.std.proofs.Math.Seq.{take-append_seam}
 use Rattle.std.proofs.lemmas.Grind.{common_steps}
+use Rattle.std.proofs.lemmas.Result.{on_ok_weaker}
 use Rattle.kmc_split.specs.Cut.{AreRuns}
 use Rattle.kmc_split.specs.Minima.{low}
 use Rattle.kmc_split.specs.Lemmas.Lowest.{lows_fit, fits_most}
@@ -55,6 +56,14 @@ returns-clause-each c = runs_are c.args.k c.args.m c.args.codes.now _ (omega ari
 
 pub returns-clause-words : goal.returns-clause-words
 returns-clause-words c = words_are c.args.k c.args.m c.args.codes.now _ (omega arith) c.requires.long (returns-clause-cut c)
+
+pub returns-then-m-lt-HEAD-clause-each : goal.returns-then-m-lt-HEAD-clause-each
+returns-then-m-lt-HEAD-clause-each c = on_ok_weaker c.cut_short.result
+    (λ h. runs_are c.args.k c.args.m c.args.codes.now _ (omega arith) c.requires.long h) c.cut_short.ensures
+
+pub returns-then-m-lt-HEAD-clause-words : goal.returns-then-m-lt-HEAD-clause-words
+returns-then-m-lt-HEAD-clause-words c = on_ok_weaker c.cut_short.result
+    (λ h. words_are c.args.k c.args.m c.args.codes.now _ (omega arith) c.requires.long h) c.cut_short.ensures
 
 pub lows-requires-clause-most : goal.lows-requires-clause-most
 lows-requires-clause-most c = grind (arith, common_steps)
