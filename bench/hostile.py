@@ -1,11 +1,11 @@
 #!/usr/bin/env python3
 """Refuses each allocation of runs of ./kmc in turn, and then each together with all that follow it.
 
-usage: hostile.py [--workers N] [--step N]
+usage: hostile.py [--workers N]
 
 bench/refuse_memory.c, which is compiled here, stands before the C library's malloc and its kin. For each text below, with one and
-with four threads, the call number 1, 2, 3 .. of a run is refused, until ten runs in a row met no refusal. Of the text of
-17000 reads, which has several times as many calls, only one number in STEP (41) is tried. An answer is right where it is
+with four threads, the call number 1, 2, 3 .. of a run is refused, until ten runs in a row met no refusal. Of the two longest rows
+only one number in several is tried. An answer is right where it is
 
 - the whole answer: the program could do without;
 - the line 'kmc: out of memory' with status 1 and nothing on standard output; or
@@ -31,6 +31,7 @@ import fuzz
 
 IN_A_ROW = 10  # runs without a refusal that end a row
 BATCH = 20  # numbers that a worker is given at a time
+SPARSE = 41  # one number in so many is tried of the longest rows, and of all long ones where all later calls are refused too
 TOP = os.path.join(os.path.dirname(os.path.abspath(__file__)), "..")
 REFUSED = os.environ.get("REFUSED", os.path.join(TOP, "try_refused_growths"))
 OUT_OF_MEMORY = (1, b"", b"kmc: out of memory\n")
@@ -59,22 +60,22 @@ def one_read(read):
     return b"@r\n" + read + b"\n+\n" + b"I" * len(read) + b"\n"
 
 
-# name, options, text, whether all numbers are tried
+# name, options, text, one number in how many is tried
 ROWS = (
-    ("empty text", [], b"", True),
-    ("a read twice", [], one_read(b"GATTACAGATTACAGATTACACCGGT") * 2, True),
-    ("300 letters A", [], one_read(b"A" * 300), True),
-    ("FASTA with blank lines", [b"-fa", b"-k4", b"-ci1"], b"\n>a\nACGT\n\nACGT", True),
-    ("two reads, 7 bins", [b"-k4", b"-ci1", b"-n7"], one_read(b"ACGTACGT") * 2, True),
-    ("two equal reads", [b"-k5", b"-n8"], b"@r\nACGTACGTTTG\n+\nIIIIIIIIIII\n" * 2, True),
-    ("FASTA, several lines", [b"-fm", b"-k5", b"-ci1", b"-n64"], b">g\nACGTA\nCGTTTG\n\n>h\nNNACG\nTACGTTNACCAGT\nTT\n", True),
-    ("faulty text", [b"-k5"], b"@r\nACGTACG\n+\nIIIIIII\n@s\nACGT\n+\nIII\n", True),
-    ("wrong options", [b"-k5", b"-ci1", b"-sr99"], b"", True),
-    ("100 reads, all bins", [b"-k25"], simulated(100, 80), True),
-    ("4200 reads", [b"-k11", b"-n8"], simulated(4200, 30, 3), True),
-    ("17000 reads", [b"-k11", b"-n8"], simulated(17000, 30), False),
-    ("3 rounds, 2 waves", [b"-k14", b"-ci1", b"-n8"], far_apart(280000, 140000), True),
-    ("a giant", [b"-k25", b"-ci1", b"-n1"], far_apart(1, 1300000), True),
+    ("empty text", [], b"", 1),
+    ("a read twice", [], one_read(b"GATTACAGATTACAGATTACACCGGT") * 2, 1),
+    ("300 letters A", [], one_read(b"A" * 300), 1),
+    ("FASTA with blank lines", [b"-fa", b"-k4", b"-ci1"], b"\n>a\nACGT\n\nACGT", 1),
+    ("two reads, 7 bins", [b"-k4", b"-ci1", b"-n7"], one_read(b"ACGTACGT") * 2, 1),
+    ("two equal reads", [b"-k5", b"-n8"], b"@r\nACGTACGTTTG\n+\nIIIIIIIIIII\n" * 2, 1),
+    ("FASTA, several lines", [b"-fm", b"-k5", b"-ci1", b"-n64"], b">g\nACGTA\nCGTTTG\n\n>h\nNNACG\nTACGTTNACCAGT\nTT\n", 1),
+    ("faulty text", [b"-k5"], b"@r\nACGTACG\n+\nIIIIIII\n@s\nACGT\n+\nIII\n", 1),
+    ("wrong options", [b"-k5", b"-ci1", b"-sr99"], b"", 1),
+    ("100 reads, all bins", [b"-k25"], simulated(100, 80), 1),
+    ("4200 reads", [b"-k11", b"-n8"], simulated(4200, 30, 3), 1),
+    ("17000 reads", [b"-k11", b"-n8"], simulated(17000, 30), SPARSE),
+    ("3 rounds, 2 waves", [b"-k14", b"-ci1", b"-n8"], far_apart(280000, 140000), 1),
+    ("a giant", [b"-k25", b"-ci1", b"-n1"], far_apart(1, 1300000), 13),
 )
 
 
@@ -161,7 +162,6 @@ def again(library):
 def main():
     asked = argparse.ArgumentParser(description=__doc__.splitlines()[0])
     asked.add_argument("--workers", type=int, default=min(4, os.cpu_count() or 1))
-    asked.add_argument("--step", type=int, default=41)
     asked = asked.parse_args()
     tries = wrong = 0
     with tempfile.TemporaryDirectory() as work, multiprocessing.Pool(asked.workers) as pool:
@@ -170,11 +170,11 @@ def main():
         subprocess.run(["cc", "-Wall", "-Wextra", "-O1", "-shared", "-fPIC", "-o", library, source], check=True)
         for everything in (False, True):
             for threads in (b"1", b"4"):
-                for name, words, text, each in ROWS:
+                for name, words, text, one_in in ROWS:
                     if b"-sr99" not in words:
                         words = words + [b"-sp" + threads, b"-sr" + threads]
-                    one_in = 1 if each and not (everything and len(text) > 10**5) else asked.step
-                    done = row(pool, asked, library, name, words, text, one_in, everything)
+                    step = SPARSE if everything and len(text) > 10**5 else one_in
+                    done = row(pool, asked, library, name, words, text, step, everything)
                     tries, wrong = tries + done[0], wrong + done[1]
         done = again(library)
         tries, wrong = tries + done[0], wrong + done[1]

@@ -37,6 +37,11 @@ row "1.5 million reads of 100" short.fq -k12
 row "1.5 million reads of 100" short.fq "-k25 -cs1000000"
 row "10000 reads of 5000 to 25000" long.fq -ci1000
 row "10000 reads of 5000 to 25000" long.fq "-k25 -ci1"
+row "1.5 million reads of 100, in one bin" short.fq "-k25 -n1"
+row "10000 reads of 5000 to 25000, in one bin" long.fq "-k25 -n1"
+row "10000 reads of 5000 to 25000, in one bin" long.fq "-k55 -n1"
 row "a sequence of 30 million" genome.fa "-fm -ci1"
 row "a sequence of 30 million" genome.fa "-fm -ci1 -sp4 -sr4"
-row "0.5 million reads of 100 letters A" a.fq -ci1
+for options in "-k25 -ci1" "-k32 -ci1" "-k55 -ci1" "-k64 -ci1"; do
+    row "0.5 million reads of 100 letters A" a.fq "$options"
+done
