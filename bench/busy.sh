@@ -6,7 +6,7 @@
 # Wants `kmc` and `kmc_tools` (Debian's package kmc). The text is the workload `short` of bench/compare.sh: 1.5 million reads of
 # 100 symbols, k 25, words that occur twice or more; it is made once, in $TMPDIR or /tmp. In each of ROUNDS (5) rounds our
 # program runs first and then KMC 3 (`kmc -r` and the sorted dump together), each with THREADS (4) threads (-spN -srN against
-# -tN); the dumps must be equal byte for byte, and a line tells the wall seconds of both and ours as a part of theirs. The
+# -tN); the dumps must be equal byte for byte, and a row tells the wall seconds of both and ours as a part of theirs. The
 # busy processes are this script's own, and end with it, however it ends.
 set -eu
 top=$(cd "$(dirname "$0")/.." && pwd)
@@ -57,13 +57,14 @@ seconds_of() {
     seconds=$(awk "BEGIN { printf \"%.2f\", $ended - $begun }")
 }
 
-echo "round  ours: wall s  KMC 3: wall s  ours / KMC 3"
+echo "| round | ours: wall s | KMC 3: wall s | ours / KMC 3 |"
+echo "|---|---|---|---|"
 round=1
 while [ "$round" -le "$rounds" ]; do
     seconds_of ours
     our_seconds=$seconds
     seconds_of theirs
     cmp "$work/ours.dump" "$work/theirs.dump"
-    awk "BEGIN { printf \"%5d %13.2f %14.2f %13.2f\n\", $round, $our_seconds, $seconds, $our_seconds / $seconds }"
+    awk "BEGIN { printf \"| %d | %.2f | %.2f | %.2f |\n\", $round, $our_seconds, $seconds, $our_seconds / $seconds }"
     round=$((round + 1))
 done

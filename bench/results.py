@@ -26,6 +26,7 @@ SECTIONS = [
     ("kmc3", "Time and memory beside KMC 3, k 25", ["bench/compare.sh", "-r", ROUNDS, "-t", THREADS], False),
     ("k", "Other lengths of words, short reads", ["bench/compare.sh", "-r", ROUNDS, "-k", "1 2 3 4 5 6 7 8 9 10 11 12 31 55", "-t", "4", "short"], False),
     ("deep", "Short words, 88-fold", ["bench/compare.sh", "-r", ROUNDS, "-k", "1 2 3 4 5 6 7 8 9 10 11 12", "-t", "4", "deep"], False),
+    ("busy", "Short reads beside four busy processes, k 25, two threads", ["bench/busy.sh", "-r", ROUNDS, "-t", "2"], False),
     ("skew", "Skewed inputs", ["bench/compare.sh", "-k", "25 55", "-t", "4", "-r", ROUNDS, "alla", "repeat", "prefix", "one_bin"], False),
     ("memory", "Memory", ["bench/memory.sh"], False),
     ("reading", "Reading and feeding alone", ["bench/reading.sh"], False),
