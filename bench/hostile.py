@@ -19,6 +19,7 @@ another program.
 """
 import argparse
 import collections
+import hashlib
 import multiprocessing
 import os
 import random
@@ -30,6 +31,7 @@ sys.dont_write_bytecode = True  # no files beside the scripts
 import fuzz
 
 IN_A_ROW = 10  # runs without a refusal that end a row
+LONG_OUTPUT = 4096
 BATCH = 20  # numbers that a worker is given at a time
 SPARSE = 41  # one number in so many is tried of the longest rows, and of all long ones where all later calls are refused too
 TOP = os.path.join(os.path.dirname(os.path.abspath(__file__)), "..")
@@ -79,6 +81,12 @@ ROWS = (
 )
 
 
+def in_short(answer):
+    """An answer with the front and a sum of its output in place of an output that is long, which takes time to hand on."""
+    status, output, error = answer
+    return status, output if len(output) <= LONG_OUTPUT else output[:LONG_OUTPUT] + hashlib.sha256(output).digest(), error
+
+
 def refused(task):
     """For each number: whether memory was refused, and the answer."""
     library, words, text, everything, numbers = task
@@ -89,7 +97,7 @@ def refused(task):
             environment["REFUSE_ALL"] = "yes"
         told = fuzz.memory_file()
         answer = fuzz.run(words, text, False, environment, ((told, 9),))
-        answers.append((number, bool(fuzz.content_of(told)), answer))
+        answers.append((number, bool(fuzz.content_of(told)), in_short(answer)))
         os.close(told)
     return answers
 
@@ -108,7 +116,7 @@ def answers_in_turn(pool, workers, step, task):
 
 def row(pool, asked, library, name, words, text, step, everything):
     """Tries one row. The number of tries, and of wrong answers."""
-    whole = fuzz.answer_of(words, text)
+    whole = in_short(fuzz.answer_of(words, text))
     kinds = collections.Counter()
     unmet = number = 0
     for number, met, answer in answers_in_turn(pool, asked.workers, step, (library, words, text, everything)):
