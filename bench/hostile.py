@@ -77,7 +77,7 @@ ROWS = (
     ("4200 reads", [b"-k11", b"-n8"], simulated(4200, 30, 3), 1),
     ("17000 reads", [b"-k11", b"-n8"], simulated(17000, 30), SPARSE),
     ("3 rounds, 2 waves", [b"-k14", b"-ci1", b"-n8"], far_apart(280000, 140000), 1),
-    ("a giant", [b"-k25", b"-ci1", b"-n1"], far_apart(1, 1300000), 13),
+    ("a giant", [b"-k25", b"-ci1", b"-n1"], far_apart(1, 1300000), 5),
 )
 
 
