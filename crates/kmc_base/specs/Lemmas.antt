@@ -12,3 +12,5 @@ pub mod Orders
 pub mod Windows
 pub mod Weights
 pub mod PassedOn
+pub mod Members
+pub mod WrittenBack

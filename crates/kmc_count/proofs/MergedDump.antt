@@ -17,7 +17,7 @@ use Rattle.kmc_count.specs.Bodies.{AreDumpsOfBodies}
 use Rattle.kmc_count.specs.Merge.{joined, AreApart, EachRises, IsMerged, AreDumps}
 use Rattle.kmc_count.specs.Lemmas.Apart.{occurrences_both, occurs_contains, tail_apart, none_behind, none_before}
 use Rattle.kmc_count.specs.Lemmas.OneDump.{listed_has}
-use Rattle.kmc_count.specs.Lemmas.Members.{has_contains}
+use Rattle.kmc_base.specs.Lemmas.Members.{has_contains}
 use Rattle.kmc_count.specs.Lemmas.Zips.{zip_at}
 
 module _ (l : Limits) where

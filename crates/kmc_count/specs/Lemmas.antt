@@ -1,6 +1,5 @@
 -- Lemmas on the definitions beside this file: proofs cite them, here and in the crates above, and no promise needs them to be read.
 pub mod Runs
-pub mod Members
 pub mod Listing
 pub mod SortedRuns
 pub mod PackedRuns
@@ -9,5 +8,4 @@ pub mod PassedOn
 pub mod OneDump
 pub mod Zips
 pub mod Apart
-pub mod WrittenBack
 pub mod BodyDumps

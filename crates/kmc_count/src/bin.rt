@@ -9,10 +9,9 @@ ghost use Rattle.kmc_count.specs.Bodies.{AreItemsOfBody, IsDumpOfBody, WantsMemo
 
 use crate::adding::{take_and_add, takes_table};
 use crate::limits::Limits;
-use crate::pair_list::PairList;
 use crate::room::CountingRoom;
 use crate::tallying::tally;
-use kmc_base::{KeyRule, MOST_WEIGHT_BITS, Word};
+use kmc_base::{KeyRule, MOST_WEIGHT_BITS, PairList, Word};
 use kmc_record::{BodyError, push_rows, take_body};
 use std::alloc::{AllocError, Global};
 

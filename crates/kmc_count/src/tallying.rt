@@ -9,8 +9,7 @@ ghost use Rattle.kmc_count.specs.Occurrences.{weight_of};
 ghost use Rattle.kmc_count.specs.Dump.{IsDump, keep_pair};
 
 use crate::limits::Limits;
-use crate::pair_list::PairList;
-use kmc_base::{KeyRule, MOST_WEIGHT_BITS, Word};
+use kmc_base::{KeyRule, MOST_WEIGHT_BITS, PairList, Word};
 use std::alloc::AllocError;
 
 /// Appends a packed word with what is shown of its count, where the limits list it.

@@ -13,7 +13,7 @@ use Rattle.kmc_device.specs.Line.{line_of, text_of}
 use Rattle.kmc_dump.specs.Keys.{key_pair, key_pairs}
 use Rattle.kmc_dump.specs.Listed.{spell, spelled}
 use Rattle.kmc_dump.specs.Ranges.{Climbs, IsCut}
-use Rattle.kmc_dump.proofs.Order.{climbs_from, slot_up}
+use Rattle.kmc_dump.specs.Lemmas.Order.{climbs_from, slot_up}
 
 -- a key holds its pair
 pub key_holds : (word count least bits : ℕ) → least ≤ word → count < 2 ^ bits → key_pair least bits ((word - least) * 2 ^ bits + count) ≡ (word, count)

@@ -16,7 +16,7 @@ use Rattle.kmc_count.specs.Dump.{words_of}
 use Rattle.kmc_count.specs.Merge.{joined, AreApart, EachRises, IsMerged}
 use Rattle.kmc_count.specs.Lemmas.Apart.{occurrences_more, occurrences_both, occurs_has, tail_apart, none_behind}
 use Rattle.kmc_count.specs.Lemmas.Listing.{kmer_total, same_is, same_itself}
-use Rattle.kmc_count.specs.Lemmas.Members.{below_has}
+use Rattle.kmc_base.specs.Lemmas.Members.{below_has}
 use Rattle.kmc_count.specs.Lemmas.OneDump.{not_below_itself, Below}
 
 -- ---- each word once

@@ -4,7 +4,7 @@ use Rattle.std.specs.List.{AllByRecursion}
 use Rattle.std.proofs.lemmas.Bool.{cases_lt}
 use Rattle.kmc_count.specs.declared.limits.Limits.{Limits}
 use Rattle.kmc_count.specs.Dump.{IsListed, shown, words_of, IsDump}
-use Rattle.kmc_count.specs.Lemmas.Members.{has_contains}
+use Rattle.kmc_base.specs.Lemmas.Members.{has_contains}
 use Rattle.kmc_count.specs.Lemmas.OneDump.{listed_has}
 use Rattle.kmc_sum.specs.Sum.{listed_count}
 use Rattle.kmc_sum.specs.Laws.{ListsEach}

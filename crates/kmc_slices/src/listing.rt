@@ -11,7 +11,8 @@ ghost use Rattle.kmc_slices.specs.declared.listing.ListError.TheVariants.{Memory
 
 use crate::gathering::SliceRecords;
 use kmc_device::Counted;
-use kmc_dump::{DumpError, write_bins};
+use kmc_bin_lists::write_bins;
+use kmc_dump::DumpError;
 use kmc_settings::Params;
 use kmc_store::{BinFault, Bins};
 use kmc_tool::lists_of_bins;

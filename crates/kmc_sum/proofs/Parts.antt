@@ -8,7 +8,7 @@ use Rattle.kmc_count.specs.declared.limits.Limits.{Limits}
 use Rattle.kmc_count.specs.Occurrences.{is_key_of, count_of}
 use Rattle.kmc_count.specs.Dump.{IsListed, shown, words_of, IsDump}
 use Rattle.kmc_count.specs.Merge.{joined}
-use Rattle.kmc_count.specs.Lemmas.Members.{has_contains}
+use Rattle.kmc_base.specs.Lemmas.Members.{has_contains}
 use Rattle.kmc_count.specs.Lemmas.OneDump.{listed_has}
 use Rattle.kmc_sum.specs.Sum.{listed_count, sum_of}
 use Rattle.kmc_sum.specs.Laws.{ListsEach, AreDumpsOfParts}

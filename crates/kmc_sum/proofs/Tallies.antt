@@ -12,7 +12,7 @@ use Rattle.kmc_count.specs.declared.limits.Limits.{Limits}
 use Rattle.kmc_count.specs.Occurrences.{same_word}
 use Rattle.kmc_count.specs.Dump.{IsListed, shown, words_of, IsDump}
 use Rattle.kmc_count.specs.Lemmas.Listing.{kmer_total, same_is, same_itself, keep_cases}
-use Rattle.kmc_count.specs.Lemmas.Members.{Has, contains_has}
+use Rattle.kmc_base.specs.Lemmas.Members.{Has, contains_has}
 use Rattle.kmc_count.specs.Lemmas.OneDump.{listed_has, not_below_itself}
 use Rattle.kmc_sum.specs.Sum.{sum_of}
 use Rattle.kmc_sum.specs.Tally.{kept_pair, without, Tallied}

@@ -10,9 +10,9 @@ use Rattle.kmc_count.specs.declared.limits.Limits.{Limits}
 use Rattle.kmc_count.specs.Occurrences.{count_of}
 use Rattle.kmc_count.specs.Dump.{IsDump}
 use Rattle.kmc_device.specs.Line.{text_of}
-use Rattle.kmc_dump.specs.declared.lists.BinLists.{BinLists}
+use Rattle.kmc_bin_lists.specs.declared.lists.BinLists.{BinLists}
 use Rattle.kmc_dump.specs.Listed.{spelled}
-use Rattle.kmc_dump.specs.Lists.{lists_of}
+use Rattle.kmc_bin_lists.specs.Lists.{lists_of}
 use Rattle.kmc_dump.specs.Ranges.{CanBeMerged, whole}
 use Rattle.kmc_reads.specs.declared.error.ReadsError.{ReadsError}
 use Rattle.kmc_reads.specs.declared.error.ReadsError.TheVariants.{Memory as NoMemory}

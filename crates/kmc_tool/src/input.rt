@@ -8,7 +8,7 @@ use crate::listing::stage_two;
 use crate::rounds::bins_of_input;
 use kmc_count::laws::pieces_are_counted_as_reads;
 use kmc_device::Counted;
-use kmc_dump::BinLists;
+use kmc_bin_lists::BinLists;
 use kmc_partqueue::{Gate, NoGate};
 use kmc_settings::Params;
 use std::alloc::Global;

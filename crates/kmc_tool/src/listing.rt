@@ -1,8 +1,8 @@
 //! Stage two: each bin is counted by itself, and their lists make one dump.
 ghost use Rattle.std.specs.Prelude.{◌≡◌, ◌≤◌, IfOk};
-ghost use Rattle.kmc_dump.specs.Bodies.{AreListsOfBodies};
+ghost use Rattle.kmc_bin_lists.specs.Bodies.{AreListsOfBodies};
 ghost use Rattle.kmc_dump.specs.Listed.{spelled};
-ghost use Rattle.kmc_dump.specs.Lists.{lists_of};
+ghost use Rattle.kmc_bin_lists.specs.Lists.{lists_of};
 ghost use Rattle.kmc_dump.specs.Ranges.{CanBeMerged, whole};
 ghost use Rattle.kmc_settings.specs.Shape.{shape_of};
 ghost use Rattle.kmc_tool.specs.Stages.{IsDumpOfBins};
@@ -11,8 +11,8 @@ use crate::laws::bins_share_no_key;
 use kmc_base::Strands;
 use kmc_count::Limits;
 use kmc_count::laws::dumps_of_bodies_are_of_keys;
-use kmc_dump::laws::packed_dumps_are_one;
-use kmc_dump::{BinLists, list_bins};
+use kmc_bin_lists::laws::packed_dumps_are_one;
+use kmc_bin_lists::{BinLists, list_bins};
 use kmc_record::BodyError;
 use kmc_record::laws::whole_body_has_no_fault;
 use kmc_settings::Params;

@@ -6,7 +6,7 @@ use Rattle.std.proofs.lemmas.List.Sums.{sum_by-cons, sum_by-append}
 use Rattle.kmc_count.specs.Occurrences.{same_word, occurrences}
 use Rattle.kmc_count.specs.Merge.{joined, AreApart}
 use Rattle.kmc_count.specs.Lemmas.Listing.{same_is}
-use Rattle.kmc_count.specs.Lemmas.Members.{Has, contains_has}
+use Rattle.kmc_base.specs.Lemmas.Members.{Has, contains_has}
 
 module _ (x : List ℕ) where
   pub occurrences_more : (w : List ℕ) (ws : List (List ℕ)) → occurrences (w ∷ ws) x ≡ cond (same_word w x) 1 0 + occurrences ws x

@@ -8,7 +8,7 @@ use Rattle.kmc_base.specs.Words.{kmer_cmp}
 use Rattle.kmc_count.specs.declared.limits.Limits.{Limits}
 use Rattle.kmc_count.specs.Dump.{IsListed, shown, words_of, IsDump}
 use Rattle.kmc_count.specs.Lemmas.Listing.{kmer_total}
-use Rattle.kmc_count.specs.Lemmas.Members.{Has, has_contains, RisesBy, same_members}
+use Rattle.kmc_base.specs.Lemmas.Members.{Has, has_contains, RisesBy, same_members}
 
 pub not_below_itself : (x : List ℕ) → kmer_cmp x x ≡ Less → ⊥
 not_below_itself x less = let equal = tied_itself kmer_total x in cc (sym less ∙ equal)

@@ -8,7 +8,7 @@ use Rattle.kmc_base.specs.Words.{kmer_cmp}
 use Rattle.kmc_count.specs.Occurrences.{same_word}
 use Rattle.kmc_count.specs.Dump.{words_of}
 use Rattle.kmc_count.specs.Lemmas.Listing.{same_is, same_itself}
-use Rattle.kmc_count.specs.Lemmas.Members.{Has, below_has}
+use Rattle.kmc_base.specs.Lemmas.Members.{Has, below_has}
 use Rattle.kmc_count.specs.Lemmas.OneDump.{not_below_itself, Below}
 use Rattle.kmc_sum.specs.Sum.{listed_count}
 

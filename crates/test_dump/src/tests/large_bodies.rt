@@ -3,7 +3,7 @@
 use crate::tests::bodies::{are_plain, push_record};
 use kmc_base::{Kmer, Strands};
 use kmc_count::Limits;
-use kmc_dump::list_bins;
+use kmc_bin_lists::list_bins;
 use kmc_plain::count_bin;
 use kmc_record::{BodyError, RecordFault};
 use std::alloc::{AllocError, Global};

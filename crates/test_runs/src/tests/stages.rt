@@ -6,7 +6,7 @@ mod refused;
 mod small_texts;
 
 use kmc_device::Counted;
-use kmc_dump::write_bins;
+use kmc_bin_lists::write_bins;
 use kmc_partqueue::NoGate;
 use kmc_plain::{Chunk, parts_of};
 use kmc_reads::slices_of;

@@ -8,7 +8,7 @@ use Rattle.kmc_dump.specs.Keys.{key_pair}
 use Rattle.kmc_dump.specs.Listed.{spelled}
 use Rattle.kmc_dump.specs.Ranges.{is_within, joined, packs}
 use Rattle.kmc_dump.proofs.RangeKeys.{keys_climb}
-use Rattle.kmc_dump.proofs.Order.{part_is}
+use Rattle.kmc_dump.specs.Lemmas.Order.{part_is}
 use Rattle.kmc_dump.proofs.Gathered.{climbs_there, room_left, gathered_moved}
 use Rattle.kmc_dump.proofs.keys.put_keys.Goals as goal
 

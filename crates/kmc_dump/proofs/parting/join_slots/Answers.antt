@@ -1,8 +1,8 @@
 use Rattle.std.proofs.Common.{◌≡◌, ℕ, ◌+◌, ◌-◌, ◌*◌, ◌/◌, ◌<◌, ◌^◌, All, List, [], ◌∷◌, ◌++◌, length, get_or, Vec, Global, refl, sym, ap, subst, ◌∙◌, arith}
 use Rattle.std.proofs.lemmas.List.{get_or_default}
 use Rattle.kmc_dump.specs.Ranges.{joined, packs, ArePartedTo}
-use Rattle.kmc_dump.proofs.Finer.{next_slot, slot_size, slot_fits, all_before, end_fits}
-use Rattle.kmc_dump.proofs.Parted.{along, max_above, no_range, range_more, last_bound, closed}
+use Rattle.kmc_dump.specs.Lemmas.Finer.{next_slot, slot_size, slot_fits, all_before, end_fits}
+use Rattle.kmc_dump.specs.Lemmas.Parted.{along, max_above, no_range, range_more, last_bound, closed}
 use Rattle.kmc_dump.proofs.parting.join_slots.Goals as goal
 use Rattle.kmc_dump.proofs.parting.join_slots.Goals.{then-pending-gt0+then-size-saturating_sub+in_ok-push-2, else-pending-gt0}
 use Rattle.kmc_dump.proofs.parting.join_slots.Goals.{then-pending-eq0+then-size-gt-WIDE+in_ok-most, else-pending-eq0}

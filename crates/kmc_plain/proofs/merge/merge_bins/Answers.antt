@@ -1,7 +1,7 @@
 use Rattle.std.proofs.Common.{ℕ, List, length, ap, ◌∙◌, subst, sym, arith}
 use Rattle.std.specs.List.Sorted.{IsPermutation}
 use Rattle.kmc_count.specs.Merge.{IsMerged}
-use Rattle.kmc_count.specs.Lemmas.WrittenBack.{written_back}
+use Rattle.kmc_base.specs.Lemmas.WrittenBack.{written_back}
 use Rattle.kmc_plain.proofs.Merging.{merged}
 use Rattle.kmc_plain.proofs.merge.merge_bins.Goals as goal
 

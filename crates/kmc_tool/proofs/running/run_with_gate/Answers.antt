@@ -4,7 +4,7 @@ use Rattle.kmc_reads.specs.declared.error.ReadsError.TheVariants as reads
 use Rattle.kmc_reads.specs.Reads.{reads_of}
 use Rattle.kmc_device.specs.Line.{text_of}
 use Rattle.kmc_dump.specs.Listed.{spell, spelled}
-use Rattle.kmc_dump.specs.Lists.{lists_of}
+use Rattle.kmc_bin_lists.specs.Lists.{lists_of}
 use Rattle.kmc_dump.specs.Ranges.{whole}
 use Rattle.kmc_tool.specs.Errors.{run_error, write_error}
 use Rattle.kmc_tool.specs.Rounds.{AreCountsOf, IsInputError}

@@ -1,0 +1,4 @@
+pub mod Shares
+pub mod Laws
+pub mod Bodies
+pub mod Lists
