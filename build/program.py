@@ -5,7 +5,8 @@ usage: build/program.py PROGRAM, at the top of the repository. The program is le
 
 It asks the kit's compiler for each library as `rt ci` does: from nothing, and what stands above a library reads its statements
 and not its proofs. A library is begun once those that it names are done, first the one with the longest chain above it, which gets
-a process for each processor but one; the others get one each, and where no more than two can be built, each gets one for each processor.
+a process for every other processor, since more of them mostly do again what the first ones did; the others get one each, and where no
+more than two can be built, each gets one for each processor.
 What was built before from the same files is kept. `rt` in a crate's folder makes libraries of its own, in the place of these, and
 neither takes the other's.
 """
@@ -155,11 +156,11 @@ def build(crates, name, jobs, niceness):
 
 
 def weights(crates, order):
-    """How many lines of code are to be proved from each crate on, along the longest chain of those above it."""
+    """How many lines of code, definitions and proofs there are from each crate on, along the longest chain of those above it."""
     found = {}
     for name in reversed(order):
         above = [found[it] for it in found if name in crates[it]]
-        found[name] = max(above, default=0) + sum(text_of(it).count(b"\n") for it in files_of(name) if it.endswith(".rt"))
+        found[name] = max(above, default=0) + sum(text_of(it).count(b"\n") for it in files_of(name))
     return found
 
 
@@ -181,7 +182,7 @@ def build_all(crates, order):
             are_few = len(ready) + len(running) <= 2
             for name in ready[: at_once - len(running)]:
                 is_longest = weight[name] == max(weight[it] for it in left)
-                jobs = cores if are_few else max(1, cores - 1) if is_longest else 1
+                jobs = cores if are_few else max(1, cores // 2) if is_longest else 1
                 niceness = 0 if weight[name] >= NEAR * longest else GIVES_WAY
                 left.remove(name)
                 running[pool.submit(build, crates, name, jobs, niceness)] = name

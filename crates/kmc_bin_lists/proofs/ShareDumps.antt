@@ -25,7 +25,7 @@ use Rattle.kmc_dump.specs.Listed.{Listed, spell, spelled, pairs_of, IsListOf}
 use Rattle.kmc_dump.specs.Ranges.{Rises}
 use Rattle.kmc_bin_lists.specs.declared.share.Share.{Share}
 use Rattle.kmc_bin_lists.specs.Shares.{is_from, has_word_from, of_share, AreListsOfItems, IsDumpOfShare}
-use Rattle.kmc_dump.specs.Lemmas.Cuts.{filter_every}
+use Rattle.kmc_dump.specs.Lemmas.Filters.{filter_every}
 use Rattle.kmc_bin_lists.proofs.PackedDumps.{rising_numbers, all_both}
 use Rattle.kmc_bin_lists.proofs.SharedBodies.{items_joined}
 use Rattle.kmc_bin_lists.proofs.Whole.{rising_words}

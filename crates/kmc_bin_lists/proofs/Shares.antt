@@ -9,7 +9,7 @@ use Rattle.std.proofs.lemmas.List.{length-map, get_or-map, get_or-drop, get_or-t
 use Rattle.std.proofs.lemmas.List.Elements.{recursion_from_All, filter-append}
 use Rattle.std.proofs.lemmas.List.Sorted.{IsNonDecreasingBy-from_sort}
 use Rattle.kmc_bin_lists.specs.Shares.{has_word_from}
-use Rattle.kmc_dump.specs.Lemmas.Cuts.{filter_none, filter_every}
+use Rattle.kmc_dump.specs.Lemmas.Filters.{filter_none, filter_every}
 use Rattle.kmc_dump.specs.Lemmas.Order.{slot_up}
 
 module _ {A : Type 0} (num : A → ℕ) where

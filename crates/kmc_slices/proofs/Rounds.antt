@@ -14,7 +14,7 @@ use Rattle.kmc_settings.specs.declared.params.Params.{Params}
 use Rattle.kmc_store.specs.Bins.{AreBins, body_at}
 use Rattle.kmc_store.specs.Holds.{HoldsReads}
 use Rattle.kmc_store.specs.Laws.{MergedBinsHoldBoth, EmptyBinsHoldNoReads}
-use Rattle.kmc_tool.specs.Rounds.{HoldsPieces}
+use Rattle.kmc_rounds.specs.Rounds.{HoldsPieces}
 use Rattle.kmc_base.specs.Lemmas.PassedOn.{passed_on}
 use Rattle.std.specs.Prelude.{IsErrAnd}
 use Rattle.kmc_slice_files.specs.Files.{header_bytes}

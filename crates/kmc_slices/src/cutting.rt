@@ -14,7 +14,7 @@ use kmc_partqueue::Gate;
 use kmc_reads::Feeder;
 use kmc_store::Bins;
 use kmc_store::laws::empty_bins_hold_no_reads;
-use kmc_tool::{Dealing, InputError, fill_round, last_round, round_of};
+use kmc_rounds::{Dealing, InputError, fill_round, last_round, round_of};
 use std::io::{Read, Write};
 use std::sync::Wait;
 use std::thread::Threads;

@@ -17,8 +17,8 @@ use Rattle.kmc_dump.specs.Ranges.{CanBeMerged, whole}
 use Rattle.kmc_reads.specs.declared.error.ReadsError.{ReadsError}
 use Rattle.kmc_reads.specs.declared.error.ReadsError.TheVariants.{Memory as NoMemory}
 use Rattle.kmc_settings.specs.declared.params.Params.{Params}
-use Rattle.kmc_tool.specs.Rounds.{AreCountsOf, IsInputError, IsRefused}
-use Rattle.kmc_tool.specs.declared.error.InputError.{InputError}
+use Rattle.kmc_rounds.specs.Rounds.{AreCountsOf, IsInputError, IsRefused}
+use Rattle.kmc_rounds.specs.declared.input_error.InputError.{InputError}
 use Rattle.kmc_tool.specs.declared.error.RunError.{RunError}
 use Rattle.kmc_tool.specs.declared.error.RunError.TheVariants.{Read, Write, Input, TooLong}
 

@@ -1,46 +1,13 @@
-//! Why an input was not counted, and why a run gave up.
+//! Why a run gave up.
 ghost use Rattle.std.specs.Prelude.{◌≡◌, Some};
-ghost use Rattle.kmc_tool.specs.Errors.{input_error, run_error, write_error};
+ghost use Rattle.kmc_tool.specs.Errors.{run_error, write_error};
 ghost use Rattle.kmc_tool.specs.Messages.{text_of_run_error};
-ghost use Rattle.kmc_tool.specs.declared.error.InputError.TheVariants.{Memory};
 
 use kmc_dump::DumpError;
 use kmc_reads::ReadsError;
-use std::alloc::AllocError;
+use kmc_rounds::InputError;
 use std::error::Error;
 use std::fmt;
-
-/// Why an input was not read to its end. Of several causes the one that is met first is answered.
-#[derive(Clone, Copy, Debug, PartialEq, Eq)]
-pub enum InputError {
-    /// A growth or the start of a thread was refused.
-    Memory,
-    /// A read failed, of whatever kind.
-    Read,
-    /// The text is no list of reads; never for want of memory.
-    Faulty(ReadsError),
-    /// 2^32 reads gave bytes.
-    TooLong,
-}
-
-impl From<AllocError> for InputError {
-    ghost from_gives = { λ _ e. e ≡ Memory };
-
-    fn from(_: AllocError) -> InputError {
-        InputError::Memory
-    }
-}
-
-impl From<ReadsError> for InputError {
-    ghost from_gives = { λ error e. e ≡ input_error error };
-
-    fn from(error: ReadsError) -> InputError {
-        if error == ReadsError::Memory {
-            return InputError::Memory;
-        }
-        InputError::Faulty(error)
-    }
-}
 
 /// Why a run gave up. Of several causes the one that is met first is answered.
 #[derive(Clone, Copy, Debug, PartialEq, Eq)]

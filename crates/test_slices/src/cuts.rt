@@ -9,7 +9,7 @@ use kmc_settings::Params;
 use kmc_slice_files::{Slicing, read_slice};
 use kmc_slices::{CutError, cut_slices_with};
 use kmc_store::Bins;
-use kmc_tool::stage_one;
+use kmc_rounds::stage_one;
 use std::alloc::{AllocError, Global};
 use std::process::Abort;
 use std::sync::Wait;

@@ -1,0 +1,155 @@
+use Rattle.std.proofs.Common.{◌≡◌, ◌+◌, ◌-◌, [], ◌++◌, Ok, OnOk, sym, ap, subst, ◌∙◌, arith}
+use Rattle.kmc_store.specs.Bins.{BinList, empty_bins}
+use Rattle.kmc_store.specs.Holds.{HoldsReads}
+use Rattle.kmc_rounds.specs.Rounds.{AreCounts, AreCountsOf, HoldsPieces, IsFedBy}
+use Rattle.kmc_settings.specs.Shape.{shape_of}
+use Rattle.kmc_rounds.specs.declared.input_error.InputError.TheVariants.{Memory}
+use Rattle.kmc_rounds.specs.Errors.{input_error}
+use Rattle.kmc_base.specs.Lemmas.PassedOn.{passed_on}
+use Rattle.kmc_rounds.specs.Lemmas.Fed.{unfaulted, risen, counts_on, fed_on, fed_by, fed_cause, last_input, memory_on, taken_fed, text_counts}
+use Rattle.kmc_rounds.proofs.rounds.bins_of_input.Goals as goal
+
+pub returns-in_err-more-clause-cause : goal.returns-in_err-more-clause-cause
+returns-in_err-more-clause-cause g c =
+    let format = c.args.params.now.format in let e = c.in_err-more.field-0.0 in let to = c.from_residual-in_err-more in
+    let old = c.args.reader.now in let new = c.fill_round.new.reader in
+    let counts = subst (λ n. AreCountsOf (n + c.args.max_reads) old.reads new.reads old.failures new.failures e) c.reads.ensures
+    c.in_err-more.ensures.counts in
+    passed_on _ to.result e to.ensures.1
+    (fed_cause (c.args.params.now.k - 1) format c.args.max_reads _ _ old.reads new.reads old.failures new.failures []
+    c.fill_round.new.feeder e
+    (c.in_err-more.ensures.fed (c.args.params.now.k - 1) format [] [] (c.new-feeder.ensures.cut (c.args.params.now.k - 1))) counts)
+
+pub loop-init : goal.loop-init
+loop-init g c =
+    let shape = shape_of c.args.params.now in
+    let empty : c.in_ok-bins.bins ≡ empty_bins shape = c.in_ok-bins.ensures ∙ ap empty_bins c.shape.ensures in
+    let old = c.args.reader.now in let new = c.fill_round.new.reader in
+    let r = risen (c.reads.result + c.args.max_reads) old.reads new.reads old.failures new.failures c.in_ok-more.more
+    c.in_ok-more.ensures.counts in
+    record {
+      shaped = ap (λ (b : BinList). b.shape) empty;
+      kept = r.kept;
+      many = omega (arith, r.least);
+      some = λ e. (let k = r.some e in omega (arith, k));
+      below = r.below;
+      under = r.under;
+      ended = λ e. c.in_ok-more.ensures.at_end (ap Ok e);
+      stored = record {
+        taken = [];
+        fed = c.in_ok-more.ensures.fed (c.args.params.now.k - 1) c.args.params.now.format [] []
+            (c.new-feeder.ensures.cut (c.args.params.now.k - 1));
+        holds = subst (λ (b : BinList). HoldsReads shape [] b.bodies) (sym empty) (c.empty_bins_hold_no_reads.ensures shape);
+      };
+    }
+
+pub returns-then-not-more-clause-ok : goal.returns-then-not-more-clause-ok
+returns-then-not-more-clause-ok g c =
+    let st = c.loop.invariant.stored in let p = c.args.params.now in
+    let last = c.in_ok-last_round.ensures.holds p.format st.fed.bytes st.taken st.taken st.fed.stands st.holds in
+    record {
+      bytes = st.fed.bytes;
+      given = (st.fed.given, c.loop.invariant.ended c.if-not-more.true);
+      reads = last.0;
+      are_reads = last.2;
+      cuts = st.taken ++ last.1;
+      cut = last.3;
+      shaped = c.in_ok-last_round.ensures.shape;
+      holds = last.4;
+    }
+
+pub returns-in_err-last_round-clause-counts : goal.returns-in_err-last_round-clause-counts
+returns-in_err-last_round-clause-counts g c =
+    let inv = c.loop.invariant in let e = c.in_err-last_round.field-0.0 in let to = c.from_residual-in_err-last_round in
+    let old = c.args.reader.now in let new = c.loop.reader in
+    passed_on _ to.result (input_error e) to.ensures.1
+    (text_counts (old.reads + c.args.max_reads) old.reads new.reads old.failures new.failures e inv.kept (omega (arith, inv.many))
+    (omega (arith, inv.below, c.reads.ensures)))
+
+pub returns-in_err-last_round-clause-cause : goal.returns-in_err-last_round-clause-cause
+returns-in_err-last_round-clause-cause g c =
+    let inv = c.loop.invariant in let st = inv.stored in let e = c.in_err-last_round.field-0.0 in let to = c.from_residual-in_err-last_round in
+    let p = c.args.params.now in
+    passed_on _ to.result (input_error e) to.ensures.1
+    (last_input (p.k - 1) p.format c.args.max_reads _ _ c.args.reader.now.reads c.loop.reader.reads st.taken c.loop.feeder e st.fed
+    (inv.ended c.if-not-more.true) (c.in_err-last_round.ensures.cause p.format st.fed.bytes st.taken st.fed.stands))
+
+pub returns-in_err-more-2-clause-counts : goal.returns-in_err-more-2-clause-counts
+returns-in_err-more-2-clause-counts g c =
+    let inv = c.loop.invariant in let e = c.in_err-more-2.field-0.0 in let to = c.from_residual-in_err-more-2 in
+    let old = c.args.reader.now in let mid = c.loop.reader in let new = c.feed_round-stored.new.reader in
+    let here = subst (λ r. AreCounts (c.reads.result + c.args.max_reads) mid.reads new.reads mid.failures new.failures r)
+    c.in_err-more-2.was c.feed_round-stored.ensures.counts in
+    let counts = subst (λ n. AreCountsOf (n + c.args.max_reads) mid.reads new.reads mid.failures new.failures e) c.reads.ensures here in
+    passed_on _ to.result e to.ensures.1
+    (counts_on e (old.reads + c.args.max_reads) old.reads mid.reads new.reads old.failures mid.failures new.failures
+    (omega (arith, inv.many)) inv.kept counts)
+
+pub returns-in_err-more-2-clause-cause : goal.returns-in_err-more-2-clause-cause
+returns-in_err-more-2-clause-cause g c =
+    let inv = c.loop.invariant in let st = inv.stored in
+    let e = c.in_err-more-2.field-0.0 in let to = c.from_residual-in_err-more-2 in let format = c.args.params.now.format in
+    let old = c.args.reader.now in let mid = c.loop.reader in let new = c.feed_round-stored.new.reader in
+    let here = subst (λ r. AreCounts (c.reads.result + c.args.max_reads) mid.reads new.reads mid.failures new.failures r)
+    c.in_err-more-2.was c.feed_round-stored.ensures.counts in
+    let counts = subst (λ n. AreCountsOf (n + c.args.max_reads) mid.reads new.reads mid.failures new.failures e) c.reads.ensures here in
+    let round = c.in_ok-round.round in
+    let stands = c.in_ok-round.ensures.stands format st.fed.bytes st.taken st.fed.stands in
+    let f = taken_fed (c.args.params.now.k - 1) format _ _ old.reads mid.reads st.taken round c.loop.feeder c.take_open.new.self st.fed stands in
+    let more = c.feed_round-stored.ensures.fed (c.args.params.now.k - 1) format st.fed.bytes (st.taken ++ round) stands in
+    let fed = fed_by (c.args.params.now.k - 1) format _ _ _ old.reads mid.reads new.reads [] (st.taken ++ round) c.take_open.new.self
+    c.feed_round-stored.new.feeder c.feed_round-stored.result.1 f more in
+    passed_on _ to.result e to.ensures.1
+    (fed_cause (c.args.params.now.k - 1) format c.args.max_reads _ _ old.reads new.reads old.failures new.failures (st.taken ++ round)
+    c.feed_round-stored.new.feeder e
+    (subst (λ r. IsFedBy (c.args.params.now.k - 1) format (g.R.Read.remaining old.inner) (g.R.Read.remaining new.inner)
+    old.reads new.reads [] (st.taken ++ round) c.feed_round-stored.new.feeder r) c.in_err-more-2.was fed)
+    (counts_on e (old.reads + c.args.max_reads) old.reads mid.reads new.reads old.failures mid.failures new.failures
+    (omega (arith, inv.many)) inv.kept counts))
+
+pub returns-in_err-stored-clause-counts : goal.returns-in_err-stored-clause-counts
+returns-in_err-stored-clause-counts g c =
+    let inv = c.loop.invariant in let to = c.from_residual-in_err-stored in
+    passed_on _ to.result Memory to.ensures.1
+    (memory_on _ _ _ _ _ c.in_ok-more-2.more _ _ _ (subst (AreCounts _ _ _ _ _) c.in_ok-more-2.was c.feed_round-stored.ensures.counts)
+    (omega (arith, inv.many)) inv.kept (ap (λ n. n + c.args.max_reads) c.reads.ensures))
+
+pub loop-preserved : goal.loop-preserved
+loop-preserved g c =
+    let inv = c.loop.invariant in let st = inv.stored in let p = c.args.params.now in let shape = shape_of p in
+    let old = c.args.reader.now in let mid = c.loop.reader in let new = c.feed_round-stored.new.reader in
+    let here = subst (λ r. AreCounts (c.reads.result + c.args.max_reads) mid.reads new.reads mid.failures new.failures r)
+    c.in_ok-more-2.was c.feed_round-stored.ensures.counts in
+    let r = risen (c.reads.result + c.args.max_reads) mid.reads new.reads mid.failures new.failures c.in_ok-more-2.more here in
+    let begun = inv.some c.if-not-more.false in
+    let round = c.in_ok-round.round in
+    let stands = c.in_ok-round.ensures.stands p.format st.fed.bytes st.taken st.fed.stands in
+    let f = taken_fed (c.args.params.now.k - 1) p.format _ _ old.reads mid.reads st.taken round c.loop.feeder c.take_open.new.self st.fed stands in
+    let more = subst (λ o. IsFedBy (c.args.params.now.k - 1) p.format (g.R.Read.remaining mid.inner) (g.R.Read.remaining new.inner)
+    mid.reads new.reads st.fed.bytes (st.taken ++ round) c.feed_round-stored.new.feeder o) c.in_ok-more-2.was
+    (c.feed_round-stored.ensures.fed (c.args.params.now.k - 1) p.format st.fed.bytes (st.taken ++ round) stands) in
+    record {
+      shaped = c.feed_round-stored.ensures.shape;
+      kept = r.kept ∙ inv.kept;
+      many = omega (arith, begun, r.least);
+      some = λ e. (let k = r.some e in omega (arith, k, begun));
+      below = r.below;
+      under = r.under;
+      ended = λ e. c.feed_round-stored.ensures.at_end (c.in_ok-more-2.was ∙ ap Ok e);
+      stored = record {
+        taken = st.taken ++ round;
+        fed = fed_on (c.args.params.now.k - 1) p.format _ _ _ old.reads mid.reads new.reads []
+            (st.taken ++ round) c.take_open.new.self c.feed_round-stored.new.feeder f more;
+        holds = subst (λ o. OnOk o (HoldsPieces shape c.args.limit (st.taken ++ round) c.feed_round-stored.new.bins.bodies))
+            c.in_ok-stored.was (c.feed_round-stored.ensures.holds st.taken st.holds);
+      };
+    }
+
+pub returns-clause-cause : goal.returns-clause-cause
+returns-clause-cause g c =
+    let inv = c.loop.invariant in let st = inv.stored in (
+      st.fed.bytes,
+      st.fed.given,
+      omega (arith, st.fed.many, inv.many, c.loop-test.false, c.requires.most),
+      unfaulted (c.args.params.now.k - 1) c.args.params.now.format st.fed.bytes st.taken c.loop.feeder st.fed.stands,
+    )
