@@ -7,7 +7,7 @@ use Rattle.kmc_base.specs.Lemmas.Packs.{AreCodes}
 use Rattle.kmc_base.specs.declared.kmer.TheConstants.{MAX_K}
 use Rattle.kmc_split.specs.SuperKmer.{IsSuperKmer}
 use Rattle.kmc_record.specs.Record.{packed_codes, IsSpelled, size_of}
-use Rattle.kmc_record.proofs.Spelled.{length_packed}
+use Rattle.kmc_record.specs.Lemmas.Spelled.{length_packed}
 
 pub code_small : (w : List ℕ) (i : ℕ) → AreCodes w → get_or w i 0 < 4
 code_small [] i h = omega arith

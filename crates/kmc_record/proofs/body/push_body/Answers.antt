@@ -4,7 +4,7 @@ use Rattle.kmc_base.specs.Packed.{pack}
 use Rattle.kmc_base.specs.Strands.{keys}
 use Rattle.kmc_base.specs.Weights.{weighted}
 use Rattle.kmc_record.specs.Record.{size_of}
-use Rattle.kmc_record.proofs.Whole.{first_codes, next_body, next_inside, next_keys, rest_at, same_codes, stops_there}
+use Rattle.kmc_record.specs.Lemmas.Whole.{first_codes, next_body, next_inside, next_keys, rest_at, same_codes, stops_there}
 use Rattle.kmc_record.proofs.body.push_body.Goals as goal
 
 -- words that are counted once, with no bits for that

@@ -7,8 +7,8 @@ use Rattle.std.specs.Result.{IsErrAnd}
 use Rattle.kmc_record.specs.declared.fault.RecordError.{RecordError}
 use Rattle.kmc_record.specs.declared.fault.RecordError.TheVariants.{Memory}
 use Rattle.kmc_record.specs.Refusals.{BeginsRecord, IsRefused}
-use Rattle.kmc_record.proofs.Spelled.{bytes_each}
-use Rattle.kmc_record.proofs.Whole.{first_codes, first_spelled, first_read, same_codes}
+use Rattle.kmc_record.specs.Lemmas.Spelled.{bytes_each}
+use Rattle.kmc_record.specs.Lemmas.Whole.{first_codes, first_spelled, first_read, same_codes}
 use Rattle.kmc_record.proofs.Written.{spelled_super_kmer}
 use Rattle.kmc_record.proofs.decoding.decode.Goals as goal
 
