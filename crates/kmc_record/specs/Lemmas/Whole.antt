@@ -1,19 +1,15 @@
 -- Whole records, one after the other.
-use Rattle.std.proofs.Common.{◌≡◌, ℕ, zero, suc, ◌+◌, ◌-◌, ◌%◌, ◌<◌, ◌≤◌, List, [], ◌∷◌, ◌++◌, length, map, get_or, take, drop, All, refl, sym, ap, subst, ◌∙◌}
+use Rattle.std.proofs.Common.{◌≡◌, ℕ, zero, suc, ◌+◌, ◌-◌, ◌%◌, ◌<◌, ◌≤◌, List, [], ◌∷◌, ◌++◌, length, get_or, take, drop, All, refl, sym, ap, subst, ◌∙◌}
 use Rattle.std.proofs.Common.{arith, append_assoc, append-nil, length-append, length-drop}
-use Rattle.std.proofs.lemmas.List.{length-take-le, take_rest, take-append-drop, map-append}
+use Rattle.std.proofs.lemmas.List.{length-take-le, take_rest, take-append-drop}
 use Rattle.std.proofs.lemmas.List.Elements.{All-append}
 use Rattle.std.proofs.Math.Seq.{take-add}
 use Rattle.std.specs.List.{flat_map, AllByRecursion}
-use Rattle.kmc_base.specs.declared.strands.Strands.{Strands}
 use Rattle.kmc_base.specs.Words.{windows}
-use Rattle.kmc_base.specs.Packed.{pack}
 use Rattle.kmc_base.specs.Lemmas.Rolling.{codes_front}
-use Rattle.kmc_base.specs.Strands.{keys}
 use Rattle.kmc_split.specs.Signature.{signature_of}
 use Rattle.kmc_record.specs.Parts.{Parcel, IsPart, all_windows, capped}
 use Rattle.kmc_record.specs.Record.{packed_codes, spelling, IsSpelled, IsBodyOf, codes_in, size_of}
-use Rattle.kmc_record.specs.RecordWords.{record_keys}
 use Rattle.kmc_record.specs.Refusals.{StopsAtRecord}
 use Rattle.kmc_record.specs.Lemmas.Codes.{length_codes, are_codes}
 use Rattle.kmc_record.specs.Lemmas.Spelled.{AreBytes, bytes_each, zeros_each, packed_back}
@@ -141,14 +137,6 @@ module _ (k n offset : ℕ) (body : List ℕ) (each : (i : ℕ) → get_or body 
 -- the codes of the bytes behind the first
 pub same_codes : (n : ℕ) (bytes : List ℕ) → take n (codes_in (take (1 + size_of n - 1) (drop 1 bytes))) ≡ first_codes n bytes
 same_codes n bytes = let same : 1 + size_of n - 1 ≡ size_of n = omega arith in ap (λ m. take n (codes_in (take m (drop 1 bytes)))) same
-
-pub next_keys : (strands : Strands) (k : ℕ) (ss : List (List ℕ)) (s : List ℕ) (old new whole : List ℕ) → old ≡ whole ++ map pack (record_keys strands k ss)
-    → new ≡ old ++ map pack (keys strands k s) → new ≡ whole ++ map pack (record_keys strands k (ss ++ s ∷ []))
-next_keys strands k ss s old new whole before more =
-    let joined : map pack (record_keys strands k (ss ++ s ∷ [])) ≡ map pack (record_keys strands k ss) ++ map pack (keys strands k s) =
-    ap (map pack) (flat_push (keys strands k) ss s) ∙ map-append pack (record_keys strands k ss) (keys strands k s) in
-    more ∙ ap (λ (t : List ℕ). t ++ map pack (keys strands k s)) before ∙ append_assoc whole (map pack (record_keys strands k ss))
-    (map pack (keys strands k s)) ∙ ap (λ (t : List ℕ). whole ++ t) (sym joined)
 
 -- ---- a part with one record more
 

@@ -8,8 +8,8 @@ use crate::tests::given::{
     push_bin, record_of, same_bytes, shape_of,
 };
 use kmc_judging::part_of_body;
-use kmc_plain::parts_of;
-use kmc_record::{Part, PartError, RecordError, RecordFault, Shape, decode, laws};
+use kmc_plain::{RecordError, decode, parts_of};
+use kmc_record::{Part, PartError, RecordFault, Shape, laws};
 use plain::plain_text;
 use rows::rows;
 use std::alloc::{AllocError, Global};

@@ -7,9 +7,8 @@ ghost use Rattle.kmc_record.specs.Faults.{IsFirstFault};
 ghost use Rattle.kmc_record.specs.Refusals.{StopsAtRecord};
 ghost use Rattle.kmc_record.specs.declared.fault.RecordFault.{RecordFault};
 
-use crate::fault::BodyError;
-use crate::record::{first_symbols, push_record};
 use kmc_base::{KeyRule, MAX_K, Strands, Weight, Word};
+use kmc_record::{BodyError, first_symbols, push_record};
 
 /// A word that is counted once, with no bits for that.
 const ONCE: Weight = Weight { bits: 0, times: 1 };

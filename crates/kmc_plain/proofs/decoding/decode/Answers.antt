@@ -1,16 +1,28 @@
-use Rattle.std.proofs.Common.{◌≡◌, ℕ, ◌+◌, ◌/◌, ◌++◌, List, drop, sym, subst, ◌∙◌, arith}
+use Rattle.std.proofs.Common.{◌≡◌, ℕ, ◌+◌, ◌/◌, ◌<◌, ◌≤◌, ◌++◌, List, drop, sym, subst, ◌∙◌, arith}
 use Rattle.std.proofs.lemmas.List.{take_rest}
+use Rattle.std.proofs.lemmas.List.Elements.{All-from_recursion}
+use Rattle.kmc_base.specs.declared.kmer.TheConstants.{MAX_K}
 use Rattle.kmc_split.specs.SuperKmer.{IsSuperKmer}
 use Rattle.kmc_record.specs.Record.{spelling, IsSpelled, size_of}
 use Rattle.std.specs.Prelude.{Result, Ok, Err, IfErr}
 use Rattle.std.specs.Result.{IsErrAnd}
-use Rattle.kmc_record.specs.declared.fault.RecordError.{RecordError}
-use Rattle.kmc_record.specs.declared.fault.RecordError.TheVariants.{Memory}
-use Rattle.kmc_record.specs.Refusals.{BeginsRecord, IsRefused}
+use Rattle.kmc_record.specs.Refusals.{BeginsRecord}
 use Rattle.kmc_record.specs.Lemmas.Spelled.{bytes_each}
 use Rattle.kmc_record.specs.Lemmas.Whole.{first_codes, first_spelled, first_read, same_codes}
-use Rattle.kmc_record.proofs.Written.{spelled_super_kmer}
-use Rattle.kmc_record.proofs.decoding.decode.Goals as goal
+use Rattle.kmc_plain.specs.Refusals.{IsRefused}
+use Rattle.kmc_plain.specs.declared.decoding.RecordError.{RecordError}
+use Rattle.kmc_plain.specs.declared.decoding.RecordError.TheVariants.{Memory}
+use Rattle.kmc_plain.proofs.decoding.decode.Goals as goal
+
+spelled_super_kmer : (k : ℕ) (w : List ℕ) → 1 ≤ k → k ≤ MAX_K → IsSpelled k w → IsSuperKmer k w
+spelled_super_kmer k w some limit h = record {
+  some = some;
+  limit = limit;
+  long = h.least;
+  most = h.most;
+  codes = All-from_recursion
+      (λ (c : ℕ). c < 4) w h.codes;
+}
 
 -- memory was refused where a record stands
 no_memory : {A : Type 0} (k : ℕ) (bytes : List ℕ) (r : Result A RecordError) → IsErrAnd r (λ e. e ≡ Memory) → BeginsRecord k bytes → IfErr r

@@ -1,13 +1,41 @@
 //! How a record is read.
 ghost use Rattle.std.specs.Prelude.{◌≡◌, ◌+◌, ◌*◌, ◌≤◌, ◌++◌, length, take, IfOk, IfErr};
 ghost use Rattle.kmc_record.specs.Record.{spelling, IsSpelled, codes_in};
-ghost use Rattle.kmc_record.specs.Refusals.{IsRefused};
+ghost use Rattle.kmc_plain.specs.Refusals.{IsRefused};
 
-use crate::fault::{RecordError, RecordFault};
-use crate::record::{code_at, first_symbols};
 use kmc_base::MAX_K;
+use kmc_record::{RecordFault, code_at, first_symbols};
 use kmc_split::SuperKmer;
 use std::alloc::{AllocError, Global};
+
+/// Why a record was not read, in the order of the tests.
+#[derive(Clone, Copy, Debug, PartialEq, Eq)]
+pub enum RecordError {
+    /// The bytes begin with no record: what is wrong with them.
+    Damaged(RecordFault),
+    /// A growth was refused; the bytes begin with a record.
+    Memory,
+}
+
+impl From<RecordFault> for RecordError {
+    ghost use Rattle.kmc_plain.specs.declared.decoding.RecordError.TheVariants.{Damaged};
+
+    ghost from_gives = { λ fault e. e ≡ Damaged fault };
+
+    fn from(fault: RecordFault) -> RecordError {
+        RecordError::Damaged(fault)
+    }
+}
+
+impl From<AllocError> for RecordError {
+    ghost use Rattle.kmc_plain.specs.declared.decoding.RecordError.TheVariants.{Memory};
+
+    ghost from_gives = { λ _ e. e ≡ Memory };
+
+    fn from(_: AllocError) -> RecordError {
+        RecordError::Memory
+    }
+}
 
 /// The first codes of the bytes.
 fn unpacked(alloc: Global, bytes: &[u8], n: usize) -> Result<Vec<u8>, AllocError>
@@ -21,7 +49,7 @@ fn unpacked(alloc: Global, bytes: &[u8], n: usize) -> Result<Vec<u8>, AllocError
     Ok(codes)
 }
 
-/// The super-k-mer of the record that the bytes begin with, and the bytes behind that record.
+/// The super-k-mer of the record that the bytes begin with, and the bytes behind that record; else why there is none.
 pub fn decode<'a>(
     alloc: Global,
     bytes: &'a [u8],

@@ -1,11 +1,23 @@
-use Rattle.std.proofs.Common.{◌≡◌, ℕ, ◌+◌, ◌++◌, List, [], ◌∷◌, refl, map, ap, ◌∙◌, arith, rules}
+use Rattle.std.proofs.Common.{◌≡◌, ℕ, ◌+◌, ◌++◌, List, [], ◌∷◌, refl, sym, map, ap, ◌∙◌, append_assoc, arith, rules}
 use Rattle.std.proofs.lemmas.Grind.{common_steps}
+use Rattle.std.proofs.lemmas.List.{map-append}
+use Rattle.kmc_base.specs.declared.strands.Strands.{Strands}
 use Rattle.kmc_base.specs.Packed.{pack}
 use Rattle.kmc_base.specs.Strands.{keys}
 use Rattle.kmc_base.specs.Weights.{weighted}
 use Rattle.kmc_record.specs.Record.{size_of}
-use Rattle.kmc_record.specs.Lemmas.Whole.{first_codes, next_body, next_inside, next_keys, rest_at, same_codes, stops_there}
-use Rattle.kmc_record.proofs.body.push_body.Goals as goal
+use Rattle.kmc_record.specs.RecordWords.{record_keys}
+use Rattle.kmc_record.specs.Lemmas.Whole.{first_codes, flat_push, next_body, next_inside, rest_at, same_codes, stops_there}
+use Rattle.kmc_plain.proofs.body.push_body.Goals as goal
+
+-- the keys of one record more
+next_keys : (strands : Strands) (k : ℕ) (ss : List (List ℕ)) (s : List ℕ) (old new whole : List ℕ) → old ≡ whole ++ map pack (record_keys strands k ss)
+    → new ≡ old ++ map pack (keys strands k s) → new ≡ whole ++ map pack (record_keys strands k (ss ++ s ∷ []))
+next_keys strands k ss s old new whole before more =
+    let joined : map pack (record_keys strands k (ss ++ s ∷ [])) ≡ map pack (record_keys strands k ss) ++ map pack (keys strands k s) =
+    ap (map pack) (flat_push (keys strands k) ss s) ∙ map-append pack (record_keys strands k ss) (keys strands k s) in
+    more ∙ ap (λ (t : List ℕ). t ++ map pack (keys strands k s)) before ∙ append_assoc whole (map pack (record_keys strands k ss))
+    (map pack (keys strands k s)) ∙ ap (λ (t : List ℕ). whole ++ t) (sym joined)
 
 -- words that are counted once, with no bits for that
 once_each : (ns : List ℕ) → map (weighted 0 1) ns ≡ ns

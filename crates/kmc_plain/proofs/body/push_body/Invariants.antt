@@ -2,7 +2,7 @@ use Rattle.std.proofs.Common.{◌≡◌, ℕ, ◌≤◌, ◌-◌, ◌++◌, List
 use Rattle.kmc_base.specs.Packed.{pack}
 use Rattle.kmc_record.specs.Record.{IsBodyOf}
 use Rattle.kmc_record.specs.RecordWords.{record_keys}
-use Rattle.kmc_record.proofs.body.push_body.Given as goal
+use Rattle.kmc_plain.proofs.body.push_body.Given as goal
 
 -- whole records up to the offset, and their keys
 abbrev pub invariant-loop-offset : goal.invariant-loop-offset
