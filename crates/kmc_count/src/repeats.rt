@@ -1,6 +1,6 @@
 //! Whether equal records are looked for in a bin.
 ghost use Rattle.std.specs.Prelude.{◌≤◌};
-ghost use Rattle.kmc_record.specs.declared.record_key.TheConstants.{MOST_KEY_SYMBOLS};
+ghost use Rattle.kmc_record.specs.declared.record_keys.TheConstants.{MOST_KEY_SYMBOLS};
 
 use kmc_record::MOST_KEY_SYMBOLS;
 

@@ -6,11 +6,12 @@ ghost use Rattle.kmc_record.specs.declared.fault.RecordFault.{RecordFault};
 ghost use Rattle.kmc_count.specs.Bodies.{IsDumpOfBody, WantsMemory};
 ghost use Rattle.kmc_plain.specs.SortedKeys.{AreSortedKeys};
 
+use crate::body::push_body;
 use crate::direct::NARROW_K;
 use crate::words::tally_words;
 use kmc_base::{KeyRule, Kmer, MAX_K, Strands, Word};
 use kmc_count::Limits;
-use kmc_record::{BodyError, push_body};
+use kmc_record::BodyError;
 use std::alloc::Global;
 
 /// The packed keys of the words of a body, sorted, behind none.

@@ -1,8 +1,9 @@
 //! How the records of super-k-mers are written.
-ghost use Rattle.std.specs.Prelude.{◌≡◌, ◌++◌, OnOk, OnErr};
-ghost use Rattle.kmc_record.specs.Record.{spelling};
+ghost use Rattle.std.specs.Prelude.{◌≡◌, ◌≤◌, ◌++◌, OnOk, OnErr};
+ghost use Rattle.kmc_record.specs.Record.{spelling, IsSpelled};
 
-use kmc_record::push_record_of;
+use kmc_base::MAX_K;
+use kmc_record::push_packed;
 use kmc_split::SuperKmer;
 use std::alloc::AllocError;
 
@@ -13,4 +14,17 @@ pub fn encode(s: &SuperKmer, out: &mut Vec<u8>) -> Result<(), AllocError>
     ensures err { OnErr result (out.new.items ≡ out.old.items) }
 {
     push_record_of(s.codes(), s.k(), out)
+}
+
+/// Appends the record of these codes of a super-k-mer, k to k + 255 of them; `out` stays as it was where its growth is refused.
+pub fn push_record_of(codes: &[u8], k: usize, out: &mut Vec<u8>) -> Result<(), AllocError>
+    requires most { k ≤ MAX_K }
+    requires spelled { IsSpelled k codes.now }
+    ensures ok { OnOk result (out.new.items ≡ out.old.items ++ spelling k codes.now) }
+    ensures err { OnErr result (out.new.items ≡ out.old.items) }
+{
+    out.reserve(1 + (codes.len() + 3) / 4)?;
+    out.push_reserved((codes.len() - k) as u8);
+    push_packed(codes, out);
+    Ok(())
 }

@@ -6,7 +6,7 @@ use Rattle.kmc_base.specs.Lemmas.Packs.{AreCodes}
 use Rattle.kmc_record.specs.Record.{packed_codes, spelling, IsSpelled, size_of}
 use Rattle.kmc_record.specs.Laws.{bits_at, IsLaidOut}
 use Rattle.kmc_record.specs.Lemmas.Codes.{code_is}
-use Rattle.kmc_record.proofs.Spelled.{AreBytes, codes_packed, length_packed, zeros_to_byte, zero_behind}
+use Rattle.kmc_record.specs.Lemmas.Spelled.{AreBytes, codes_packed, length_packed, zeros_to_byte, zero_behind}
 
 packed_bytes : (s : List ℕ) → AreCodes s → AreBytes (packed_codes s)
 packed_bytes [] h = tt

@@ -9,7 +9,7 @@ use Rattle.kmc_record.specs.Faults.{HasFault, IsFirstFault}
 use Rattle.kmc_record.specs.declared.fault.RecordFault.{RecordFault}
 use Rattle.kmc_record.specs.declared.fault.RecordFault.TheVariants.{Short, Padding}
 use Rattle.kmc_record.specs.Lemmas.Codes.{codes_join, length_codes}
-use Rattle.kmc_record.proofs.Spelled.{codes_packed, length_packed, zeros_to_byte, zero_behind}
+use Rattle.kmc_record.specs.Lemmas.Spelled.{codes_packed, length_packed, zeros_to_byte, zero_behind}
 
 codes_back : (s : List ℕ) → AreCodes s → take (length s) (codes_in (packed_codes s)) ≡ s
 codes_back s h = ap (take (length s)) (codes_packed s h) ∙ take_at s (zeros_to_byte s) (length s) refl

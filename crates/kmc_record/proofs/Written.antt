@@ -1,28 +1,15 @@
 -- Records, byte by byte.
-use Rattle.std.proofs.Common.{◌≡◌, ℕ, zero, suc, ◌+◌, ◌*◌, ◌<◌, ◌≤◌, List, [], ◌∷◌, ◌++◌, length, get_or, take, drop, refl, sym, ap, ◌∙◌, arith, append_assoc}
+use Rattle.std.proofs.Common.{◌≡◌, ℕ, zero, suc, ◌+◌, ◌*◌, ◌<◌, List, [], ◌∷◌, ◌++◌, length, get_or, take, drop, refl, sym, ap, ◌∙◌, arith, append_assoc}
 use Rattle.std.proofs.Common.{◌/◌, ◌%◌}
 use Rattle.std.proofs.lemmas.List.{get_or-drop, take_more, take_all}
-use Rattle.std.proofs.lemmas.List.Elements.{All-from_recursion}
 use Rattle.kmc_base.specs.Lemmas.Packs.{AreCodes}
-use Rattle.kmc_base.specs.declared.kmer.TheConstants.{MAX_K}
-use Rattle.kmc_split.specs.SuperKmer.{IsSuperKmer}
-use Rattle.kmc_record.specs.Record.{packed_codes, IsSpelled, size_of}
-use Rattle.kmc_record.proofs.Spelled.{length_packed}
+use Rattle.kmc_record.specs.Record.{packed_codes, size_of}
+use Rattle.kmc_record.specs.Lemmas.Spelled.{length_packed}
 
 pub code_small : (w : List ℕ) (i : ℕ) → AreCodes w → get_or w i 0 < 4
 code_small [] i h = omega arith
 code_small (c ∷ w) zero h = h.0
 code_small (c ∷ w) (suc i) h = code_small w i h.1
-
-pub spelled_super_kmer : (k : ℕ) (w : List ℕ) → 1 ≤ k → k ≤ MAX_K → IsSpelled k w → IsSuperKmer k w
-spelled_super_kmer k w some limit h = record {
-  some = some;
-  limit = limit;
-  long = h.least;
-  most = h.most;
-  codes = All-from_recursion
-      (λ (c : ℕ). c < 4) w h.codes;
-}
 
 head_byte : (w : List ℕ) → 0 < length w → get_or (packed_codes w) 0 0 ≡ get_or w 0 0 * 64 + get_or w 1 0 * 16 + get_or w 2 0 * 4 + get_or w 3 0
 head_byte [] h = absurd (omega arith)

@@ -4,3 +4,5 @@ pub mod Turned
 pub mod KeyBytes
 pub mod Gaining
 pub mod Taken
+pub mod Spelled
+pub mod Whole

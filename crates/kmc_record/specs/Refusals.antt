@@ -1,9 +1,6 @@
--- Why no record was read.
+-- Where a record begins, and where a walk over records stops.
 use Rattle.std.specs.Prelude.{◌≡◌, ℕ, ◌<◌, List, ◌++◌, length, take, drop}
 use Rattle.kmc_record.specs.Record.{spelling, IsBodyOf, IsSpelled}
-use Rattle.kmc_record.specs.Faults.{HasFault}
-use Rattle.kmc_record.specs.declared.fault.RecordError.{RecordError}
-use Rattle.kmc_record.specs.declared.fault.RecordError.TheVariants.{Damaged, Memory}
 
 -- the bytes are the record of a super-k-mer and a rest
 pub record BeginsRecord (k : ℕ) (bytes : List ℕ) : Type 0 where
@@ -19,8 +16,3 @@ pub record StopsAtRecord (k : ℕ) (body : List ℕ) : Type 0 where
   pub before : List (List ℕ)
   pub whole : IsBodyOf k before (take offset body)
   pub here : BeginsRecord k (drop offset body)
-
--- when each refusal comes
-abbrev pub IsRefused : ℕ → RecordError → List ℕ → Type 0
-IsRefused k (Damaged fault) bytes = HasFault k fault bytes
-IsRefused k Memory bytes = BeginsRecord k bytes

@@ -21,15 +21,6 @@ pub enum BodyError {
     Memory,
 }
 
-/// Why a record was not read, in the order of the tests.
-#[derive(Clone, Copy, Debug, PartialEq, Eq)]
-pub enum RecordError {
-    /// The bytes begin with no record: what is wrong with them.
-    Damaged(RecordFault),
-    /// A growth was refused; the bytes begin with a record.
-    Memory,
-}
-
 /// Why a body is not that of a part: its first fault, in the order of the body.
 #[derive(Clone, Copy, Debug, PartialEq, Eq)]
 pub enum PartError {
@@ -39,26 +30,6 @@ pub enum PartError {
     WrongBin(usize),
     /// A growth was refused to a caller who judges bodies. To judge one body wants no memory.
     Memory,
-}
-
-impl From<RecordFault> for RecordError {
-    ghost use Rattle.kmc_record.specs.declared.fault.RecordError.TheVariants.{Damaged};
-
-    ghost from_gives = { λ fault e. e ≡ Damaged fault };
-
-    fn from(fault: RecordFault) -> RecordError {
-        RecordError::Damaged(fault)
-    }
-}
-
-impl From<AllocError> for RecordError {
-    ghost use Rattle.kmc_record.specs.declared.fault.RecordError.TheVariants.{Memory};
-
-    ghost from_gives = { λ _ e. e ≡ Memory };
-
-    fn from(_: AllocError) -> RecordError {
-        RecordError::Memory
-    }
 }
 
 impl From<AllocError> for BodyError {

@@ -36,7 +36,7 @@ fn rest_is_zero(bytes: &[u8], start: usize) -> bool
     bytes[bytes.len() - 1] % (1 << (2 * (4 * bytes.len() - start))) == 0
 }
 
-/// How many symbols the first record of the bytes has.
+/// How many symbols the first record of some bytes has, for words of k symbols; else why the bytes do not begin with a whole record.
 pub fn first_symbols(bytes: &[u8], k: usize) -> Result<usize, RecordFault>
     requires some { 0 < length bytes.now }
     requires most { k ≤ MAX_K }

@@ -6,7 +6,7 @@ ghost use Rattle.kmc_base.specs.Weights.{weighted};
 ghost use Rattle.kmc_record.specs.RecordKeys.{codes_of, key_words, Gains, IsRecordKey};
 
 use crate::record::push_record;
-use crate::record_key::key_bytes;
+use crate::record_keys::key_bytes;
 use kmc_base::{KeyRule, MOST_WEIGHT_BITS, Weight, Word};
 use std::alloc::AllocError;
 

@@ -1,9 +1,8 @@
-//! How codes are packed, and records written.
-ghost use Rattle.std.specs.Prelude.{◌≡◌, ◌+◌, ◌-◌, ◌*◌, ◌/◌, ◌<◌, ◌≤◌, ◌++◌, length, drop, slice_index, vec_len, vec_capacity, OnOk, OnErr};
+//! How codes are packed.
+ghost use Rattle.std.specs.Prelude.{◌≡◌, ◌+◌, ◌*◌, ◌/◌, ◌<◌, ◌≤◌, ◌++◌, length, drop, slice_index, vec_len, vec_capacity, OnOk};
 ghost use Rattle.std.specs.List.{AllByRecursion};
-ghost use Rattle.kmc_record.specs.Record.{packed_codes, spelling, IsSpelled, size_of};
+ghost use Rattle.kmc_record.specs.Record.{packed_codes, size_of};
 
-use kmc_base::MAX_K;
 use std::alloc::AllocError;
 
 /// The code at a place, and 0 behind the last.
@@ -46,8 +45,8 @@ fn whole_byte_at(codes: &[u8], i: usize) -> u8
     (((word * GATHER) >> 24) % 256) as u8
 }
 
-/// Appends codes, four a byte, where there is room for them.
-fn push_packed(codes: &[u8], out: &mut Vec<u8>)
+/// Appends codes, each below 4 and four to a byte, with zeros behind the last. There has to be room for them.
+pub fn push_packed(codes: &[u8], out: &mut Vec<u8>)
     requires codes { AllByRecursion (λ c. c < 4) codes.now }
     requires room { vec_len out.old + size_of (length codes.now) ≤ vec_capacity out.old }
     ensures { out.new.items ≡ out.old.items ++ packed_codes codes.now }
@@ -69,18 +68,5 @@ pub(crate) fn pack_codes(codes: &[u8], packed: &mut Vec<u8>) -> Result<(), Alloc
     packed.clear();
     packed.reserve((codes.len() + 3) / 4)?;
     push_packed(codes, packed);
-    Ok(())
-}
-
-/// Appends the record of these codes of a super-k-mer; `out` stays as it was where its growth is refused.
-pub fn push_record_of(codes: &[u8], k: usize, out: &mut Vec<u8>) -> Result<(), AllocError>
-    requires most { k ≤ MAX_K }
-    requires spelled { IsSpelled k codes.now }
-    ensures ok { OnOk result (out.new.items ≡ out.old.items ++ spelling k codes.now) }
-    ensures err { OnErr result (out.new.items ≡ out.old.items) }
-{
-    out.reserve(1 + (codes.len() + 3) / 4)?;
-    out.push_reserved((codes.len() - k) as u8);
-    push_packed(codes, out);
     Ok(())
 }

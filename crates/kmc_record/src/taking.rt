@@ -5,11 +5,11 @@ ghost use Rattle.kmc_record.specs.RecordKeys.{GainsWords, IsTaken};
 ghost use Rattle.kmc_record.specs.Faults.{IsFirstFault};
 ghost use Rattle.kmc_record.specs.Refusals.{StopsAtRecord};
 ghost use Rattle.kmc_record.specs.declared.fault.RecordFault.{RecordFault};
-ghost use Rattle.kmc_record.specs.declared.record_key.TheConstants.{MOST_KEY_SYMBOLS};
+ghost use Rattle.kmc_record.specs.declared.record_keys.TheConstants.{MOST_KEY_SYMBOLS};
 
 use crate::fault::BodyError;
 use crate::record::{first_symbols, push_record};
-use crate::record_key::{MOST_KEY_SYMBOLS, record_key};
+use crate::record_keys::{MOST_KEY_SYMBOLS, record_key};
 use kmc_base::{KeyRule, Weight, Word};
 use std::alloc::AllocError;
 

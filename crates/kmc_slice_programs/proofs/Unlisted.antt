@@ -4,8 +4,8 @@ use Rattle.kmc_device.specs.Device.{AppendsFront, RisesByOne, Watched}
 use Rattle.kmc_device.specs.Line.{text_of}
 use Rattle.kmc_settings.specs.declared.params.Params.{Params}
 use Rattle.kmc_store.specs.Bins.{AreBins}
-use Rattle.kmc_store.specs.Outside.{IsBinFault}
-use Rattle.kmc_store.specs.declared.judging.BinFault.{BinFault}
+use Rattle.kmc_judging.specs.Outside.{IsBinFault}
+use Rattle.kmc_judging.specs.declared.judging.BinFault.{BinFault}
 use Rattle.kmc_tool.specs.Stages.{IsDumpOfBins}
 use Rattle.kmc_slices.specs.Gathered.{Records}
 use Rattle.kmc_slices.specs.declared.listing.ListError.{ListError}

@@ -4,17 +4,17 @@ ghost use Rattle.std.specs.Io.KnownBytes.{Appends};
 ghost use Rattle.kmc_device.specs.Device.{AppendsFront, RisesByOne};
 ghost use Rattle.kmc_device.specs.Line.{text_of};
 ghost use Rattle.kmc_store.specs.Bins.{AreBins};
-ghost use Rattle.kmc_store.specs.Outside.{IsBinFault};
-ghost use Rattle.kmc_store.specs.declared.judging.BinFault.{BinFault};
+ghost use Rattle.kmc_judging.specs.Outside.{IsBinFault};
+ghost use Rattle.kmc_judging.specs.declared.judging.BinFault.{BinFault};
 ghost use Rattle.kmc_tool.specs.Stages.{IsDumpOfBins};
 ghost use Rattle.kmc_slices.specs.declared.listing.ListError.TheVariants.{Memory, Foreign, Write};
 
 use crate::gathering::SliceRecords;
-use kmc_device::Counted;
 use kmc_bin_lists::write_bins;
+use kmc_device::Counted;
 use kmc_dump::DumpError;
+use kmc_judging::{BinFault, judged_bins};
 use kmc_settings::Params;
-use kmc_store::{BinFault, Bins};
 use kmc_tool::lists_of_bins;
 use std::alloc::{AllocError, Global};
 use std::io;
@@ -87,7 +87,7 @@ pub fn list_records<T: Threads + Sync, W: io::Write>(
     ensures silent { IfErr result (λ e. e ≢ Write → writer.new ≡ writer.old) }
 {
     let (slicing, bodies) = records.into_parts();
-    let bins = Bins::from_bodies(rt, alloc, slicing.shape, bodies, params.sr)?;
+    let bins = judged_bins(rt, alloc, slicing.shape, bodies, params.sr)?;
     let lists = lists_of_bins(rt, alloc, bins, params.strands, &params.limits, params.sr)?;
     let lines = write_bins(rt, alloc, writer, &lists, slicing.shape.k(), params.sr)?;
     Ok(lines)

@@ -5,6 +5,4 @@ pub mod Written
 pub mod Rolled
 pub mod Unique
 pub mod Kept
-pub mod Bins
-pub mod Sliding
 pub mod Short

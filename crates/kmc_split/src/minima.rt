@@ -36,8 +36,8 @@ pub(crate) fn lows(values: &mut Vec<u16>, spare: &mut Vec<u16>, w: usize) -> Res
     Ok(())
 }
 
-/// The least of these values.
-pub(crate) fn lowest(values: &[u16]) -> u16
+/// The least of these values, of which there is one or more.
+pub fn lowest(values: &[u16]) -> u16
     requires { 1 ≤ length values.now }
     ensures { result ≡ low (slice_index values.now) (length values.now) 0 }
 {
@@ -46,22 +46,4 @@ pub(crate) fn lowest(values: &[u16]) -> u16
         least = least.min(values[i]);
     }
     least
-}
-
-/// The least of `width` values from place i + 1 on, given that of those from place i on. Only where that one leaves, and
-/// what comes is greater, does it look again.
-pub(crate) fn next_low(values: &[u16], width: usize, i: usize, least: u16) -> u16
-    requires some { 1 ≤ width }
-    requires inside { i + width < length values.now }
-    requires least { least ≡ low (slice_index values.now) width i }
-    ensures { result ≡ low (slice_index values.now) width (i + 1) }
-{
-    let new = values[i + width];
-    if new <= least {
-        new
-    } else if least < values[i] {
-        least
-    } else {
-        lowest(&values[i + 1..i + 1 + width])
-    }
 }

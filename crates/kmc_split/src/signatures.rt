@@ -7,7 +7,7 @@ ghost use Rattle.kmc_split.specs.Signature.{is_allowed, signature_of};
 
 use crate::judge::{HEAD, is_allowed_with, marks_for, offers};
 use crate::minima::lowest;
-use crate::remainder::remainder;
+use crate::remainders::remainder;
 use kmc_base::{Kmer, MAX_K};
 use std::marker::Model;
 

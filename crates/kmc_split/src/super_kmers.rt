@@ -1,26 +1,17 @@
 //! Super-k-mers.
-ghost use Rattle.std.specs.Prelude.{◌≡◌, ℕ, ◌+◌, ◌-◌, ◌%◌, ◌<◌, ◌≤◌, ◌↔◌, length, slice_index, IsTrue, MatchOption, IfOk};
+ghost use Rattle.std.specs.Prelude.{◌≡◌, ◌+◌, ◌-◌, ◌<◌, ◌≤◌, length, MatchOption, IfOk};
 ghost use Rattle.std.specs.List.{All};
-ghost use Rattle.kmc_base.specs.Words.{window, windows};
-ghost use Rattle.kmc_split.specs.Signature.{signature_of};
-ghost use Rattle.kmc_split.specs.Minima.{low};
+ghost use Rattle.kmc_base.specs.Words.{window};
 ghost use Rattle.kmc_split.specs.SuperKmer.{IsSuperKmer, super_kmer_words};
 ghost use Rattle.kmc_split.specs.SuperKmers.{super_kmer_of_run};
 
-use crate::judge::offers;
-use crate::minima::{lowest, next_low};
-use crate::remainder::remainder;
 use crate::runs::Run;
-use crate::signatures::MAX_M;
 use kmc_base::{Kmer, MAX_K};
 use std::alloc::{AllocError, Global};
 use std::marker::Model;
 
 /// How many symbols a super-k-mer may have above k.
 const MOST_ABOVE: usize = 255;
-
-/// The most symbols of a super-k-mer.
-const MOST_SYMBOLS: usize = MAX_K + MOST_ABOVE;
 
 /// Overlapping words of k symbols, 1 to 256 of them, which contracts see as k and the codes that they stand in.
 #[derive(Debug, Drop)]
@@ -92,73 +83,6 @@ impl SuperKmer {
             None => unreachable!(),
         }
     }
-
-    /// Whether the signature of each of its words has this bin, of n bins.
-    pub fn in_bin(&self, m: usize, n: usize, bin: usize) -> bool
-        requires some { 1 ≤ m }
-        requires most { m ≤ MAX_M }
-        requires within { m ≤ self.now.k }
-        requires bins { 1 ≤ n }
-        ensures { IsTrue result ↔ All (λ w. signature_of m w % n ≡ bin) (super_kmer_words self.now) }
-    {
-        words_in_bin(&self.codes, self.k, m, n, bin)
-    }
-}
-
-/// Whether the signature of each word of k codes in a row has this bin, of n bins: what [`SuperKmer::in_bin`] says, for codes
-/// that lie anywhere. It makes nothing in memory.
-pub fn words_in_bin(codes: &[u8], k: usize, m: usize, n: usize, bin: usize) -> bool
-    requires some { 1 ≤ m }
-    requires most { m ≤ MAX_M }
-    requires within { m ≤ k }
-    requires limit { k ≤ MAX_K }
-    requires inside { k ≤ length codes.now }
-    requires long { length codes.now ≤ k + 255 }
-    requires bins { 1 ≤ n }
-    requires codes { All (λ c. c < 4) codes.now }
-    ensures { IsTrue result ↔ All (λ w. signature_of m w % n ≡ bin) (windows k codes.now) }
-{
-    let mut room = [0; MOST_SYMBOLS];
-    let count = codes.len() + 1 - m;
-    offers_in_bin(codes, k, m, n, bin, &mut room[..count])
-}
-
-/// Whether the signature of each word has a bin, worked out in room for the offers of all m-mers.
-fn offers_in_bin(codes: &[u8], k: usize, m: usize, n: usize, bin: usize, room: &mut [u16]) -> bool
-    requires some { 1 ≤ m }
-    requires most { m ≤ MAX_M }
-    requires within { m ≤ k }
-    requires inside { k ≤ length codes.now }
-    requires bins { 1 ≤ n }
-    requires long { length room.old + m ≡ length codes.now + 1 }
-    requires codes { All (λ c. c < 4) codes.now }
-    ensures { IsTrue result ↔ All (λ w. signature_of m w % n ≡ bin) (windows k codes.now) }
-{
-    offers(codes, m, room);
-    lows_in_bin(room, k + 1 - m, n, bin)
-}
-
-/// Whether the least of each `width` values in a row has a bin, of n bins. It divides only where the least one changes.
-fn lows_in_bin(values: &[u16], width: usize, n: usize, bin: usize) -> bool
-    requires some { 1 ≤ width }
-    requires most { width ≤ length values.now }
-    requires bins { 1 ≤ n }
-    ensures { IsTrue result
-        ↔ ((i : ℕ) → i + width ≤ length values.now
-        → low (slice_index values.now) width i % n ≡ bin) }
-{
-    let mut least = lowest(&values[..width]);
-    if remainder(usize::from(least), n) != bin {
-        return false;
-    }
-    for i in 0..values.len() - width {
-        let next = next_low(values, width, i, least);
-        if next != least && remainder(usize::from(next), n) != bin {
-            return false;
-        }
-        least = next;
-    }
-    true
 }
 
 /// The super-k-mer of a run.

@@ -4,4 +4,3 @@ pub mod Spelled
 pub mod Dealt
 pub mod Held
 pub mod Gathered
-pub mod Sides

@@ -1,6 +1,5 @@
 pub mod Bins
 pub mod Bodies
-pub mod Outside
 pub mod Holds
 pub mod Deals
 pub mod Growing

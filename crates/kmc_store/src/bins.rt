@@ -1,14 +1,11 @@
 //! Bins in memory.
-ghost use Rattle.std.specs.Prelude.{◌≡◌, ◌<◌, ◌≤◌, length, map, slice_index, OnOk, OnErr, IfOk, IfErr};
+ghost use Rattle.std.specs.Prelude.{◌≡◌, ◌<◌, map, slice_index, OnOk, OnErr, IfOk, IfErr};
 ghost use Rattle.kmc_store.specs.Bins.{BinList, AreBins, body_at, empty_bins, Absorbed, Merged};
-ghost use Rattle.kmc_store.specs.Outside.{IsBinFault};
 
 use crate::growth::{add_words, append_bodies, make_room};
-use crate::judging::{BinFault, count_bins};
 use kmc_record::{Part, Shape};
 use std::alloc::{AllocError, Global};
 use std::marker::Model;
-use std::thread::Threads;
 
 /// For each bin of a shape the records that came to it, and how many words they have.
 #[derive(Debug, Drop)]
@@ -47,27 +44,17 @@ impl Bins {
         })
     }
 
-    /// Bins of a shape with these bodies, where each is whole records whose words belong to its bin; else the first fault. They
-    /// are judged by at most so many threads.
-    pub fn from_bodies<R: Threads + Sync>(
-        rt: &R,
-        alloc: Global,
-        shape: Shape,
-        bodies: Vec<Vec<u8>>,
-        threads: usize,
-    ) -> Result<Bins, BinFault>
-        requires bodies { length bodies.items ≡ shape.n }
-        requires threads { 1 ≤ threads }
-        ensures shape { IfOk result (λ b. b.shape ≡ shape) }
-        ensures bodies { IfOk result (λ b. b.bodies ≡ map (λ v. v.items) bodies.items) }
-        ensures first { IfErr result (IsBinFault shape (map (λ v. v.items) bodies.items)) }
+    /// Bins of a shape with these bodies, one for each bin: each is whole records whose words belong to its bin, with how many words
+    /// they have, or 2^64 - 1 where they are more. `kmc_judging` makes bins of bodies that are not known to be so.
+    pub fn of_bodies(shape: Shape, bodies: Vec<Vec<u8>>, words: Vec<u64>) -> Bins
+        requires { AreBins shape (map (λ v. v.items) bodies.items) words.items }
+        ensures { result ≡ record { shape = shape; bodies = map (λ v. v.items) bodies.items; words = words.items } }
     {
-        let words = count_bins(rt, alloc, shape, &bodies, 0, shape.n(), threads)?;
-        Ok(Bins {
+        Bins {
             shape,
             bodies,
             words,
-        })
+        }
     }
 
     /// Appends the records of a part of the same shape to its bin. Where that growth is refused, the part comes back and

@@ -6,8 +6,6 @@
 
 mod bins;
 mod growth;
-mod judging;
 pub mod laws;
 
 pub use bins::Bins;
-pub use judging::BinFault;

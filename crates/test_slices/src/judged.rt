@@ -1,6 +1,7 @@
 //! Bodies from outside, judged by several threads.
+use kmc_judging::{BinFault, judged_bins};
 use kmc_record::{PartError, Shape};
-use kmc_store::{BinFault, Bins};
+use kmc_store::Bins;
 use std::alloc::{AllocError, Global};
 use std::process::Abort;
 use std::test::Fail;
@@ -46,7 +47,7 @@ fn assert_judged<R: Abort + Threads + Sync>(
     let shape = Shape::new(4, 5, 7).expect(rt, "a shape");
     let bodies = bodies_of(alloc, faults)?;
     assert!(rt; bodies.len() == shape.n() && threads > 0);
-    match Bins::from_bodies(rt, alloc, shape, bodies, threads) {
+    match judged_bins(rt, alloc, shape, bodies, threads) {
         Ok(bins) => {
             assert_eq!(rt; faults, 0);
             assert_words(rt, &bins);

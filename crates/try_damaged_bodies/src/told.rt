@@ -4,8 +4,9 @@ ghost use Rattle.std.specs.Prelude.{◌<◌};
 use kmc_base::{Kmer, Strands};
 use kmc_count::Limits;
 use kmc_device::Counted;
+use kmc_judging::part_of_body;
 use kmc_plain::{count_bin, write_dump};
-use kmc_record::{BodyError, Part, PartError, RecordFault, Shape};
+use kmc_record::{BodyError, PartError, RecordFault, Shape};
 use std::alloc::Global;
 use std::io;
 use std::io::ErrorKind;
@@ -62,7 +63,7 @@ fn tell_no_part(rt: &impl Print, error: PartError) -> io::Result<()> {
 pub fn tell_part(rt: &impl Print, shape: Shape, bin: usize, body: Vec<u8>) -> io::Result<()>
     requires { bin < shape.n }
 {
-    match Part::from_body(0, bin, shape, body) {
+    match part_of_body(0, bin, shape, body) {
         Ok(part) => println!(rt; "part: {}", part.words()),
         Err((error, _)) => tell_no_part(rt, error),
     }

@@ -1,8 +1,8 @@
 //! Keys: those that a window rolled over codes gives, and those that records are unpacked to.
 use crate::tests::given::{long_read, one_segment, record_of};
 use kmc_base::Strands;
-use kmc_plain::push_keys;
-use kmc_record::{BodyError, RecordFault, push_body};
+use kmc_plain::{push_body, push_keys};
+use kmc_record::{BodyError, RecordFault};
 use std::alloc::{AllocError, Global};
 use std::process::Abort;
 use std::test::Fail;

@@ -7,8 +7,9 @@ use crate::tests::given::{
     append_record, assert_bytes, assert_number, assert_text, chunk_of, field, mixed_reads, number,
     push_bin, record_of, same_bytes, shape_of,
 };
-use kmc_plain::parts_of;
-use kmc_record::{Part, PartError, RecordError, RecordFault, Shape, decode, laws};
+use kmc_judging::part_of_body;
+use kmc_plain::{RecordError, decode, parts_of};
+use kmc_record::{Part, PartError, RecordFault, Shape, laws};
 use plain::plain_text;
 use rows::rows;
 use std::alloc::{AllocError, Global};
@@ -231,7 +232,7 @@ fn words_of_body(
     bytes: &[u8],
 ) -> Result<Result<u64, PartError>, AllocError> {
     assert!(rt; bin < shape.n());
-    match Part::from_body(0, bin, shape, bytes.to_vec(alloc)?) {
+    match part_of_body(0, bin, shape, bytes.to_vec(alloc)?) {
         Ok(part) => Ok(Ok(part.words())),
         Err((e, back)) => {
             assert_bytes(rt, &back, bytes);

@@ -6,6 +6,7 @@ use crate::tests::given::{
     super_kmer_of, word_of,
 };
 use kmc_base::MAX_K;
+use kmc_judging::super_kmer_in_bin;
 use kmc_plain::super_kmers;
 use kmc_split::{MAX_M, Run, Scratch, SuperKmer, allowed, cut, laws, signature};
 use rows::rows;
@@ -312,7 +313,7 @@ fn is_in_bin(
 ) -> Result<bool, AllocError> {
     let super_kmer = super_kmer_of(rt, alloc, letters.as_bytes(), 7)?;
     assert!(rt; super_kmer.k() == 7);
-    Ok(super_kmer.in_bin(5, 7, bin))
+    Ok(super_kmer_in_bin(&super_kmer, 5, 7, bin))
 }
 
 #[test]

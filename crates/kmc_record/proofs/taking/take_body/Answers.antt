@@ -2,7 +2,7 @@ use Rattle.std.proofs.Common.{ℕ, ◌+◌, ◌++◌, List, [], ◌∷◌, map, 
 use Rattle.kmc_record.specs.Record.{size_of}
 use Rattle.kmc_record.specs.RecordKeys.{IsTaken}
 use Rattle.kmc_record.specs.Lemmas.Taken.{none_taken}
-use Rattle.kmc_record.proofs.Whole.{first_codes, next_body, next_inside, rest_at, same_codes, stops_there}
+use Rattle.kmc_record.specs.Lemmas.Whole.{first_codes, next_body, next_inside, rest_at, same_codes, stops_there}
 use Rattle.kmc_record.proofs.taking.take_body.Goals as goal
 
 pub loop-offset-init : goal.loop-offset-init

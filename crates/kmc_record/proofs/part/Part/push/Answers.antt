@@ -4,7 +4,7 @@ use Rattle.kmc_base.specs.Lemmas.Windows.{length_window}
 use Rattle.kmc_record.specs.Record.{codes_in}
 use Rattle.kmc_record.specs.Lemmas.Codes.{length_codes}
 use Rattle.kmc_record.specs.Parts.{Parcel}
-use Rattle.kmc_record.proofs.Parcels.{part_grown}
+use Rattle.kmc_record.specs.Lemmas.Whole.{part_grown}
 use Rattle.kmc_record.proofs.part.Part.push.Goals as goal
 
 pub push_record_from-requires-clause-most : goal.push_record_from-requires-clause-most
