@@ -9,10 +9,10 @@ ghost use Rattle.kmc_tool.specs.Stages.{IsDumpOfBins};
 
 use crate::laws::bins_share_no_key;
 use kmc_base::Strands;
-use kmc_count::Limits;
-use kmc_count::laws::dumps_of_bodies_are_of_keys;
 use kmc_bin_lists::laws::packed_dumps_are_one;
 use kmc_bin_lists::{BinLists, list_bins};
+use kmc_count::Limits;
+use kmc_count::laws::dumps_of_bodies_are_of_keys;
 use kmc_record::BodyError;
 use kmc_record::laws::whole_body_has_no_fault;
 use kmc_settings::Params;

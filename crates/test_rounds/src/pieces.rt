@@ -3,14 +3,14 @@ ghost use Rattle.std.specs.Prelude.{◌≡◌, IfOk};
 ghost use Rattle.kmc_settings.specs.Shape.{shape_of};
 
 use crate::given::settings;
-use kmc_device::Counted;
 use kmc_bin_lists::write_bins;
+use kmc_device::Counted;
 use kmc_partqueue::NoGate;
 use kmc_plain::{count_direct, write_dump};
 use kmc_reads::{Format, read_all};
+use kmc_rounds::{InputError, bins_of_input};
 use kmc_settings::Params;
 use kmc_store::Bins;
-use kmc_rounds::{InputError, bins_of_input};
 use kmc_tool::stage_two;
 use std::alloc::{AllocError, Global};
 use std::process::Abort;

@@ -3,8 +3,8 @@ ghost use Rattle.std.specs.Prelude.{◌≤◌};
 
 use crate::tests::listed::limits_up_to;
 use kmc_base::{Kmer, Strands, Word};
-use kmc_count::Limits;
 use kmc_bin_lists::{BinLists, SizedLists, list_bins};
+use kmc_count::Limits;
 use kmc_dump::{Counts, Shown};
 use kmc_plain::count_bin;
 use std::alloc::{AllocError, Global};

@@ -2,8 +2,8 @@
 
 use crate::tests::bodies::{are_plain, has_pairs};
 use kmc_base::{Kmer, Strands};
-use kmc_count::Limits;
 use kmc_bin_lists::{BinLists, SizedLists, list_bins};
+use kmc_count::Limits;
 use kmc_plain::count_bin;
 use std::alloc::{AllocError, Global};
 use std::process::Abort;

@@ -4,8 +4,8 @@ ghost use Rattle.kmc_bin_lists.specs.Lists.{lists_of};
 ghost use Rattle.kmc_dump.specs.Ranges.{CanBeMerged};
 
 use crate::tests::listed::{listed, plain, settings, thrown_alone};
-use kmc_device::Counted;
 use kmc_bin_lists::{BinLists, write_bins};
+use kmc_device::Counted;
 use kmc_dump::DumpError;
 use kmc_settings::Params;
 use std::alloc::Global;

@@ -2,8 +2,8 @@
 
 use crate::tests::bodies::{are_plain, push_record};
 use kmc_base::{Kmer, Strands};
-use kmc_count::Limits;
 use kmc_bin_lists::list_bins;
+use kmc_count::Limits;
 use kmc_plain::count_bin;
 use kmc_record::{BodyError, RecordFault};
 use std::alloc::{AllocError, Global};

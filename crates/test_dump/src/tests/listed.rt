@@ -3,14 +3,14 @@ ghost use Rattle.std.specs.Prelude.{IfSome};
 ghost use Rattle.kmc_bin_lists.specs.Lists.{lists_of};
 ghost use Rattle.kmc_dump.specs.Ranges.{CanBeMerged};
 
+use kmc_bin_lists::{BinLists, write_bins};
 use kmc_count::Limits;
 use kmc_device::Counted;
-use kmc_bin_lists::{BinLists, write_bins};
 use kmc_partqueue::NoGate;
 use kmc_plain::{count_direct, write_dump};
 use kmc_reads::{Format, slices_of};
-use kmc_settings::Params;
 use kmc_rounds::stage_one;
+use kmc_settings::Params;
 use kmc_tool::stage_two;
 use std::alloc::{AllocError, Global};
 use std::process::Abort;

@@ -5,15 +5,15 @@ mod random_texts;
 mod refused;
 mod small_texts;
 
-use kmc_device::Counted;
 use kmc_bin_lists::write_bins;
+use kmc_device::Counted;
 use kmc_partqueue::NoGate;
 use kmc_plain::{Chunk, parts_of};
 use kmc_reads::slices_of;
 use kmc_record::{Part, Shape};
+use kmc_rounds::stage_one;
 use kmc_settings::Params;
 use kmc_store::Bins;
-use kmc_rounds::stage_one;
 use kmc_tool::stage_two;
 use std::alloc::{AllocError, Global};
 use std::process::Abort;
