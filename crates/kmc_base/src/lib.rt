@@ -1,6 +1,6 @@
 //! Words over the four bases: the code of a base, words packed two bits a symbol with their reverse
-//! complement and canonical form, and the stretches of bases of a read. It stands on std alone. The layers
-//! above see a k-mer as the list of its codes, and cite the definitions of `specs/` for everything else.
+//! complement and canonical form, the stretches of bases of a read, and lists that take words with their counts. It stands
+//! on std alone. The layers above see a k-mer as the list of its codes, and cite the definitions of `specs/` for everything else.
 #![tactic(auto)]
 
 mod base;
