@@ -97,6 +97,10 @@ module _ {T : Type 0} where
   abbrev pub AtEnd : Seated T → ℕ → Type 0
   AtEnd me number = me ≡ (one_of_writers (open_writer number (per_writer_of me.0) (sent_of me.0) true), [])
 
+  -- the seat of a reader of a queue of this shape, with an empty hand
+  abbrev pub Rests : QueueShape → Seated T → Reading T → Type 0
+  Rests k me b = (me ≡ (one_of_readers b, [])) × (b.writers ≡ k.writers) × (b.per_writer ≡ k.per_writer) × (b.held ≡ false)
+
   -- the seat of a reader between two calls: its hand is empty
   pub record Between (me : Seated T) (number per_writer next writers : ℕ) (totals : List (Option ℕ)) : Type 0 where
     pub view : Reading T

@@ -1,5 +1,5 @@
 //! The queue, and how it opens with a seat for each writer and each reader.
-ghost use Rattle.std.specs.Prelude.{◌≡◌, ◌+◌, ◌*◌, [], Option, IfOk};
+ghost use Rattle.std.specs.Prelude.{◌≡◌, ◌+◌, ◌*◌, ◌/◌, ◌%◌, ◌<◌, ◌≤◌, [], Option, IfOk};
 
 use crate::reader::ReaderSeat;
 use crate::rule::Reached;
@@ -7,7 +7,7 @@ use crate::steps::{SplitReader, SplitWriter};
 use crate::views::View;
 use crate::writer::WriterSeat;
 use atomic_table::{Seat, Table};
-use kmc_partcore::QueueShape;
+use kmc_partcore::{MAX_ITEMS, QueueShape};
 use std::alloc::{AllocError, Global};
 
 /// A queue of parts without a lock: one lane of slots for each writer, read by any reader, in single atomic steps.
@@ -19,6 +19,24 @@ pub struct Lanes<T> {
     pub(crate) shape: QueueShape,
     ghost shaped: { table.shared.key ≡ shape },
     ghost sized: { (table.shared.table_id.words ≡ 2 * shape.writers + shape.writers * shape.per_writer) × (table.shared.table_id.slots ≡ shape.writers * shape.per_writer) },
+}
+
+impl<T> Lanes<T> {
+    /// Of the part with this number in the lane: its slot, the word of the slot's mark, and what the mark says while the slot is free for it.
+    pub(crate) fn place(&self, lane: usize, number: u64) -> (usize, usize, u64)
+        requires { (lane < self.now.shape.writers) × (number ≤ MAX_ITEMS) }
+        ensures slot { result.0
+            ≡ lane * self.now.shape.per_writer + number % self.now.shape.per_writer }
+        ensures mark { result.1 ≡ 2 * self.now.shape.writers
+            + (lane * self.now.shape.per_writer + number % self.now.shape.per_writer) }
+        ensures inside { result.1 < self.now.table.shared.table_id.words }
+        ensures turn { result.2 ≡ 2 * (number / self.now.shape.per_writer) }
+    {
+        let per_writer = self.shape.per_writer as u64;
+        let slot = lane * self.shape.per_writer + (number % per_writer) as usize;
+        let mark = 2 * self.shape.writers + slot;
+        (slot, mark, 2 * (number / per_writer))
+    }
 }
 
 impl<T: Drop> Lanes<T> {

@@ -1,9 +1,11 @@
 //! What a reader does with its seat.
-ghost use Rattle.std.specs.Prelude.{◌≡◌, ℕ, ◌+◌, ◌*◌, ◌/◌, ◌%◌, ◌<◌, ◌↔◌, [], ◌∷◌, ◌++◌, MatchOption, Option, Some, None, slice_get, true, false};
-ghost use Rattle.kmc_partqueue.specs.Seats.{IsReaderOf, new_reader, KeepsNotes, AllEnded, AreKeptTotals};
+ghost use Rattle.std.specs.Prelude.{◌≡◌, ℕ, ◌+◌, ◌*◌, ◌/◌, ◌%◌, ◌<◌, ◌≤◌, ◌↔◌, [], ◌∷◌, ◌++◌, MatchOption, Option, Some, None, slice_get, true, false};
+ghost use Rattle.kmc_partqueue.specs.Seats.{IsReaderOf, new_reader, KeepsNotes, AllEnded, AreKeptTotals, Rests};
 ghost use Rattle.kmc_partqueue.specs.declared.views.Reading.{Reading};
 ghost use Rattle.kmc_partqueue.specs.Dealing.{one_of_readers, fresh_reader};
 ghost use Rattle.kmc_partqueue.specs.Gathered.{Tells};
+ghost use Rattle.kmc_partqueue.specs.Plays.{looking, seeing, taking, freeing, ending};
+ghost use Rattle.kmc_partqueue.specs.Ends.{SawAllEnds};
 ghost use Rattle.kmc_partqueue.specs.Answers.{Answers, IsFinished, TakeAnswers, IsLast};
 
 use crate::gate::{Gate, Point};
@@ -11,7 +13,7 @@ use crate::lanes::Lanes;
 use crate::steps::{ClaimPart, ReadEnd, ReadHead, ReleaseSlot, SeePublishedPart};
 use crate::views::View;
 use atomic_table::Seat;
-use kmc_partcore::{MAX_WRITERS, QueueShape, Received, Taken, Totals};
+use kmc_partcore::{MAX_ITEMS, MAX_WRITERS, QueueShape, Received, Taken, Totals};
 use std::marker::Model;
 use std::sync::Wait;
 use std::thread;
@@ -38,7 +40,7 @@ impl<T> Model for ReaderSeat<T> {
 }
 
 /// What a try to take answers.
-#[derive(Drop, Clone, PartialEq, Eq, Debug)]
+#[derive(Drop, PartialEq, Eq)]
 pub enum TryTaken<T> {
     /// A part, which is no longer in the queue.
     Got(Received<T>),
@@ -132,6 +134,14 @@ impl<T> ReaderSeat<T> {
     }
 }
 
+/// The lane that is tried after this one.
+fn lane_after(lane: usize, writers: usize) -> usize
+    requires { lane < writers }
+    ensures { result < writers }
+{
+    if lane + 1 < writers { lane + 1 } else { 0 }
+}
+
 impl<T> Lanes<T> {
     /// Moves the part out of the slot that the seat holds.
     fn move_out(&self, seat: &mut Seat<Option<T>, View<T>>, slot: usize) -> T
@@ -147,6 +157,78 @@ impl<T> Lanes<T> {
         }
     }
 
+    /// Reads the head of a lane, and whether the part at it was published.
+    fn look(&self, seat: &mut Seat<Option<T>, View<T>>, lane: usize) -> (u64, bool)
+        requires queue { seat.old.table_id ≡ self.now.table.shared.table_id }
+        requires lane { lane < self.now.shape.writers }
+        requires rests { (b : Reading T) × Rests self.now.shape seat.old.me b }
+        ensures queue { seat.new.table_id ≡ seat.old.table_id }
+        ensures head { result.0 ≤ MAX_ITEMS }
+        ensures published { result.1 ≡ true → (b : Reading T) → Rests self.now.shape seat.old.me b
+            → seat.new.me ≡ (one_of_readers (seeing (looking b lane result.0)), []) }
+        ensures waits { result.1 ≡ false → (b : Reading T) → Rests self.now.shape seat.old.me b
+            → seat.new.me ≡ (one_of_readers (looking b lane result.0), []) }
+    {
+        let words = &self.table.shared;
+        let head = words.load::<ReadHead>(seat, self.shape.writers + lane);
+        let (_, mark, turn) = self.place(lane, head);
+        let seen = words.load::<SeePublishedPart>(seat, mark);
+        if seen == turn + 1 {
+            return (head, true);
+        }
+        (head, false)
+    }
+
+    /// Takes the part that was seen at the head of the lane, unless another reader was before this one.
+    fn take_seen<G: Gate>(
+        &self,
+        seat: &mut Seat<Option<T>, View<T>>,
+        number: usize,
+        lane: usize,
+        head: u64,
+        gate: &G,
+    ) -> Option<T>
+        requires queue { seat.old.table_id ≡ self.now.table.shared.table_id }
+        requires lane { (lane < self.now.shape.writers) × (head ≤ MAX_ITEMS) }
+        requires seen { (b : Reading T) × Rests self.now.shape seat.old.me b
+            × (b.lane ≡ lane) × (b.head ≡ head) × (b.ready ≡ true) }
+        ensures queue { seat.new.table_id ≡ seat.old.table_id }
+        ensures taken { (b : Reading T) → seat.old.me ≡ (one_of_readers b, []) → b.head ≡ head
+            → MatchOption result (seat.new.me ≡ seat.old.me)
+            (λ x. seat.new.me ≡ (one_of_readers (freeing (taking b x)), [])) }
+    {
+        let words = &self.table.shared;
+        let at = self.shape.writers + lane;
+        let was = words.compare_exchange::<ClaimPart>(seat, at, head, head + 1);
+        if was != head {
+            return None;
+        }
+        gate.pass(Point::PartClaimed(number, lane, head));
+        let (slot, mark, turn) = self.place(lane, head);
+        let item = self.move_out(seat, slot);
+        words.store::<ReleaseSlot>(seat, mark, turn + 2);
+        Some(item)
+    }
+
+    /// Whether the lane ends at the head that was read.
+    fn sees_end(&self, seat: &mut Seat<Option<T>, View<T>>, lane: usize, head: u64) -> bool
+        requires queue { seat.old.table_id ≡ self.now.table.shared.table_id }
+        requires lane { (lane < self.now.shape.writers) × (head ≤ MAX_ITEMS) }
+        requires open { (b : Reading T) × (seat.old.me ≡ (one_of_readers b, []))
+            × (b.lane ≡ lane) × ¬ SawAllEnds self.now.shape.writers b.ends }
+        ensures queue { seat.new.table_id ≡ seat.old.table_id }
+        ensures ended { result ≡ true → (b : Reading T) → seat.old.me ≡ (one_of_readers b, [])
+            → b.head ≡ head → seat.new.me ≡ (one_of_readers (ending b), []) }
+        ensures open { result ≡ false → (b : Reading T) → seat.old.me ≡ (one_of_readers b, [])
+            → b.head ≡ head → seat.new.me ≡ seat.old.me }
+    {
+        let end = self.table.shared.load::<ReadEnd>(seat, lane);
+        if end == head + 1 {
+            return true;
+        }
+        false
+    }
+
     /// Tries the head of one lane, once.
     fn try_lane<G: Gate>(&self, s: &mut ReaderSeat<T>, lane: usize, gate: &G) -> Option<Received<T>>
         requires queue { IsReaderOf self.now.table.shared.table_id self.now.shape s.old }
@@ -158,39 +240,21 @@ impl<T> Lanes<T> {
             (λ x. (s.new.got ≡ s.old.got ++ x ∷ []) × (s.new.totals ≡ s.old.totals)) }
         ensures notes { KeepsNotes s.old s.new }
     {
-        let words = &self.table.shared;
-        let per_writer = self.shape.per_writer as u64;
-        let head = words.load::<ReadHead>(&mut s.seat, self.shape.writers + lane);
-        let slot = lane * self.shape.per_writer + (head % per_writer) as usize;
-        let mark = 2 * self.shape.writers + slot;
-        let turn = 2 * (head / per_writer) + 1;
-        let seen = words.load::<SeePublishedPart>(&mut s.seat, mark);
-        if seen == turn {
-            let was = words.compare_exchange::<ClaimPart>(
-                &mut s.seat,
-                self.shape.writers + lane,
-                head,
-                head + 1,
-            );
-            if was != head {
-                return None;
+        let (head, published) = self.look(&mut s.seat, lane);
+        if published {
+            match self.take_seen(&mut s.seat, s.number, lane, head, gate) {
+                Some(item) => {
+                    s.next = lane_after(lane, self.shape.writers);
+                    return Some(Received {
+                        writer: lane,
+                        number: head,
+                        item,
+                    });
+                }
+                None => return None,
             }
-            gate.pass(Point::PartClaimed(s.number, lane, head));
-            let item = self.move_out(&mut s.seat, slot);
-            words.store::<ReleaseSlot>(&mut s.seat, mark, turn + 1);
-            s.next = if lane + 1 < self.shape.writers {
-                lane + 1
-            } else {
-                0
-            };
-            return Some(Received {
-                writer: lane,
-                number: head,
-                item,
-            });
         }
-        let end = words.load::<ReadEnd>(&mut s.seat, lane);
-        if end == head + 1 {
+        if self.sees_end(&mut s.seat, lane, head) {
             s.totals[lane] = Some(head);
             return None;
         }
@@ -214,11 +278,7 @@ impl<T> Lanes<T> {
                     None => {}
                 }
             }
-            lane = if lane + 1 < self.shape.writers {
-                lane + 1
-            } else {
-                0
-            };
+            lane = lane_after(lane, self.shape.writers);
         }
         if s.finished() {
             TryTaken::Finished(s.all_totals())
