@@ -27,15 +27,14 @@ impl fmt::Display for ParamsError {
 
     fn fmt<W: fmt::Write>(&self, f: &mut fmt::Formatter<W>) -> fmt::Result {
         match self {
-            ParamsError::Usage => write!(
-                f,
-                "usage: kmc [-fa|-fq|-fm] [-k<len>] [-p<len>] [-ci<n>] [-cx<n>] [-cs<n>] [-n<bins>] [-sp<n>] [-sr<n>] [-b]"
+            ParamsError::Usage => f.write_str(
+                "usage: kmc [-fa|-fq|-fm] [-k<len>] [-p<len>] [-ci<n>] [-cx<n>] [-cs<n>] [-n<bins>] [-sp<n>] [-sr<n>] [-b]",
             ),
             ParamsError::OutOfRange(setting) => {
                 let name = setting.name();
                 write!(f, "kmc: value of -{name} is out of range")
             }
-            ParamsError::Memory => write!(f, "kmc: out of memory"),
+            ParamsError::Memory => f.write_str("kmc: out of memory"),
         }
     }
 }

@@ -1,5 +1,6 @@
 //! KMC's glued words.
 ghost use Rattle.std.specs.Prelude.{◌≡◌, IfOk, option_map, string_bytes};
+ghost use Rattle.std.specs.Option.{option_map_or};
 ghost use Rattle.kmc_options.specs.Glued.{is_flag, long_form, option_in, value_in, with_value};
 
 use crate::named::{FLAGS, Named, OPTIONS};
@@ -11,18 +12,27 @@ use std::alloc::{AllocError, Global};
 pub fn long_form(alloc: Global, word: String) -> Result<String, AllocError>
     ensures { IfOk result (λ long. string_bytes long ≡ long_form (string_bytes word)) }
 {
-    if is_flag(&word) {
-        let mut long = String::from_str(alloc, "-")?;
-        long.push_str(&word)?;
-        return Ok(long);
+    match changed(alloc, &word)? {
+        Some(long) => Ok(long),
+        None => Ok(word),
     }
-    let Some(setting) = option_in(&word) else {
-        return Ok(word);
+}
+
+// The long form of a word that is a flag or glues a value to an option; none for every other word.
+fn changed(alloc: Global, word: &str) -> Result<Option<String>, AllocError>
+    ensures { IfOk result (λ long.
+        option_map_or string_bytes long word.now ≡ long_form word.now) }
+{
+    if is_flag(word) {
+        return Ok(Some(["-", word].concat(alloc)?));
+    }
+    let Some(setting) = option_in(word) else {
+        return Ok(None);
     };
-    let Some(value) = value_in(setting, &word) else {
-        return Ok(word);
-    };
-    with_value(alloc, setting, value)
+    match value_in(setting, word) {
+        Some(value) => Ok(Some(with_value(alloc, setting, value)?)),
+        None => Ok(None),
+    }
 }
 
 fn is_flag(word: &str) -> bool
@@ -52,12 +62,9 @@ fn value_in(setting: Setting, word: &str) -> Option<&str>
     if value.is_empty() { None } else { Some(value) }
 }
 
-fn with_value(alloc: Global, setting: Setting, value: &str) -> Result<String, AllocError>
+fn with_value<'a>(alloc: Global, setting: Setting, value: &'a str) -> Result<String, AllocError>
     ensures { IfOk result (λ long. string_bytes long ≡ with_value setting value.now) }
 {
-    let mut long = String::from_str(alloc, "--")?;
-    long.push_str(setting.name())?;
-    long.push_str("=")?;
-    long.push_str(value)?;
-    Ok(long)
+    let name: &'a str = setting.name();
+    ["--", name, "=", value].concat(alloc)
 }

@@ -58,7 +58,7 @@ impl Named for Setting {
 }
 
 /// An option of the command line that stands or does not.
-#[derive(Clone, Copy, Debug, PartialEq, Eq)]
+#[derive(Clone, Copy)]
 pub enum Flag {
     /// The input is FASTA.
     Fa,

@@ -1,5 +1,6 @@
--- What holds of an error that a `?` passes on as it is.
-use Rattle.std.proofs.Common.{◌≡◌, Result, Err, IfErr, sym, subst}
+-- What holds of a result that is passed on as it is.
+use Rattle.std.proofs.Common.{◌≡◌, Result, Ok, Err, IfErr, sym, subst}
+use Rattle.std.specs.Prelude.{OnOk}
 use Rattle.std.specs.Result.{IsErrAnd}
 use Rattle.std.proofs.lemmas.Result.{IfErr-at_err, err_from_is_err_and}
 
@@ -8,3 +9,8 @@ pub passed_on : {T U E : Type 0} (from : Result U E) (to : Result T E) (P Q : E 
 passed_on from to P Q d was holds made weaker =
     let p = err_from_is_err_and to made in
     subst (λ r. IfErr r Q) (sym p.1) (weaker p.0 (subst P (sym p.2) (IfErr-at_err P was holds)))
+
+-- what two clauses say of a success gives a third
+pub on_ok_both : {T E P Q R : Type 0} (r : Result T E) → (P → Q → R) → OnOk r P → OnOk r Q → OnOk r R
+on_ok_both (Ok x) f p q = f p q
+on_ok_both (Err e) f p q = tt

@@ -1,6 +1,6 @@
 -- A scan goes over a block line by line.
 use Rattle.std.proofs.Common.{◌≡◌, ℕ, suc, Bool, true, false, cond, ◌==◌, List, [], ◌∷◌, ◌++◌, length, take, drop, get_or, refl, sym, ap, subst, ◌∙◌, arith}
-use Rattle.std.proofs.Common.{append_assoc, append-nil, Some, None}
+use Rattle.std.proofs.Common.{append_assoc, append-nil, take_all, Some, None}
 use Rattle.std.proofs.lemmas.Bool.{ne_eqb}
 use Rattle.std.specs.Io.BufRead.{strip_last}
 use Rattle.kmc_reads.specs.declared.scan.Scan.{Scan}
@@ -209,3 +209,6 @@ take_front (x ∷ a) (y ∷ b) (z ∷ c) p q =
     let heads : y ≡ x = ap (λ t. get_or t 0 0) p in
     let more : z ≡ y = ap (λ t. get_or t 0 0) q in
     λ i. (more ∙ heads) i ∷ take_front a b c (ap (drop 1) p) (ap (drop 1) q) i
+
+pub take_whole : (xs : List ℕ) → take (length xs) xs ≡ xs
+take_whole xs = take_all (length xs) xs (omega arith)

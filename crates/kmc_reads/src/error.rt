@@ -28,7 +28,7 @@ impl fmt::Display for ReadsError {
 
     fn fmt<W: fmt::Write>(&self, f: &mut fmt::Formatter<W>) -> fmt::Result {
         match self {
-            ReadsError::Memory => write!(f, "out of memory"),
+            ReadsError::Memory => f.write_str("out of memory"),
             ReadsError::BadHeader(line) => write!(f, "line {line}: bad header"),
             ReadsError::BadPlus(line) => write!(f, "line {line}: bad plus line"),
             ReadsError::QualityLength(line) => write!(f, "line {line}: quality length differs"),

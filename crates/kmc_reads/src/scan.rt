@@ -169,8 +169,7 @@ impl Scan {
         if self.is_between() {
             return Ok(());
         }
-        self.end_line()?;
-        Ok(())
+        self.end_line()
     }
 
     /// No line is left: the open read is whole, or it was cut short.
@@ -208,8 +207,7 @@ impl Scan {
         ensures ends { take (length self.old.ends.items) self.new.ends.items ≡ self.old.ends.items }
     {
         self.end_open()?;
-        self.end_read()?;
-        Ok(())
+        self.end_read()
     }
 
     /// Ends the text here, or leaves all as it was.

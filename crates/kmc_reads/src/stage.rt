@@ -5,7 +5,7 @@ ghost use Rattle.kmc_reads.specs.Stages.{first_stage};
 use crate::format::Format;
 
 /// What the open line is, by the lines before it and, in FASTA, by its first byte.
-#[derive(Clone, Copy, Debug, PartialEq, Eq)]
+#[derive(Clone, Copy, PartialEq, Eq)]
 pub enum Stage {
     /// FASTQ: the header of a record, or a blank line.
     Header,

@@ -1,5 +1,5 @@
 //! The settings of a run.
-ghost use Rattle.std.specs.Prelude.{◌≡◌, MatchOption};
+ghost use Rattle.std.specs.Prelude.{◌≡◌, ◌↔◌, ◌≤◌, IsTrue, MatchOption};
 ghost use Rattle.kmc_base.specs.declared.strands.Strands.TheVariants.{Joined};
 ghost use Rattle.kmc_settings.specs.Ranges.{AreQueueSettings, AreSettings};
 
@@ -33,7 +33,7 @@ const BATCH: usize = 1024;
 
 /// What a run is told: what its text is, what it counts and lists, and how it shares the work.
 /// The dump depends on the format, `k`, the strands and the limits alone.
-#[derive(Clone, Copy, Debug, PartialEq, Eq)]
+#[derive(Clone, Copy, Debug)]
 pub struct Params {
     /// The format of the input.
     pub format: Format,
@@ -58,6 +58,13 @@ pub struct Params {
     /// The reads of a round for each splitter, 1 to 65536.
     pub batch: usize,
     pub ghost in_range: { AreSettings k p n sp sr × AreQueueSettings readers per_writer batch },
+}
+
+/// Whether the number is at least 1 and at most this.
+fn is_up_to(number: usize, most: usize) -> bool
+    ensures { IsTrue result ↔ ((1 ≤ number) × (number ≤ most)) }
+{
+    1 <= number && number <= most
 }
 
 impl Params {
@@ -141,9 +148,9 @@ impl Params {
             (λ r. (r.readers ≡ readers) × (r.per_writer ≡ per_writer) × (r.batch ≡ batch)
             × (r.strands ≡ self.strands) × KeepsOptions self r) }
     {
-        let in_range = (1..=MAX_READERS).contains(&readers)
-            && (1..=MAX_PER_WRITER).contains(&per_writer)
-            && (1..=MAX_BATCH).contains(&batch);
+        let in_range = is_up_to(readers, MAX_READERS)
+            && is_up_to(per_writer, MAX_PER_WRITER)
+            && is_up_to(batch, MAX_BATCH);
         if !in_range {
             return None;
         }

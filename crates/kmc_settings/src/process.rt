@@ -3,16 +3,21 @@ ghost use Rattle.std.specs.Prelude.{◌≡◌, map, string_bytes};
 ghost use Rattle.kmc_settings.specs.Words.{name_at};
 
 use std::alloc::{AllocError, Global};
-use std::env;
+use std::env::{self, Args};
 use std::rt::Env;
 
 /// The process's arguments behind the program's name, or `None` where they cannot be read.
 pub fn arguments<T: Env + Alloc<A = Global>>(rt: &T) -> Result<Option<Vec<String>>, AllocError> {
-    let Ok(mut arguments) = env::args(rt) else {
-        return Ok(None);
-    };
-    let _program = arguments.next();
-    Ok(Some(arguments.collect(rt.alloc())?))
+    match env::args(rt) {
+        Ok(arguments) => Ok(Some(behind_first(rt.alloc(), arguments)?)),
+        Err(_) => Ok(None),
+    }
+}
+
+/// The words behind the first.
+fn behind_first(alloc: Global, mut words: Args) -> Result<Vec<String>, AllocError> {
+    let _first = words.next();
+    words.collect(alloc)
 }
 
 /// The name of a file, as it was given; nothing where there is none.

@@ -43,7 +43,7 @@ impl Scan {
         ensures ends { self.new.ends.items ≡ self.old.ends.items }
     {
         if self.place.held {
-            self.add(b"\r")?;
+            return self.add(b"\r");
         }
         Ok(())
     }
@@ -116,11 +116,9 @@ impl Scan {
         }
         if self.begins_name(bytes) {
             self.name()?;
-            self.grow(bytes)?;
-            return Ok(());
+            return self.grow(bytes);
         }
-        self.grow(bytes)?;
-        Ok(())
+        self.grow(bytes)
     }
 
     /// The fault of the open line, which is whole.
@@ -215,8 +213,7 @@ impl Scan {
         ensures ends { take (length self.old.ends.items) self.new.ends.items ≡ self.old.ends.items }
     {
         self.extend(bytes)?;
-        self.end_line()?;
-        Ok(())
+        self.end_line()
     }
 
     /// The open line up to its line feed.

@@ -2,6 +2,7 @@ use Rattle.std.proofs.Common.{◌++◌, [], refl, sym, ap, subst, ◌∙◌, app
 use Rattle.kmc_reads.specs.Stages.{first_spot, fault_from}
 use Rattle.kmc_reads.specs.OpenLines.{whole_from}
 use Rattle.kmc_reads.specs.Standing.{FeederState, At}
+use Rattle.kmc_reads.proofs.Again.{stands_again}
 use Rattle.kmc_reads.proofs.Walking.{then_faults}
 use Rattle.kmc_reads.proofs.Stands.{no_fault, stands_on}
 use Rattle.kmc_reads.proofs.StandsCut.{cut_on, cut_fault}
@@ -49,3 +50,37 @@ returns-in-Ok-clause-again c = search rules
 
 pub returns-else-ne-clause-again : goal.returns-else-ne-clause-again
 returns-else-ne-clause-again c = search rules
+
+pub returns-else-ne-clause-memory : goal.returns-else-ne-clause-memory
+returns-else-ne-clause-memory c = λ format text taken s is.
+    let at = subst (λ t. At s.rows s.spot s.front t) (sym (ap (λ v. v.scan) c.self.view_is)) s.stands in
+    record {
+      rows = s.rows;
+      spot = s.spot;
+      front = s.front;
+      leads = s.leads;
+      stands = stands_again c.self.inside.scan c.feed.new.self c.in-Err.ensures.again s.rows s.spot s.front at;
+      sound = ap (λ v. v.refusal) c.self.view_is ∙ s.sound;
+    }
+
+pub returns-else-ne-clause-cut_memory : goal.returns-else-ne-clause-cut_memory
+returns-else-ne-clause-cut_memory c = λ overlap format text taken s is.
+    let at = subst (λ t. At s.rows s.spot s.front t) (sym (ap (λ v. v.scan) c.self.view_is)) s.stands in
+    record {
+      rows = s.rows;
+      spot = s.spot;
+      front = s.front;
+      leads = s.leads;
+      stands = stands_again c.self.inside.scan c.feed.new.self c.in-Err.ensures.again s.rows s.spot s.front at;
+      sound = ap (λ v. v.refusal) c.self.view_is ∙ s.sound;
+    }
+
+pub returns-then-ne-clause-still : goal.returns-then-ne-clause-still
+returns-then-ne-clause-still c = λ rows spot front at.
+    stands_again c.self.inside.scan c.feed.new.self c.in-Err.ensures.again rows spot front
+    (subst (λ t. At rows spot front t) (sym (ap (λ v. v.scan) c.self.view_is)) at)
+
+pub returns-else-ne-clause-still : goal.returns-else-ne-clause-still
+returns-else-ne-clause-still c = λ rows spot front at.
+    stands_again c.self.inside.scan c.feed.new.self c.in-Err.ensures.again rows spot front
+    (subst (λ t. At rows spot front t) (sym (ap (λ v. v.scan) c.self.view_is)) at)

@@ -2,6 +2,7 @@ use Rattle.std.proofs.Common.{ℕ, List, ◌++◌, Ok, Err, refl, sym, ap, subst
 use Rattle.kmc_reads.specs.Answer.{with_reads}
 use Rattle.kmc_reads.specs.Standing.{At}
 use Rattle.kmc_reads.specs.Reads.{reads_of}
+use Rattle.kmc_reads.proofs.Again.{stands_again}
 use Rattle.kmc_reads.proofs.Stands.{answer_is}
 use Rattle.kmc_reads.proofs.StandsCut.{cut_reads, cut_refusal, cut_answer_is}
 use Rattle.kmc_reads.proofs.feeder.Feeder.finish.Goals as goal
@@ -36,3 +37,37 @@ returns-then-ne-clause-cut_refused c = λ overlap format text taken s other.
           (ap (with_reads (taken ++ s.rows)) (c.in-Err.ensures.refused s.rows s.spot s.front at other))),
       refl,
     )
+
+pub returns-else-ne-clause-memory : goal.returns-else-ne-clause-memory
+returns-else-ne-clause-memory c = λ format text taken s is.
+    let at = subst (λ t. At s.rows s.spot s.front t) (sym (ap (λ v. v.scan) c.feeder.view_is)) s.stands in
+    record {
+      rows = s.rows;
+      spot = s.spot;
+      front = s.front;
+      leads = s.leads;
+      stands = stands_again c.feeder.inside.scan c.end.new.self c.in-Err.ensures.again s.rows s.spot s.front at;
+      sound = ap (λ v. v.refusal) c.feeder.view_is ∙ s.sound;
+    }
+
+pub returns-else-ne-clause-cut_memory : goal.returns-else-ne-clause-cut_memory
+returns-else-ne-clause-cut_memory c = λ overlap format text taken s is.
+    let at = subst (λ t. At s.rows s.spot s.front t) (sym (ap (λ v. v.scan) c.feeder.view_is)) s.stands in
+    record {
+      rows = s.rows;
+      spot = s.spot;
+      front = s.front;
+      leads = s.leads;
+      stands = stands_again c.feeder.inside.scan c.end.new.self c.in-Err.ensures.again s.rows s.spot s.front at;
+      sound = ap (λ v. v.refusal) c.feeder.view_is ∙ s.sound;
+    }
+
+pub returns-then-ne-clause-still : goal.returns-then-ne-clause-still
+returns-then-ne-clause-still c = λ rows spot front at.
+    stands_again c.feeder.inside.scan c.end.new.self c.in-Err.ensures.again rows spot front
+    (subst (λ t. At rows spot front t) (sym (ap (λ v. v.scan) c.feeder.view_is)) at)
+
+pub returns-else-ne-clause-still : goal.returns-else-ne-clause-still
+returns-else-ne-clause-still c = λ rows spot front at.
+    stands_again c.feeder.inside.scan c.end.new.self c.in-Err.ensures.again rows spot front
+    (subst (λ t. At rows spot front t) (sym (ap (λ v. v.scan) c.feeder.view_is)) at)

@@ -1,5 +1,6 @@
 use Rattle.std.proofs.Common.{◌≡◌, ℕ, List, [], ◌++◌, sym, ap, subst, ◌∙◌}
-use Rattle.std.proofs.lemmas.Result.{IfOk-weaker}
+use Rattle.std.proofs.lemmas.Result.{IfOk-weaker, on_err_weaker}
+use Rattle.kmc_reads.specs.declared.scan.Scan.{Scan}
 use Rattle.kmc_reads.specs.Standing.{FeederState, StandsAt, StandsCut, At}
 use Rattle.kmc_reads.specs.Stages.{ended}
 use Rattle.kmc_reads.proofs.Stands.{ended_are, taken_stands}
@@ -37,3 +38,11 @@ returns-clause-cut c = λ overlap format text taken s.
 pub returns-clause-waiting : goal.returns-clause-waiting
 returns-clause-waiting c = λ rows spot front at.
     c.take.ensures.taken rows spot front (subst (λ t. At rows spot front t) (sym (ap (λ v. v.scan) c.self.view_is)) at)
+
+pub returns-clause-memory : goal.returns-clause-memory
+returns-clause-memory c =
+    let with_scan : Scan → FeederState = λ t. record { scan = t; refusal = c.self.inside.refusal } in
+    on_err_weaker c.take.result (λ same. ap with_scan same ∙ c.self.view_is) c.take.ensures.same
+
+pub returns-clause-refused : goal.returns-clause-refused
+returns-clause-refused c = λ e refuses. ap (λ v. v.refusal) c.self.view_is ∙ refuses

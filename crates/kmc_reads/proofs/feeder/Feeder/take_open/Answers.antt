@@ -1,6 +1,7 @@
 use Rattle.std.proofs.Common.{◌++◌, sym, ap, subst, ◌∙◌}
-use Rattle.std.proofs.lemmas.Result.{IfOk-weaker}
+use Rattle.std.proofs.lemmas.Result.{IfOk-weaker, on_err_weaker}
 use Rattle.kmc_reads.specs.Standing.{FeederState, StandsCut, Hands, At}
+use Rattle.kmc_reads.proofs.Again.{stands_again}
 use Rattle.kmc_reads.proofs.StandsCut.{cut_taken}
 use Rattle.kmc_reads.proofs.feeder.Feeder.take_open.Goals as goal
 
@@ -16,3 +17,29 @@ returns-clause-stands c = λ format text taken s.
 pub returns-clause-waiting : goal.returns-clause-waiting
 returns-clause-waiting c = λ rows spot front at.
     c.take_open.ensures.taken rows spot front (subst (λ t. At rows spot front t) (sym (ap (λ v. v.scan) c.self.view_is)) at)
+
+pub returns-clause-memory : goal.returns-clause-memory
+returns-clause-memory c = λ format text taken s.
+    let at = subst (λ t. At s.rows s.spot s.front t) (sym (ap (λ v. v.scan) c.self.view_is)) s.stands in
+    on_err_weaker c.take_open.result
+    (λ same. record {
+      rows = s.rows;
+      spot = s.spot;
+      front = s.front;
+      leads = s.leads;
+      stands = stands_again c.self.inside.scan c.take_open.new.self same s.rows s.spot s.front at;
+      sound = ap (λ v. v.refusal) c.self.view_is ∙ s.sound;
+    })
+    c.take_open.ensures.again
+
+pub returns-clause-handed : goal.returns-clause-handed
+returns-clause-handed c = c.take_open.ensures.handed
+
+pub returns-clause-refused : goal.returns-clause-refused
+returns-clause-refused c = λ e refuses. ap (λ v. v.refusal) c.self.view_is ∙ refuses
+
+pub returns-clause-still : goal.returns-clause-still
+returns-clause-still c = on_err_weaker c.take_open.result
+    (λ same rows spot front at. stands_again c.self.inside.scan c.take_open.new.self same rows spot front
+    (subst (λ t. At rows spot front t) (sym (ap (λ v. v.scan) c.self.view_is)) at))
+    c.take_open.ensures.again

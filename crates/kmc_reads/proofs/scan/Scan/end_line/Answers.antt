@@ -5,6 +5,7 @@ use Rattle.kmc_reads.specs.declared.stage.Stage.TheVariants.{Quality}
 use Rattle.kmc_reads.specs.Stages.{Spot, begun_by}
 use Rattle.kmc_reads.specs.Standing.{Keeps, kept}
 use Rattle.kmc_reads.proofs.Feeding.{given, not_given, settled_stripped}
+use Rattle.kmc_reads.proofs.Walking.{take_whole}
 use Rattle.kmc_reads.proofs.scan.Scan.end_line.Goals as goal
 use Rattle.kmc_reads.proofs.scan.Scan.end_line.Goals.{in-Quality+in_ok-close-in-Quality, in_default}
 
@@ -29,7 +30,7 @@ returns-clause-at c = λ rows spot front at.
     ]
 
 pub returns-in_err-judge-clause-ends : goal.returns-in_err-judge-clause-ends
-returns-in_err-judge-clause-ends c = grind (arith, common_steps)
+returns-in_err-judge-clause-ends c = take_whole _
 
 pub returns-clause-ends : goal.returns-clause-ends
 returns-clause-ends c = grind (arith, common_steps)

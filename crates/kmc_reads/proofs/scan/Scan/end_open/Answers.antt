@@ -1,10 +1,12 @@
 use Rattle.std.proofs.Common.{[], sym, ap, subst, ◌∙◌, append-nil}
+use Rattle.std.proofs.lemmas.Result.{IfErr-weaker}
 use Rattle.std.specs.Io.BufRead.{strip_last}
 use Rattle.kmc_reads.specs.OpenLines.{last_line}
 use Rattle.kmc_reads.specs.Stages.{reads_from, past, given_by, answer_past, answer_at_end}
 use Rattle.kmc_reads.specs.Standing.{At}
 use Rattle.kmc_reads.proofs.Feeding.{last_is_line}
-use Rattle.kmc_reads.proofs.PassedOn.{passed_on}
+use Rattle.kmc_reads.proofs.PassedOn.{on_ok_both}
+use Rattle.kmc_reads.proofs.Walking.{take_whole}
 use Rattle.kmc_reads.proofs.Answers.{with_none}
 use Rattle.kmc_reads.proofs.scan.Scan.end_open.Goals as goal
 
@@ -23,20 +25,31 @@ returns-clause-whole c = λ rows spot front at.
     let line = strip_last 13 front in
     let given = given_by spot.stage spot.read line in let next = past spot line in
     let some = c.is_between.ensures.some rows spot front at c.if-is_between.false in
-    record {
+    on_ok_both c.end_line.result
+    (λ fine stands. record {
       more = given;
       next = next;
-      reads = ap (reads_from spot) (last_is_line front some) ∙ ap (λ o. answer_past o given (answer_at_end next.number next.stage next.read))
-          (c.in_ok-end_line.ensures.fine rows spot front at);
-      stands = c.in_ok-end_line.ensures.at rows spot front at;
-    }
+      reads = ap (reads_from spot) (last_is_line front some) ∙ ap (λ o. answer_past o given (answer_at_end next.number next.stage next.read)) fine;
+      stands = stands;
+    })
+    (c.end_line.ensures.fine rows spot front at)
+    (c.end_line.ensures.at rows spot front at)
 
-pub returns-in_err-end_line-clause-refused : goal.returns-in_err-end_line-clause-refused
-returns-in_err-end_line-clause-refused c = λ rows spot front at.
+pub returns-clause-refused : goal.returns-clause-refused
+returns-clause-refused c = λ rows spot front at.
     let line = strip_last 13 front in
     let given = given_by spot.stage spot.read line in let next = past spot line in
     let some = c.is_between.ensures.some rows spot front at c.if-is_between.false in
-    passed_on c.end_line.result c.from_residual.result _ _ _ c.in_err-end_line.was
-    (c.end_line.ensures.fault rows spot front at) c.from_residual.ensures.1
-    λ e found other.
-    ap (reads_from spot) (last_is_line front some) ∙ ap (λ o. answer_past o given (answer_at_end next.number next.stage next.read)) (found other)
+    IfErr-weaker c.end_line.result _ _
+    (λ e found other. ap (reads_from spot) (last_is_line front some)
+    ∙ ap (λ o. answer_past o given (answer_at_end next.number next.stage next.read)) (found other))
+    (c.end_line.ensures.fault rows spot front at)
+
+pub returns-then-is_between-clause-ends : goal.returns-then-is_between-clause-ends
+returns-then-is_between-clause-ends c = take_whole _
+
+pub returns-clause-bytes : goal.returns-clause-bytes
+returns-clause-bytes c = c.end_line.ensures.bytes
+
+pub returns-clause-ends : goal.returns-clause-ends
+returns-clause-ends c = c.end_line.ensures.ends

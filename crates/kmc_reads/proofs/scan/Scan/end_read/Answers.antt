@@ -1,5 +1,5 @@
-use Rattle.std.proofs.Common.{◌≡◌, ℕ, List, [], ◌++◌, Ok, refl, sym, ap, subst, ◌∙◌, append-nil, arith, rules}
-use Rattle.std.proofs.lemmas.Grind.{common_steps}
+use Rattle.std.proofs.Common.{◌≡◌, ℕ, List, [], ◌++◌, Ok, refl, sym, ap, subst, ◌∙◌, append-nil, rules}
+use Rattle.kmc_reads.proofs.Walking.{take_whole}
 use Rattle.kmc_reads.specs.declared.scan.Scan.{Scan}
 use Rattle.kmc_reads.specs.declared.stage.Stage.{Stage}
 use Rattle.kmc_reads.specs.declared.stage.Stage.TheVariants.{Header, FirstHeader}
@@ -24,13 +24,13 @@ pub returns-in-FirstHeader-clause-whole : goal.returns-in-FirstHeader-clause-who
 returns-in-FirstHeader-clause-whole c = none_open FirstHeader (λ n read. refl) c.args.self.now c.in-FirstHeader.is
 
 pub returns-in-Header-clause-ends : goal.returns-in-Header-clause-ends
-returns-in-Header-clause-ends c = grind (arith, common_steps)
+returns-in-Header-clause-ends c = take_whole _
 
 pub returns-in-FirstHeader-clause-ends : goal.returns-in-FirstHeader-clause-ends
-returns-in-FirstHeader-clause-ends c = grind (arith, common_steps)
+returns-in-FirstHeader-clause-ends c = take_whole _
 
 pub returns-in-Sequence-clause-ends : goal.returns-in-Sequence-clause-ends
-returns-in-Sequence-clause-ends c = grind (arith, common_steps)
+returns-in-Sequence-clause-ends c = take_whole _
 
 pub returns-in-Sequence-clause-refused : goal.returns-in-Sequence-clause-refused
 returns-in-Sequence-clause-refused c = search rules

@@ -1,11 +1,11 @@
 use Rattle.std.proofs.Common.{◌≡◌, ◌<◌, [], ◌∷◌, ◌++◌, length, refl, sym, subst, append-nil, arith}
 use Rattle.std.proofs.lemmas.Bool.Decides.{nat_tests}
-use Rattle.std.proofs.lemmas.Grind.{common_steps}
+use Rattle.std.proofs.lemmas.Result.{on_ok_weaker}
 use Rattle.kmc_reads.specs.declared.stage.Stage.TheVariants.{Name}
 use Rattle.kmc_reads.specs.Stages.{Spot}
 use Rattle.kmc_reads.specs.Standing.{At, Goes, Leads}
 use Rattle.kmc_reads.proofs.Feeding.{no_items}
-use Rattle.kmc_reads.proofs.Walking.{here, open_leads, name_leads}
+use Rattle.kmc_reads.proofs.Walking.{here, open_leads, name_leads, take_whole}
 use Rattle.kmc_reads.proofs.scan.Scan.extend.Goals as goal
 
 pub returns-then-bytes-eq0-clause-goes : goal.returns-then-bytes-eq0-clause-goes
@@ -20,40 +20,35 @@ returns-then-begins_name-clause-goes c = λ rows spot front at unbroken.
     let is = c.begins_name.ensures.name rows spot front at c.if-begins_name.true in
     let next : Spot = record { number = spot.number; stage = Name; read = [] } in
     let named = c.in_ok-name.ensures.at rows spot (subst (λ t. At rows spot t c.args.self.now) is.none at) is.body in
-    record {
+    on_ok_weaker c.grow.result
+    (λ grown. record {
       more = spot.read ∷ [];
       next = next;
       left = bytes;
       leads = subst (λ t. Leads spot t bytes (spot.read ∷ []) next bytes) (sym is.none)
           (subst (λ st. Leads (record { number = spot.number; stage = st; read = spot.read }) [] bytes (spot.read ∷ []) next bytes) (sym is.body)
           (name_leads spot.number spot.read bytes is.header unbroken));
-      stands = c.in_ok-grow.ensures.at (rows ++ spot.read ∷ []) next [] named some refl;
-    }
+      stands = grown;
+    })
+    (c.grow.ensures.at (rows ++ spot.read ∷ []) next [] named some refl)
 
 pub returns-clause-goes : goal.returns-clause-goes
 returns-clause-goes c = λ rows spot front at unbroken.
     let bytes = c.args.bytes.now in
     let some : 0 < length bytes = grind (arith, nat_tests) in
     let settled = c.begins_name.ensures.none rows spot front at c.if-begins_name.false in
-    record {
+    on_ok_weaker c.grow-2.result
+    (λ grown. record {
       more = [];
       next = spot;
       left = front ++ bytes;
       leads = open_leads spot front bytes unbroken;
-      stands = subst (λ t. At t spot (front ++ bytes) c.grow-2.new.self) (sym (append-nil rows)) (c.in_ok-grow-2.ensures.at rows spot front at some settled);
-    }
+      stands = subst (λ t. At t spot (front ++ bytes) c.grow-2.new.self) (sym (append-nil rows)) grown;
+    })
+    (c.grow-2.ensures.at rows spot front at some settled)
 
 pub returns-then-bytes-eq0-clause-bytes : goal.returns-then-bytes-eq0-clause-bytes
-returns-then-bytes-eq0-clause-bytes c = grind (arith, common_steps)
+returns-then-bytes-eq0-clause-bytes c = take_whole _
 
 pub returns-then-bytes-eq0-clause-ends : goal.returns-then-bytes-eq0-clause-ends
-returns-then-bytes-eq0-clause-ends c = grind (arith, common_steps)
-
-pub returns-in_err-name-clause-bytes : goal.returns-in_err-name-clause-bytes
-returns-in_err-name-clause-bytes c = grind (arith, common_steps)
-
-pub returns-in_err-grow-2-clause-ends : goal.returns-in_err-grow-2-clause-ends
-returns-in_err-grow-2-clause-ends c = grind (arith, common_steps)
-
-pub returns-clause-ends : goal.returns-clause-ends
-returns-clause-ends c = grind (arith, common_steps)
+returns-then-bytes-eq0-clause-ends c = take_whole _

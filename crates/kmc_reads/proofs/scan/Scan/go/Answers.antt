@@ -1,18 +1,14 @@
-use Rattle.std.proofs.Common.{◌≡◌, ℕ, List, ◌++◌, [], ◌∷◌, take, length, refl, subst, take_all, arith}
-use Rattle.std.proofs.lemmas.Grind.{common_steps}
+use Rattle.std.proofs.Common.{◌≡◌, ℕ, List, ◌++◌, [], ◌∷◌, refl, subst}
 use Rattle.kmc_reads.specs.Standing.{Goes, HasFault}
 use Rattle.kmc_reads.proofs.PassedOn.{passed_on}
-use Rattle.kmc_reads.proofs.Walking.{here, then_goes, then_faults, faults_on, over_split, take_front}
+use Rattle.kmc_reads.proofs.Walking.{here, then_goes, then_faults, faults_on, over_split, take_front, take_whole}
 use Rattle.kmc_reads.proofs.scan.Scan.go.Goals as goal
-
-all_of : (xs : List ℕ) → take (length xs) xs ≡ xs
-all_of xs = take_all (length xs) xs (omega arith)
 
 pub loop-line-init : goal.loop-line-init
 loop-line-init c = record {
   goes = λ rows spot front at. record { over = []; whole = refl; goes = here rows spot front c.args.self.now at };
-  bytes = all_of c.args.self.now.bytes.items;
-  ends = all_of c.args.self.now.ends.items;
+  bytes = take_whole c.args.self.now.bytes.items;
+  ends = take_whole c.args.self.now.ends.items;
 }
 
 pub loop-line-preserved : goal.loop-line-preserved
@@ -50,19 +46,19 @@ returns-clause-goes c = λ rows spot front at.
     subst (λ t. Goes rows spot front t c.extend.new.self) w.whole (then_goes rows spot front w.over _ c.loop-line.self c.extend.new.self g h)
 
 pub returns-in_err-line-clause-bytes : goal.returns-in_err-line-clause-bytes
-returns-in_err-line-clause-bytes c = grind (arith, common_steps)
+returns-in_err-line-clause-bytes c = take_front _ _ _ c.loop-line.invariant.bytes c.line.ensures.bytes
 
 pub returns-in_err-line-clause-ends : goal.returns-in_err-line-clause-ends
-returns-in_err-line-clause-ends c = grind (arith, common_steps)
+returns-in_err-line-clause-ends c = take_front _ _ _ c.loop-line.invariant.ends c.line.ensures.ends
 
 pub returns-in_err-extend-clause-bytes : goal.returns-in_err-extend-clause-bytes
-returns-in_err-extend-clause-bytes c = grind (arith, common_steps)
+returns-in_err-extend-clause-bytes c = take_front _ _ _ c.loop-line.invariant.bytes c.extend.ensures.bytes
 
 pub returns-in_err-extend-clause-ends : goal.returns-in_err-extend-clause-ends
-returns-in_err-extend-clause-ends c = grind (arith, common_steps)
+returns-in_err-extend-clause-ends c = take_front _ _ _ c.loop-line.invariant.ends c.extend.ensures.ends
 
 pub returns-clause-bytes : goal.returns-clause-bytes
-returns-clause-bytes c = grind (arith, common_steps)
+returns-clause-bytes c = take_front _ _ _ c.loop-line.invariant.bytes c.extend.ensures.bytes
 
 pub returns-clause-ends : goal.returns-clause-ends
-returns-clause-ends c = grind (arith, common_steps)
+returns-clause-ends c = take_front _ _ _ c.loop-line.invariant.ends c.extend.ensures.ends

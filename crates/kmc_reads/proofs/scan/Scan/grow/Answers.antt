@@ -1,8 +1,8 @@
-use Rattle.std.proofs.Common.{◌≡◌, ◌++◌, sym, subst, ap, ◌∙◌, arith}
-use Rattle.std.proofs.lemmas.Grind.{common_steps}
+use Rattle.std.proofs.Common.{◌≡◌, ◌++◌, sym, subst, ap, ◌∙◌}
 use Rattle.std.specs.Io.BufRead.{strip_last}
 use Rattle.kmc_reads.specs.Standing.{Keeps}
 use Rattle.kmc_reads.proofs.Feeding.{strip_more, ends_more}
+use Rattle.kmc_reads.proofs.Walking.{take_front}
 use Rattle.kmc_reads.proofs.scan.Scan.grow.Goals as goal
 
 pub returns-clause-at : goal.returns-clause-at
@@ -19,7 +19,7 @@ returns-clause-at c = λ rows spot front at some settled.
     }
 
 pub returns-in_err-add-clause-bytes : goal.returns-in_err-add-clause-bytes
-returns-in_err-add-clause-bytes c = grind (arith, common_steps)
+returns-in_err-add-clause-bytes c = take_front _ _ _ c.release.ensures.bytes c.add.ensures.bytes
 
 pub returns-clause-bytes : goal.returns-clause-bytes
-returns-clause-bytes c = grind (arith, common_steps)
+returns-clause-bytes c = take_front _ _ _ c.release.ensures.bytes c.add.ensures.bytes

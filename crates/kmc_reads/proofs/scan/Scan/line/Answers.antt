@@ -1,7 +1,8 @@
-use Rattle.std.proofs.Common.{subst}
+use Rattle.std.proofs.Common.{subst, ap, ◌∙◌, length, take}
 use Rattle.std.proofs.lemmas.Result.{on_ok_weaker, IfErr-weaker}
 use Rattle.kmc_reads.specs.Standing.{At}
 use Rattle.kmc_reads.proofs.Records.{took_goes, took_faults}
+use Rattle.kmc_reads.proofs.Walking.{take_whole}
 use Rattle.kmc_reads.proofs.scan.Scan.line.Goals as goal
 
 pub returns-in-Header-clause-goes : goal.returns-in-Header-clause-goes
@@ -55,3 +56,27 @@ returns-in-Quality-clause-fault c = λ rows spot front at unbroken.
     IfErr-weaker c.quality.result _ _
     (λ e found other. took_faults rows spot front c.args.line.now _ empty c.cut_return.ensures.content unbroken e (found other))
     (c.quality.ensures.fault rows spot (subst (λ t. At rows spot t c.args.self.now) empty at))
+
+pub returns-in-Header-clause-bytes : goal.returns-in-Header-clause-bytes
+returns-in-Header-clause-bytes c = ap (take (length c.args.self.now.bytes.items)) c.header.ensures.bytes ∙ take_whole _
+
+pub returns-in-Header-clause-ends : goal.returns-in-Header-clause-ends
+returns-in-Header-clause-ends c = ap (take (length c.args.self.now.ends.items)) c.header.ensures.ends ∙ take_whole _
+
+pub returns-in-Sequence-clause-bytes : goal.returns-in-Sequence-clause-bytes
+returns-in-Sequence-clause-bytes c = c.sequence.ensures.bytes
+
+pub returns-in-Sequence-clause-ends : goal.returns-in-Sequence-clause-ends
+returns-in-Sequence-clause-ends c = ap (take (length c.args.self.now.ends.items)) c.sequence.ensures.ends ∙ take_whole _
+
+pub returns-in-Plus-clause-bytes : goal.returns-in-Plus-clause-bytes
+returns-in-Plus-clause-bytes c = ap (take (length c.args.self.now.bytes.items)) c.plus.ensures.bytes ∙ take_whole _
+
+pub returns-in-Plus-clause-ends : goal.returns-in-Plus-clause-ends
+returns-in-Plus-clause-ends c = ap (take (length c.args.self.now.ends.items)) c.plus.ensures.ends ∙ take_whole _
+
+pub returns-in-Quality-clause-bytes : goal.returns-in-Quality-clause-bytes
+returns-in-Quality-clause-bytes c = ap (take (length c.args.self.now.bytes.items)) c.quality.ensures.bytes ∙ take_whole _
+
+pub returns-in-Quality-clause-ends : goal.returns-in-Quality-clause-ends
+returns-in-Quality-clause-ends c = c.quality.ensures.ends

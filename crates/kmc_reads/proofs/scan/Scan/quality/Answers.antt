@@ -13,3 +13,6 @@ returns-clause-took c = λ rows spot at.
     let emptied : Spot = record { number = spot.number; stage = spot.stage; read = [] } in
     took_quality rows spot c.step.new.self c.args.content.now (sym k.stage ∙ c.requires) long
     (c.step.ensures.at (rows ++ spot.read ∷ []) emptied (c.in_ok-close.ensures.keeps rows spot [] k (none_kept spot.stage)) (c.in_ok-close.ensures.held ∙ at.held))
+
+pub returns-clause-bytes : goal.returns-clause-bytes
+returns-clause-bytes c = c.step.ensures.bytes ∙ c.close.ensures.bytes
