@@ -18,7 +18,7 @@ pub fn long_form(alloc: Global, word: String) -> Result<String, AllocError>
     }
 }
 
-// The long form of a word that is a flag or glues a value to an option; none for every other word.
+/// The long form of a word that is a flag or glues a value to an option; none for every other word.
 fn changed(alloc: Global, word: &str) -> Result<Option<String>, AllocError>
     ensures { IfOk result (λ long.
         option_map_or string_bytes long word.now ≡ long_form word.now) }

@@ -40,7 +40,7 @@ impl<T> Model for ReaderSeat<T> {
 }
 
 /// What a try to take answers.
-#[derive(Drop, PartialEq, Eq)]
+#[derive(Drop, Clone, PartialEq, Eq, Debug)]
 pub enum TryTaken<T> {
     /// A part, which is no longer in the queue.
     Got(Received<T>),

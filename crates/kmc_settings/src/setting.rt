@@ -8,7 +8,7 @@ use kmc_partcore::MAX_WRITERS;
 use kmc_record::MOST_BINS;
 
 /// A range of numbers, both ends included, with the number that stands where none is given.
-#[derive(Clone, Copy)]
+#[derive(Clone, Copy, Debug, PartialEq, Eq)]
 pub struct Bounds {
     pub least: u64,
     pub most: u64,
