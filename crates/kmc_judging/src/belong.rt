@@ -161,9 +161,10 @@ fn count_known(body: &[u8], bin: usize, shape: Shape, known: &mut [u128]) -> Res
 /// A place for so many bytes of a body: records have some ten bytes, so nearly each has a place of its own.
 const BYTES_OF_A_PLACE: usize = 8;
 
-/// How many words the body has, and 2^64 - 1 where they are more, if it is whole records of the bin. A record that is equal to
-/// an earlier one, or to its reverse complement, is mostly not judged again: numbers of records are kept in the room, one for
-/// 8 bytes of the body. What the room has before does not matter, and where memory for it is refused every record is judged.
+/// How many words the body has, and 2^64 - 1 where they are more, if it is whole records of the bin; else its first fault. A
+/// record that is equal to an earlier one, or to its reverse complement, is mostly not judged again: numbers of records are kept
+/// in the room, one for 8 bytes of the body. What the room has before does not matter, and where memory for it is refused every
+/// record is judged.
 pub fn count_words(
     body: &[u8],
     bin: usize,

@@ -26,7 +26,7 @@ pub fn super_kmer_in_bin(super_kmer: &SuperKmer, m: usize, n: usize, bin: usize)
 }
 
 /// Whether the signature of each word of k codes in a row has this bin, of n bins: what [`super_kmer_in_bin`] says, for codes
-/// that lie anywhere. It makes nothing in memory.
+/// that lie anywhere. The codes are 0 to 3, k to k + 255 of them; m is 1 to 8 and at most k. It makes nothing in memory.
 pub fn words_in_bin(codes: &[u8], k: usize, m: usize, n: usize, bin: usize) -> bool
     requires some { 1 ≤ m }
     requires most { m ≤ MAX_M }

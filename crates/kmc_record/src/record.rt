@@ -11,7 +11,7 @@ use crate::fault::RecordFault;
 use kmc_base::{KeyRule, MAX_K, Strands, Weight, Word, packed_key};
 use std::alloc::AllocError;
 
-/// The code at a place of the bytes.
+/// The code, 0 to 3, at a place of some bytes: each has four, the first in the highest bits.
 pub fn code_at(bytes: &[u8], i: usize) -> u8
     requires { i < 4 * length bytes.now }
     ensures is { result ≡ slice_index (codes_in bytes.now) i }
@@ -98,8 +98,9 @@ fn push_code<W: Word + Drop>(
     (next, other)
 }
 
-/// Appends the packed keys of the words of a record's symbols, each with its weight, in the order of their places. Room for
-/// all of them is had first; the symbols in front of the first word's last one enter the window a byte at a time.
+/// Appends the packed keys of the words of a record's symbols, each with its weight, in the order of their places. The bytes,
+/// fewer than 1000, have the symbols, at least one word of them, and a key with its weight fits the type. Room for all keys is
+/// had first; the symbols in front of the first word's last one enter the window a byte at a time.
 pub fn push_record<W: Word + Drop>(
     words: &mut Vec<W>,
     rule: KeyRule,

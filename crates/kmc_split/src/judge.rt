@@ -79,8 +79,9 @@ fn judge(values: &mut [u16], m: usize)
     }
 }
 
-/// What the m-mer at each place of the codes offers as a signature, in two passes: its canonical form, packed, where that is allowed,
-/// and 4^m - 1 where it is not. `out` has a place for each m-mer. M-mers that are too short to be allowed are not looked at.
+/// What the m-mer at each place of the codes offers as a signature, in two passes: its canonical form, packed, where that is
+/// allowed, and 4^m - 1 where it is not. The codes are 0 to 3, m is 1 to 8, and `out` has a place for each m-mer. M-mers that are
+/// too short to be allowed are not looked at.
 pub fn offers(codes: &[u8], m: usize, out: &mut [u16])
     requires some { 1 ≤ m }
     requires most { m ≤ MAX_M }

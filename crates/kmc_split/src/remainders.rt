@@ -1,8 +1,8 @@
 //! Remainders without a division.
 ghost use Rattle.std.specs.Prelude.{◌≡◌, ◌%◌, ◌≤◌};
 
-/// What is left of a number that is divided by n. Where n is a power of two, as the number of bins is by default, that is the
-/// lowest bits.
+/// What is left of a number that is divided by n, which is 1 or more. Where n is a power of two, as the number of bins is by
+/// default, that is the lowest bits.
 pub fn remainder(number: usize, n: usize) -> usize
     requires { 1 ≤ n }
     ensures { result ≡ number % n }
