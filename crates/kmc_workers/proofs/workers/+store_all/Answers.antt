@@ -1,11 +1,23 @@
-use Rattle.std.proofs.Common.{[], ◌∷◌, ◌++◌, sym, subst, arith}
+use Rattle.kmc_record.specs.Shapes.{Sizes}
+use Rattle.std.proofs.Common.{ℕ, List, [], ◌∷◌, ◌++◌, map, sym, subst, arith}
 use Rattle.std.proofs.lemmas.Grind.{common_steps, elements}
 use Rattle.std.specs.Prelude.{IfOk}
 use Rattle.std.specs.List.{AllZip}
 use Rattle.kmc_workers.specs.Shards.{IsShard}
-use Rattle.kmc_workers.proofs.Both.{both_gave, of_ok}
+use Rattle.kmc_base.specs.Lemmas.PassedOn.{passed_on}
+use Rattle.kmc_workers.specs.Workers.{IsDone}
+use Rattle.kmc_workers.specs.Causes.{IsWorkersCause, IsStorersCause}
+use Rattle.kmc_workers.specs.declared.refusal.GivenUp.{GivenUp}
+use Rattle.kmc_workers.specs.declared.refusal.GivenUp.TheVariants.{Memory, NumbersSpent, Stopped}
+use Rattle.kmc_workers.proofs.Both.{both_gave, both_failed, of_ok, of_cause}
 use Rattle.kmc_workers.proofs.Zips.{zip_more}
 use Rattle.kmc_workers.proofs.workers.+store_all.Goals as goal
+
+-- what makes a storer end makes the workers end
+storers_cause : (shape : Sizes) (batch : ℕ) (reads : List (List ℕ)) (sp : ℕ) (e : GivenUp) → IsStorersCause e → IsWorkersCause shape batch reads sp e
+storers_cause shape batch reads sp NumbersSpent h = absurd h
+storers_cause shape batch reads sp Memory h = tt
+storers_cause shape batch reads sp Stopped h = tt
 
 pub returns-clause-shards : goal.returns-clause-shards
 returns-clause-shards g t c =
@@ -22,3 +34,19 @@ store_all-rest-requires-clause-shards g t c κs within = grind (arith, common_st
 
 pub start_storer-requires : goal.start_storer-requires
 start_storer-requires g t c = grind (arith, elements)
+
+pub returns-clause-done : goal.returns-clause-done
+returns-clause-done g t c =
+    let a = c.args in let both = c.in_ok-others.others in
+    let P = IsDone a.plan.shape a.plan.batch (map (λ v. v.now) a.reads.now) a.way.now.writers in
+    let gave = both_gave c.store_all-rest.result c.join.result both c.in_ok-others.own c.in_ok-others.ensures in
+    subst (λ r. IfOk r (λ q. AllZip P a.seats.writers.items q.0.items)) gave.0 c.store_all-rest.ensures.done
+
+pub returns-in_err-others-clause-cause : goal.returns-in_err-others-clause-cause
+returns-in_err-others-clause-cause g t c =
+    let a = c.args in let back = c.from_residual-in_err-others in let cause = c.in_err-others.field-0.0 in
+    let P = IsWorkersCause a.plan.shape a.plan.batch (map (λ v. v.now) a.reads.now) a.way.now.writers in
+    let storers : (e : GivenUp) → IsStorersCause e → P e = λ e. storers_cause a.plan.shape a.plan.batch (map (λ v. v.now) a.reads.now) a.way.now.writers e in
+    passed_on P back.result cause back.ensures.1
+    (both_failed P c.store_all-rest.result c.join.result cause c.in_err-others.ensures c.store_all-rest.ensures.cause
+    (of_cause _ _ P c.join.result storers c.join.ensures))
