@@ -2,11 +2,22 @@ use Rattle.std.proofs.Common.{◌++◌, [], refl, sym, ap, subst, ◌∙◌, app
 use Rattle.kmc_reads.specs.Stages.{first_spot, fault_from}
 use Rattle.kmc_reads.specs.OpenLines.{whole_from}
 use Rattle.kmc_reads.specs.Standing.{FeederState, At}
-use Rattle.kmc_reads.proofs.Again.{stands_again}
+use Rattle.kmc_reads.proofs.Again.{stands_again, somewhere_again}
 use Rattle.kmc_reads.proofs.Walking.{then_faults}
 use Rattle.kmc_reads.proofs.Stands.{no_fault, stands_on}
 use Rattle.kmc_reads.proofs.StandsCut.{cut_on, cut_fault}
 use Rattle.kmc_reads.proofs.feeder.Feeder.feed.Goals as goal
+
+pub invariant_of-self : goal.invariant_of-self
+invariant_of-self c =
+    let here = c.self.invariant in let g = c.in-Ok.ensures.goes here.rows here.spot here.front here.stands in
+    record { rows = here.rows ++ g.more; spot = g.next; front = g.left; stands = g.stands }
+
+pub invariant_of-self-then-ne : goal.invariant_of-self-then-ne
+invariant_of-self-then-ne c = somewhere_again c.self.inside.scan c.feed.new.self c.in-Err.ensures.again c.self.invariant
+
+pub invariant_of-self-else-ne : goal.invariant_of-self-else-ne
+invariant_of-self-else-ne c = somewhere_again c.self.inside.scan c.feed.new.self c.in-Err.ensures.again c.self.invariant
 
 pub returns-in-Ok-clause-stands : goal.returns-in-Ok-clause-stands
 returns-in-Ok-clause-stands c = λ format text taken s.

@@ -2,10 +2,20 @@ use Rattle.std.proofs.Common.{ℕ, List, ◌++◌, Ok, Err, refl, sym, ap, subst
 use Rattle.kmc_reads.specs.Answer.{with_reads}
 use Rattle.kmc_reads.specs.Standing.{At}
 use Rattle.kmc_reads.specs.Reads.{reads_of}
-use Rattle.kmc_reads.proofs.Again.{stands_again}
+use Rattle.kmc_reads.proofs.Again.{stands_again, somewhere_again}
 use Rattle.kmc_reads.proofs.Stands.{answer_is}
 use Rattle.kmc_reads.proofs.StandsCut.{cut_reads, cut_refusal, cut_answer_is}
 use Rattle.kmc_reads.proofs.feeder.Feeder.finish.Goals as goal
+
+pub into_reads-requires : goal.into_reads-requires
+into_reads-requires c =
+    let here = c.feeder.invariant in let w = c.in-Ok.ensures.whole here.rows here.spot here.front here.stands in (here.rows ++ w.more, w.behind, w.lies)
+
+pub invariant_of-feeder : goal.invariant_of-feeder
+invariant_of-feeder c = somewhere_again c.feeder.inside.scan c.end.new.self c.in-Err.ensures.again c.feeder.invariant
+
+pub invariant_of-feeder-else-ne : goal.invariant_of-feeder-else-ne
+invariant_of-feeder-else-ne c = somewhere_again c.feeder.inside.scan c.end.new.self c.in-Err.ensures.again c.feeder.invariant
 
 pub returns-in-Ok-clause-all : goal.returns-in-Ok-clause-all
 returns-in-Ok-clause-all c = λ format text taken s.

@@ -1,11 +1,24 @@
 use Rattle.std.proofs.Common.{◌≡◌, ℕ, List, [], ◌++◌, sym, ap, subst, ◌∙◌}
 use Rattle.std.proofs.lemmas.Result.{IfOk-weaker, on_err_weaker}
 use Rattle.kmc_reads.specs.declared.scan.Scan.{Scan}
-use Rattle.kmc_reads.specs.Standing.{FeederState, StandsAt, StandsCut, At}
+use Rattle.kmc_reads.specs.Standing.{FeederState, StandsAt, StandsCut, IsSomewhere, At}
 use Rattle.kmc_reads.specs.Stages.{ended}
+use Rattle.kmc_reads.proofs.PassedOn.{either_way}
 use Rattle.kmc_reads.proofs.Stands.{ended_are, taken_stands}
 use Rattle.kmc_reads.proofs.StandsCut.{cut_taken, hands_rows}
 use Rattle.kmc_reads.proofs.feeder.Feeder.take.Goals as goal
+
+pub take-requires : goal.take-requires
+take-requires c = c.self.invariant
+
+pub invariant_of-self : goal.invariant_of-self
+invariant_of-self c =
+    let new = c.take.new.self in let here = c.self.invariant in
+    either_way {P = IsSomewhere new} c.take.result
+    (IfOk-weaker c.take.result (λ reads. (reads ≡ here.rows) × At [] here.spot here.front new) (λ _. IsSomewhere new)
+    (λ reads h. record { rows = []; spot = here.spot; front = here.front; stands = h.1 })
+    (c.take.ensures.taken here.rows here.spot here.front here.stands))
+    (on_err_weaker c.take.result (λ same. subst IsSomewhere (sym same) here) c.take.ensures.same)
 
 pub returns-clause-all : goal.returns-clause-all
 returns-clause-all c = λ format text taken s.

@@ -1,9 +1,22 @@
-use Rattle.std.proofs.Common.{◌++◌, sym, ap, subst, ◌∙◌}
+use Rattle.std.proofs.Common.{[], ◌++◌, sym, ap, subst, ◌∙◌}
 use Rattle.std.proofs.lemmas.Result.{IfOk-weaker, on_err_weaker}
-use Rattle.kmc_reads.specs.Standing.{FeederState, StandsCut, Hands, At}
-use Rattle.kmc_reads.proofs.Again.{stands_again}
+use Rattle.kmc_reads.specs.Standing.{FeederState, StandsCut, Hands, IsSomewhere, At}
+use Rattle.kmc_reads.proofs.Again.{stands_again, somewhere_again}
+use Rattle.kmc_reads.proofs.PassedOn.{either_way}
 use Rattle.kmc_reads.proofs.StandsCut.{cut_taken}
 use Rattle.kmc_reads.proofs.feeder.Feeder.take_open.Goals as goal
+
+pub take_open-requires : goal.take_open-requires
+take_open-requires c = c.self.invariant
+
+pub invariant_of-self : goal.invariant_of-self
+invariant_of-self c =
+    let old = c.self.inside.scan in let new = c.take_open.new.self in let here = c.self.invariant in
+    either_way {P = IsSomewhere new} c.take_open.result
+    (IfOk-weaker c.take_open.result (λ reads. Hands c.args.overlap here.rows here.spot here.front reads new) (λ _. IsSomewhere new)
+    (λ reads h. record { rows = []; spot = h.next; front = h.left; stands = h.stands })
+    (c.take_open.ensures.taken here.rows here.spot here.front here.stands))
+    (on_err_weaker c.take_open.result (λ same. somewhere_again old new same here) c.take_open.ensures.again)
 
 pub returns-clause-stands : goal.returns-clause-stands
 returns-clause-stands c = λ format text taken s.

@@ -1,4 +1,4 @@
-use Rattle.std.proofs.Common.{◌≡◌, ℕ, List, ◌++◌, [], ◌∷◌, refl, subst}
+use Rattle.std.proofs.Common.{◌++◌, [], ◌∷◌, refl, subst}
 use Rattle.kmc_reads.specs.Standing.{Goes, HasFault}
 use Rattle.kmc_reads.proofs.PassedOn.{passed_on}
 use Rattle.kmc_reads.proofs.Walking.{here, then_goes, then_faults, faults_on, over_split, take_front, take_whole}
