@@ -1,14 +1,11 @@
 -- Numbers of parts, the slots that they use, and the uses.
 use Rattle.std.proofs.Common.{◌≡◌, ℕ, suc, ◌+◌, ◌*◌, ◌/◌, ◌%◌, ◌<◌, ◌≤◌, ◌≢◌, sym, ap, ap₂, ◌∙◌, mod-lt, suc-mul, mul-le-mul_right, div-add-mod'}
-use Rattle.std.proofs.Common.{lt_of_not-le, arith, rules}
+use Rattle.std.proofs.Common.{lt_of_not-le, arith}
 use mathlib.Core.Logic.{dite}
 use native.Mathlib.Decide.{dec_le}
 use native.Mathlib.Nat.{add-mod_right}
 use lib.Arith.{digits_div}
 use Rattle.atomic_table.proofs.Lists.{one_turn}
-
-pub div_le : (a b : ℕ) → a / b ≤ a
-div_le a b = search rules
 
 module _ (c : ℕ) where
   -- one slot and one use are one number

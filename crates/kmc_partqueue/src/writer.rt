@@ -110,10 +110,7 @@ impl<T> Lanes<T> {
             return Err((TryPutError::NumbersSpent, part));
         }
         let count = s.count;
-        let per_writer = self.shape.per_writer as u64;
-        let slot = s.number * self.shape.per_writer + (count % per_writer) as usize;
-        let mark = 2 * self.shape.writers + slot;
-        let turn = 2 * (count / per_writer);
+        let (slot, mark, turn) = self.place(s.number, count);
         let found = self.table.shared.load::<ClaimFreeSlot>(&mut s.seat, mark);
         if found != turn {
             return Err((TryPutError::Full, part));
