@@ -25,10 +25,6 @@ use std::thread::{Threads, join_mut};
 /// A run's round is full with so many symbols: fewer make more rounds, each of which waits for its slowest thread.
 const ROUND: usize = 1 << 25;
 
-/// The first round of a run is full with so many, since no thread cuts while it is read. Each next one has twice as many symbols,
-/// up to a full round.
-const FIRST_ROUND: usize = 1 << 22;
-
 /// So many reads fill a round: `batch` for each splitter, as far as a `usize` tells.
 pub fn round_of(params: &Params) -> usize
     ensures { result ≡ min (params.now.sp * params.now.batch) (2 ^ 64 - 1) }
@@ -155,20 +151,18 @@ pub fn bins_of_input<T: Threads + Wait + Sync, R: Read, G: Gate + Sync>(
         (R.remaining reader.new.inner)) }
 {
     empty_bins_hold_no_reads();
+    let dealing = Dealing {
+        alloc,
+        params: *params,
+        limit,
+        symbols: ROUND,
+        gate,
+    };
     let mut bins = Bins::new(alloc, params.shape())?;
     let mut feeder = Feeder::new(alloc, params.format);
     let most = reader.reads() + max_reads;
-    let mut symbols = FIRST_ROUND;
-    let mut more = fill_round(reader, &mut feeder, most, round_of(params), symbols)?;
+    let mut more = fill_round(reader, &mut feeder, most, round_of(params), ROUND)?;
     for _ in 0..1u64 << 32 {
-        symbols = symbols.saturating_mul(2).min(ROUND);
-        let dealing = Dealing {
-            alloc,
-            params: *params,
-            limit,
-            symbols,
-            gate,
-        };
         if !more {
             return Ok(last_round(rt, bins, feeder, &dealing)?);
         }
