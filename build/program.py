@@ -4,9 +4,8 @@
 usage: build/program.py PROGRAM, at the top of the repository. The program is left as crates/PROGRAM/out/PROGRAM.
 
 It asks the kit's compiler for each library as `rt ci` does: from nothing, and what stands above a library reads its statements
-and not its proofs. A library is begun once those that it names are done, first the one with the longest chain above it, which gets
-a process for every other processor, since more of them mostly do again what the first ones did; the others get one each, and where no
-more than two can be built, each gets one for each processor.
+and not its proofs. A library is begun once those that it names are done, first the one with the longest chain above it. Each gets one
+process, since several for one check take up to twice the processor seconds; one that nothing can be built beside gets all processors.
 What was built before from the same files is kept. `rt` in a crate's folder makes libraries of its own, in the place of these, and
 neither takes the other's.
 """
@@ -30,9 +29,6 @@ KEEPS_FREED = {"MIMALLOC_PURGE_DELAY": "-1"}
 # with so many bytes of room
 IN_MEMORY = "/dev/shm"
 ROOM_TO_HAND_ON = 2 << 30
-# what begins a chain of less than so much of the longest one's lines gives way
-NEAR = 0.8
-GIVES_WAY = 5
 
 
 def kit():
@@ -134,7 +130,7 @@ def call(name, *command):
         sys.exit(1)
 
 
-def build(crates, name, jobs, niceness):
+def build(crates, name, jobs):
     """Proves and builds a crate, unless it is there."""
     if is_built(crates, name):
         return
@@ -142,7 +138,7 @@ def build(crates, name, jobs, niceness):
     shutil.rmtree(made, ignore_errors=True)
     os.makedirs(made)
     built_from = sum_of(crates, name)
-    command = ["nice", "-n", str(niceness), f"{KIT}/bin/rattle", "build", *words(crates, name), "--jobs", str(jobs)]
+    command = [f"{KIT}/bin/rattle", "build", *words(crates, name), "--jobs", str(jobs)]
     if is_program(name):
         tools = ["--toolchain", f"{KIT}/toolchain"]
         call(name, *command, *tools, "--backend", "llvm", "-o", f"out/{name}.o")
@@ -178,14 +174,10 @@ def build_all(crates, order):
     with ThreadPoolExecutor(at_once) as pool:
         while left or running:
             ready = [it for it in left if all(other in done for other in crates[it] if other in crates)]
-            longest = max(weight[it] for it in order if it not in done)
-            are_few = len(ready) + len(running) <= 2
+            jobs = cores if len(ready) + len(running) == 1 else 1
             for name in ready[: at_once - len(running)]:
-                is_longest = weight[name] == max(weight[it] for it in left)
-                jobs = cores if are_few else max(1, cores // 2) if is_longest else 1
-                niceness = 0 if weight[name] >= NEAR * longest else GIVES_WAY
                 left.remove(name)
-                running[pool.submit(build, crates, name, jobs, niceness)] = name
+                running[pool.submit(build, crates, name, jobs)] = name
             for it in wait(running, return_when=FIRST_COMPLETED).done:
                 it.result()
                 done.add(running.pop(it))
