@@ -5,7 +5,7 @@ usage: build/program.py PROGRAM, at the top of the repository. The program is le
 
 It asks the kit's compiler for each library as `rt ci` does: from nothing, and what stands above a library reads its statements
 and not its proofs. A library is begun once those that it names are done, first the one with the longest chain above it. Each gets one
-process, since several for one check take up to twice the processor seconds; one that nothing can be built beside gets all processors.
+process, since several for one check take up to twice the processor seconds; the first also gets those that no other wants.
 What was built before from the same files is kept. `rt` in a crate's folder makes libraries of its own, in the place of these, and
 neither takes the other's.
 """
@@ -174,13 +174,15 @@ def build_all(crates, order):
     with ThreadPoolExecutor(at_once) as pool:
         while left or running:
             ready = [it for it in left if all(other in done for other in crates[it] if other in crates)]
-            jobs = cores if len(ready) + len(running) == 1 else 1
-            for name in ready[: at_once - len(running)]:
-                left.remove(name)
-                running[pool.submit(build, crates, name, jobs)] = name
+            for place, name in enumerate(ready, 1):
+                free = at_once - sum(jobs for _, jobs in running.values())
+                jobs = max(1, free - (len(ready) - place))
+                if jobs <= free:
+                    left.remove(name)
+                    running[pool.submit(build, crates, name, jobs)] = name, jobs
             for it in wait(running, return_when=FIRST_COMPLETED).done:
                 it.result()
-                done.add(running.pop(it))
+                done.add(running.pop(it)[0])
 
 
 def room_to_hand_on():
