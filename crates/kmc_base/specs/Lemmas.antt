@@ -14,3 +14,5 @@ pub mod Weights
 pub mod PassedOn
 pub mod Members
 pub mod WrittenBack
+pub mod Places
+pub mod Mirrored

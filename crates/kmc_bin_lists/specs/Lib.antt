@@ -1,4 +1,3 @@
-pub mod Shares
 pub mod Laws
 pub mod Bodies
 pub mod Lists

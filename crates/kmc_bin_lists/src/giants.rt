@@ -5,10 +5,10 @@ ghost use Rattle.kmc_bin_lists.specs.Bodies.{IsListAt};
 
 use crate::group::Placed;
 use crate::largest_first::LargestFirst;
-use crate::shared::list_by_threads;
 use kmc_base::{KeyRule, Word};
 use kmc_count::Limits;
 use kmc_dump::Shown;
+use kmc_giants::list_by_threads;
 use kmc_record::BodyError;
 use std::alloc::Global;
 use std::thread::Threads;

@@ -1,7 +1,7 @@
 //! The lists of bins: each bin is counted into a list in packed form, several bins at a time, and one that holds most of the
-//! words by all threads together. It stands on kmc_count for the count of a bin and on kmc_dump for lists and what is written
-//! of them. The layer above uses that the list of a bin is the dump of its words, and that the dumps of bins that share no
-//! word are one dump in order.
+//! words by all threads together. It stands on kmc_count for the count of a bin, on kmc_giants for that of a large one and on
+//! kmc_dump for lists and what is written of them. The layer above uses that the list of a bin is the dump of its words, and
+//! that the dumps of bins that share no word are one dump in order.
 #![tactic(auto)]
 
 mod bin;
@@ -11,9 +11,6 @@ mod group;
 mod largest_first;
 pub mod laws;
 mod lists;
-mod merging;
-mod share;
-mod shared;
 
 pub use bins::list_bodies;
 pub use lists::{BinLists, SizedLists, list_bins, write_bins};

@@ -1,10 +1,10 @@
 -- Bodies of bins, judged in two rows.
 use Rattle.std.proofs.Common.{◌≡◌, ℕ, ◌+◌, ◌-◌, ◌<◌, ◌≤◌, List, [], ◌∷◌, ◌++◌, length, get_or, refl, sym, subst, arith, length-append, ◌⊎◌, inl, inr}
 use Rattle.std.proofs.lemmas.List.{get_or_append_left, get_or-append_right}
-use Rattle.kmc_record.specs.Bodies.{AreRecordsOfBin, IsFirstError}
-use Rattle.kmc_record.specs.Parts.{IsPart}
-use Rattle.kmc_record.specs.Shapes.{Sizes}
-use Rattle.kmc_record.specs.declared.fault.PartError.{PartError}
+use Rattle.kmc_judging.specs.Bodies.{AreRecordsOfBin, IsFirstError}
+use Rattle.kmc_parts.specs.Parts.{IsPart}
+use Rattle.kmc_parts.specs.Shapes.{Sizes}
+use Rattle.kmc_judging.specs.declared.fault.PartError.{PartError}
 use Rattle.kmc_store.specs.Bins.{body_at}
 use Rattle.kmc_judging.specs.Outside.{AreCounted, IsFaultIn}
 use Rattle.kmc_judging.specs.declared.judging.BinFault.{BinFault}

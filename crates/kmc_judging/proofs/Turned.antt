@@ -7,9 +7,10 @@ use Rattle.kmc_base.specs.Lemmas.Packs.{AreCodes, codes_rev_comp, length_rev_com
 use Rattle.kmc_base.specs.Lemmas.Rolling.{codes_part}
 use Rattle.kmc_base.specs.Lemmas.Windows.{length_window, length_windows}
 use Rattle.kmc_split.specs.Signature.{signature_of}
-use Rattle.kmc_split.specs.Lemmas.BothStrands.{strands_share, window_back}
-use Rattle.kmc_record.specs.Shapes.{Sizes}
-use Rattle.kmc_record.specs.Bodies.{Belong}
+use Rattle.kmc_base.specs.Lemmas.Mirrored.{window_back}
+use Rattle.kmc_split.specs.Lemmas.BothStrands.{strands_share}
+use Rattle.kmc_parts.specs.Shapes.{Sizes}
+use Rattle.kmc_judging.specs.Bodies.{Belong}
 
 -- the reverse complement of a record of the bin is one too
 pub belong_turned : (bin : ℕ) (shape : Sizes) (w : List ℕ) → shape.m ≤ shape.k → shape.k ≤ length w → AreCodes w

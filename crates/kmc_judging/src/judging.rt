@@ -4,7 +4,9 @@ ghost use Rattle.std.specs.Thread.{IsSync};
 ghost use Rattle.kmc_judging.specs.Outside.{AreCounted, IsBinFault, IsFaultIn, IsJudgedRow};
 
 use crate::belong::count_words;
-use kmc_record::{PartError, Shape, share};
+use crate::fault::PartError;
+use crate::sharing::share;
+use kmc_parts::Shape;
 use kmc_store::Bins;
 use std::alloc::{AllocError, Global};
 use std::thread::{Threads, join_mut};

@@ -3,7 +3,7 @@ ghost use Rattle.std.specs.Prelude.{◌≡◌, ◌≤◌, ◌++◌, OnOk, OnErr}
 ghost use Rattle.kmc_record.specs.Record.{spelling, IsSpelled};
 
 use kmc_base::MAX_K;
-use kmc_record::push_packed;
+use kmc_parts::push_packed;
 use kmc_split::SuperKmer;
 use std::alloc::AllocError;
 

@@ -1,9 +1,5 @@
 pub mod LaidOut
 pub mod Unique
-pub mod Written
-pub mod Parcels
-pub mod Chunks
-pub mod Copied
 pub mod Filling
 pub mod Laying
 pub mod PackedBytes

@@ -7,7 +7,7 @@ use Rattle.kmc_base.specs.declared.strands.Strands.{Strands}
 use Rattle.kmc_base.specs.Strands.{key, keys}
 use Rattle.kmc_base.specs.Words.{window}
 use Rattle.kmc_base.specs.Lemmas.Rolling.{codes_front}
-use Rattle.kmc_split.specs.Lemmas.Places.{places_append, places_moved}
+use Rattle.kmc_base.specs.Lemmas.Places.{places_append, places_moved}
 use Rattle.kmc_record.specs.Record.{codes_in}
 use Rattle.kmc_record.specs.RecordKeys.{key_words, GainsWords, IsRecordKey}
 use Rattle.kmc_record.specs.Lemmas.Codes.{length_codes, are_codes, take_codes, drop_codes}

@@ -4,8 +4,4 @@ pub mod RecordWords
 pub mod RecordKeys
 pub mod Refusals
 pub mod Laws
-pub mod Shapes
-pub mod Parts
-pub mod Growing
-pub mod Bodies
 pub mod Lemmas

@@ -12,7 +12,7 @@ use Rattle.kmc_reads.specs.Stages.{fault}
 use Rattle.kmc_reads.specs.Lines.{carriage_return}
 use Rattle.kmc_reads.specs.Standing.{FeederState, StandsCut, IsSomewhere, open_symbols}
 use Rattle.kmc_base.specs.Pieces.{pieces}
-use Rattle.kmc_record.specs.Shapes.{Sizes}
+use Rattle.kmc_parts.specs.Shapes.{Sizes}
 use Rattle.kmc_store.specs.Bins.{BinList}
 use Rattle.kmc_store.specs.Holds.{HoldsReads}
 use Rattle.kmc_rounds.specs.declared.input_error.InputError.{InputError}

@@ -7,8 +7,8 @@ use crate::setting::Setting;
 use kmc_base::Strands;
 use kmc_count::Limits;
 use kmc_partcore::{MAX_PER_WRITER, MAX_READERS, QueueShape};
+use kmc_parts::Shape;
 use kmc_reads::Format;
-use kmc_record::Shape;
 use kmc_split::MAX_M;
 
 /// Most reads of a round for each splitter.

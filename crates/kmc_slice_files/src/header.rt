@@ -7,7 +7,7 @@ ghost use Rattle.kmc_slice_files.specs.Headers.{IsTold, IsOutOfRange, IsSlicingO
 
 use crate::check::check_word;
 use kmc_device::{Counted, ReadFault, WriteFault, fill_behind, write_text};
-use kmc_record::Shape;
+use kmc_parts::Shape;
 use std::io::{Read, Write};
 
 /// The bytes of a header.

@@ -1,8 +1,8 @@
 -- What a user is shown of a fault.
 use Rattle.std.specs.Prelude.{ℕ, List, ◌++◌, codes, decimal}
 use Rattle.kmc_reads.specs.Messages.{text_of_reads_error}
-use Rattle.kmc_record.specs.declared.fault.PartError.{PartError}
-use Rattle.kmc_record.specs.declared.fault.PartError.TheVariants.{Damaged, WrongBin, Memory as NoMemory}
+use Rattle.kmc_judging.specs.declared.fault.PartError.{PartError}
+use Rattle.kmc_judging.specs.declared.fault.PartError.TheVariants.{Damaged, WrongBin, Memory as NoMemory}
 use Rattle.kmc_settings.specs.Words.{Word, name_at}
 use Rattle.kmc_judging.specs.declared.judging.BinFault.{BinFault}
 use Rattle.kmc_slice_files.specs.Messages.{text_of_slice_fault}

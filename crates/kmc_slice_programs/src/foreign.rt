@@ -2,8 +2,7 @@
 ghost use Rattle.std.specs.Prelude.{Some};
 ghost use Rattle.kmc_slice_programs.specs.Messages.{text_of_bin_fault};
 
-use kmc_judging::BinFault;
-use kmc_record::PartError;
+use kmc_judging::{BinFault, PartError};
 use std::fmt;
 
 /// Why a bin's records are none of that bin.

@@ -7,8 +7,8 @@ use Rattle.std.proofs.lemmas.Bool.{cases_eq, eq-eqb, ne_eqb}
 use Rattle.kmc_base.specs.declared.strands.Strands.{Strands}
 use Rattle.kmc_base.specs.Pieces.{pieces}
 use Rattle.kmc_record.specs.Laws.{BodyHasOneList}
-use Rattle.kmc_record.specs.Parts.{capped}
-use Rattle.kmc_record.specs.Shapes.{Sizes}
+use Rattle.kmc_parts.specs.Parts.{capped}
+use Rattle.kmc_parts.specs.Shapes.{Sizes}
 use Rattle.kmc_store.specs.Bins.{body_at}
 use Rattle.kmc_store.specs.Laws.{MergedBinsHoldBoth, EmptyBinsHoldNoReads}
 use Rattle.kmc_count.specs.Laws.{PiecesAreCountedAsReads}

@@ -11,7 +11,7 @@ use Rattle.kmc_base.specs.declared.strands.Strands.{Strands}
 use Rattle.kmc_record.specs.Record.{IsBodyOf}
 use Rattle.kmc_record.specs.RecordWords.{record_keys}
 use Rattle.kmc_record.specs.Laws.{BodyHasOneList}
-use Rattle.kmc_record.specs.Shapes.{Sizes}
+use Rattle.kmc_parts.specs.Shapes.{Sizes}
 use Rattle.kmc_store.specs.Bins.{body_at}
 use Rattle.kmc_store.specs.Holds.{HoldsReads}
 use Rattle.kmc_store.specs.Laws.{MergedBinsHoldBoth, EmptyBinsHoldNoReads}

@@ -9,7 +9,7 @@ use Rattle.kmc_split.specs.Signature.{signature_of}
 use Rattle.kmc_split.specs.Cut.{IsRun, AreRuns, IsCut, run_codes, run_words, IsRunOf}
 use Rattle.kmc_base.specs.Lemmas.Windows.{length_window}
 use Rattle.kmc_split.specs.Lemmas.Least.{starts_within, window_window}
-use Rattle.kmc_split.specs.Lemmas.Places.{places_append, places_moved}
+use Rattle.kmc_base.specs.Lemmas.Places.{places_append, places_moved}
 
 -- the words of a run are those of the segment at its places
 words_of_run : (k : ℕ) (codes : List ℕ) (r : Run) → 1 ≤ k → 1 ≤ r.words → r.start + (r.words + (k - 1)) ≤ length codes

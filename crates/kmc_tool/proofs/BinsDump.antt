@@ -4,10 +4,10 @@ use Rattle.std.specs.Prelude.{slice_index}
 use Rattle.std.specs.List.{AllZip}
 use Rattle.kmc_base.specs.declared.strands.Strands.{Strands}
 use Rattle.kmc_record.specs.declared.fault.RecordFault.{RecordFault}
-use Rattle.kmc_record.specs.Shapes.{Sizes, IsShape}
+use Rattle.kmc_parts.specs.Shapes.{Sizes, IsShape}
 use Rattle.kmc_record.specs.Record.{IsBodyOf}
 use Rattle.kmc_record.specs.RecordWords.{record_keys}
-use Rattle.kmc_record.specs.Parts.{IsPart}
+use Rattle.kmc_parts.specs.Parts.{IsPart}
 use Rattle.kmc_record.specs.Laws.{WholeBodyHasNoFault}
 use Rattle.kmc_store.specs.Bins.{AreBins, body_at}
 use Rattle.kmc_count.specs.declared.limits.Limits.{Limits}

@@ -14,10 +14,10 @@ use Rattle.kmc_base.specs.Places.{IsSegment, counted_words}
 use Rattle.kmc_split.specs.declared.runs.Run.{Run}
 use Rattle.kmc_split.specs.Cut.{run_codes, run_words}
 use Rattle.kmc_split.specs.Laws.{CutKeepsWords}
-use Rattle.kmc_record.specs.Shapes.{Sizes}
+use Rattle.kmc_parts.specs.Shapes.{Sizes}
 use Rattle.kmc_record.specs.Record.{IsBodyOf}
 use Rattle.kmc_record.specs.RecordWords.{record_keys}
-use Rattle.kmc_record.specs.Parts.{AreCuts, bin_runs, bin_super_kmers, all_segments}
+use Rattle.kmc_parts.specs.Parts.{AreCuts, bin_runs, bin_super_kmers, all_segments}
 use Rattle.kmc_record.specs.Laws.{BodyHasOneList}
 use Rattle.kmc_store.specs.Bins.{body_at}
 use Rattle.kmc_store.specs.Holds.{HoldsReads}

@@ -3,8 +3,8 @@ use Rattle.std.proofs.Common.{◌≡◌, ℕ, zero, suc, ◌+◌, ◌<◌, List,
 use Rattle.std.specs.List.{AllZip}
 use Rattle.std.proofs.lemmas.Slice.Zip.{AllZip-long}
 use Rattle.atomic_table.specs.Seated.{TableId}
-use Rattle.kmc_record.specs.Shapes.{Sizes}
-use Rattle.kmc_record.specs.Parts.{Parcel}
+use Rattle.kmc_parts.specs.Shapes.{Sizes}
+use Rattle.kmc_parts.specs.Parts.{Parcel}
 use Rattle.kmc_partcore.specs.declared.shape.QueueShape.{QueueShape}
 use Rattle.kmc_partqueue.specs.Counts.{Each, Among, total_of, same}
 use Rattle.kmc_partqueue.specs.Dealing.{row_from}

@@ -1,7 +1,7 @@
 -- What a splitter has sent, chunk after chunk.
 use Rattle.std.proofs.Common.{◌≡◌, ◌≢◌, ℕ, suc, ◌+◌, ◌%◌, ◌<◌, ◌≤◌, List, [], ◌++◌, length, refl, sym, ◌∙◌, subst, append-nil, arith}
-use Rattle.kmc_record.specs.Shapes.{Sizes}
-use Rattle.kmc_record.specs.Parts.{Parcel, ArePartsOf}
+use Rattle.kmc_parts.specs.Shapes.{Sizes}
+use Rattle.kmc_parts.specs.Parts.{Parcel, ArePartsOf}
 use Rattle.kmc_partcore.specs.declared.shape.TheConstants.{MAX_ITEMS}
 use Rattle.kmc_store.specs.Deals.{chunk_at, AreSent, AreDealt}
 use Rattle.kmc_partqueue.specs.Seats.{WriterState}

@@ -1,8 +1,8 @@
 -- From the seats that the workers hand back to bins that hold the reads.
 use Rattle.std.proofs.Common.{◌≡◌, ℕ, zero, suc, ◌*◌, ◌<◌, ◌≤◌, List, [], ◌∷◌, ◌++◌, length, map, get_or, ap, sym, subst, ◌∙◌, arith}
 use Rattle.std.specs.List.{AllZip, sum_by, range_with_len}
-use Rattle.kmc_record.specs.Shapes.{Sizes}
-use Rattle.kmc_record.specs.Parts.{Parcel}
+use Rattle.kmc_parts.specs.Shapes.{Sizes}
+use Rattle.kmc_parts.specs.Parts.{Parcel}
 use Rattle.atomic_table.specs.Seated.{TableId}
 use Rattle.kmc_partcore.specs.declared.shape.QueueShape.{QueueShape}
 use Rattle.kmc_partcore.specs.declared.event.Received.{Received}

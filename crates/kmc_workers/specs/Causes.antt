@@ -1,7 +1,7 @@
 -- When workers end without their result.
 use Rattle.std.specs.Prelude.{ℕ, ◌<◌, ◌≤◌, List, length}
-use Rattle.kmc_record.specs.Shapes.{Sizes}
-use Rattle.kmc_record.specs.Parts.{Parcel}
+use Rattle.kmc_parts.specs.Shapes.{Sizes}
+use Rattle.kmc_parts.specs.Parts.{Parcel}
 use Rattle.kmc_partcore.specs.declared.shape.TheConstants.{MAX_ITEMS}
 use Rattle.kmc_store.specs.Deals.{AreDealt}
 use Rattle.kmc_workers.specs.Workers.{chunks_of}

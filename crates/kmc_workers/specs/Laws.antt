@@ -1,6 +1,6 @@
 -- Laws of dealing.
 use Rattle.std.specs.Prelude.{ℕ, ◌*◌, ◌<◌, ◌≤◌, List, length}
-use Rattle.kmc_record.specs.Shapes.{Sizes}
+use Rattle.kmc_parts.specs.Shapes.{Sizes}
 use Rattle.kmc_partcore.specs.declared.shape.TheConstants.{MAX_ITEMS}
 use Rattle.kmc_workers.specs.Causes.{IsCause}
 use Rattle.kmc_workers.specs.declared.refusal.Refusal.TheVariants.{NumbersSpent}

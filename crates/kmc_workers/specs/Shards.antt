@@ -1,8 +1,8 @@
 -- What storers are given, and what they hand back.
 use Rattle.std.specs.Prelude.{◌≡◌, ℕ, ◌<◌, List, [], ◌∷◌, Some, length, map, slice_get}
 use Rattle.std.specs.List.{flat_map}
-use Rattle.kmc_record.specs.Shapes.{Sizes}
-use Rattle.kmc_record.specs.Parts.{Parcel}
+use Rattle.kmc_parts.specs.Shapes.{Sizes}
+use Rattle.kmc_parts.specs.Parts.{Parcel}
 use Rattle.atomic_table.specs.Seated.{TableId}
 use Rattle.kmc_partcore.specs.History.{History}
 use Rattle.kmc_partcore.specs.declared.shape.QueueShape.{QueueShape}

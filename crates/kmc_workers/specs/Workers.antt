@@ -1,7 +1,7 @@
 -- What a worker is given, and what it hands back.
 use Rattle.std.specs.Prelude.{◌≡◌, ℕ, ◌+◌, ◌-◌, ◌/◌, List, [], length, map}
-use Rattle.kmc_record.specs.Shapes.{Sizes}
-use Rattle.kmc_record.specs.Parts.{Parcel}
+use Rattle.kmc_parts.specs.Shapes.{Sizes}
+use Rattle.kmc_parts.specs.Parts.{Parcel}
 use Rattle.kmc_partcore.specs.declared.event.Received.{Received}
 use Rattle.kmc_partcore.specs.declared.shape.QueueShape.{QueueShape}
 use Rattle.atomic_table.specs.Seated.{TableId}

@@ -15,7 +15,7 @@ use crate::way::Way;
 use crate::workers::{Seats, store_all};
 use kmc_partcore::QueueShape;
 use kmc_partqueue::{DoneSeat, Gate, Lanes, ReaderSeat};
-use kmc_record::Part;
+use kmc_parts::Part;
 use kmc_store::Bins;
 use std::alloc::{AllocError, Global};
 use std::mem::replace;

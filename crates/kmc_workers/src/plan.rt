@@ -1,7 +1,7 @@
 //! How reads are cut into the parts that workers pass.
 ghost use Rattle.std.specs.Prelude.{◌<◌, ◌≤◌};
 
-use kmc_record::Shape;
+use kmc_parts::Shape;
 
 /// How reads are cut into chunks, and chunks into parts.
 #[derive(Clone, Copy)]

@@ -11,7 +11,7 @@ use crate::plan::Plan;
 use crate::refusal::GivenUp;
 use crate::way::Way;
 use kmc_partqueue::{DoneSeat, Gate, Point, TryPutError, WriterSeat};
-use kmc_record::{Part, parts_of_reads};
+use kmc_parts::{Part, parts_of_reads};
 use std::sync::Wait;
 
 /// Puts a part, and waits while the lane is full. Spent numbers come before all else; the stop word is read where the lane

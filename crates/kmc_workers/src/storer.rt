@@ -10,7 +10,7 @@ use crate::refusal::GivenUp;
 use crate::shard::Shard;
 use crate::way::Way;
 use kmc_partqueue::{Gate, Point, TryTaken};
-use kmc_record::Part;
+use kmc_parts::Part;
 use kmc_store::Bins;
 use kmc_store::laws::{absorbed_part_is_added, no_parts_are_added};
 use std::sync::Wait;

@@ -14,7 +14,7 @@ use crate::splitter::split;
 use crate::storer::store;
 use crate::way::Way;
 use kmc_partqueue::{DoneSeat, Gate, WriterSeat};
-use kmc_record::{Part, Shape};
+use kmc_parts::{Part, Shape};
 use std::alloc::AllocError;
 use std::snapshot::Snapshot;
 use std::sync::Wait;

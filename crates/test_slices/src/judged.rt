@@ -1,6 +1,6 @@
 //! Bodies from outside, judged by several threads.
-use kmc_judging::{BinFault, judged_bins};
-use kmc_record::{PartError, Shape};
+use kmc_judging::{BinFault, PartError, judged_bins};
+use kmc_parts::Shape;
 use kmc_store::Bins;
 use std::alloc::{AllocError, Global};
 use std::process::Abort;

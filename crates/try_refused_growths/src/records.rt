@@ -1,8 +1,8 @@
 //! Records: `encode` and `part_of_body`.
 use crate::tell;
-use kmc_judging::part_of_body;
+use kmc_judging::{PartError, part_of_body};
+use kmc_parts::{Part, Shape};
 use kmc_plain::encode;
-use kmc_record::{Part, PartError, Shape};
 use kmc_split::SuperKmer;
 use std::alloc::{AllocError, Global};
 

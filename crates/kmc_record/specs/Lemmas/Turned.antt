@@ -12,7 +12,7 @@ use Rattle.kmc_base.specs.Words.{rev_comp, canonical, window, word_cmp}
 use Rattle.kmc_base.specs.Strands.{key, keys}
 use Rattle.kmc_base.specs.Lemmas.Packs.{AreCodes, length_rev_comp, canonical_rev_comp}
 use Rattle.kmc_base.specs.Lemmas.Rolling.{codes_part}
-use Rattle.kmc_split.specs.Lemmas.BothStrands.{window_back}
+use Rattle.kmc_base.specs.Lemmas.Mirrored.{window_back}
 
 -- the keys of the words of one record are those of the other, in another order
 abbrev pub HaveSameWords : Strands → ℕ → List ℕ → List ℕ → Type 0

@@ -7,8 +7,6 @@ use Rattle.std.proofs.Math.Seq.{take-add}
 use Rattle.std.specs.List.{flat_map, AllByRecursion}
 use Rattle.kmc_base.specs.Words.{windows}
 use Rattle.kmc_base.specs.Lemmas.Rolling.{codes_front}
-use Rattle.kmc_split.specs.Signature.{signature_of}
-use Rattle.kmc_record.specs.Parts.{Parcel, IsPart, all_windows, capped}
 use Rattle.kmc_record.specs.Record.{packed_codes, spelling, IsSpelled, IsBodyOf, codes_in, size_of}
 use Rattle.kmc_record.specs.Refusals.{StopsAtRecord}
 use Rattle.kmc_record.specs.Lemmas.Codes.{length_codes, are_codes}
@@ -137,23 +135,3 @@ module _ (k n offset : ℕ) (body : List ℕ) (each : (i : ℕ) → get_or body 
 -- the codes of the bytes behind the first
 pub same_codes : (n : ℕ) (bytes : List ℕ) → take n (codes_in (take (1 + size_of n - 1) (drop 1 bytes))) ≡ first_codes n bytes
 same_codes n bytes = let same : 1 + size_of n - 1 ≡ size_of n = omega arith in ap (λ m. take n (codes_in (take m (drop 1 bytes)))) same
-
--- ---- a part with one record more
-
-pub part_grown : (v p : Parcel) → v ≡ p → (codes new : List ℕ) (k n w : ℕ) → IsPart v.bin v.shape v.body v.words → IsSpelled p.shape.k codes
-    → All (λ u. signature_of p.shape.m u % p.shape.n ≡ p.bin) (windows p.shape.k codes) → n ≡ length (windows p.shape.k codes) → k ≡ v.shape.k
-    → new ≡ v.body ++ spelling k codes → w ≡ capped (v.words + n) → IsPart v.bin v.shape new w
-part_grown v p is codes new k n w h spelled belong count same more words =
-    let fits = subst (λ (q : Parcel). IsSpelled q.shape.k codes × All (λ u. signature_of q.shape.m u % q.shape.n ≡ q.bin) (windows q.shape.k codes)
-    × (n ≡ length (windows q.shape.k codes))) (sym is) (spelled, belong, count) in
-    let ss = h.super_kmers in
-    let all : all_windows v.shape.k (ss ++ codes ∷ []) ≡ all_windows v.shape.k ss ++ windows v.shape.k codes = flat_push (windows v.shape.k) ss codes in
-    let body : new ≡ v.body ++ spelling v.shape.k codes = more ∙ ap (λ m. v.body ++ spelling m codes) same in
-    let P : List ℕ → Type 0 = λ u. signature_of v.shape.m u % v.shape.n ≡ v.bin in
-    record {
-      within = h.within;
-      super_kmers = ss ++ codes ∷ [];
-      records = subst (IsBodyOf v.shape.k (ss ++ codes ∷ [])) (sym body) (body_push v.shape.k ss codes v.body (spelling v.shape.k codes) h.records fits.0 refl);
-      belong = subst (All P) (sym all) (All-append P (all_windows v.shape.k ss) (windows v.shape.k codes) h.belong fits.1);
-      count = omega (arith, words, h.count, fits.2, ap length all, length-append (all_windows v.shape.k ss) (windows v.shape.k codes));
-    }

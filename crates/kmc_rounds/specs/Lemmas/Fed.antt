@@ -9,7 +9,7 @@ use Rattle.kmc_reads.specs.Reads.{reads_of}
 use Rattle.kmc_reads.specs.OpenLines.{whole_from}
 use Rattle.kmc_reads.specs.Stages.{fault, fault_from, first_spot}
 use Rattle.kmc_reads.specs.Standing.{FeederState, StandsCut}
-use Rattle.kmc_record.specs.Shapes.{Sizes}
+use Rattle.kmc_parts.specs.Shapes.{Sizes}
 use Rattle.kmc_store.specs.Bins.{BinList}
 use Rattle.kmc_rounds.specs.Errors.{input_error}
 use Rattle.kmc_rounds.specs.declared.input_error.InputError.{InputError}

@@ -13,7 +13,7 @@ mod refused;
 pub mod side_by_side;
 
 use kmc_partcore::QueueShape;
-use kmc_record::Shape;
+use kmc_parts::Shape;
 use kmc_workers::Plan;
 use std::alloc::{AllocError, Global};
 

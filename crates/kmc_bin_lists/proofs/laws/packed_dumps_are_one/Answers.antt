@@ -1,4 +1,4 @@
-use Rattle.kmc_bin_lists.proofs.PackedDumps.{packed_one}
+use Rattle.kmc_giants.specs.Lemmas.PackedDumps.{packed_one}
 use Rattle.kmc_bin_lists.proofs.laws.packed_dumps_are_one.Goals as goal
 
 pub returns : goal.returns

@@ -5,7 +5,7 @@ use Rattle.kmc_base.specs.Words.{windows}
 use Rattle.kmc_base.specs.Lemmas.Rolling.{codes_front}
 use Rattle.kmc_split.specs.Signature.{signature_of}
 use Rattle.kmc_record.specs.Record.{codes_in}
-use Rattle.kmc_record.specs.Shapes.{Sizes}
+use Rattle.kmc_parts.specs.Shapes.{Sizes}
 use Rattle.kmc_record.specs.Lemmas.Codes.{are_codes}
 use Rattle.kmc_judging.proofs.belong.belongs.Goals as goal
 

@@ -1,6 +1,6 @@
 use Rattle.std.proofs.Common.{◌≤◌, ◌-◌, length, take}
-use Rattle.kmc_record.specs.Parts.{IsPart}
-use Rattle.kmc_record.specs.Bodies.{AreKnown}
+use Rattle.kmc_parts.specs.Parts.{IsPart}
+use Rattle.kmc_judging.specs.Bodies.{AreKnown}
 use Rattle.kmc_judging.proofs.belong.count_known.Given as goal
 
 -- whole records of the bin up to the offset

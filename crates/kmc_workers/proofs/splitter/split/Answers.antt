@@ -3,7 +3,7 @@ use Rattle.std.specs.Prelude.{Err}
 use Rattle.std.proofs.lemmas.List.{length-map}
 use Rattle.std.proofs.lemmas.Grind.{common_steps}
 use Rattle.kmc_base.specs.Lemmas.PassedOn.{passed_on}
-use Rattle.kmc_record.specs.Parts.{ArePartsOf}
+use Rattle.kmc_parts.specs.Parts.{ArePartsOf}
 use Rattle.kmc_workers.specs.Causes.{IsWorkersCause}
 use Rattle.kmc_workers.specs.Workers.{chunks_of, IsSameWriter}
 use Rattle.kmc_workers.proofs.Sent.{next_own, next_other, too_many, cause_of, same_seat}

@@ -4,7 +4,7 @@ use super::outcome::{Outcome, passed};
 use super::reads_of;
 use kmc_partcore::QueueShape;
 use kmc_partqueue::NoGate;
-use kmc_record::Shape;
+use kmc_parts::Shape;
 use kmc_workers::Plan;
 use std::alloc::{AllocError, Global};
 use std::process::Abort;

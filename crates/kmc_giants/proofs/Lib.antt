@@ -1,0 +1,3 @@
+pub mod SharedBodies
+pub mod Shares
+pub mod ShareDumps

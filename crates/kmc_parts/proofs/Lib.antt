@@ -1,0 +1,4 @@
+pub mod Written
+pub mod Copied
+pub mod Parcels
+pub mod Chunks
