@@ -5,8 +5,8 @@ use Rattle.kmc_count.specs.declared.limits.Limits.{Limits}
 use Rattle.kmc_count.specs.Occurrences.{occurrences}
 use Rattle.kmc_count.specs.Dump.{IsDump}
 use Rattle.kmc_count.specs.Merge.{AreApart, AreDumps, IsMerged, joined}
-use Rattle.kmc_dump.specs.Listed.{Listed, spelled, pairs_of, IsListOf}
-use Rattle.kmc_dump.specs.Ranges.{CanBeMerged, whole}
+use Rattle.kmc_lists.specs.Listed.{Listed, spelled, pairs_of, IsListOf}
+use Rattle.kmc_lists.specs.Ordered.{CanBeMerged, whole}
 
 -- the whole of lists is their merged list
 abbrev pub WholeIsMerged : Type 0

@@ -14,7 +14,7 @@ use crate::giants::take_giants;
 use crate::largest_first::LargestFirst;
 use kmc_base::{KeyRule, Word};
 use kmc_count::{CountingRoom, Limits};
-use kmc_dump::{Counts, Shown};
+use kmc_lists::{Counts, Shown};
 use kmc_record::BodyError;
 use std::alloc::Global;
 use std::thread;

@@ -1,6 +1,6 @@
 //! The lists of bins: each bin is counted into a list in packed form, several bins at a time, and one that holds most of the
 //! words by all threads together. It stands on kmc_count for the count of a bin, on kmc_giants for that of a large one and on
-//! kmc_dump for lists and what is written of them. The layer above uses that the list of a bin is the dump of its words, and
+//! kmc_lists for lists. The layer above uses that the list of a bin is the dump of its words, and
 //! that the dumps of bins that share no word are one dump in order.
 #![tactic(auto)]
 
@@ -13,4 +13,4 @@ pub mod laws;
 mod lists;
 
 pub use bins::list_bodies;
-pub use lists::{BinLists, SizedLists, list_bins, write_bins};
+pub use lists::list_bins;

@@ -2,10 +2,10 @@
 ghost use Rattle.std.specs.Prelude.{◌≡◌, ℕ, ◌*◌, ◌≤◌, List, length, All, vec_len, vec_capacity, IfOk};
 ghost use Rattle.kmc_device.specs.Line.{line_room};
 
-use crate::shown::Shown;
 use crate::word_size::WordSize;
 use kmc_base::Word;
 use kmc_device::line_room;
+use kmc_lists::Shown;
 use std::alloc::{AllocError, Global};
 
 /// Room for the pairs of one range, also as keys, and for its text, of which the first `filled` bytes are written.

@@ -1,16 +1,15 @@
-//! Counts in packed form, and the dump that is written from lists of them by ranges of words. It stands on the words of
-//! kmc_base, and on kmc_device for the dump's lines and for devices whose failures are counted.
+//! The dump that is written from packed lists by ranges of words. It stands on the words of kmc_base, on the lists of kmc_lists,
+//! and on kmc_device for the dump's lines and for devices whose failures are counted.
 //! The layer above uses that the dump is the pairs of all lists in order, and that it is written whole or the device failed.
 #![tactic(auto)]
 
+mod bins;
 mod buffers;
-mod counts;
 mod keys;
 pub mod laws;
 mod parting;
 mod range;
 mod ranges;
-mod shown;
 mod slots;
 mod turn;
 mod wave;
@@ -18,11 +17,10 @@ mod waves;
 mod word_size;
 mod write;
 
+pub use bins::write_bins;
 pub use buffers::{Buffer, make_buffers};
-pub use counts::Counts;
 pub use range::put_range;
 pub use ranges::Ranges;
-pub use shown::Shown;
 pub use wave::fill_wave;
 pub use waves::write_ranges;
 pub use word_size::WordSize;

@@ -1,14 +1,14 @@
 //! The choice of ranges.
 ghost use Rattle.std.specs.Prelude.{◌≡◌, ℕ, ◌+◌, ◌-◌, ◌*◌, ◌/◌, ◌^◌, ◌<◌, ◌≤◌, length, All, IfOk};
 ghost use Rattle.std.specs.List.{AllByRecursion};
-ghost use Rattle.kmc_dump.specs.Ranges.{Rises, CanBeMerged, joined, packs, count_within, ArePartedTo, AreRanges};
+ghost use Rattle.kmc_lists.specs.Ordered.{Rises, CanBeMerged, joined, packs};
+ghost use Rattle.kmc_dump.specs.Ranges.{count_within, ArePartedTo, AreRanges};
 
-use crate::counts::Counts;
 use crate::ranges::Ranges;
-use crate::shown::Shown;
 use crate::slots::slot_sizes;
 use crate::word_size::WordSize;
 use kmc_base::Word;
+use kmc_lists::{Counts, Shown};
 use std::alloc::{AllocError, Global};
 
 /// Slots that follow one another are one range while they have no more pairs than this: so many that the threads which fill

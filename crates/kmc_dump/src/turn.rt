@@ -7,12 +7,11 @@ ghost use Rattle.kmc_device.specs.Line.{line_room};
 ghost use Rattle.kmc_dump.specs.Ranges.{range_text, AreRanges};
 
 use crate::buffers::Buffer;
-use crate::counts::Counts;
 use crate::ranges::Ranges;
-use crate::shown::Shown;
 use crate::wave::fill_wave;
 use kmc_base::Word;
 use kmc_device::{Counted, WriteFault, write_text};
+use kmc_lists::{Counts, Shown};
 use std::io::Write;
 use std::thread::{Threads, join_mut};
 

@@ -4,13 +4,12 @@ ghost use Rattle.kmc_device.specs.Line.{line_room};
 ghost use Rattle.kmc_dump.specs.Ranges.{range_text, AreRanges};
 
 use crate::buffers::Buffer;
-use crate::counts::Counts;
 use crate::keys::{fit_keys, put_keys};
 use crate::range::put_range;
 use crate::ranges::Ranges;
-use crate::shown::Shown;
 use crate::word_size::WordSize;
 use kmc_base::Word;
+use kmc_lists::{Counts, Shown};
 use std::thread;
 use std::thread::Threads;
 

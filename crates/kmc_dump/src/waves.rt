@@ -3,16 +3,16 @@ ghost use Rattle.std.specs.Prelude.{◌≡◌, ℕ, ◌+◌, ◌-◌, ◌*◌, �
 ghost use Rattle.std.specs.Io.KnownBytes.{Appends};
 ghost use Rattle.kmc_device.specs.Device.{AppendsFront, RisesByOne};
 ghost use Rattle.kmc_device.specs.Line.{line_room, text_of};
-ghost use Rattle.kmc_dump.specs.Listed.{spelled};
-ghost use Rattle.kmc_dump.specs.Ranges.{whole, AreRanges};
+ghost use Rattle.kmc_lists.specs.Listed.{spelled};
+ghost use Rattle.kmc_lists.specs.Ordered.{whole};
+ghost use Rattle.kmc_dump.specs.Ranges.{AreRanges};
 
 use crate::buffers::Buffer;
-use crate::counts::Counts;
 use crate::ranges::Ranges;
-use crate::shown::Shown;
 use crate::turn::{write_and_fill, write_buffers};
 use kmc_base::Word;
 use kmc_device::{Counted, WriteFault};
+use kmc_lists::{Counts, Shown};
 use std::io::Write;
 use std::thread::Threads;
 

@@ -3,18 +3,17 @@ ghost use Rattle.std.specs.Prelude.{◌≡◌, ◌+◌, ◌-◌, ◌^◌, ◌<�
 ghost use Rattle.std.specs.Io.KnownBytes.{Appends};
 ghost use Rattle.kmc_device.specs.Device.{AppendsFront, RisesByOne};
 ghost use Rattle.kmc_device.specs.Line.{text_of};
-ghost use Rattle.kmc_dump.specs.Listed.{spelled};
-ghost use Rattle.kmc_dump.specs.Ranges.{CanBeMerged, joined, packs, whole};
+ghost use Rattle.kmc_lists.specs.Listed.{spelled};
+ghost use Rattle.kmc_lists.specs.Ordered.{CanBeMerged, joined, packs, whole};
 ghost use Rattle.kmc_dump.specs.declared.write.DumpError.TheVariants.{Memory};
 
 use crate::buffers::make_buffers;
-use crate::counts::Counts;
 use crate::parting::part_words;
-use crate::shown::Shown;
 use crate::waves::write_ranges;
 use crate::word_size::WordSize;
 use kmc_base::Word;
 use kmc_device::Counted;
+use kmc_lists::{Counts, Shown};
 use std::alloc::{AllocError, Global};
 use std::io::Write;
 use std::thread::Threads;

@@ -9,7 +9,7 @@ ghost use Rattle.kmc_giants.specs.Shares.{AreSortedItems, IsDumpOfShare};
 use crate::share::{Share, gather_items, halves};
 use kmc_base::{KeyRule, MOST_WEIGHT_BITS, Word};
 use kmc_count::{Limits, tally};
-use kmc_dump::{Counts, Shown};
+use kmc_lists::{Counts, Shown};
 use std::alloc::{AllocError, Global};
 use std::thread;
 use std::thread::Threads;

@@ -10,9 +10,8 @@ ghost use Rattle.kmc_tool.specs.Stages.{IsDumpOfBins};
 ghost use Rattle.kmc_slices.specs.declared.listing.ListError.TheVariants.{Memory, Foreign, Write};
 
 use crate::gathering::SliceRecords;
-use kmc_bin_lists::write_bins;
 use kmc_device::Counted;
-use kmc_dump::DumpError;
+use kmc_dump::{DumpError, write_bins};
 use kmc_judging::{BinFault, judged_bins};
 use kmc_settings::Params;
 use kmc_tool::lists_of_bins;

@@ -16,8 +16,8 @@ use Rattle.kmc_count.specs.Laws.{DumpsOfBodiesAreOfKeys}
 use Rattle.kmc_count.specs.Merge.{AreApart, AreDumps}
 use Rattle.kmc_bin_lists.specs.Bodies.{AreListsOfBodies}
 use Rattle.kmc_bin_lists.specs.Laws.{PackedDumpsAreOne}
-use Rattle.kmc_dump.specs.Listed.{Listed, spelled, pairs_of}
-use Rattle.kmc_dump.specs.Ranges.{CanBeMerged, whole}
+use Rattle.kmc_lists.specs.Listed.{Listed, spelled, pairs_of}
+use Rattle.kmc_lists.specs.Ordered.{CanBeMerged, whole}
 use Rattle.kmc_tool.specs.Laws.{BinsShareNoKey}
 use Rattle.kmc_tool.specs.Stages.{IsDumpOfBins}
 

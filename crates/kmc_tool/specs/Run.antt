@@ -10,10 +10,10 @@ use Rattle.kmc_count.specs.declared.limits.Limits.{Limits}
 use Rattle.kmc_count.specs.Occurrences.{count_of}
 use Rattle.kmc_count.specs.Dump.{IsDump}
 use Rattle.kmc_device.specs.Line.{text_of}
-use Rattle.kmc_bin_lists.specs.declared.lists.BinLists.{BinLists}
-use Rattle.kmc_dump.specs.Listed.{spelled}
-use Rattle.kmc_bin_lists.specs.Lists.{lists_of}
-use Rattle.kmc_dump.specs.Ranges.{CanBeMerged, whole}
+use Rattle.kmc_lists.specs.declared.bin_lists.BinLists.{BinLists}
+use Rattle.kmc_lists.specs.Listed.{spelled}
+use Rattle.kmc_lists.specs.Lists.{lists_of}
+use Rattle.kmc_lists.specs.Ordered.{CanBeMerged, whole}
 use Rattle.kmc_reads.specs.declared.error.ReadsError.{ReadsError}
 use Rattle.kmc_reads.specs.declared.error.ReadsError.TheVariants.{Memory as NoMemory}
 use Rattle.kmc_settings.specs.declared.params.Params.{Params}

@@ -4,9 +4,9 @@ ghost use Rattle.kmc_tool.specs.Run.{IsCountedInput};
 
 use crate::laws::{cut_reads_are_counted, held_reads_are_counted};
 use crate::listing::stage_two;
-use kmc_bin_lists::BinLists;
 use kmc_count::laws::pieces_are_counted_as_reads;
 use kmc_device::Counted;
+use kmc_lists::BinLists;
 use kmc_partqueue::{Gate, NoGate};
 use kmc_rounds::{InputError, bins_of_input};
 use kmc_settings::Params;

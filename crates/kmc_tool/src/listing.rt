@@ -1,18 +1,19 @@
 //! Stage two: each bin is counted by itself, and their lists make one dump.
 ghost use Rattle.std.specs.Prelude.{◌≡◌, ◌≤◌, IfOk};
 ghost use Rattle.kmc_bin_lists.specs.Bodies.{AreListsOfBodies};
-ghost use Rattle.kmc_dump.specs.Listed.{spelled};
-ghost use Rattle.kmc_bin_lists.specs.Lists.{lists_of};
-ghost use Rattle.kmc_dump.specs.Ranges.{CanBeMerged, whole};
+ghost use Rattle.kmc_lists.specs.Listed.{spelled};
+ghost use Rattle.kmc_lists.specs.Lists.{lists_of};
+ghost use Rattle.kmc_lists.specs.Ordered.{CanBeMerged, whole};
 ghost use Rattle.kmc_settings.specs.Shape.{shape_of};
 ghost use Rattle.kmc_tool.specs.Stages.{IsDumpOfBins};
 
 use crate::laws::bins_share_no_key;
 use kmc_base::Strands;
 use kmc_bin_lists::laws::packed_dumps_are_one;
-use kmc_bin_lists::{BinLists, list_bins};
+use kmc_bin_lists::list_bins;
 use kmc_count::Limits;
 use kmc_count::laws::dumps_of_bodies_are_of_keys;
+use kmc_lists::BinLists;
 use kmc_record::BodyError;
 use kmc_record::laws::whole_body_has_no_fault;
 use kmc_settings::Params;

@@ -3,8 +3,8 @@ ghost use Rattle.std.specs.Prelude.{◌≡◌, IfOk};
 ghost use Rattle.kmc_settings.specs.Shape.{shape_of};
 
 use crate::given::settings;
-use kmc_bin_lists::write_bins;
 use kmc_device::Counted;
+use kmc_dump::write_bins;
 use kmc_partqueue::NoGate;
 use kmc_plain::{count_direct, write_dump};
 use kmc_reads::{Format, read_all};

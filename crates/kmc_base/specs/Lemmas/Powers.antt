@@ -1,9 +1,10 @@
 -- Powers of four: as masks, and as the room of a number that holds so many codes.
 use Rattle.std.proofs.Common.{◌≡◌, ℕ, zero, suc, ◌+◌, ◌*◌, ◌-◌, ◌/◌, ◌%◌, ◌^◌, ◌<◌, ◌≤◌, bit_and, bit_or, mod-eq_of_lt, le_refl, zero-add, suc-add, sym, ap, ◌∙◌, arith}
-use Rattle.std.proofs.lemmas.Nat.{and_mask, or_shifted, pow-add, mul-pow, mod_below, mul-le}
+use Rattle.std.proofs.lemmas.Nat.{and_mask, or_shifted, pow-add, pow_pos, mul-pow, mod_below, mul-le}
 use Rattle.std.proofs.lemmas.Nat.Bits.{ones_shr}
 use Rattle.std.specs.Int.Bits.{or_shifted_r}
 use Rattle.std.proofs.Math.Nat.{pow-succ'}
+use Rattle.kmc_base.specs.declared.kmer.TheConstants.{MAX_K}
 use Rattle.kmc_base.specs.Bytes.{turned, ahead_byte, behind_byte}
 
 pub pow_up : (n d : ℕ) → 4 ^ n ≤ 4 ^ (d + n)
@@ -122,3 +123,12 @@ module _ (m n t : ℕ) (top : (j : ℕ) × (3 ≤ j) × (j < m) × (t ≡ 4 ^ j)
         let joined : bit_or (n / 256) (r * (t / 64)) ≡ r * (t / 64) + n / 256 = rw part (or_shifted_r r (2 * (top.0 - 3)) (n / 256) (rw part at low)) in
         let same : r * (t / 64) ≡ turned b * (t / 64) = ap (λ z. z * (t / 64)) e in
         joined ∙ omega (arith, same)
+
+-- all words of k codes by slots of s codes
+pub all_slots : (k s : ℕ) → s ≤ k → k ≤ MAX_K → 2 ^ (2 * s) * 2 ^ (2 * (k - s)) ≤ 2 ^ 128
+all_slots k s few most =
+    let sum : 2 * s + 2 * (k - s) ≡ 2 * k = omega (arith, few) in
+    let both : 2 ^ (2 * s) * 2 ^ (2 * (k - s)) ≡ 2 ^ (2 * k) = sym (pow-add 2 (2 * s) (2 * (k - s))) ∙ ap (λ n. 2 ^ n) sum in
+    let rest : 2 * k + (128 - 2 * k) ≡ 128 = omega (arith, most) in
+    let all : 2 ^ (2 * k) * 2 ^ (128 - 2 * k) ≡ 2 ^ 128 = sym (pow-add 2 (2 * k) (128 - 2 * k)) ∙ ap (λ n. 2 ^ n) rest in
+    omega (arith, both, all, mul-le (2 ^ (2 * k)) 1 (2 ^ (2 * k)) (2 ^ (128 - 2 * k)) (le_refl (2 ^ (2 * k))) (pow_pos (128 - 2 * k)))

@@ -4,9 +4,9 @@ use Rattle.std.proofs.Common.{◌≡◌, ℕ, ◌+◌, ◌-◌, ◌*◌, ◌/◌
 use Rattle.std.proofs.Math.Nat.{add-mul, mul_comm, mul_assoc, div-mul-le_self, lt-div-mul-add, div-div-eq-div-mul}
 use Rattle.std.proofs.lemmas.Bool.Decides.{nat_tests}
 use Rattle.std.proofs.lemmas.Nat.{mul-le, pow-add, pow_pos}
-use Rattle.kmc_base.specs.declared.kmer.TheConstants.{MAX_K}
-use Rattle.kmc_dump.specs.Listed.{Listed}
-use Rattle.kmc_dump.specs.Ranges.{is_within, within, joined, packs, count_within}
+use Rattle.kmc_lists.specs.Listed.{Listed}
+use Rattle.kmc_lists.specs.Ordered.{is_within, within, joined, packs}
+use Rattle.kmc_dump.specs.Ranges.{count_within}
 use Rattle.kmc_dump.specs.Lemmas.Parted.{more}
 
 -- a slot of weight w * q is q slots of weight w
@@ -102,12 +102,3 @@ module _ (shift fine slots q : ℕ) (least : fine ≡ min shift 2) (is : q ≡ 2
 
   pub all_before : (ps : List (ℕ × ℕ)) → All (λ p. p.0 / 2 ^ shift < slots) ps → All (λ p. p.0 / 2 ^ fine < slots * q) ps
   all_before ps h = before_end (2 ^ fine) q q_some slots ps (subst (λ n. All (λ p. p.0 / n < slots) ps) (sym weights) h)
-
--- all words of k codes by slots of s codes
-pub all_slots : (k s : ℕ) → s ≤ k → k ≤ MAX_K → 2 ^ (2 * s) * 2 ^ (2 * (k - s)) ≤ 2 ^ 128
-all_slots k s few most =
-    let sum : 2 * s + 2 * (k - s) ≡ 2 * k = omega (arith, few) in
-    let both : 2 ^ (2 * s) * 2 ^ (2 * (k - s)) ≡ 2 ^ (2 * k) = sym (pow-add 2 (2 * s) (2 * (k - s))) ∙ ap (λ n. 2 ^ n) sum in
-    let rest : 2 * k + (128 - 2 * k) ≡ 128 = omega (arith, most) in
-    let all : 2 ^ (2 * k) * 2 ^ (128 - 2 * k) ≡ 2 ^ 128 = sym (pow-add 2 (2 * k) (128 - 2 * k)) ∙ ap (λ n. 2 ^ n) rest in
-    omega (arith, both, all, mul-le (2 ^ (2 * k)) 1 (2 ^ (2 * k)) (2 ^ (128 - 2 * k)) (le_refl (2 ^ (2 * k))) (pow_pos (128 - 2 * k)))

@@ -3,9 +3,9 @@ ghost use Rattle.std.specs.Prelude.{◌≤◌};
 
 use crate::tests::listed::limits_up_to;
 use kmc_base::{Kmer, Strands, Word};
-use kmc_bin_lists::{BinLists, SizedLists, list_bins};
+use kmc_bin_lists::list_bins;
 use kmc_count::Limits;
-use kmc_dump::{Counts, Shown};
+use kmc_lists::{BinLists, Counts, Shown, SizedLists};
 use kmc_plain::count_bin;
 use std::alloc::{AllocError, Global};
 use std::process::Abort;

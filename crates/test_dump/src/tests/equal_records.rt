@@ -2,8 +2,9 @@
 
 use crate::tests::bodies::{are_plain, has_pairs};
 use kmc_base::{Kmer, Strands};
-use kmc_bin_lists::{BinLists, SizedLists, list_bins};
+use kmc_bin_lists::list_bins;
 use kmc_count::Limits;
+use kmc_lists::{BinLists, SizedLists};
 use kmc_plain::count_bin;
 use std::alloc::{AllocError, Global};
 use std::process::Abort;

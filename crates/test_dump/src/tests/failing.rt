@@ -1,12 +1,12 @@
 //! Devices that fail at each byte of a dump, and memory that is refused.
 ghost use Rattle.std.specs.Prelude.{Some, ◌≤◌, IfSome};
-ghost use Rattle.kmc_bin_lists.specs.Lists.{lists_of};
-ghost use Rattle.kmc_dump.specs.Ranges.{CanBeMerged};
+ghost use Rattle.kmc_lists.specs.Lists.{lists_of};
+ghost use Rattle.kmc_lists.specs.Ordered.{CanBeMerged};
 
 use crate::tests::listed::{listed, plain, settings, thrown_alone};
-use kmc_bin_lists::{BinLists, write_bins};
 use kmc_device::Counted;
-use kmc_dump::DumpError;
+use kmc_dump::{DumpError, write_bins};
+use kmc_lists::BinLists;
 use kmc_settings::Params;
 use std::alloc::Global;
 use std::io;

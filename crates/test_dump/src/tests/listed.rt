@@ -1,11 +1,12 @@
 //! Reads, the lists that both stages make of them, and their plain dump.
 ghost use Rattle.std.specs.Prelude.{IfSome};
-ghost use Rattle.kmc_bin_lists.specs.Lists.{lists_of};
-ghost use Rattle.kmc_dump.specs.Ranges.{CanBeMerged};
+ghost use Rattle.kmc_lists.specs.Lists.{lists_of};
+ghost use Rattle.kmc_lists.specs.Ordered.{CanBeMerged};
 
-use kmc_bin_lists::{BinLists, write_bins};
 use kmc_count::Limits;
 use kmc_device::Counted;
+use kmc_dump::write_bins;
+use kmc_lists::BinLists;
 use kmc_partqueue::NoGate;
 use kmc_plain::{count_direct, write_dump};
 use kmc_reads::{Format, slices_of};

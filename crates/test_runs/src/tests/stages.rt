@@ -5,8 +5,8 @@ mod random_texts;
 mod refused;
 mod small_texts;
 
-use kmc_bin_lists::write_bins;
 use kmc_device::Counted;
+use kmc_dump::write_bins;
 use kmc_partqueue::NoGate;
 use kmc_parts::{Part, Shape};
 use kmc_plain::{Chunk, parts_of};

@@ -5,10 +5,10 @@ use Rattle.std.proofs.lemmas.List.Sorted.{All-permutation, IsPermutation-map}
 use Rattle.std.specs.List.{filter}
 use Rattle.kmc_device.specs.Line.{text_of}
 use Rattle.kmc_dump.specs.Keys.{key_pair}
-use Rattle.kmc_dump.specs.Listed.{spelled}
-use Rattle.kmc_dump.specs.Ranges.{is_within, joined, packs}
+use Rattle.kmc_lists.specs.Listed.{spelled}
+use Rattle.kmc_lists.specs.Ordered.{is_within, joined, packs}
 use Rattle.kmc_dump.proofs.RangeKeys.{keys_climb}
-use Rattle.kmc_dump.specs.Lemmas.Order.{part_is}
+use Rattle.kmc_lists.specs.Lemmas.Order.{part_is}
 use Rattle.kmc_dump.proofs.Gathered.{climbs_there, room_left, gathered_moved}
 use Rattle.kmc_dump.proofs.keys.put_keys.Goals as goal
 

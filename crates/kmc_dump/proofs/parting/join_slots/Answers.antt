@@ -1,6 +1,7 @@
 use Rattle.std.proofs.Common.{◌≡◌, ℕ, ◌+◌, ◌-◌, ◌*◌, ◌/◌, ◌<◌, ◌^◌, All, List, [], ◌∷◌, ◌++◌, length, get_or, Vec, Global, refl, sym, ap, subst, ◌∙◌, arith}
 use Rattle.std.proofs.lemmas.List.{get_or_default}
-use Rattle.kmc_dump.specs.Ranges.{joined, packs, ArePartedTo}
+use Rattle.kmc_lists.specs.Ordered.{joined, packs}
+use Rattle.kmc_dump.specs.Ranges.{ArePartedTo}
 use Rattle.kmc_dump.specs.Lemmas.Finer.{next_slot, slot_size, slot_fits, all_before, end_fits}
 use Rattle.kmc_dump.specs.Lemmas.Parted.{along, max_above, no_range, range_more, last_bound, closed}
 use Rattle.kmc_dump.proofs.parting.join_slots.Goals as goal

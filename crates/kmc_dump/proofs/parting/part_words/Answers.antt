@@ -1,6 +1,6 @@
 use Rattle.std.proofs.Common.{◌-◌, ◌*◌, ◌^◌, ap, arith}
 use Rattle.std.proofs.lemmas.Nat.{one_shl}
-use Rattle.kmc_dump.specs.Lemmas.Finer.{all_slots}
+use Rattle.kmc_base.specs.Lemmas.Powers.{all_slots}
 use Rattle.kmc_dump.proofs.Histogram.{slot_fits}
 use Rattle.kmc_dump.proofs.parting.part_words.Goals as goal
 

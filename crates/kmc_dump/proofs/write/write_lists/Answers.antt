@@ -1,7 +1,7 @@
 use Rattle.std.proofs.Common.{sym, ◌∙◌, rules}
 use Rattle.std.proofs.lemmas.List.Sorted.{length_permutation}
-use Rattle.kmc_dump.specs.Ranges.{joined, packs, whole}
-use Rattle.kmc_dump.specs.Lemmas.Order.{in_order_moves}
+use Rattle.kmc_lists.specs.Ordered.{joined, packs, whole}
+use Rattle.kmc_lists.specs.Lemmas.Order.{in_order_moves}
 use Rattle.kmc_dump.proofs.write.write_lists.Goals as goal
 
 pub returns-in-Ok-clause-lines : goal.returns-in-Ok-clause-lines

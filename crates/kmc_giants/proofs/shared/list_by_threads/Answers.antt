@@ -1,9 +1,8 @@
 use Rattle.std.proofs.Common.{◌≡◌, ℕ, ◌+◌, ◌-◌, ◌*◌, ◌≤◌, ◌^◌, map, ap, sym, subst, arith}
-use Rattle.kmc_base.specs.Lemmas.Powers.{pow_quad}
+use Rattle.kmc_base.specs.Lemmas.Powers.{all_slots, pow_quad}
 use Rattle.kmc_count.specs.Bodies.{IsDumpOfBody}
-use Rattle.kmc_dump.specs.Listed.{Listed, pairs_of}
+use Rattle.kmc_lists.specs.Listed.{Listed, pairs_of}
 use Rattle.kmc_giants.specs.Shares.{IsDumpOfShare}
-use Rattle.kmc_dump.specs.Lemmas.Finer.{all_slots}
 use Rattle.kmc_giants.proofs.ShareDumps.{all_words}
 use Rattle.kmc_giants.proofs.shared.list_by_threads.Goals as goal
 

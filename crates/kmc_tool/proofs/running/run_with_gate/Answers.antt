@@ -3,9 +3,9 @@ use Rattle.std.proofs.lemmas.List.{length-map}
 use Rattle.kmc_reads.specs.declared.error.ReadsError.TheVariants as reads
 use Rattle.kmc_reads.specs.Reads.{reads_of}
 use Rattle.kmc_device.specs.Line.{text_of}
-use Rattle.kmc_dump.specs.Listed.{spell, spelled}
-use Rattle.kmc_bin_lists.specs.Lists.{lists_of}
-use Rattle.kmc_dump.specs.Ranges.{whole}
+use Rattle.kmc_lists.specs.Listed.{spell, spelled}
+use Rattle.kmc_lists.specs.Lists.{lists_of}
+use Rattle.kmc_lists.specs.Ordered.{whole}
 use Rattle.kmc_tool.specs.Errors.{run_error, write_error}
 use Rattle.kmc_rounds.specs.Rounds.{AreCountsOf, IsInputError}
 use Rattle.kmc_rounds.specs.declared.input_error.InputError.TheVariants as input

@@ -3,9 +3,9 @@ ghost use Rattle.std.specs.Prelude.{◌≡◌, ◌≤◌, [], ◌∷◌, map, If
 
 use crate::tests::texts::{assert_bytes, line_of_a, text_of, vectors_of};
 use kmc_base::{Kmer, Strands};
-use kmc_bin_lists::{BinLists, SizedLists, list_bins};
+use kmc_bin_lists::list_bins;
 use kmc_count::Limits;
-use kmc_dump::Counts;
+use kmc_lists::{BinLists, Counts, SizedLists};
 use kmc_plain::{count_bin, merge_bins};
 use kmc_record::{BodyError, RecordFault};
 use std::alloc::{AllocError, Global};

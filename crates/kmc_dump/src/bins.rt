@@ -1,0 +1,68 @@
+//! The dump of the lists of all bins, whatever their widths.
+ghost use Rattle.std.specs.Prelude.{◌≡◌, ◌-◌, ◌^◌, ◌<◌, ◌≤◌, length, OnOk, IfOk, IsErrOf};
+ghost use Rattle.std.specs.Io.KnownBytes.{Appends};
+ghost use Rattle.kmc_device.specs.Device.{AppendsFront, RisesByOne};
+ghost use Rattle.kmc_device.specs.Line.{text_of};
+ghost use Rattle.kmc_lists.specs.Listed.{spelled};
+ghost use Rattle.kmc_lists.specs.Lists.{lists_of};
+ghost use Rattle.kmc_lists.specs.Ordered.{CanBeMerged, whole};
+
+use crate::word_size::WordSize;
+use crate::write::{DumpError, write_lists};
+use kmc_base::MAX_K;
+use kmc_device::Counted;
+use kmc_lists::{BinLists, SizedLists};
+use std::alloc::Global;
+use std::io::Write;
+use std::thread::Threads;
+
+/// Writes the dump of the lists of bins that share no word: the lines of all their pairs in the order of the words, and
+/// nothing else. The answer is the number of lines. Ranges of words are made by so many threads, and written by the calling
+/// one. All memory is had before the first write: after a refusal other than `Write` nothing was written, and after
+/// `Write` a front of the dump.
+pub fn write_bins<R: Threads + Sync, D: Write>(
+    rt: &R,
+    alloc: Global,
+    writer: &mut Counted<D>,
+    lists: &BinLists,
+    k: usize,
+    threads: usize,
+) -> Result<u64, DumpError>
+    requires some { 1 ≤ k }
+    requires most { k ≤ MAX_K }
+    requires merge { CanBeMerged k (lists_of lists.now) }
+    requires threads { 1 ≤ threads }
+    requires failures { writer.old.failures < 2 ^ 64 - 1 }
+    ensures ok { OnOk result (Appends (D.contents writer.old.inner) (D.contents writer.new.inner)
+        (text_of (spelled k (whole (lists_of lists.now))))) }
+    ensures lines { IfOk result (λ lines. lines ≡ length (whole (lists_of lists.now))) }
+    ensures kept { OnOk result (writer.new.failures ≡ writer.old.failures) }
+    ensures failed { IsErrOf result DumpError.Write
+        → RisesByOne writer.old.failures writer.new.failures }
+    ensures front { IsErrOf result DumpError.Write
+        → AppendsFront (D.contents writer.old.inner) (D.contents writer.new.inner)
+        (text_of (spelled k (whole (lists_of lists.now)))) }
+    ensures silent { IsErrOf result DumpError.Memory → writer.new ≡ writer.old }
+{
+    let size = WordSize { k };
+    match lists {
+        BinLists::Narrow(SizedLists::Byte(lists)) => write_lists(
+            rt, alloc, writer, lists, size, threads,
+        ),
+        BinLists::Narrow(SizedLists::Half(lists)) => write_lists(
+            rt, alloc, writer, lists, size, threads,
+        ),
+        BinLists::Narrow(SizedLists::Full(lists)) => write_lists(
+            rt, alloc, writer, lists, size, threads,
+        ),
+        BinLists::Wide(SizedLists::Byte(lists)) => write_lists(
+            rt, alloc, writer, lists, size, threads,
+        ),
+        BinLists::Wide(SizedLists::Half(lists)) => write_lists(
+            rt, alloc, writer, lists, size, threads,
+        ),
+        BinLists::Wide(SizedLists::Full(lists)) => write_lists(
+            rt, alloc, writer, lists, size, threads,
+        ),
+    }
+}

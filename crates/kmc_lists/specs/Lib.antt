@@ -1,0 +1,4 @@
+pub mod Listed
+pub mod Lists
+pub mod Ordered
+pub mod Lemmas
