@@ -55,6 +55,22 @@ fn take_bodies<W: Word + Drop, C: Shown + Drop>(
     Ok(lists)
 }
 
+/// The lists that two threads made, those of the second behind those of the first, or the first error.
+fn both_made<W: Word + Drop, C: Shown + Drop>(
+    first: Result<Vec<Placed<W, C>>, BodyError>,
+    second: Result<Vec<Placed<W, C>>, BodyError>,
+) -> Result<Vec<Placed<W, C>>, BodyError>
+    ensures { (strands : Strands) (k : ℕ) (l : Limits) (bodies : List (List ℕ))
+        → IfOk first (λ lists. All (λ p. IsListAt strands k l bodies p.place p.list) lists.items)
+        → IfOk second (λ lists. All (λ p. IsListAt strands k l bodies p.place p.list) lists.items)
+        → IfOk result (λ lists. All (λ p. IsListAt strands k l bodies p.place p.list) lists.items) }
+{
+    let mut lists = first?;
+    let mut more = second?;
+    lists.append(&mut more)?;
+    Ok(lists)
+}
+
 /// The lists of the bodies that at most so many threads take. Where no thread can be made, the calling thread takes them all.
 #[cycle(takers)]
 fn take_by_threads<R: Threads + Sync, W: Word + Drop + Send, C: Shown + Drop + Send>(
@@ -88,10 +104,7 @@ fn take_by_threads<R: Threads + Sync, W: Word + Drop + Send, C: Shown + Drop + S
             (map (λ b. b.items) bodies.entry.now) p.place p.list) lists.items) }
     { take_by_threads(rt, alloc, order, bodies, rule, limits, others) };
     let (first, second) = thread::join(rt, front, back);
-    let mut lists = first?;
-    let mut more = second?;
-    lists.append(&mut more)?;
-    Ok(lists)
+    both_made(first, second)
 }
 
 /// The lists of all bodies: so many threads count the giants together, and then each takes other bodies, the largest first.
@@ -110,10 +123,9 @@ fn take_all<R: Threads + Sync, W: Word + Drop + Send + Sync, C: Shown + Drop + S
         (map (λ b. b.items) bodies.now) p.place p.list) lists.items) }
 {
     let order = LargestFirst::new(alloc, bodies)?;
-    let mut lists = take_giants(rt, alloc, &order, bodies, rule, &limits, threads)?;
-    let mut more = take_by_threads(rt, alloc, &order, bodies, rule, limits, threads)?;
-    lists.append(&mut more)?;
-    Ok(lists)
+    let giants = take_giants(rt, alloc, &order, bodies, rule, &limits, threads)?;
+    let others = take_by_threads(rt, alloc, &order, bodies, rule, limits, threads);
+    both_made(Ok(giants), others)
 }
 
 /// The lists in the order of their places, where there is one for each of so many places.

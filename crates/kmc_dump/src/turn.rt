@@ -37,7 +37,7 @@ pub fn write_buffers<D: Write, W: Word + Drop, C: Shown + Drop>(
 }
 
 /// The lists whose ranges are put into buffers, and what threads for it come from.
-#[derive(Drop, Clone, Copy)]
+#[derive(Drop)]
 struct Filling<'a, R, W: Word, C: Shown> {
     rt: &'a R,
     lists: &'a [Counts<W, C>],

@@ -1,7 +1,7 @@
 //! A wave: ranges that follow one another, each put into a buffer by a thread of its own.
 ghost use Rattle.std.specs.Prelude.{◌≡◌, ℕ, ◌+◌, ◌-◌, ◌*◌, ◌^◌, ◌<◌, ◌≤◌, List, length, take, All, IsTrue, vec_len, vec_capacity, slice_index_or, slice_index};
 ghost use Rattle.kmc_device.specs.Line.{line_room};
-ghost use Rattle.kmc_dump.specs.Ranges.{range_text, AreRanges};
+ghost use Rattle.kmc_dump.specs.Ranges.{range_text, count_within, AreRanges};
 
 use crate::buffers::Buffer;
 use crate::keys::{fit_keys, put_keys};
@@ -13,20 +13,51 @@ use kmc_lists::{Counts, Shown};
 use std::thread;
 use std::thread::Threads;
 
-/// Whether the pairs of a range fit keys, and the buffer has room for those of the widest.
-fn has_room_for_keys<W: Word + Drop, C: Shown + Drop>(
-    buffer: &Buffer<W, C>,
+/// Whether the pairs of a range fit keys, and there is room for those of the widest.
+fn has_room_for_keys<C: Shown>(
+    keys: &Vec<u64>,
     widest: usize,
     shift: u32,
     from: u128,
     to: u128,
 ) -> bool
-    ensures keys { IsTrue result → widest ≤ vec_capacity buffer.now.keys }
+    ensures keys { IsTrue result → widest ≤ vec_capacity keys.now }
     ensures small { IsTrue result → C.bits < 64 }
     ensures least { IsTrue result → from * 2 ^ shift < 2 ^ 128 }
     ensures fits { IsTrue result → (to - from) * 2 ^ shift * 2 ^ C.bits ≤ 2 ^ 64 }
 {
-    buffer.keys.capacity() >= widest && fit_keys::<C>(shift, from, to)
+    keys.capacity() >= widest && fit_keys::<C>(shift, from, to)
+}
+
+/// Puts the text of a range that has at most as many pairs as the widest into a buffer, from the first byte on, and says where it
+/// ends.
+fn put_text<W: Word + Drop, C: Shown + Drop>(
+    lists: &[Counts<W, C>],
+    ranges: &Ranges,
+    from: u128,
+    to: u128,
+    buffer: &mut Buffer<W, C>,
+) -> usize
+    requires ranges { AreRanges ranges.now lists.now }
+    requires range { from ≤ to }
+    requires few { count_within (2 ^ ranges.now.shift) from to lists.now ≤ ranges.now.widest }
+    requires pairs { ranges.now.widest ≤ vec_capacity buffer.old.pairs }
+    requires text { ranges.now.widest * line_room ranges.now.k C.most_digits
+        ≤ length buffer.old.text.items }
+    ensures within { result ≤ length buffer.new.text.items }
+    ensures text { take result buffer.new.text.items
+        ≡ range_text ranges.now.k (2 ^ ranges.now.shift) from to lists.now }
+    ensures capacity { vec_capacity buffer.old.pairs ≤ vec_capacity buffer.new.pairs }
+    ensures long { length buffer.new.text.items ≡ length buffer.old.text.items }
+{
+    let size = WordSize { k: ranges.k };
+    let shift = ranges.shift;
+    let text = &mut buffer.text;
+    if has_room_for_keys::<C>(&buffer.keys, ranges.widest, shift, from, to) {
+        put_keys(lists, size, shift, from, to, &mut buffer.keys, text)
+    } else {
+        put_range(lists, size, shift, from, to, &mut buffer.pairs, text)
+    }
 }
 
 /// Puts the text of one of the ranges into a buffer.
@@ -51,29 +82,7 @@ fn fill<W: Word + Drop, C: Shown + Drop>(
 {
     let from = ranges.bounds[range];
     let to = ranges.bounds[range + 1];
-    let size = WordSize { k: ranges.k };
-    let shift = ranges.shift;
-    if has_room_for_keys(buffer, ranges.widest, shift, from, to) {
-        buffer.filled = put_keys(
-            lists,
-            size,
-            shift,
-            from,
-            to,
-            &mut buffer.keys,
-            &mut buffer.text,
-        );
-    } else {
-        buffer.filled = put_range(
-            lists,
-            size,
-            shift,
-            from,
-            to,
-            &mut buffer.pairs,
-            &mut buffer.text,
-        );
-    }
+    buffer.filled = put_text(lists, ranges, from, to, buffer);
 }
 
 /// Puts the texts of as many ranges as there are buffers into them, from the range `first` on. Each buffer has a thread;

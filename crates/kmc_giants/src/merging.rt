@@ -4,7 +4,9 @@ ghost use Rattle.std.specs.List.Sorted.{IsPermutation, IsSorted};
 ghost use Rattle.std.specs.Ordering.{nat_cmp};
 ghost use Rattle.std.specs.Thread.{IsSync};
 ghost use Rattle.kmc_base.specs.declared.word.TheConstants.{MOST_WEIGHT_BITS};
+ghost use Rattle.kmc_count.specs.declared.limits.Limits.{Limits};
 ghost use Rattle.kmc_giants.specs.Shares.{AreSortedItems, IsDumpOfShare};
+ghost use Rattle.kmc_giants.specs.declared.share.Share.{Share};
 
 use crate::share::{Share, gather_items, halves};
 use kmc_base::{KeyRule, MOST_WEIGHT_BITS, Word};
@@ -77,6 +79,25 @@ fn list_in_turn<W: Word + Drop, C: Shown + Drop>(
     pairs.joined(more)
 }
 
+/// The dumps of two shares that are neighbours as one, or the first error.
+fn both_shares<W: Word + Drop, C: Shown + Drop>(
+    front: Result<Counts<W, C>, AllocError>,
+    back: Result<Counts<W, C>, AllocError>,
+    k: usize,
+) -> Result<Counts<W, C>, AllocError>
+    requires front { IfOk front (λ c. c.k ≡ k) }
+    requires back { IfOk back (λ c. c.k ≡ k) }
+    ensures { (f : ℕ) (l : Limits) (low high : Share) (lists : List (List ℕ))
+        → high.first ≡ low.last + 1 → low.first ≤ low.last → high.first ≤ high.last
+        → IfOk front (IsDumpOfShare k f l low.first low.last lists)
+        → IfOk back (IsDumpOfShare k f l high.first high.last lists)
+        → IfOk result (IsDumpOfShare k f l low.first high.last lists) }
+{
+    let pairs = front?;
+    let more = back?;
+    pairs.joined(more)
+}
+
 /// The dump of a share by as many threads as it has parts.
 #[cycle(sharers)]
 pub(crate) fn list_share<R: Threads + Sync, W: Word + Drop + Send + Sync, C: Shown + Drop + Send>(
@@ -120,7 +141,5 @@ pub(crate) fn list_share<R: Threads + Sync, W: Word + Drop + Send + Sync, C: Sho
             (map (λ v. map W.number v.items) lists.entry.now) c) }
     { list_share(rt, alloc, lists, rule, bits, limits, high) };
     let (first, second) = thread::join(rt, front, back);
-    let pairs = first?;
-    let more = second?;
-    pairs.joined(more)
+    both_shares(first, second, rule.k)
 }

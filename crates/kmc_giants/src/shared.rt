@@ -1,6 +1,7 @@
 //! A body that is counted by several threads together: each takes records that follow one another.
-ghost use Rattle.std.specs.Prelude.{ℕ, ◌+◌, ◌*◌, ◌≤◌, length, map, IfOk};
+ghost use Rattle.std.specs.Prelude.{ℕ, ◌+◌, ◌*◌, ◌≤◌, List, ◌++◌, length, map, IfOk};
 ghost use Rattle.std.specs.Thread.{IsSync};
+ghost use Rattle.kmc_base.specs.declared.strands.Strands.{Strands};
 ghost use Rattle.kmc_base.specs.declared.word.TheConstants.{MOST_WEIGHT_BITS};
 ghost use Rattle.kmc_count.specs.Bodies.{IsDumpOfBody};
 ghost use Rattle.kmc_lists.specs.Listed.{IsListOf, pairs_of};
@@ -27,6 +28,23 @@ fn record_behind(body: &[u8], rule: KeyRule, bytes: usize) -> usize
         offset += 1 + (usize::from(body[offset]) + rule.k + 3) / 4;
     }
     offset.min(body.len())
+}
+
+/// The items of two pieces of a body, those of the second behind those of the first, or the first error.
+fn both_pieces<W: Word + Drop>(
+    first: Result<Vec<Vec<W>>, BodyError>,
+    second: Result<Vec<Vec<W>>, BodyError>,
+) -> Result<Vec<Vec<W>>, BodyError>
+    ensures { (strands : Strands) (k f : ℕ) (low high : List ℕ)
+        → IfOk first (λ lists. AreListsOfItems strands k f low (map (λ v. map W.number v.items) lists.items))
+        → IfOk second (λ lists. AreListsOfItems strands k f high (map (λ v. map W.number v.items) lists.items))
+        → IfOk result (λ lists. AreListsOfItems strands k f (low ++ high)
+        (map (λ v. map W.number v.items) lists.items)) }
+{
+    let mut lists = first?;
+    let mut more = second?;
+    lists.append(&mut more)?;
+    Ok(lists)
 }
 
 /// The words of a body as items, which so many threads take, each of a piece that is about as long as the others: a list that rises
@@ -73,10 +91,7 @@ fn take_shared<R: Threads + Sync, W: Word + Drop + Send>(
             (map (λ v. map W.number v.items) lists.items)) }
     { take_shared(rt, alloc, high, rule, bits, others) };
     let (first, second) = thread::join(rt, front, back);
-    let mut lists = first?;
-    let mut more = second?;
-    lists.append(&mut more)?;
-    Ok(lists)
+    both_pieces(first, second)
 }
 
 /// The dump of a body in packed form, counted by so many threads together.

@@ -1,8 +1,13 @@
 use Rattle.std.proofs.Common.{IfOk, map, subst}
 use Rattle.std.proofs.lemmas.Result.{IfOk-weaker}
 use Rattle.kmc_giants.specs.Shares.{IsDumpOfShare}
-use Rattle.kmc_giants.proofs.ShareDumps.{shares_joined}
 use Rattle.kmc_giants.proofs.merging.+sharers.Goals as goal
+
+pub both_shares-requires-clause-front : goal.both_shares-requires-clause-front
+both_shares-requires-clause-front g t c = IfOk-weaker c.join-first.result.0 _ _ (λ e is. is.is.same) c.join-first.ensures.first
+
+pub both_shares-requires-clause-back : goal.both_shares-requires-clause-back
+both_shares-requires-clause-back g t c = IfOk-weaker c.join-first.result.1 _ _ (λ e is. is.is.same) c.join-first.ensures.second
 
 pub returns : goal.returns
 returns g t c =
@@ -10,9 +15,7 @@ returns g t c =
     let k = a.rule.k in
     let lists = map (λ v. map g.W.Word.number v.items) a.lists.now in
     let h = c.halves.ensures in
-    let low = c.halves.result.0 in
-    let high = c.halves.result.1 in
-    let front = subst (λ r. IfOk r (IsDumpOfShare k a.bits a.limits low.first low.last lists)) c.in_ok-pairs.was c.join-first.ensures.first in
-    let back = subst (λ r. IfOk r (IsDumpOfShare k a.bits a.limits high.first high.last lists)) c.in_ok-more.was c.join-first.ensures.second in
-    IfOk-weaker c.joined.result _ _ (λ e is. shares_joined k a.bits a.limits lists a.share.first a.share.last low high
-    c.in_ok-pairs.pairs c.in_ok-more.more e h.first h.next h.last h.front h.back front back is) c.joined.ensures
+    let whole = c.both_shares.ensures a.bits a.limits c.halves.result.0 c.halves.result.1 lists h.next h.front h.back c.join-first.ensures.first
+    c.join-first.ensures.second in
+    subst (λ n. IfOk c.both_shares.result (IsDumpOfShare k a.bits a.limits n a.share.last lists)) h.first
+    (subst (λ n. IfOk c.both_shares.result (IsDumpOfShare k a.bits a.limits c.halves.result.0.first n lists)) h.last whole)
