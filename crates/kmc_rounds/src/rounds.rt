@@ -1,10 +1,11 @@
 //! The reads of a text, a round at a time, into bins: a round is cut in threads while the caller's thread reads on.
-ghost use Rattle.std.specs.Prelude.{◌≡◌, ◌≢◌, ℕ, ◌+◌, ◌-◌, ◌*◌, ◌^◌, ◌<◌, ◌≤◌, min, List, ◌++◌, false, IfOk, IfErr, OnOk, Ok, Err};
+ghost use Rattle.std.specs.Prelude.{◌≡◌, ◌≢◌, ℕ, ◌+◌, ◌-◌, ◌*◌, ◌^◌, ◌<◌, ◌≤◌, min, List, ◌++◌, Option, false, IfOk, IfErr, OnOk, Ok, Err};
 ghost use Rattle.std.specs.Io.KnownBytes.{IsAtEnd};
 ghost use Rattle.kmc_reads.specs.declared.format.Format.{Format};
 ghost use Rattle.kmc_reads.specs.Cuts.{AreCut};
 ghost use Rattle.kmc_reads.specs.Reads.{reads_of};
 ghost use Rattle.kmc_reads.specs.Standing.{StandsCut};
+ghost use Rattle.kmc_rounds.specs.Lemmas.Fed.{AreStored, AreStoredBy};
 ghost use Rattle.kmc_rounds.specs.Rounds.{IsFedBy, AreCounts, AreCountsOf, HoldsPieces, HoldsInput, IsInputError};
 ghost use Rattle.kmc_settings.specs.Shape.{shape_of};
 
@@ -121,6 +122,35 @@ pub fn last_round<T: Threads + Wait + Sync, G: Gate + Sync>(
     Ok(bins)
 }
 
+/// The reads that wait in the feeder are added to the bins, which are of the shape of the settings, while this thread reads and
+/// feeds the next round. The answer is whether the text goes on. A refusal is that of the reading before that of the bins.
+fn next_round<T: Threads + Wait + Sync, R: Read, G: Gate + Sync>(
+    rt: &T,
+    bins: &mut Bins,
+    feeder: &mut Feeder,
+    dealing: &Dealing<'_, G>,
+    reader: &mut Counted<R>,
+    most: u64,
+) -> Result<bool, InputError>
+    requires shape { bins.old.shape ≡ shape_of dealing.now.params }
+    requires failures { reader.old.failures < 2 ^ 64 - 1 }
+    requires reads { reader.old.reads ≤ most }
+    ensures shape { bins.new.shape ≡ shape_of dealing.now.params }
+    ensures stored { (format : Format) (first : Option (List ℕ)) (before : ℕ)
+        → AreStored format (shape_of dealing.now.params) dealing.now.limit first
+        (R.remaining reader.old.inner) before reader.old.reads bins.old feeder.old
+        → AreStoredBy format (shape_of dealing.now.params) dealing.now.limit first
+        (R.remaining reader.new.inner) before reader.new.reads bins.new feeder.new result }
+    ensures counts { AreCounts most reader.old.reads reader.new.reads reader.old.failures reader.new.failures result }
+    ensures at_end { result ≡ Ok false → IsAtEnd (R.remaining reader.new.inner) }
+{
+    let round = feeder.take_open(dealing.alloc, dealing.params.k - 1)?;
+    let (stored, fed) = feed_round(rt, bins, &round, dealing, reader, feeder, most);
+    let more = fed?;
+    stored?;
+    Ok(more)
+}
+
 /// Bins that hold the reads of all that the reader gives, of which at most `max_reads` reads may give bytes. Of a
 /// round's reads and the next round's bytes no more than one round is held at a time, beside the bins: a FASTA read that
 /// is open is taken in pieces. Each read is held as its pieces of at most `limit` symbols.
@@ -166,10 +196,7 @@ pub fn bins_of_input<T: Threads + Wait + Sync, R: Read, G: Gate + Sync>(
         if !more {
             return Ok(last_round(rt, bins, feeder, &dealing)?);
         }
-        let round = feeder.take_open(alloc, params.k - 1)?;
-        let (stored, fed) = feed_round(rt, &mut bins, &round, &dealing, reader, &mut feeder, most);
-        more = fed?;
-        stored?;
+        more = next_round(rt, &mut bins, &mut feeder, &dealing, reader, most)?;
     }
     Err(InputError::TooLong)
 }

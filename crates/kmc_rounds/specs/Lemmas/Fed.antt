@@ -1,5 +1,6 @@
 -- Bytes that a feeder took, a read after the other.
 use Rattle.std.proofs.Common.{◌≡◌, ◌≢◌, ◌⊎◌, inl, inr, ℕ, zero, suc, ◌+◌, ◌-◌, ◌<◌, ◌≤◌, Bool, true, false, List, [], ◌++◌, Option, Some, None, Result, Ok, Err, refl, sym, ap, subst, ◌∙◌, append_assoc, append-nil, length-append, arith}
+use Rattle.std.specs.Prelude.{IsErrAnd}
 use Rattle.std.specs.Io.KnownBytes.{Consumes, IsAtEnd}
 use Rattle.kmc_reads.specs.declared.error.ReadsError.{ReadsError}
 use Rattle.kmc_reads.specs.declared.error.ReadsError.TheVariants as reads
@@ -105,6 +106,19 @@ pub record AreStored (format : Format) (shape : Sizes) (limit : ℕ) (old new : 
   pub fed : IsFed (shape.k - 1) format old new before after [] taken v
   pub holds : HoldsPieces shape limit taken bins.bodies
 
+-- the same by an answer: the bins hold them, or why there are no such bins
+abbrev pub AreStoredBy : Format → Sizes → ℕ → Option (List ℕ) → Option (List ℕ) → ℕ → ℕ → BinList → FeederState → Result Bool InputError → Type 0
+AreStoredBy format shape limit old new before after bins v (Ok more) = AreStored format shape limit old new before after bins v
+AreStoredBy format shape limit old new before after bins v (Err e) = (taken : List (List ℕ))
+    × IsFedBy (shape.k - 1) format old new before after [] taken v (Err e)
+
+pub stored_err : (format : Format) (shape : Sizes) (limit : ℕ) (old new : Option (List ℕ)) (before after : ℕ) (bins : BinList) (v : FeederState)
+    (r : Result Bool InputError) (e : InputError) → IsErrAnd r (λ x. x ≡ e) → (taken : List (List ℕ))
+    → IsFedBy (shape.k - 1) format old new before after [] taken v (Err e) → AreStoredBy format shape limit old new before after bins v r
+stored_err format shape limit old new before after bins v (Ok more) e is taken h = absurd is
+stored_err format shape limit old new before after bins v (Err x) e is taken h =
+    (taken, subst (λ y. IsFedBy (shape.k - 1) format old new before after [] taken v (Err y)) (sym is) h)
+
 -- the numbers of a round, whether the text goes on or not
 pub record AreRisen (most before after failed fails : ℕ) (more : Bool) : Type 0 where
   pub kept : fails ≡ failed
@@ -125,6 +139,12 @@ counts_on Memory most before mid after failed between fails less same c = (c.0 �
 counts_on Read most before mid after failed between fails less same c = (c.0 ∙ ap (λ n. n + 1) same, omega (arith, c.1, less), c.2)
 counts_on (Faulty e) most before mid after failed between fails less same c = (c.0 ∙ same, omega (arith, c.1, less), c.2)
 counts_on TooLong most before mid after failed between fails less same c = (c.0 ∙ same, omega (arith, c.1, less), c.2)
+
+-- the numbers of a refusal that is passed on
+pub counts_err : (most before after failed fails : ℕ) (r : Result Bool InputError) (e : InputError) → IsErrAnd r (λ x. x ≡ e)
+    → AreCountsOf most before after failed fails e → AreCounts most before after failed fails r
+counts_err most before after failed fails (Ok more) e is h = absurd is
+counts_err most before after failed fails (Err x) e is h = subst (AreCountsOf most before after failed fails) (sym is) h
 
 -- the numbers where memory is refused after one more round
 pub memory_on : (most mid after between fails : ℕ) (more : Bool) (before failed bound : ℕ) → AreCounts most mid after between fails (Ok more)

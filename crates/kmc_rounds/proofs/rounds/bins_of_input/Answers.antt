@@ -1,12 +1,11 @@
-use Rattle.std.proofs.Common.{◌≡◌, ◌+◌, ◌-◌, [], ◌++◌, Ok, OnOk, sym, ap, subst, ◌∙◌, arith}
+use Rattle.std.proofs.Common.{◌≡◌, ◌+◌, ◌-◌, [], ◌++◌, Ok, sym, ap, subst, ◌∙◌, arith}
 use Rattle.kmc_store.specs.Bins.{BinList, empty_bins}
 use Rattle.kmc_store.specs.Holds.{HoldsReads}
-use Rattle.kmc_rounds.specs.Rounds.{AreCounts, AreCountsOf, HoldsPieces, IsFedBy}
+use Rattle.kmc_rounds.specs.Rounds.{AreCountsOf}
 use Rattle.kmc_settings.specs.Shape.{shape_of}
-use Rattle.kmc_rounds.specs.declared.input_error.InputError.TheVariants.{Memory}
 use Rattle.kmc_rounds.specs.Errors.{input_error}
 use Rattle.kmc_base.specs.Lemmas.PassedOn.{passed_on}
-use Rattle.kmc_rounds.specs.Lemmas.Fed.{unfaulted, risen, counts_on, fed_on, fed_by, fed_cause, last_input, memory_on, taken_fed, text_counts}
+use Rattle.kmc_rounds.specs.Lemmas.Fed.{unfaulted, risen, counts_on, fed_cause, last_input, text_counts}
 use Rattle.kmc_rounds.proofs.rounds.bins_of_input.Goals as goal
 
 pub returns-in_err-more-clause-cause : goal.returns-in_err-more-clause-cause
@@ -77,72 +76,43 @@ returns-in_err-last_round-clause-cause g c =
 pub returns-in_err-more-2-clause-counts : goal.returns-in_err-more-2-clause-counts
 returns-in_err-more-2-clause-counts g c =
     let inv = c.loop.invariant in let e = c.in_err-more-2.field-0.0 in let to = c.from_residual-in_err-more-2 in
-    let old = c.args.reader.now in let mid = c.loop.reader in let new = c.feed_round-stored.new.reader in
-    let here = subst (λ r. AreCounts (c.reads.result + c.args.max_reads) mid.reads new.reads mid.failures new.failures r)
-    c.in_err-more-2.was c.feed_round-stored.ensures.counts in
-    let counts = subst (λ n. AreCountsOf (n + c.args.max_reads) mid.reads new.reads mid.failures new.failures e) c.reads.ensures here in
+    let old = c.args.reader.now in let mid = c.loop.reader in let new = c.next_round.new.reader in
+    let counts = subst (λ n. AreCountsOf (n + c.args.max_reads) mid.reads new.reads mid.failures new.failures e) c.reads.ensures
+    c.in_err-more-2.ensures.counts in
     passed_on _ to.result e to.ensures.1
     (counts_on e (old.reads + c.args.max_reads) old.reads mid.reads new.reads old.failures mid.failures new.failures
     (omega (arith, inv.many)) inv.kept counts)
 
 pub returns-in_err-more-2-clause-cause : goal.returns-in_err-more-2-clause-cause
 returns-in_err-more-2-clause-cause g c =
-    let inv = c.loop.invariant in let st = inv.stored in
+    let inv = c.loop.invariant in
     let e = c.in_err-more-2.field-0.0 in let to = c.from_residual-in_err-more-2 in let format = c.args.params.now.format in
-    let old = c.args.reader.now in let mid = c.loop.reader in let new = c.feed_round-stored.new.reader in
-    let here = subst (λ r. AreCounts (c.reads.result + c.args.max_reads) mid.reads new.reads mid.failures new.failures r)
-    c.in_err-more-2.was c.feed_round-stored.ensures.counts in
-    let counts = subst (λ n. AreCountsOf (n + c.args.max_reads) mid.reads new.reads mid.failures new.failures e) c.reads.ensures here in
-    let round = c.in_ok-round.round in
-    let stands = c.in_ok-round.ensures.stands format st.fed.bytes st.taken st.fed.stands in
-    let f = taken_fed (c.args.params.now.k - 1) format _ _ old.reads mid.reads st.taken round c.loop.feeder c.take_open.new.self st.fed stands in
-    let more = c.feed_round-stored.ensures.fed (c.args.params.now.k - 1) format st.fed.bytes (st.taken ++ round) stands in
-    let fed = fed_by (c.args.params.now.k - 1) format _ _ _ old.reads mid.reads new.reads [] (st.taken ++ round) c.take_open.new.self
-    c.feed_round-stored.new.feeder c.feed_round-stored.result.1 f more in
+    let old = c.args.reader.now in let mid = c.loop.reader in let new = c.next_round.new.reader in
+    let counts = subst (λ n. AreCountsOf (n + c.args.max_reads) mid.reads new.reads mid.failures new.failures e) c.reads.ensures
+    c.in_err-more-2.ensures.counts in
+    let by = c.in_err-more-2.ensures.stored format _ old.reads inv.stored in
     passed_on _ to.result e to.ensures.1
-    (fed_cause (c.args.params.now.k - 1) format c.args.max_reads _ _ old.reads new.reads old.failures new.failures (st.taken ++ round)
-    c.feed_round-stored.new.feeder e
-    (subst (λ r. IsFedBy (c.args.params.now.k - 1) format (g.R.Read.remaining old.inner) (g.R.Read.remaining new.inner)
-    old.reads new.reads [] (st.taken ++ round) c.feed_round-stored.new.feeder r) c.in_err-more-2.was fed)
+    (fed_cause (c.args.params.now.k - 1) format c.args.max_reads _ _ old.reads new.reads old.failures new.failures by.0
+    c.next_round.new.feeder e by.1
     (counts_on e (old.reads + c.args.max_reads) old.reads mid.reads new.reads old.failures mid.failures new.failures
     (omega (arith, inv.many)) inv.kept counts))
 
-pub returns-in_err-stored-clause-counts : goal.returns-in_err-stored-clause-counts
-returns-in_err-stored-clause-counts g c =
-    let inv = c.loop.invariant in let to = c.from_residual-in_err-stored in
-    passed_on _ to.result Memory to.ensures.1
-    (memory_on _ _ _ _ _ c.in_ok-more-2.more _ _ _ (subst (AreCounts _ _ _ _ _) c.in_ok-more-2.was c.feed_round-stored.ensures.counts)
-    (omega (arith, inv.many)) inv.kept (ap (λ n. n + c.args.max_reads) c.reads.ensures))
-
 pub loop-preserved : goal.loop-preserved
 loop-preserved g c =
-    let inv = c.loop.invariant in let st = inv.stored in let p = c.args.params.now in let shape = shape_of p in
-    let old = c.args.reader.now in let mid = c.loop.reader in let new = c.feed_round-stored.new.reader in
-    let here = subst (λ r. AreCounts (c.reads.result + c.args.max_reads) mid.reads new.reads mid.failures new.failures r)
-    c.in_ok-more-2.was c.feed_round-stored.ensures.counts in
-    let r = risen (c.reads.result + c.args.max_reads) mid.reads new.reads mid.failures new.failures c.in_ok-more-2.more here in
+    let inv = c.loop.invariant in
+    let old = c.args.reader.now in let mid = c.loop.reader in let new = c.next_round.new.reader in
+    let r = risen (c.reads.result + c.args.max_reads) mid.reads new.reads mid.failures new.failures c.in_ok-more-2.more
+    c.in_ok-more-2.ensures.counts in
     let begun = inv.some c.if-not-more.false in
-    let round = c.in_ok-round.round in
-    let stands = c.in_ok-round.ensures.stands p.format st.fed.bytes st.taken st.fed.stands in
-    let f = taken_fed (c.args.params.now.k - 1) p.format _ _ old.reads mid.reads st.taken round c.loop.feeder c.take_open.new.self st.fed stands in
-    let more = subst (λ o. IsFedBy (c.args.params.now.k - 1) p.format (g.R.Read.remaining mid.inner) (g.R.Read.remaining new.inner)
-    mid.reads new.reads st.fed.bytes (st.taken ++ round) c.feed_round-stored.new.feeder o) c.in_ok-more-2.was
-    (c.feed_round-stored.ensures.fed (c.args.params.now.k - 1) p.format st.fed.bytes (st.taken ++ round) stands) in
     record {
-      shaped = c.feed_round-stored.ensures.shape;
+      shaped = c.next_round.ensures.shape;
       kept = r.kept ∙ inv.kept;
       many = omega (arith, begun, r.least);
       some = λ e. (let k = r.some e in omega (arith, k, begun));
       below = r.below;
       under = r.under;
-      ended = λ e. c.feed_round-stored.ensures.at_end (c.in_ok-more-2.was ∙ ap Ok e);
-      stored = record {
-        taken = st.taken ++ round;
-        fed = fed_on (c.args.params.now.k - 1) p.format _ _ _ old.reads mid.reads new.reads []
-            (st.taken ++ round) c.take_open.new.self c.feed_round-stored.new.feeder f more;
-        holds = subst (λ o. OnOk o (HoldsPieces shape c.args.limit (st.taken ++ round) c.feed_round-stored.new.bins.bodies))
-            c.in_ok-stored.was (c.feed_round-stored.ensures.holds st.taken st.holds);
-      };
+      ended = λ e. c.in_ok-more-2.ensures.at_end (ap Ok e);
+      stored = c.in_ok-more-2.ensures.stored c.args.params.now.format _ old.reads inv.stored;
     }
 
 pub returns-clause-cause : goal.returns-clause-cause
