@@ -3,7 +3,10 @@ mod judged;
 mod plain;
 mod rows;
 
-use crate::tests::given::{append_record, assert_bytes, assert_number, assert_text, chunk_of, field, mixed_reads, number, push_bin, record_of, same_bytes, shape_of};
+use crate::tests::given::{
+    append_record, assert_bytes, assert_number, assert_text, chunk_of, field, mixed_reads, number,
+    push_bin, record_of, same_bytes, shape_of,
+};
 use kmc_judging::{PartError, part_of_body};
 use kmc_parts::{Part, Shape};
 use kmc_plain::{RecordError, decode, parts_of};
