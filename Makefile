@@ -1,4 +1,5 @@
-# The k-mer counter: `make count` builds it and counts the example, `make check` is the gate.
+# The k-mer counter: `make` builds the programs and counts the example, `make count` builds ./kmc alone and does that, `make check` is
+# the gate.
 KMC := ./kmc
 KMC_MERGE := ./kmc_merge
 KMC_CUT := ./kmc_cut
@@ -21,7 +22,7 @@ MAN = $(DESTDIR)$(PREFIX)/share/man/man1
 
 .PHONY: all count check recipes install uninstall dist fuzz hostile damaged devices limits threads bench results merges clean
 
-all: count
+all: count $(PROGRAMS)
 
 # call built,CRATE: what the program stands on is proved, several libraries at a time, then the program itself, and it is built
 define built
@@ -51,7 +52,7 @@ $(REFUSED) $(BODIES) $(MANY): ./%: $(SOURCES)
 	@echo "make: proving and building $* (some minutes the first time)"
 	$(call built,$*)
 
-count: $(PROGRAMS)
+count: $(KMC)
 	@$(KMC) < examples/reads.fastq > examples/.counted
 	@cmp examples/.counted examples/reads.dump
 	@rm -f examples/.counted
