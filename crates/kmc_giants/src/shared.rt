@@ -94,7 +94,8 @@ fn take_shared<R: Threads + Sync, W: Word + Drop + Send>(
     both_pieces(first, second)
 }
 
-/// The dump of a body in packed form, counted by so many threads together.
+/// The dump of a body in packed form, counted by so many threads together. An error tells nothing of the body: pieces that are no
+/// whole records are told as damage too, so who wants the fault counts the body in one piece.
 pub fn list_by_threads<R: Threads + Sync, W: Word + Drop + Send + Sync, C: Shown + Drop + Send>(
     rt: &R,
     alloc: Global,
