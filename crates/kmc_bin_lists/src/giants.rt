@@ -1,11 +1,10 @@
 //! Giants: bodies that are counted by several threads together, so that none waits long for a thread that has a giant alone.
 ghost use Rattle.std.specs.Prelude.{◌≤◌, map, IfOk};
 ghost use Rattle.std.specs.List.{All};
-ghost use Rattle.kmc_bin_lists.specs.Bodies.{IsListAt};
+ghost use Rattle.kmc_body_lists.specs.Bodies.{IsListAt};
 
-use crate::group::Placed;
-use crate::largest_first::LargestFirst;
 use kmc_base::{KeyRule, Word};
+use kmc_body_lists::{LargestFirst, Placed};
 use kmc_count::Limits;
 use kmc_giants::list_by_threads;
 use kmc_lists::Shown;

@@ -2,7 +2,7 @@
 ghost use Rattle.std.specs.Prelude.{ℕ, ◌≤◌, map, IfOk, IsErrOf};
 ghost use Rattle.kmc_record.specs.declared.fault.RecordFault.{RecordFault};
 ghost use Rattle.kmc_count.specs.Bodies.{IsFirstDamaged};
-ghost use Rattle.kmc_bin_lists.specs.Bodies.{AreListsOfBodies};
+ghost use Rattle.kmc_body_lists.specs.Bodies.{AreListsOfBodies};
 ghost use Rattle.kmc_lists.specs.Lists.{sized_lists, lists_of};
 
 use crate::bins::list_bodies;

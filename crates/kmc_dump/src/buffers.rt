@@ -1,6 +1,7 @@
 //! Room for ranges, had before the first byte of a dump goes out.
 ghost use Rattle.std.specs.Prelude.{◌≡◌, ℕ, ◌*◌, ◌≤◌, List, length, All, vec_len, vec_capacity, IfOk};
 ghost use Rattle.kmc_device.specs.Line.{line_room};
+ghost use Rattle.kmc_dump.specs.Rooms.{HasRoom};
 
 use crate::word_size::WordSize;
 use kmc_base::Word;
@@ -8,7 +9,8 @@ use kmc_device::line_room;
 use kmc_lists::Shown;
 use std::alloc::{AllocError, Global};
 
-/// Room for the pairs of one range, also as keys, and for its text, of which the first `filled` bytes are written.
+/// Room for the pairs of one range, also as keys, and for its text, whose first `filled` bytes are the range's. The thread that
+/// fills it first puts zeros there.
 #[derive(Drop)]
 pub struct Buffer<W, C> {
     pub pairs: Vec<(W, C)>,
@@ -23,11 +25,11 @@ fn make_buffer<W: Word + Drop, C: Shown + Drop>(
     widest: usize,
     bytes: usize,
 ) -> Result<Buffer<W, C>, AllocError>
-    ensures { IfOk result (λ b. (widest ≤ vec_capacity b.pairs) × (length b.text.items ≡ bytes)) }
+    ensures { IfOk result (λ b. (widest ≤ vec_capacity b.pairs) × (bytes ≤ vec_capacity b.text)) }
 {
     let pairs = Vec::with_capacity(alloc, widest)?;
     let keys = Vec::with_capacity(alloc, widest)?;
-    let text = vec![in alloc; 0; bytes]?;
+    let text = Vec::with_capacity(alloc, bytes)?;
     Ok(Buffer {
         pairs,
         keys,
@@ -44,9 +46,8 @@ pub fn make_buffers<W: Word + Drop, C: Shown + Drop>(
     size: WordSize,
 ) -> Result<Vec<Buffer<W, C>>, AllocError>
     ensures count { IfOk result (λ v. vec_len v ≡ count) }
-    ensures pairs { IfOk result (λ v. All (λ b. widest ≤ vec_capacity b.pairs) v.items) }
-    ensures text { IfOk result (λ v. All
-        (λ b. widest * line_room size.k C.most_digits ≤ length b.text.items) v.items) }
+    ensures room { IfOk result (λ v. All
+        (HasRoom widest (line_room size.k C.most_digits)) v.items) }
 {
     let Some(bytes) = widest.checked_mul(line_room(size.k, C::digits())) else {
         return Err(AllocError);

@@ -4,6 +4,7 @@ ghost use Rattle.std.specs.List.{flat_map};
 ghost use Rattle.std.specs.Io.KnownBytes.{Appends};
 ghost use Rattle.kmc_device.specs.Device.{AppendsFront, RisesByOne};
 ghost use Rattle.kmc_device.specs.Line.{line_room};
+ghost use Rattle.kmc_dump.specs.Rooms.{HasRoom};
 ghost use Rattle.kmc_dump.specs.Ranges.{range_text, AreRanges};
 
 use crate::buffers::Buffer;
@@ -53,20 +54,14 @@ fn fill_row<R: Threads + Sync, W: Word + Drop + Send + Sync, C: Shown + Drop + S
     requires ranges { AreRanges filling.now.ranges.now filling.now.lists.now }
     requires some { 1 ≤ length buffers.old }
     requires inside { first + length buffers.old < length filling.now.ranges.now.bounds.items }
-    requires pairs { All (λ b. filling.now.ranges.now.widest ≤ vec_capacity b.pairs) buffers.old }
-    requires text { All
-        (λ b. filling.now.ranges.now.widest * line_room filling.now.ranges.now.k C.most_digits
-        ≤ length b.text.items) buffers.old }
+    requires room { All (HasRoom filling.now.ranges.now.widest (line_room filling.now.ranges.now.k C.most_digits)) buffers.old }
     ensures within { All (λ b. b.filled ≤ length b.text.items) buffers.new }
     ensures texts { (i : ℕ) (d : _) → i < length buffers.new
         → take (slice_index_or buffers.new i d).filled (slice_index_or buffers.new i d).text.items
         ≡ range_text filling.now.ranges.now.k (2 ^ filling.now.ranges.now.shift)
         (slice_index filling.now.ranges.now.bounds.items (first + i))
         (slice_index filling.now.ranges.now.bounds.items (first + i + 1)) filling.now.lists.now }
-    ensures pairs { All (λ b. filling.now.ranges.now.widest ≤ vec_capacity b.pairs) buffers.new }
-    ensures text { All
-        (λ b. filling.now.ranges.now.widest * line_room filling.now.ranges.now.k C.most_digits
-        ≤ length b.text.items) buffers.new }
+    ensures room { All (HasRoom filling.now.ranges.now.widest (line_room filling.now.ranges.now.k C.most_digits)) buffers.new }
 {
     fill_wave(filling.rt, filling.lists, filling.ranges, first, buffers);
 }
@@ -90,9 +85,7 @@ fn write_beside<
     requires ranges { AreRanges filling.now.ranges.now filling.now.lists.now }
     requires some { 1 ≤ length empty.old }
     requires inside { first + length empty.old < length filling.now.ranges.now.bounds.items }
-    requires pairs { All (λ b. filling.now.ranges.now.widest ≤ vec_capacity b.pairs) empty.old }
-    requires text { All (λ b. filling.now.ranges.now.widest * line_room filling.now.ranges.now.k C.most_digits
-        ≤ length b.text.items) empty.old }
+    requires room { All (HasRoom filling.now.ranges.now.widest (line_room filling.now.ranges.now.k C.most_digits)) empty.old }
     ensures ok { OnOk result (Appends (D.contents writer.old.inner) (D.contents writer.new.inner)
         (flat_map (λ b. take b.filled b.text.items) full.now)) }
     ensures kept { OnOk result (writer.new.failures ≡ writer.old.failures) }
@@ -106,9 +99,7 @@ fn write_beside<
         ≡ range_text filling.now.ranges.now.k (2 ^ filling.now.ranges.now.shift)
         (slice_index filling.now.ranges.now.bounds.items (first + i))
         (slice_index filling.now.ranges.now.bounds.items (first + i + 1)) filling.now.lists.now }
-    ensures pairs { All (λ b. filling.now.ranges.now.widest ≤ vec_capacity b.pairs) empty.new }
-    ensures text { All (λ b. filling.now.ranges.now.widest * line_room filling.now.ranges.now.k C.most_digits
-        ≤ length b.text.items) empty.new }
+    ensures room { All (HasRoom filling.now.ranges.now.widest (line_room filling.now.ranges.now.k C.most_digits)) empty.new }
 {
     let (_, written) = join_mut(
         rt,
@@ -117,11 +108,7 @@ fn write_beside<
             requires some { 1 ≤ length empty.now }
             requires inside { first + length empty.now
                 < length filling.now.ranges.now.bounds.items }
-            requires pairs { All (λ b. filling.now.ranges.now.widest ≤ vec_capacity b.pairs)
-                empty.now }
-            requires text { All
-                (λ b. filling.now.ranges.now.widest
-                * line_room filling.now.ranges.now.k C.most_digits ≤ length b.text.items) empty.now }
+            requires room { All (HasRoom filling.now.ranges.now.widest (line_room filling.now.ranges.now.k C.most_digits)) empty.now }
         { fill_row(filling, first, empty) },
         &mut || write_buffers(writer, full),
     );
@@ -149,9 +136,7 @@ pub fn write_and_fill<
     requires within { All (λ b. b.filled ≤ length b.text.items) full.now }
     requires ranges { AreRanges ranges.now lists.now }
     requires inside { first + length empty.old < length ranges.now.bounds.items }
-    requires pairs { All (λ b. ranges.now.widest ≤ vec_capacity b.pairs) empty.old }
-    requires text { All (λ b. ranges.now.widest * line_room ranges.now.k C.most_digits
-        ≤ length b.text.items) empty.old }
+    requires room { All (HasRoom ranges.now.widest (line_room ranges.now.k C.most_digits)) empty.old }
     ensures ok { OnOk result (Appends (D.contents writer.old.inner) (D.contents writer.new.inner)
         (flat_map (λ b. take b.filled b.text.items) full.now)) }
     ensures kept { OnOk result (writer.new.failures ≡ writer.old.failures) }
@@ -164,9 +149,7 @@ pub fn write_and_fill<
         ≡ range_text ranges.now.k (2 ^ ranges.now.shift)
         (slice_index ranges.now.bounds.items first)
         (slice_index ranges.now.bounds.items (first + length empty.new)) lists.now }
-    ensures pairs { All (λ b. ranges.now.widest ≤ vec_capacity b.pairs) empty.new }
-    ensures text { All (λ b. ranges.now.widest * line_room ranges.now.k C.most_digits
-        ≤ length b.text.items) empty.new }
+    ensures room { All (HasRoom ranges.now.widest (line_room ranges.now.k C.most_digits)) empty.new }
 {
     if empty.is_empty() {
         return write_buffers(writer, full);

@@ -1,6 +1,7 @@
 //! A wave: ranges that follow one another, each put into a buffer by a thread of its own.
 ghost use Rattle.std.specs.Prelude.{◌≡◌, ℕ, ◌+◌, ◌-◌, ◌*◌, ◌^◌, ◌<◌, ◌≤◌, List, length, take, All, IsTrue, vec_len, vec_capacity, slice_index_or, slice_index};
 ghost use Rattle.kmc_device.specs.Line.{line_room};
+ghost use Rattle.kmc_dump.specs.Rooms.{HasRoom};
 ghost use Rattle.kmc_dump.specs.Ranges.{range_text, count_within, AreRanges};
 
 use crate::buffers::Buffer;
@@ -30,7 +31,7 @@ fn has_room_for_keys<C: Shown>(
 }
 
 /// Puts the text of a range that has at most as many pairs as the widest into a buffer, from the first byte on, and says where it
-/// ends.
+/// ends. The room for the text is zeroed where it was not yet, so that its pages come to be in the thread that fills them.
 fn put_text<W: Word + Drop, C: Shown + Drop>(
     lists: &[Counts<W, C>],
     ranges: &Ranges,
@@ -41,18 +42,16 @@ fn put_text<W: Word + Drop, C: Shown + Drop>(
     requires ranges { AreRanges ranges.now lists.now }
     requires range { from ≤ to }
     requires few { count_within (2 ^ ranges.now.shift) from to lists.now ≤ ranges.now.widest }
-    requires pairs { ranges.now.widest ≤ vec_capacity buffer.old.pairs }
-    requires text { ranges.now.widest * line_room ranges.now.k C.most_digits
-        ≤ length buffer.old.text.items }
+    requires room { HasRoom ranges.now.widest (line_room ranges.now.k C.most_digits) buffer.old }
     ensures within { result ≤ length buffer.new.text.items }
     ensures text { take result buffer.new.text.items
         ≡ range_text ranges.now.k (2 ^ ranges.now.shift) from to lists.now }
-    ensures capacity { vec_capacity buffer.old.pairs ≤ vec_capacity buffer.new.pairs }
-    ensures long { length buffer.new.text.items ≡ length buffer.old.text.items }
+    ensures room { HasRoom ranges.now.widest (line_room ranges.now.k C.most_digits) buffer.new }
 {
     let size = WordSize { k: ranges.k };
     let shift = ranges.shift;
     let text = &mut buffer.text;
+    let _ = text.resize(text.capacity(), 0);
     if has_room_for_keys::<C>(&buffer.keys, ranges.widest, shift, from, to) {
         put_keys(lists, size, shift, from, to, &mut buffer.keys, text)
     } else {
@@ -69,16 +68,13 @@ fn fill<W: Word + Drop, C: Shown + Drop>(
 )
     requires ranges { AreRanges ranges.now lists.now }
     requires inside { range + 1 < length ranges.now.bounds.items }
-    requires pairs { ranges.now.widest ≤ vec_capacity buffer.old.pairs }
-    requires text { ranges.now.widest * line_room ranges.now.k C.most_digits
-        ≤ length buffer.old.text.items }
+    requires room { HasRoom ranges.now.widest (line_room ranges.now.k C.most_digits) buffer.old }
     ensures within { buffer.new.filled ≤ length buffer.new.text.items }
     ensures text { take buffer.new.filled buffer.new.text.items
         ≡ range_text ranges.now.k (2 ^ ranges.now.shift)
         (slice_index ranges.now.bounds.items range)
         (slice_index ranges.now.bounds.items (range + 1)) lists.now }
-    ensures capacity { vec_capacity buffer.old.pairs ≤ vec_capacity buffer.new.pairs }
-    ensures long { length buffer.new.text.items ≡ length buffer.old.text.items }
+    ensures room { HasRoom ranges.now.widest (line_room ranges.now.k C.most_digits) buffer.new }
 {
     let from = ranges.bounds[range];
     let to = ranges.bounds[range + 1];
@@ -97,18 +93,14 @@ pub fn fill_wave<R: Threads + Sync, W: Word + Drop + Send + Sync, C: Shown + Dro
     requires ranges { AreRanges ranges.now lists.now }
     requires some { 1 ≤ length buffers.old }
     requires inside { first + length buffers.old < length ranges.now.bounds.items }
-    requires pairs { All (λ b. ranges.now.widest ≤ vec_capacity b.pairs) buffers.old }
-    requires text { All (λ b. ranges.now.widest * line_room ranges.now.k C.most_digits
-        ≤ length b.text.items) buffers.old }
+    requires room { All (HasRoom ranges.now.widest (line_room ranges.now.k C.most_digits)) buffers.old }
     ensures within { All (λ b. b.filled ≤ length b.text.items) buffers.new }
     ensures texts { (i : ℕ) (d : _) → i < length buffers.new
         → take (slice_index_or buffers.new i d).filled (slice_index_or buffers.new i d).text.items
         ≡ range_text ranges.now.k (2 ^ ranges.now.shift)
         (slice_index ranges.now.bounds.items (first + i))
         (slice_index ranges.now.bounds.items (first + i + 1)) lists.now }
-    ensures pairs { All (λ b. ranges.now.widest ≤ vec_capacity b.pairs) buffers.new }
-    ensures text { All (λ b. ranges.now.widest * line_room ranges.now.k C.most_digits
-        ≤ length b.text.items) buffers.new }
+    ensures room { All (HasRoom ranges.now.widest (line_room ranges.now.k C.most_digits)) buffers.new }
 {
     let threads = buffers.len();
     thread::for_each_mut(

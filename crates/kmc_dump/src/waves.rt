@@ -3,6 +3,7 @@ ghost use Rattle.std.specs.Prelude.{◌≡◌, ℕ, ◌+◌, ◌-◌, ◌*◌, �
 ghost use Rattle.std.specs.Io.KnownBytes.{Appends};
 ghost use Rattle.kmc_device.specs.Device.{AppendsFront, RisesByOne};
 ghost use Rattle.kmc_device.specs.Line.{line_room, text_of};
+ghost use Rattle.kmc_dump.specs.Rooms.{HasRoom};
 ghost use Rattle.kmc_lists.specs.Listed.{spelled};
 ghost use Rattle.kmc_lists.specs.Ordered.{whole};
 ghost use Rattle.kmc_dump.specs.Ranges.{AreRanges};
@@ -32,13 +33,9 @@ fn write_rows<
     back: &mut [Buffer<W, C>],
 ) -> Result<(), WriteFault>
     requires ranges { AreRanges ranges.now lists.now }
-    requires back { 1 ≤ length back.old }
-    requires front_pairs { All (λ b. ranges.now.widest ≤ vec_capacity b.pairs) front.old }
-    requires front_text { All (λ b. ranges.now.widest * line_room ranges.now.k C.most_digits
-        ≤ length b.text.items) front.old }
-    requires back_pairs { All (λ b. ranges.now.widest ≤ vec_capacity b.pairs) back.old }
-    requires back_text { All (λ b. ranges.now.widest * line_room ranges.now.k C.most_digits
-        ≤ length b.text.items) back.old }
+    requires some { 1 ≤ length back.old }
+    requires front { All (HasRoom ranges.now.widest (line_room ranges.now.k C.most_digits)) front.old }
+    requires back { All (HasRoom ranges.now.widest (line_room ranges.now.k C.most_digits)) back.old }
     requires failures { writer.old.failures < 2 ^ 64 - 1 }
     ensures ok { OnOk result (Appends (D.contents writer.old.inner) (D.contents writer.new.inner)
         (text_of (spelled ranges.now.k (whole lists.now)))) }
@@ -100,9 +97,7 @@ pub fn write_ranges<
 ) -> Result<(), WriteFault>
     requires ranges { AreRanges ranges.now lists.now }
     requires buffers { 1 ≤ length buffers.old }
-    requires pairs { All (λ b. ranges.now.widest ≤ vec_capacity b.pairs) buffers.old }
-    requires text { All (λ b. ranges.now.widest * line_room ranges.now.k C.most_digits
-        ≤ length b.text.items) buffers.old }
+    requires room { All (HasRoom ranges.now.widest (line_room ranges.now.k C.most_digits)) buffers.old }
     requires failures { writer.old.failures < 2 ^ 64 - 1 }
     ensures ok { OnOk result (Appends (D.contents writer.old.inner) (D.contents writer.new.inner)
         (text_of (spelled ranges.now.k (whole lists.now)))) }

@@ -14,7 +14,7 @@ use Rattle.kmc_count.specs.declared.limits.Limits.{Limits}
 use Rattle.kmc_count.specs.Bodies.{AreDumpsOfBodies, IsFirstDamaged}
 use Rattle.kmc_count.specs.Laws.{DumpsOfBodiesAreOfKeys}
 use Rattle.kmc_count.specs.Merge.{AreApart, AreDumps}
-use Rattle.kmc_bin_lists.specs.Bodies.{AreListsOfBodies}
+use Rattle.kmc_body_lists.specs.Bodies.{AreListsOfBodies}
 use Rattle.kmc_bin_lists.specs.Laws.{PackedDumpsAreOne}
 use Rattle.kmc_lists.specs.Listed.{Listed, spelled, pairs_of}
 use Rattle.kmc_lists.specs.Ordered.{CanBeMerged, whole}

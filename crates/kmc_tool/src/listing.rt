@@ -1,6 +1,6 @@
 //! Stage two: each bin is counted by itself, and their lists make one dump.
 ghost use Rattle.std.specs.Prelude.{◌≡◌, ◌≤◌, IfOk};
-ghost use Rattle.kmc_bin_lists.specs.Bodies.{AreListsOfBodies};
+ghost use Rattle.kmc_body_lists.specs.Bodies.{AreListsOfBodies};
 ghost use Rattle.kmc_lists.specs.Listed.{spelled};
 ghost use Rattle.kmc_lists.specs.Lists.{lists_of};
 ghost use Rattle.kmc_lists.specs.Ordered.{CanBeMerged, whole};

@@ -1,8 +1,8 @@
 use Rattle.std.proofs.Common.{All, sym, subst}
 use Rattle.std.proofs.lemmas.List.Elements.{All-push}
-use Rattle.kmc_bin_lists.specs.Bodies.{IsListAt}
-use Rattle.kmc_bin_lists.proofs.ManyBodies.{texts}
-use Rattle.kmc_bin_lists.proofs.PlacedLists.{listed_at}
+use Rattle.kmc_body_lists.specs.Bodies.{IsListAt}
+use Rattle.kmc_body_lists.specs.Lemmas.ManyBodies.{texts}
+use Rattle.kmc_body_lists.specs.Lemmas.PlacedLists.{listed_at}
 use Rattle.kmc_bin_lists.proofs.giants.take_giants.Goals as goal
 
 pub loop-preserved : goal.loop-preserved

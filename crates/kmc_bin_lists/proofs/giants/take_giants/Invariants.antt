@@ -1,5 +1,5 @@
 use Rattle.std.proofs.Common.{All, map}
-use Rattle.kmc_bin_lists.specs.Bodies.{IsListAt}
+use Rattle.kmc_body_lists.specs.Bodies.{IsListAt}
 use Rattle.kmc_bin_lists.proofs.giants.take_giants.Given as goal
 
 -- each list so far is that of the body at its place

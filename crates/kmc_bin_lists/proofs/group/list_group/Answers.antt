@@ -1,6 +1,6 @@
 use Rattle.std.proofs.Common.{Vec, Global, ℕ}
 use Rattle.std.proofs.lemmas.List.{length-map}
-use Rattle.kmc_bin_lists.proofs.ManyBodies.{texts}
+use Rattle.kmc_body_lists.specs.Lemmas.ManyBodies.{texts}
 use Rattle.kmc_bin_lists.proofs.group.list_group.Goals as goal
 
 pub returns-in-Some-clause-ok : goal.returns-in-Some-clause-ok

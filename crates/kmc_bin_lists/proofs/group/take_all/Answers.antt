@@ -1,4 +1,4 @@
-use Rattle.kmc_bin_lists.proofs.ManyBodies.{texts}
+use Rattle.kmc_body_lists.specs.Lemmas.ManyBodies.{texts}
 use Rattle.kmc_bin_lists.proofs.group.take_all.Goals as goal
 
 pub returns : goal.returns

@@ -6,5 +6,5 @@ abbrev pub invariant-loop-made : goal.invariant-loop-made
 invariant-loop-made g l = record {
   count : vec_len l.buffers ≡ l._made;
   pairs : All (λ s. l.widest ≤ vec_capacity s.pairs) l.buffers.items;
-  text : All (λ s. length s.text.items ≡ l.bytes) l.buffers.items;
+  text : All (λ s. l.bytes ≤ vec_capacity s.text) l.buffers.items;
 }

@@ -1,4 +1,4 @@
-use Rattle.std.proofs.Common.{◌≡◌, ℕ, ◌+◌, ◌-◌, ◌*◌, ◌<◌, ◌≤◌, ◌^◌, All, [], ◌++◌, length, get_or, take, drop, vec_capacity, refl, sym, ap, subst, ◌∙◌, arith}
+use Rattle.std.proofs.Common.{◌≡◌, ℕ, ◌+◌, ◌-◌, ◌<◌, ◌≤◌, ◌^◌, All, [], ◌++◌, length, get_or, take, drop, refl, sym, ap, subst, ◌∙◌, arith}
 use Rattle.std.proofs.lemmas.List.{length-append, length-take-le}
 use Rattle.std.proofs.lemmas.Nat.{pow_pos}
 use Rattle.std.proofs.lemmas.List.Elements.{All-append, All-drop, All-take}
@@ -9,6 +9,7 @@ use Rattle.kmc_device.specs.Device.{AppendsFront}
 use Rattle.kmc_device.specs.Lemmas.Devices.{on_err, front_all, gathered_out}
 use Rattle.kmc_device.specs.Line.{line_room}
 use Rattle.kmc_dump.specs.Ranges.{range_text}
+use Rattle.kmc_dump.specs.Rooms.{HasRoom}
 use Rattle.kmc_dump.proofs.Texts.{no_text, all_text}
 use Rattle.kmc_dump.proofs.Pieces.{front_row, turn_out, turn_front, all_out}
 use Rattle.kmc_dump.proofs.waves.write_rows.Goals as goal
@@ -17,10 +18,8 @@ pub loop-next-init : goal.loop-next-init
 loop-next-init g c = record {
   inside = omega arith;
   fits = omega arith;
-  front_pairs = c.requires.front_pairs;
-  front_text = c.requires.front_text;
-  back_pairs = c.requires.back_pairs;
-  back_text = c.requires.back_text;
+  front = c.requires.front;
+  back = c.requires.back;
   within = λ i d inside. absurd (omega (arith, inside));
   kept = refl;
   out = (
@@ -52,14 +51,10 @@ write_and_fill-requires-in-loop-next-clause-within g c κs within =
     ) in
     subst (All (λ b. b.filled ≤ length b.text.items)) (sym (front_row wave now (drop wave c.loop-next.back) long)) c.in_ok-write_and_fill.ensures.within
 
-pub write_and_fill-requires-in-loop-next-clause-pairs : goal.write_and_fill-requires-in-loop-next-clause-pairs
-write_and_fill-requires-in-loop-next-clause-pairs g c κs within =
-    All-take (λ s. c.args.ranges.now.widest ≤ vec_capacity s.pairs) c.min-full.result c.loop-next.front c.loop-next.invariant.front_pairs
-
-pub write_and_fill-requires-in-loop-next-clause-text : goal.write_and_fill-requires-in-loop-next-clause-text
-write_and_fill-requires-in-loop-next-clause-text g c κs within =
-    All-take (λ s. c.args.ranges.now.widest * line_room c.args.ranges.now.k g.C.Shown.most_digits ≤ length s.text.items) c.min-full.result
-    c.loop-next.front c.loop-next.invariant.front_text
+pub write_and_fill-requires-in-loop-next-clause-room : goal.write_and_fill-requires-in-loop-next-clause-room
+write_and_fill-requires-in-loop-next-clause-room g c κs within =
+    All-take (HasRoom c.args.ranges.now.widest (line_room c.args.ranges.now.k g.C.Shown.most_digits)) c.min-full.result c.loop-next.front
+    c.loop-next.invariant.front
 
 pub returns-in_err-write_and_fill-2-clause-front : goal.returns-in_err-write_and_fill-2-clause-front
 returns-in_err-write_and_fill-2-clause-front g c =
@@ -121,21 +116,14 @@ loop-next-preserved g c =
     (flat_map (λ b. take b.filled b.text.items) now)
     (omega arith) (omega (arith, c.min-wave.ensures, c.loop-next-test.true, c.requires.ranges.ends))
     inv.out c.in_ok-write_and_fill.ensures.ok (c.in_ok-write_and_fill.ensures.texts ∙ ap (text next) sum) in
+    let room = HasRoom r.widest (line_room r.k g.C.Shown.most_digits) in
     let row = front_row wave now (drop wave c.loop-next.back) long in
     let row_then = front_row full then (drop full c.loop-next.front) long_then in
     record {
       inside = omega (arith, c.min-wave.ensures, c.min-full.ensures, c.loop-next-test.true);
       fits = omega (arith, long_then, length-append then (drop full c.loop-next.front));
-      front_pairs = All-append (λ s. r.widest ≤ vec_capacity s.pairs) then (drop full c.loop-next.front) c.in_ok-write_and_fill-2.ensures.pairs
-          (All-drop (λ s. r.widest ≤ vec_capacity s.pairs) full c.loop-next.front inv.front_pairs);
-      front_text = All-append (λ s. r.widest * line_room r.k g.C.Shown.most_digits ≤ length s.text.items) then (drop full c.loop-next.front)
-          c.in_ok-write_and_fill-2.ensures.text
-          (All-drop (λ s. r.widest * line_room r.k g.C.Shown.most_digits ≤ length s.text.items) full c.loop-next.front inv.front_text);
-      back_pairs = All-append (λ s. r.widest ≤ vec_capacity s.pairs) now (drop wave c.loop-next.back) c.in_ok-write_and_fill.ensures.pairs
-          (All-drop (λ s. r.widest ≤ vec_capacity s.pairs) wave c.loop-next.back inv.back_pairs);
-      back_text = All-append (λ s. r.widest * line_room r.k g.C.Shown.most_digits ≤ length s.text.items) now (drop wave c.loop-next.back)
-          c.in_ok-write_and_fill.ensures.text
-          (All-drop (λ s. r.widest * line_room r.k g.C.Shown.most_digits ≤ length s.text.items) wave c.loop-next.back inv.back_text);
+      front = All-append room then (drop full c.loop-next.front) c.in_ok-write_and_fill-2.ensures.room (All-drop room full c.loop-next.front inv.front);
+      back = All-append room now (drop wave c.loop-next.back) c.in_ok-write_and_fill.ensures.room (All-drop room wave c.loop-next.back inv.back);
       within = subst (All (λ b. b.filled ≤ length b.text.items)) (sym row_then) c.in_ok-write_and_fill-2.ensures.within;
       kept = c.in_ok-write_and_fill-2.ensures.kept ∙ c.in_ok-write_and_fill.ensures.kept ∙ inv.kept;
       out = turn_out r.k (2 ^ r.shift) (pow_pos r.shift) c.args.lists.now r.bounds.items up (next + wave) (next + wave + full) _ _ _ _

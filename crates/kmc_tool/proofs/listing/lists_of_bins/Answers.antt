@@ -1,6 +1,6 @@
 use Rattle.std.proofs.Common.{◌≡◌, ℕ, List, sym, ap, subst, ◌∙◌, Err}
 use Rattle.kmc_parts.specs.Shapes.{Sizes, IsShape}
-use Rattle.kmc_bin_lists.specs.Bodies.{AreListsOfBodies}
+use Rattle.kmc_body_lists.specs.Bodies.{AreListsOfBodies}
 use Rattle.kmc_lists.specs.Lists.{lists_of}
 use Rattle.kmc_tool.proofs.BinsDump.{no_damage, listed}
 use Rattle.kmc_tool.proofs.listing.lists_of_bins.Goals as goal

@@ -1,3 +1,0 @@
-pub mod ManyBodies
-pub mod ListedBodies
-pub mod PlacedLists

@@ -1,0 +1,40 @@
+//! Which body a thread takes next: the largest that none has taken, so that threads end at about one time.
+ghost use Rattle.std.specs.Prelude.{◌<◌, IfSome};
+
+use std::alloc::{AllocError, Global};
+use std::sync::atomic::{AtomicUsize, Ordering};
+
+/// The places of bodies, the largest first, and how many of them are taken. Threads share it.
+#[derive(Drop)]
+pub struct LargestFirst {
+    places: Vec<usize>,
+    taken: AtomicUsize,
+}
+
+impl LargestFirst {
+    /// The places of these bodies, of which none is taken.
+    pub fn new(alloc: Global, bodies: &[Vec<u8>]) -> Result<LargestFirst, AllocError> {
+        let mut sizes = Vec::with_capacity(alloc, bodies.len())?;
+        for (place, body) in bodies.iter().enumerate() {
+            sizes.push((body.len(), place))?;
+        }
+        sizes.sort_unstable_by_key(|size| size.0);
+        let mut places = Vec::with_capacity(alloc, bodies.len())?;
+        for (_, place) in sizes.iter().rev() {
+            places.push(*place)?;
+        }
+        Ok(LargestFirst {
+            places,
+            taken: AtomicUsize::new(0),
+        })
+    }
+
+    /// The place of the next of so many bodies; none where all are taken.
+    pub fn take(&self, count: usize) -> Option<usize>
+        ensures { IfSome result (λ place. place < count) }
+    {
+        let turn = self.taken.fetch_add(1, Ordering::SeqCst);
+        let place = *self.places.get(turn)?;
+        if place < count { Some(place) } else { None }
+    }
+}

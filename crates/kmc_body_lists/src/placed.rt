@@ -1,0 +1,66 @@
+//! Lists that know the places of their bodies, from one thread or several, until all of them are there.
+ghost use Rattle.std.specs.Prelude.{◌≡◌, ℕ, List, length, IfOk, IfSome};
+ghost use Rattle.std.specs.List.{All};
+ghost use Rattle.kmc_base.specs.declared.strands.Strands.{Strands};
+ghost use Rattle.kmc_count.specs.declared.limits.Limits.{Limits};
+ghost use Rattle.kmc_body_lists.specs.Bodies.{AreListsOfBodies, IsListAt};
+
+use kmc_base::Word;
+use kmc_lists::{Counts, Shown};
+use kmc_record::BodyError;
+use std::alloc::Global;
+
+/// The list of a body, and the body's place among those of its group.
+#[derive(Drop)]
+pub struct Placed<W: Word, C: Shown> {
+    /// The place of the body among those of its group.
+    pub place: usize,
+    /// The dump of the body.
+    pub list: Counts<W, C>,
+}
+
+/// The lists that two threads made, those of the second behind those of the first, or the first error.
+pub fn both_made<W: Word + Drop, C: Shown + Drop>(
+    first: Result<Vec<Placed<W, C>>, BodyError>,
+    second: Result<Vec<Placed<W, C>>, BodyError>,
+) -> Result<Vec<Placed<W, C>>, BodyError>
+    ensures { (strands : Strands) (k : ℕ) (l : Limits) (bodies : List (List ℕ))
+        → IfOk first (λ lists. All (λ p. IsListAt strands k l bodies p.place p.list) lists.items)
+        → IfOk second (λ lists. All (λ p. IsListAt strands k l bodies p.place p.list) lists.items)
+        → IfOk result (λ lists. All (λ p. IsListAt strands k l bodies p.place p.list) lists.items) }
+{
+    let mut lists = first?;
+    let mut more = second?;
+    lists.append(&mut more)?;
+    Ok(lists)
+}
+
+/// The lists in the order of their places, where there is one for each of so many places.
+pub fn in_order<W: Word + Drop, C: Shown + Drop>(
+    alloc: Global,
+    placed: Vec<Placed<W, C>>,
+    count: usize,
+) -> Option<Vec<Counts<W, C>>>
+    ensures { (strands : Strands) (k : ℕ) (l : Limits) (bodies : List (List ℕ))
+        → length bodies ≡ count
+        → All (λ p. IsListAt strands k l bodies p.place p.list) placed.items
+        → IfSome result (λ lists. AreListsOfBodies strands k l bodies lists.items) }
+{
+    let mut placed = placed;
+    placed.sort_unstable_by_key(|p| p.place);
+    let mut lists = Vec::new(alloc);
+    for one in placed {
+        if one.place != lists.len() {
+            return None;
+        }
+        match lists.push(one.list) {
+            Ok(()) => {}
+            Err(_) => return None,
+        }
+    }
+    if lists.len() == count {
+        Some(lists)
+    } else {
+        None
+    }
+}

@@ -1,0 +1,39 @@
+//! Bodies that are counted one after the other.
+ghost use Rattle.std.specs.Prelude.{◌≤◌, ℕ, map, IfOk, IsErrOf};
+ghost use Rattle.kmc_record.specs.declared.fault.RecordFault.{RecordFault};
+ghost use Rattle.kmc_count.specs.Bodies.{IsFirstDamaged};
+ghost use Rattle.kmc_body_lists.specs.Bodies.{AreListsOfBodies};
+
+use crate::body::list_body;
+use kmc_base::{KeyRule, Word};
+use kmc_count::{CountingRoom, Limits};
+use kmc_lists::{Counts, Shown};
+use kmc_record::BodyError;
+use std::alloc::Global;
+
+/// The list of each body, one after the other, in the same room.
+pub fn list_row<W: Word + Drop, C: Shown + Drop>(
+    alloc: Global,
+    bodies: &[Vec<u8>],
+    rule: KeyRule,
+    limits: &Limits,
+) -> Result<Vec<Counts<W, C>>, BodyError>
+    requires most { rule.k ≤ W.most }
+    requires wide { limits.now.cs ≤ C.greatest }
+    ensures ok { IfOk result (λ lists. AreListsOfBodies rule.strands rule.k limits.now
+        (map (λ b. b.items) bodies.now) lists.items) }
+    ensures damaged { (fault : RecordFault) (offset : ℕ)
+        → IsErrOf result (BodyError.Damaged fault offset)
+        → IsFirstDamaged rule.k fault offset (map (λ b. b.items) bodies.now) }
+{
+    let mut room: CountingRoom<W> = CountingRoom::new(alloc);
+    let mut lists = Vec::new(alloc);
+    for body in bodies {
+        let list = list_body(&mut room, alloc, body, rule, limits)?;
+        match lists.push(list) {
+            Ok(()) => {}
+            Err(_) => return Err(BodyError::Memory),
+        }
+    }
+    Ok(lists)
+}

@@ -1,0 +1,80 @@
+//! Threads that each take the largest body that none has taken, so a thread that is slow, or has great bodies, takes fewer.
+ghost use Rattle.std.specs.Prelude.{◌≤◌, map, IfOk};
+ghost use Rattle.std.specs.List.{All};
+ghost use Rattle.std.specs.Thread.{IsSync};
+ghost use Rattle.kmc_body_lists.specs.Bodies.{IsListAt};
+
+use crate::body::list_body;
+use crate::largest_first::LargestFirst;
+use crate::placed::{Placed, both_made};
+use kmc_base::{KeyRule, Word};
+use kmc_count::{CountingRoom, Limits};
+use kmc_lists::Shown;
+use kmc_record::BodyError;
+use std::alloc::Global;
+use std::thread;
+use std::thread::Threads;
+
+/// The lists of the bodies that this thread takes, one after the other, in the same room.
+fn take_bodies<W: Word + Drop, C: Shown + Drop>(
+    alloc: Global,
+    order: &LargestFirst,
+    bodies: &[Vec<u8>],
+    rule: KeyRule,
+    limits: &Limits,
+) -> Result<Vec<Placed<W, C>>, BodyError>
+    requires most { rule.k ≤ W.most }
+    requires wide { limits.now.cs ≤ C.greatest }
+    ensures { IfOk result (λ lists. All (λ p. IsListAt rule.strands rule.k limits.now
+        (map (λ b. b.items) bodies.now) p.place p.list) lists.items) }
+{
+    let mut room: CountingRoom<W> = CountingRoom::new(alloc);
+    let mut lists = Vec::new(alloc);
+    for _ in 0..bodies.len() {
+        let Some(place) = order.take(bodies.len()) else {
+            break;
+        };
+        let list = list_body(&mut room, alloc, &bodies[place], rule, limits)?;
+        match lists.push(Placed { place, list }) {
+            Ok(()) => {}
+            Err(_) => return Err(BodyError::Memory),
+        }
+    }
+    Ok(lists)
+}
+
+/// The lists of the bodies that at most so many threads take. Where no thread can be made, the calling thread takes them all.
+#[cycle(takers)]
+pub fn take_by_threads<R: Threads + Sync, W: Word + Drop + Send, C: Shown + Drop + Send>(
+    rt: &R,
+    alloc: Global,
+    order: &LargestFirst,
+    bodies: &[Vec<u8>],
+    rule: KeyRule,
+    limits: Limits,
+    threads: usize,
+) -> Result<Vec<Placed<W, C>>, BodyError>
+    requires most { rule.k ≤ W.most }
+    requires wide { limits.cs ≤ C.greatest }
+    requires threads { 1 ≤ threads }
+    ensures { IfOk result (λ lists. All (λ p. IsListAt rule.strands rule.k limits
+        (map (λ b. b.items) bodies.now) p.place p.list) lists.items) }
+{
+    if threads == 1 {
+        return take_bodies(alloc, order, bodies, rule, &limits);
+    }
+    let few = threads / 2;
+    let others = threads - few;
+    let front = move || -> Result<Vec<Placed<W, C>>, BodyError>
+        requires { IsSync R.row × (rule.k ≤ W.most) × (limits.cs ≤ C.greatest) × (1 ≤ few) }
+        ensures { IfOk result (λ lists. All (λ p. IsListAt rule.strands rule.k limits
+            (map (λ b. b.items) bodies.entry.now) p.place p.list) lists.items) }
+    { take_by_threads(rt, alloc, order, bodies, rule, limits, few) };
+    let back = move || -> Result<Vec<Placed<W, C>>, BodyError>
+        requires { IsSync R.row × (rule.k ≤ W.most) × (limits.cs ≤ C.greatest) × (1 ≤ others) }
+        ensures { IfOk result (λ lists. All (λ p. IsListAt rule.strands rule.k limits
+            (map (λ b. b.items) bodies.entry.now) p.place p.list) lists.items) }
+    { take_by_threads(rt, alloc, order, bodies, rule, limits, others) };
+    let (first, second) = thread::join(rt, front, back);
+    both_made(first, second)
+}
