@@ -22,6 +22,18 @@ pub pops : (i left all : ℕ) → i + left ≡ all → i < all → (n : ℕ) × 
 pops i zero all e l = absurd (omega arith)
 pops i (suc n) all e l = (n, refl, omega arith)
 
+-- all are left
+pub all_left : (all : ℕ) → 0 + all ≡ all
+all_left all = omega arith
+
+-- none is left
+pub all_dealt : (i left all : ℕ) → i + left ≡ all → all ≤ i → (left ≡ 0) × (i ≡ all)
+all_dealt i left all e l = (omega arith, omega arith)
+
+pub none_left_writers : {T : Type 0} (k : QueueShape) (i left : ℕ) → left ≡ 0 → (me : Seated T) (rs : List (Reading T))
+    → me ≡ (record { writers = row_from (fresh_writer k) i left; readers = rs }, []) → me ≡ (record { writers = []; readers = rs }, [])
+none_left_writers k i left none me rs e = e ∙ (λ j. (record { writers = row_from (fresh_writer k) i (none j); readers = rs }, []))
+
 module _ {T : Type 0} (k : QueueShape) (i left n : ℕ) (is : left ≡ suc n) (me : Seated T) where
   pub left_writers : (me' : Seated T) (rs : List (Reading T))
       → me ≡ (record { writers = row_from (fresh_writer k) i left; readers = rs }, []) → me' ≡ (no_writer me.0, me.1)

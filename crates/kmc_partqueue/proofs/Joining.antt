@@ -1,5 +1,5 @@
 -- Seats that were popped from a list, one after the other, and joined to one seat.
-use Rattle.std.proofs.Common.{◌≡◌, List, [], ◌∷◌, ◌++◌, refl, ap, ◌∙◌, subst, append_assoc}
+use Rattle.std.proofs.Common.{◌≡◌, List, [], ◌∷◌, ◌++◌, length, refl, sym, ap, ◌∙◌, subst, append_assoc, arith}
 use Rattle.kmc_partqueue.specs.Counts.{Each}
 use Rattle.kmc_partqueue.specs.Lemmas.Sums.{each_split, append_none}
 
@@ -11,6 +11,10 @@ pub record Joined {S V : Type 0} (Is : S → Type 0) (Tell : List V → List S �
   pub split : given ≡ left ++ popped
   pub grown : now ≡ views ++ old
   pub told : Tell views popped
+
+empty : {S : Type 0} (xs : List S) → length xs ≡ 0 → xs ≡ []
+empty [] e = refl
+empty (x ∷ xs) e = absurd (omega arith)
 
 module _ {S V : Type 0} (Is : S → Type 0) (Tell : List V → List S → Type 0) (old : List V) (given : List S) where
   pub joins_none : Each Is given → Tell [] [] → Joined Is Tell old old given given
@@ -27,3 +31,9 @@ module _ {S V : Type 0} (Is : S → Type 0) (Tell : List V → List S → Type 0
     grown = grows ∙ ap (λ z. v ∷ z) j.grown;
     told = tells j.views j.popped j.told;
   }
+
+  -- none is left
+  pub joins_all : (now : List V) (left : List S) → Joined Is Tell old now given left → length left ≡ 0
+      → (vs : List V) × (now ≡ vs ++ old) × Tell vs given
+  joins_all now left j none =
+      (j.views, j.grown, subst (Tell j.views) (sym (j.split ∙ ap (λ z. z ++ j.popped) (empty left none))) j.told)

@@ -161,3 +161,15 @@ not_all_seen ends totals n w noted none_yet near all =
       writer = w;
       total = t.0;
     } t.1.1)
+
+-- what was noted is noted still, where one more lane was seen at its end
+pub kept_more : (ts : List (Option ℕ)) (lane h w t : ℕ) → slice_get ts lane ≡ Some None → slice_get ts w ≡ Some (Some t)
+    → slice_get (set ts lane (Some h)) w ≡ Some (Some t)
+kept_more ts lane h w t yet is = set_rest ts lane w (Some h) (λ e. open_or_ended yet (ap (slice_get ts) (sym e) ∙ is)) ∙ is
+
+-- an answer is not both
+pub not_true : {A : Type 0} → false ≡ true → A
+not_true e = cc
+
+pub not_false : {A : Type 0} → true ≡ false → A
+not_false e = cc

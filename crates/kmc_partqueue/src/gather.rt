@@ -1,5 +1,5 @@
 //! All seats come back, and what was sent was got once.
-ghost use Rattle.std.specs.Prelude.{◌≡◌, ℕ, ◌<◌, List, ◌++◌, length, Some, slice_get, Option};
+ghost use Rattle.std.specs.Prelude.{◌≡◌, ℕ, ◌<◌, List, [], ◌++◌, length, Some, slice_get, Option};
 ghost use Rattle.std.specs.Slots.{IsFull};
 ghost use Rattle.atomic_table.specs.Table.{State, Seen};
 ghost use Rattle.kmc_partqueue.specs.Reached.{IsReached};
@@ -8,6 +8,7 @@ ghost use Rattle.kmc_partqueue.specs.Counts.{Each, Among, total_of, same};
 ghost use Rattle.kmc_partqueue.specs.Seats.{ReaderState, AllEnded, IsWriterOf, IsReaderOf};
 ghost use Rattle.kmc_partqueue.specs.Gathered.{Pairs, WriterPairs, IsGathered};
 ghost use Rattle.kmc_partqueue.specs.Told.{IsHistoryOf};
+ghost use Rattle.kmc_partqueue.specs.Dealing.{both};
 ghost use Rattle.kmc_partcore.specs.History.{History};
 
 use crate::done::DoneSeat;
@@ -56,6 +57,16 @@ impl<T: Drop> Lanes<T> {
         drain(table.close_with(seat));
     }
 
+    /// All that a seat has goes to another.
+    fn join_one(&self, seat: &mut Seat<Option<T>, View<T>>, other: Seat<Option<T>, View<T>>)
+        requires { (seat.old.table_id ≡ self.now.table.shared.table_id)
+            × (other.table_id ≡ self.now.table.shared.table_id) × (other.me.1 ≡ []) }
+        ensures { (seat.new.table_id ≡ seat.old.table_id) × (seat.new.id ≡ seat.old.id)
+            × (seat.new.me ≡ (both seat.old.me.0 other.me.0, seat.old.me.1)) }
+    {
+        self.table.shared.join_seat::<JoinSeats>(seat, other);
+    }
+
     /// All that the seats have goes to one of them.
     fn join_all(
         &self,
@@ -73,14 +84,10 @@ impl<T: Drop> Lanes<T> {
             × WriterPairs ws writers.items }
     {
         while let Some(reader) = readers.pop() {
-            self.table
-                .shared
-                .join_seat::<JoinSeats>(seat, reader.into_seat());
+            self.join_one(seat, reader.into_seat());
         }
         while let Some(writer) = writers.pop() {
-            self.table
-                .shared
-                .join_seat::<JoinSeats>(seat, writer.into_seat());
+            self.join_one(seat, writer.into_seat());
         }
     }
 

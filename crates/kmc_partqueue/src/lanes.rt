@@ -99,6 +99,29 @@ impl<T: Drop> Lanes<T> {
         Ok(seats)
     }
 
+    /// The queue, and the seat that has all writers and all readers.
+    fn opened(
+        alloc: Global,
+        shape: QueueShape,
+    ) -> Result<(Lanes<T>, Seat<Option<T>, View<T>>), AllocError>
+        ensures shape { IfOk result (λ q. q.0.shape ≡ shape) }
+        ensures queue { IfOk result (λ q. q.1.table_id ≡ q.0.table.shared.table_id) }
+        ensures seat { IfOk result (λ q. q.1.me
+            ≡ (
+              record {
+                writers = row_from (fresh_writer q.0.table.shared.key) 0 q.0.shape.writers;
+                readers = row_from (fresh_reader q.0.table.shared.key) 0 q.0.shape.readers;
+              },
+              [],
+            )) }
+    {
+        let slots = shape.writers * shape.per_writer;
+        let words = Vec::from_elem(alloc, 0u64, 2 * shape.writers + slots)?;
+        let (table, seat) = Table::vacant(alloc, words.as_slice(), slots, &shape)?;
+        let lanes = Lanes { table, shape };
+        Ok((lanes, seat))
+    }
+
     /// The queue, and its seats in the order of their numbers. Every writer is registered. All words and slots are made here; no other call of the queue takes memory.
     pub fn new(
         alloc: Global,
@@ -110,10 +133,7 @@ impl<T: Drop> Lanes<T> {
         ensures readers { IfOk result (λ q. q.2.items
             ≡ row_from (new_reader q.0.table.shared.table_id shape) 0 shape.readers) }
     {
-        let slots = shape.writers * shape.per_writer;
-        let words = Vec::from_elem(alloc, 0u64, 2 * shape.writers + slots)?;
-        let (table, mut seat) = Table::vacant(alloc, words.as_slice(), slots, &shape)?;
-        let lanes = Lanes { table, shape };
+        let (lanes, mut seat) = Lanes::opened(alloc, shape)?;
         let writer_seats = lanes.deal_writers(alloc, &mut seat)?;
         let reader_seats = lanes.deal_readers(alloc, &mut seat)?;
         Ok((lanes, writer_seats, reader_seats))

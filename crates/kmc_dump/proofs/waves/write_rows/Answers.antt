@@ -171,3 +171,15 @@ returns-in-Ok-clause-ok g c =
     (all_out r.k (2 ^ r.shift) (pow_pos r.shift) c.args.lists.now r.bounds.items (λ i inside. (c.requires.ranges.bounds i inside).0)
     c.loop-next.next (length r.bounds.items - 1) old _ new (omega (arith, c.loop-next-test.false, c.loop-next.invariant.inside))
     (gathered_out old _ _ _ _ c.loop-next.invariant.out c.in_ok-write_buffers.ensures.ok) c.in-Ok.ensures.bytes)
+
+pub write_and_fill-requires-clause-ranges : goal.write_and_fill-requires-clause-ranges
+write_and_fill-requires-clause-ranges g c κs within = c.requires.ranges
+
+pub write_and_fill-requires-clause-within : goal.write_and_fill-requires-clause-within
+write_and_fill-requires-clause-within g c κs within = c.loop-next.invariant.within
+
+pub write_and_fill-requires-in-loop-next-clause-ranges : goal.write_and_fill-requires-in-loop-next-clause-ranges
+write_and_fill-requires-in-loop-next-clause-ranges g c κs within = c.requires.ranges
+
+pub write_buffers-requires-clause-within : goal.write_buffers-requires-clause-within
+write_buffers-requires-clause-within g c = c.loop-next.invariant.within

@@ -1,8 +1,9 @@
-use Rattle.std.proofs.Common.{arith, sym, ◌∙◌, ℕ, ◌+◌, ◌*◌, ◌<◌, ◌++◌, ◌∷◌, [], subst}
+use Rattle.std.proofs.Common.{arith, sym, ap, ◌∙◌, ℕ, ◌+◌, ◌*◌, ◌<◌, ◌++◌, ◌∷◌, [], subst}
+use Rattle.std.proofs.lemmas.Result.{IfOk-from_err}
 use Rattle.kmc_partqueue.specs.Seats.{new_reader}
-use Rattle.kmc_partqueue.specs.Dealing.{one_of_readers, fresh_reader}
+use Rattle.kmc_partqueue.specs.Dealing.{row_from, one_of_readers, fresh_reader}
 use Rattle.kmc_partqueue.proofs.Allowed.{splits_reader}
-use Rattle.kmc_partqueue.proofs.DealCalls.{pops, left_readers, own_reader, row_next}
+use Rattle.kmc_partqueue.proofs.DealCalls.{pops, all_left, all_dealt, left_readers, own_reader, row_next}
 use Rattle.kmc_partqueue.proofs.lanes.Lanes.deal_readers.Goals as goal
 
 pub split_seat-own-requires : goal.split_seat-own-requires
@@ -31,3 +32,16 @@ loop-number-preserved g c =
       c.in_ok-push.ensures.items ∙ (λ j. inv.2 j ++ (c.fresh.ensures ∙ (λ l. new_reader (id l) me.shape i)) j ∷ []) ∙ sym
           (row_next (new_reader me.table.shared.table_id me.shape) i),
     )
+
+pub loop-number-init : goal.loop-number-init
+loop-number-init g c =
+    let all : ℕ = c.args.self.now.shape.readers in (c.requires.queue, (all, all_left all, c.requires.fresh), c.new-seats.ensures.items)
+
+pub returns-in_err-push : goal.returns-in_err-push
+returns-in_err-push g c = record { seats = IfOk-from_err c.from_residual.result _ c.from_residual.ensures.0 }
+
+pub returns : goal.returns
+returns g c =
+    let me = c.args.self.now in let inv = c.loop-number.invariant in
+    let all = (all_dealt c.loop-number.number inv.1.0 me.shape.readers inv.1.1 c.loop-number-test.false).1 in
+    record { seats = inv.2 ∙ ap (row_from (new_reader me.table.shared.table_id me.shape) 0) all }

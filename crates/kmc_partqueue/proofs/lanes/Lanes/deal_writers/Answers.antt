@@ -1,7 +1,9 @@
 use Rattle.std.proofs.Common.{arith, sym, ap, ◌∙◌, ℕ, ◌+◌, ◌*◌, ◌<◌, ◌++◌, ◌∷◌, [], false, subst}
+use Rattle.std.proofs.lemmas.Result.{IfOk-from_err}
 use Rattle.kmc_partqueue.specs.Seats.{new_writer}
+use Rattle.kmc_partqueue.specs.Dealing.{row_from}
 use Rattle.kmc_partqueue.proofs.Allowed.{splits_writer}
-use Rattle.kmc_partqueue.proofs.DealCalls.{pops, left_writers, own_writer, row_next}
+use Rattle.kmc_partqueue.proofs.DealCalls.{pops, all_left, all_dealt, left_writers, none_left_writers, own_writer, row_next}
 use Rattle.kmc_partqueue.proofs.WriterCalls.{resting}
 use Rattle.kmc_partqueue.proofs.lanes.Lanes.deal_writers.Goals as goal
 
@@ -27,3 +29,31 @@ loop-number-preserved g c = let me = c.args.self.now in let inv = c.loop-number.
       (p.0, p.2, left_writers me.table.shared.key i inv.1.0 p.0 p.1 c.loop-number.seat.me c.split_seat-own.new.seat.me _ inv.1.2 c.split_seat-own.ensures.2),
       c.in_ok-push.ensures.items ∙ (λ j. inv.2 j ++ seat j ∷ []) ∙ sym (row_next (new_writer me.table.shared.table_id me.shape) i),
     )
+
+pub loop-number-init : goal.loop-number-init
+loop-number-init g c =
+    let all : ℕ = c.args.self.now.shape.writers in (c.requires.queue, (all, all_left all, c.requires.fresh), c.new-seats.ensures.items)
+
+pub returns-in_err-push-clause-queue : goal.returns-in_err-push-clause-queue
+returns-in_err-push-clause-queue g c = IfOk-from_err c.from_residual.result _ c.from_residual.ensures.0
+
+pub returns-in_err-push-clause-left : goal.returns-in_err-push-clause-left
+returns-in_err-push-clause-left g c = IfOk-from_err c.from_residual.result _ c.from_residual.ensures.0
+
+pub returns-in_err-push-clause-seats : goal.returns-in_err-push-clause-seats
+returns-in_err-push-clause-seats g c = IfOk-from_err c.from_residual.result _ c.from_residual.ensures.0
+
+pub returns-clause-queue : goal.returns-clause-queue
+returns-clause-queue g c = c.loop-number.invariant.0 ∙ sym c.requires.queue
+
+pub returns-clause-left : goal.returns-clause-left
+returns-clause-left g c =
+    let me = c.args.self.now in let inv = c.loop-number.invariant in
+    let none = (all_dealt c.loop-number.number inv.1.0 me.shape.writers inv.1.1 c.loop-number-test.false).0 in
+    none_left_writers me.table.shared.key c.loop-number.number inv.1.0 none c.loop-number.seat.me _ inv.1.2
+
+pub returns-clause-seats : goal.returns-clause-seats
+returns-clause-seats g c =
+    let me = c.args.self.now in let inv = c.loop-number.invariant in
+    let all = (all_dealt c.loop-number.number inv.1.0 me.shape.writers inv.1.1 c.loop-number-test.false).1 in
+    inv.2 ∙ ap (row_from (new_writer me.table.shared.table_id me.shape) 0) all

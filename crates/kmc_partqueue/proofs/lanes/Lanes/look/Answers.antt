@@ -2,7 +2,7 @@ use Rattle.std.proofs.Common.{arith, sym, ap, ◌∙◌, ◌≡◌, ℕ, ◌+◌
 use Rattle.kmc_partqueue.specs.Plays.{looking}
 use Rattle.kmc_partqueue.specs.declared.views.Reading.{Reading}
 use Rattle.kmc_partqueue.specs.Seats.{Rests}
-use Rattle.kmc_partqueue.proofs.ReaderCalls.{alone, after_head, after_ready, after_not_ready, head_call, ready_call}
+use Rattle.kmc_partqueue.proofs.ReaderCalls.{alone, after_head, after_ready, after_not_ready, head_call, ready_call, not_true, not_false}
 use Rattle.kmc_partqueue.proofs.lanes.Lanes.look.Given.{Over}
 use Rattle.kmc_partqueue.proofs.lanes.Lanes.look.Goals.{After-load-head}
 use Rattle.kmc_partqueue.proofs.lanes.Lanes.look.Goals as goal
@@ -59,3 +59,15 @@ returns-clause-waits g c = λ _ b r.
     let p = (goal.at.returns-clause-waits g c).After-load-head in let h : ℕ = c.load-head.result in
     after_not_ready (looking b c.args.lane h) c.load-head.new.seat.me c.load-seen.new.seat.me c.load-seen.result (looked g p b r).0 c.load-seen.ensures.2
     (λ e. c.if-seen-turn.false (e ∙ ap (λ (z : ℕ). 2 * (h / z) + 1) r.2 ∙ ap (λ (z : ℕ). z + 1) (sym c.place-mark.ensures.turn)))
+
+pub returns-then-seen-turn-clause-queue : goal.returns-then-seen-turn-clause-queue
+returns-then-seen-turn-clause-queue g c = c.load-seen.ensures.0 ∙ c.load-head.ensures.0
+
+pub returns-then-seen-turn-clause-waits : goal.returns-then-seen-turn-clause-waits
+returns-then-seen-turn-clause-waits g c = λ e. not_false e
+
+pub returns-clause-queue : goal.returns-clause-queue
+returns-clause-queue g c = c.load-seen.ensures.0 ∙ c.load-head.ensures.0
+
+pub returns-clause-published : goal.returns-clause-published
+returns-clause-published g c = λ e. not_true e

@@ -1,9 +1,8 @@
 use Rattle.std.proofs.Common.{arith, refl, sym, ap, ◌∙◌, ◌≡◌, ℕ, ◌<◌, ◌++◌, ◌∷◌, [], Some, None, slice_get, subst, length-set}
-use Rattle.std.proofs.lemmas.Grind.{elements}
 use Rattle.kmc_partqueue.specs.declared.views.Reading.{Reading}
 use Rattle.kmc_partqueue.specs.Seats.{got_of, Rests}
 use Rattle.kmc_partqueue.specs.Plays.{looking, seeing, taking, freeing, ending}
-use Rattle.kmc_partqueue.proofs.ReaderCalls.{noted_more, not_all_seen, between}
+use Rattle.kmc_partqueue.proofs.ReaderCalls.{noted_more, kept_more, not_all_seen, between}
 use Rattle.kmc_partqueue.proofs.lanes.Lanes.try_lane.Given.{Over}
 use Rattle.kmc_partqueue.proofs.lanes.Lanes.try_lane.Goals.{After-look-head}
 use Rattle.kmc_partqueue.proofs.lanes.Lanes.try_lane.Goals as goal
@@ -22,6 +21,9 @@ at_head g c = looking c.s.invariant.view c.args.lane c.look-head.result.0
 
 had : (g : Over) (c : After-look-head g) → c.s.invariant.view.got ≡ c.args.s.now.got
 had g c = sym (ap (λ m. got_of m.0) c.s.invariant.is) ∙ ap (λ v. v.got) c.s.view_is
+
+same_table : (g : Over) (c : After-look-head g) → c.look-head.new.seat.table_id ≡ c.args.s.now.table
+same_table g c = c.look-head.ensures.queue ∙ ap (λ v. v.table) c.s.view_is
 
 open_yet : (g : Over) (c : After-look-head g) → slice_get c.s.inside.totals c.args.lane ≡ Some None
 open_yet g c = ap (λ v. slice_get v.totals c.args.lane) c.s.view_is ∙ c.requires.lane.1
@@ -106,7 +108,9 @@ returns-then-sees_end-clause-got g c =
     ap (λ m. got_of m.0) (c.sees_end.ensures.ended c.if-sees_end.true (at_head g p) waits refl) ∙ had g p
 
 pub returns-then-sees_end-clause-notes : goal.returns-then-sees_end-clause-notes
-returns-then-sees_end-clause-notes g c = grind (arith, elements)
+returns-then-sees_end-clause-notes g c =
+    let p = (goal.at.returns-then-sees_end-clause-notes g c).After-look-head in let vi = c.s.view_is in
+    λ w t is. kept_more c.s.inside.totals c.args.lane c.look-head.result.0 w t (open_yet g p) (ap (λ v. slice_get v.totals w) vi ∙ is)
 
 pub invariant_of-s-else-sees_end : goal.invariant_of-s-else-sees_end
 invariant_of-s-else-sees_end g c =
@@ -120,3 +124,54 @@ returns-clause-got g c =
     let p = (goal.at.returns-clause-got g c).After-look-head in
     let waits = c.look-head.ensures.waits c.if-published.false c.s.invariant.view (resting g p) in
     ap (λ m. got_of m.0) (c.sees_end.ensures.open c.if-sees_end.false (at_head g p) waits refl ∙ waits) ∙ had g p
+
+pub take_seen-requires-clause-queue : goal.take_seen-requires-clause-queue
+take_seen-requires-clause-queue g c = same_table g (goal.at.take_seen-requires-clause-queue g c).After-look-head ∙ c.requires.queue.0
+
+pub take_seen-requires-clause-lane : goal.take_seen-requires-clause-lane
+take_seen-requires-clause-lane g c = (c.requires.lane.0, c.look-head.ensures.head)
+
+pub sees_end-requires-clause-queue : goal.sees_end-requires-clause-queue
+sees_end-requires-clause-queue g c = same_table g (goal.at.sees_end-requires-clause-queue g c).After-look-head ∙ c.requires.queue.0
+
+pub sees_end-requires-clause-lane : goal.sees_end-requires-clause-lane
+sees_end-requires-clause-lane g c = (c.requires.lane.0, c.look-head.ensures.head)
+
+pub lane_after-s-inside-requires : goal.lane_after-s-inside-requires
+lane_after-s-inside-requires g c = c.requires.lane.0
+
+pub offset_bounds-s-inside-lane : goal.offset_bounds-s-inside-lane
+offset_bounds-s-inside-lane g c =
+    let few = c.args.self.now.shape.within.1 in let near = c.requires.lane.0 in omega arith
+
+pub bounds-s-inside-lane : goal.bounds-s-inside-lane
+bounds-s-inside-lane g c = let few = c.args.self.now.shape.within.1 in let near = c.requires.lane.0 in omega arith
+
+pub returns-in-Some-clause-seat : goal.returns-in-Some-clause-seat
+returns-in-Some-clause-seat g c =
+    let p = (goal.at.returns-in-Some-clause-seat g c).After-look-head in let vi = c.s.view_is in
+    (c.take_seen.ensures.queue ∙ same_table g p, ap (λ v. v.number) vi, ap (λ v. v.per_writer) vi, ap (λ v. v.writers) vi)
+
+pub returns-in-Some-clause-notes : goal.returns-in-Some-clause-notes
+returns-in-Some-clause-notes g c = λ w t is. ap (λ v. slice_get v.totals w) c.s.view_is ∙ is
+
+pub returns-in-None-clause-seat : goal.returns-in-None-clause-seat
+returns-in-None-clause-seat g c =
+    let p = (goal.at.returns-in-None-clause-seat g c).After-look-head in let vi = c.s.view_is in
+    (c.take_seen.ensures.queue ∙ same_table g p, ap (λ v. v.number) vi, ap (λ v. v.per_writer) vi, ap (λ v. v.writers) vi)
+
+pub returns-in-None-clause-notes : goal.returns-in-None-clause-notes
+returns-in-None-clause-notes g c = λ w t is. ap (λ v. slice_get v.totals w) c.s.view_is ∙ is
+
+pub returns-then-sees_end-clause-seat : goal.returns-then-sees_end-clause-seat
+returns-then-sees_end-clause-seat g c =
+    let p = (goal.at.returns-then-sees_end-clause-seat g c).After-look-head in let vi = c.s.view_is in
+    (c.sees_end.ensures.queue ∙ same_table g p, ap (λ v. v.number) vi, ap (λ v. v.per_writer) vi, ap (λ v. v.writers) vi)
+
+pub returns-clause-seat : goal.returns-clause-seat
+returns-clause-seat g c =
+    let p = (goal.at.returns-clause-seat g c).After-look-head in let vi = c.s.view_is in
+    (c.sees_end.ensures.queue ∙ same_table g p, ap (λ v. v.number) vi, ap (λ v. v.per_writer) vi, ap (λ v. v.writers) vi)
+
+pub returns-clause-notes : goal.returns-clause-notes
+returns-clause-notes g c = λ w t is. ap (λ v. slice_get v.totals w) c.s.view_is ∙ is

@@ -1,4 +1,4 @@
-use Rattle.std.proofs.Common.{◌++◌, ◌∷◌, [], arith, sym, ap, ◌∙◌, ℕ, ◌<◌, slice_get, false, true, subst}
+use Rattle.std.proofs.Common.{◌++◌, ◌∷◌, [], arith, sym, ap, ◌∙◌, ℕ, ◌<◌, slice_get, subst}
 use Rattle.std.proofs.lemmas.Bool.{both_ways}
 use Rattle.kmc_partqueue.specs.Seats.{AllEnded}
 use Rattle.kmc_partqueue.proofs.ReaderCalls.{open_or_ended}
