@@ -144,8 +144,7 @@ pub(crate) fn add_up<W: Word + Drop>(
     add_items(table.as_mut_slice(), over, items, k, bits)?;
     items.clear();
     items.append(over)?;
-    push_counters(items, table, k, bits)?;
-    Ok(())
+    push_counters(items, table, k, bits)
 }
 
 /// So many items at least wait before they are added up.

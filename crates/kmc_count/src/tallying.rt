@@ -71,6 +71,5 @@ pub fn tally<W: Word + Drop, L: PairList<W>>(
             count = times;
         }
     }
-    push_kept(pairs, word, count, rule, limits)?;
-    Ok(())
+    push_kept(pairs, word, count, rule, limits)
 }

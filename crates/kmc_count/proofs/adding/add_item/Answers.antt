@@ -3,6 +3,7 @@ use Rattle.std.proofs.lemmas.List.{map_push}
 use Rattle.std.proofs.lemmas.Nat.{one_shl}
 use Rattle.kmc_base.specs.Weights.{weighted}
 use Rattle.kmc_count.specs.Tables.{TakesIn}
+use Rattle.kmc_count.proofs.Refused.{refused}
 use Rattle.kmc_count.proofs.Tabled.{counter_begins_anew, counter_grows, small_counter, weight_low}
 use Rattle.kmc_count.proofs.adding.add_item.Goals as goal
 
@@ -45,3 +46,6 @@ returns-else-count-times g c =
     let full : 1 * 2 ^ f % 2 ^ 32 ≡ 2 ^ f = one_shl f 32 (omega (arith, c.requires.bits)) in
     counter_grows c.args.k f c.args.table.now _ n p c.times-times.result word c.times-times.ensures c.requires.table fits
     (omega (arith, full, c.if-count-times.false))
+
+pub returns-in_err-push : goal.returns-in_err-push
+returns-in_err-push g c = refused _ c.from_residual.result c.from_residual.ensures.0

@@ -4,6 +4,7 @@ use Rattle.kmc_record.specs.Record.{IsBodyOf}
 use Rattle.kmc_record.specs.RecordKeys.{IsTaken}
 use Rattle.kmc_count.specs.Lemmas.PassedOn.{passed_on}
 use Rattle.kmc_count.proofs.Counted.{much_taken, items_of_all}
+use Rattle.kmc_count.proofs.Refused.{given, no_damage, refused}
 use Rattle.kmc_count.proofs.adding.take_and_add.Goals as goal
 
 -- what is taken up to an offset that is not inside is the whole body
@@ -78,3 +79,68 @@ returns-clause-ok g c =
     items_of_all rule.strands rule.k c.args.bits c.args.body.now _ h.0
     (all_of rule.k c.loop-offset.offset c.args.body.now h.0 (omega (arith, c.loop-offset-test.false)) h.1)
     (much_taken rule.strands rule.k c.args.bits _ _ _ h.2 c.in_ok-add_up-2.ensures)
+
+pub most_items-most-requires : goal.most_items-most-requires
+most_items-most-requires g c = c.requires.most
+
+pub take_words-requires-clause-most : goal.take_words-requires-clause-most
+take_words-requires-clause-most g c = omega (arith, c.requires.beside)
+
+pub take_words-requires-clause-beside : goal.take_words-requires-clause-beside
+take_words-requires-clause-beside g c = c.requires.beside
+
+pub take_words-requires-clause-inside : goal.take_words-requires-clause-inside
+take_words-requires-clause-inside g c = c.loop-offset-test.true
+
+pub returns-in_err-offset-clause-ok : goal.returns-in_err-offset-clause-ok
+returns-in_err-offset-clause-ok g c = refused _ c.from_residual.result c.from_residual.ensures.0
+
+pub add_up-requires-clause-some : goal.add_up-requires-clause-some
+add_up-requires-clause-some g c = c.args.rule.within.0
+
+pub add_up-requires-clause-most : goal.add_up-requires-clause-most
+add_up-requires-clause-most g c = c.requires.most
+
+pub add_up-requires-clause-beside : goal.add_up-requires-clause-beside
+add_up-requires-clause-beside g c = c.requires.beside
+
+pub add_up-requires-clause-bits : goal.add_up-requires-clause-bits
+add_up-requires-clause-bits g c = c.requires.bits
+
+pub loop-offset-smaller-in-Continue-branch-2 : goal.loop-offset-smaller-in-Continue-branch-2
+loop-offset-smaller-in-Continue-branch-2 g c = omega (arith, c.in_ok-offset.ensures.on)
+
+pub loop-offset-smaller : goal.loop-offset-smaller
+loop-offset-smaller g c = omega (arith, c.in_ok-offset.ensures.on)
+
+pub returns-in_err-add_up-clause-ok : goal.returns-in_err-add_up-clause-ok
+returns-in_err-add_up-clause-ok g c = refused _ c.from_residual-in_err-add_up.result c.from_residual-in_err-add_up.ensures.0
+
+pub returns-in_err-add_up-clause-damaged : goal.returns-in_err-add_up-clause-damaged
+returns-in_err-add_up-clause-damaged g c = λ fault offset.
+    no_damage _ c.from_residual-in_err-add_up.result fault offset c.from_residual-in_err-add_up.ensures.1
+
+pub add_up-requires-2-clause-some : goal.add_up-requires-2-clause-some
+add_up-requires-2-clause-some g c = c.args.rule.within.0
+
+pub add_up-requires-2-clause-most : goal.add_up-requires-2-clause-most
+add_up-requires-2-clause-most g c = c.requires.most
+
+pub add_up-requires-2-clause-beside : goal.add_up-requires-2-clause-beside
+add_up-requires-2-clause-beside g c = c.requires.beside
+
+pub add_up-requires-2-clause-bits : goal.add_up-requires-2-clause-bits
+add_up-requires-2-clause-bits g c = c.requires.bits
+
+pub returns-in_err-add_up-2-clause-ok : goal.returns-in_err-add_up-2-clause-ok
+returns-in_err-add_up-2-clause-ok g c = refused _ c.from_residual-in_err-add_up-2.result c.from_residual-in_err-add_up-2.ensures.0
+
+pub returns-in_err-add_up-2-clause-damaged : goal.returns-in_err-add_up-2-clause-damaged
+returns-in_err-add_up-2-clause-damaged g c = λ fault offset.
+    no_damage _ c.from_residual-in_err-add_up-2.result fault offset c.from_residual-in_err-add_up-2.ensures.1
+
+pub returns-clause-damaged : goal.returns-clause-damaged
+returns-clause-damaged g c = λ fault offset. given _ _ _
+
+pub returns-clause-memory : goal.returns-clause-memory
+returns-clause-memory g c = given _ _ _
