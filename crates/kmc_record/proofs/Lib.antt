@@ -4,3 +4,4 @@ pub mod Filling
 pub mod Laying
 pub mod PackedBytes
 pub mod Pieces
+pub mod Rests

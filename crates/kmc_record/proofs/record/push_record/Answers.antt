@@ -1,7 +1,8 @@
-use Rattle.std.proofs.Common.{◌≡◌, ℕ, ◌+◌, ◌*◌, ◌-◌, ◌/◌, ◌^◌, ◌<◌, ◌≤◌, min, List, length, take, map, vec_len, vec_capacity, ap, sym, ◌∙◌, arith}
+use Rattle.std.proofs.Common.{◌≡◌, ℕ, ◌+◌, ◌*◌, ◌-◌, ◌/◌, ◌^◌, ◌<◌, ◌≤◌, min, List, length, get_or, take, map, vec_len, vec_capacity, ap, sym, ◌∙◌, arith}
 use Rattle.std.proofs.lemmas.List.{length-take-le, get_or-take}
+use Rattle.std.proofs.lemmas.Result.{IfOk-from_err}
 use Rattle.kmc_base.specs.Lemmas.Packs.{AreCodes}
-use Rattle.kmc_base.specs.Lemmas.Rolling.{codes_front, roll_start, step_at, byte_step, fits_at}
+use Rattle.kmc_base.specs.Lemmas.Rolling.{IsRolling, ahead_quarters, behind_quarters, codes_front, roll_start, step_at, byte_step, fits_at}
 use Rattle.kmc_record.specs.Record.{codes_in}
 use Rattle.kmc_record.specs.Lemmas.Codes.{are_codes, length_codes, byte_codes, at}
 use Rattle.kmc_record.proofs.Filling.{fits, top_room, held_first, held_more, held_all, behind_bytes}
@@ -21,6 +22,52 @@ beside : (k bits most top : ℕ) → 1 ≤ k → 2 * k + bits ≤ 2 * most → t
     → (j : ℕ) × (1 ≤ j) × (2 * j + bits ≤ 2 * most) × (4 * top ≤ 4 ^ j)
 beside k bits most top some room is = (k, some, room, top_room k top some is)
 
+-- the place of the highest code of a word
+top_place : (k most top : ℕ) → 1 ≤ k → k ≤ most → top ≡ 4 ^ (k - 1) → (j : ℕ) × (j < most) × (top ≡ 4 ^ j)
+top_place k most top some room is = (k - 1, omega (arith, some, room), is)
+
+in_front : (k n size j : ℕ) → k ≤ n → n ≤ 4 * size → j < (k - 1) / 4 → j < size
+in_front k n size j long inside less = omega (arith, long, inside, less)
+
+in_head : (k n size i : ℕ) → k ≤ n → n ≤ 4 * size → i < k - 1 → i < 4 * size
+in_head k n size i long inside less = omega (arith, long, inside, less)
+
+in_bytes : (n size j : ℕ) → n ≤ 4 * size → j < n / 4 → j < size
+in_bytes n size j inside less = omega (arith, inside, less)
+
+in_codes : (n size i : ℕ) → n ≤ 4 * size → i < n → i < 4 * size
+in_codes n size i inside less = omega (arith, inside, less)
+
+in_near : (begun n near i : ℕ) → near ≡ min n (4 * begun) → i < near → i < n
+in_near begun n near i is less = omega (arith, is, less)
+
+in_byte : (n j r : ℕ) → j < n / 4 → r < 4 → 4 * j + r < n
+in_byte n j r less few = omega (arith, less, few)
+
+room_left : (n i len capacity : ℕ) → i < n → len + (n - i) ≤ capacity → len < capacity
+room_left n i len capacity less room = omega (arith, less, room)
+
+front_inside : (k n j : ℕ) (bs : List ℕ) → k ≤ n → n ≤ 4 * length bs → j < (k - 1) / 4 → 4 * j < length (take n (codes_in bs))
+front_inside k n j bs enough inside less = omega (arith, long bs n inside, enough, less)
+
+-- the window with the codes of one byte more
+front_more : (k n j f b g d top : ℕ) (bs : List ℕ) → 1 ≤ k → k ≤ n → n ≤ 4 * length bs → j < (k - 1) / 4 → top ≡ 4 ^ (k - 1)
+    → g ≡ ahead_quarters top f (get_or bs j 0) → d ≡ behind_quarters top b (get_or bs j 0)
+    → IsRolling k (take n (codes_in bs)) (4 * j) f b → IsRolling k (take n (codes_in bs)) (4 * (j + 1)) g d
+front_more k n j f b g d top bs some enough inside less t ahead behind h =
+    let codes = byte_codes bs j (omega arith) in
+    let up : 4 * j + 4 ≡ 4 * (j + 1) = omega arith in
+    let r = byte_step k some (take n (codes_in bs)) (4 * j) _ _ _ _ f b top g d (small bs n) (omega (arith, long bs n inside))
+    (codes.0 ∙ sym (get_or-take n (codes_in bs) (4 * j) 0 (omega arith)))
+    (codes.1 ∙ sym (get_or-take n (codes_in bs) (4 * j + 1) 0 (omega arith)))
+    (codes.2 ∙ sym (get_or-take n (codes_in bs) (4 * j + 2) 0 (omega arith)))
+    (codes.3 ∙ sym (get_or-take n (codes_in bs) (4 * j + 3) 0 (omega arith)))
+    t ahead behind h in
+    rw up at r
+
+pub returns-in_err-reserve : goal.returns-in_err-reserve
+returns-in_err-reserve g c = IfOk-from_err _ _ c.from_residual.ensures.0
+
 pub front-init : goal.front-init
 front-init g c = roll_start c.args.rule.k (take c.args.symbols (codes_in c.args.bytes.now)) _ _ c.zero-forward.ensures c.ones-back.ensures
 
@@ -28,28 +75,17 @@ pub slide_byte-requires-clause-back : goal.slide_byte-requires-clause-back
 slide_byte-requires-clause-back g c =
     let num = g.W.Word.number in
     let bs = c.args.bytes.now in
-    fits_at c.args.rule.k c.args.rule.within.0 (take c.args.symbols (codes_in bs)) (4 * c.front.j) (num c.front.forward) (num c.front.back)
-    (num c.top-top.result) (small bs c.args.symbols)
-    (omega (arith, long bs c.args.symbols c.requires.inside)) c.top-top.ensures c.front.invariant
+    let n = c.args.symbols in
+    fits_at c.args.rule.k c.args.rule.within.0 (take n (codes_in bs)) (4 * c.front.j) (num c.front.forward) (num c.front.back)
+    (num c.top-top.result) (small bs n) (front_inside c.args.rule.k n c.front.j bs c.requires.long c.requires.inside c.front-test.true)
+    c.top-top.ensures c.front.invariant
 
 pub front-preserved : goal.front-preserved
 front-preserved g c =
     let num = g.W.Word.number in
-    let bs = c.args.bytes.now in
-    let n = c.args.symbols in
-    let j = c.front.j in
-    let s = take n (codes_in bs) in
-    let codes = byte_codes bs j (omega arith) in
-    let up : 4 * j + 4 ≡ 4 * (j + 1) = omega arith in
-    let r = byte_step c.args.rule.k c.args.rule.within.0 s (4 * j) _ _ _ _ (num c.front.forward) (num c.front.back) (num c.top-top.result)
-    (num c.slide_byte.result.0) (num c.slide_byte.result.1) (small bs n)
-    (omega (arith, long bs n c.requires.inside))
-    (codes.0 ∙ sym (get_or-take n (codes_in bs) (4 * j) 0 (omega arith)))
-    (codes.1 ∙ sym (get_or-take n (codes_in bs) (4 * j + 1) 0 (omega arith)))
-    (codes.2 ∙ sym (get_or-take n (codes_in bs) (4 * j + 2) 0 (omega arith)))
-    (codes.3 ∙ sym (get_or-take n (codes_in bs) (4 * j + 3) 0 (omega arith)))
-    c.top-top.ensures c.slide_byte.ensures.ahead c.slide_byte.ensures.behind c.front.invariant in
-    rw up at r
+    front_more c.args.rule.k c.args.symbols c.front.j (num c.front.forward) (num c.front.back) (num c.slide_byte.result.0) (num c.slide_byte.result.1)
+    (num c.top-top.result) c.args.bytes.now c.args.rule.within.0 c.requires.long c.requires.inside c.front-test.true c.top-top.ensures
+    c.slide_byte.ensures.ahead c.slide_byte.ensures.behind c.front.invariant
 
 pub head-init : goal.head-init
 head-init g c =
@@ -220,3 +256,82 @@ push_code-requires-in-codes-clause-beside g c =
 pub push_code-requires-in-rest-clause-beside : goal.push_code-requires-in-rest-clause-beside
 push_code-requires-in-rest-clause-beside g c =
     beside c.args.rule.k c.args.weight.bits g.W.Word.most (g.W.Word.number c.top-top.result) c.args.rule.within.0 c.requires.beside c.top-top.ensures
+
+pub top-top-requires-clause-some : goal.top-top-requires-clause-some
+top-top-requires-clause-some g c = c.args.rule.within.0
+
+pub ones-back-requires-clause-some : goal.ones-back-requires-clause-some
+ones-back-requires-clause-some g c = c.args.rule.within.0
+
+pub overflow_sub-whole : goal.overflow_sub-whole
+overflow_sub-whole g c = c.args.rule.within.0
+
+pub overflow_sub-i-end : goal.overflow_sub-i-end
+overflow_sub-i-end g c = c.args.rule.within.0
+
+pub overflow_step-i-2 : goal.overflow_step-i-2
+overflow_step-i-2 g c = c.args.rule.within.0
+
+pub top-top-requires-clause-most : goal.top-top-requires-clause-most
+top-top-requires-clause-most g c = c.requires.most
+
+pub ones-back-requires-clause-most : goal.ones-back-requires-clause-most
+ones-back-requires-clause-most g c = c.requires.most
+
+pub ahead-forward-requires-clause-top : goal.ahead-forward-requires-clause-top
+ahead-forward-requires-clause-top g c = top_place c.args.rule.k g.W.Word.most _ c.args.rule.within.0 c.requires.most c.top-top.ensures
+
+pub behind-back-requires-clause-top : goal.behind-back-requires-clause-top
+behind-back-requires-clause-top g c = top_place c.args.rule.k g.W.Word.most _ c.args.rule.within.0 c.requires.most c.top-top.ensures
+
+pub push_code-requires-clause-top : goal.push_code-requires-clause-top
+push_code-requires-clause-top g c = top_place c.args.rule.k g.W.Word.most _ c.args.rule.within.0 c.requires.most c.top-top.ensures
+
+pub push_code-requires-in-codes-clause-top : goal.push_code-requires-in-codes-clause-top
+push_code-requires-in-codes-clause-top g c = top_place c.args.rule.k g.W.Word.most _ c.args.rule.within.0 c.requires.most c.top-top.ensures
+
+pub push_code-requires-in-rest-clause-top : goal.push_code-requires-in-rest-clause-top
+push_code-requires-in-rest-clause-top g c = top_place c.args.rule.k g.W.Word.most _ c.args.rule.within.0 c.requires.most c.top-top.ensures
+
+pub bounds-bytes-j : goal.bounds-bytes-j
+bounds-bytes-j g c = in_front c.args.rule.k c.args.symbols _ c.front.j c.requires.long c.requires.inside c.front-test.true
+
+pub code_at-code-requires : goal.code_at-code-requires
+code_at-code-requires g c = in_head c.args.rule.k c.args.symbols _ c.head.i c.requires.long c.requires.inside c.head-test.true
+
+pub ahead-forward-requires-clause-code : goal.ahead-forward-requires-clause-code
+ahead-forward-requires-clause-code g c = c.code_at-code.ensures.small
+
+pub behind-back-requires-clause-code : goal.behind-back-requires-clause-code
+behind-back-requires-clause-code g c = c.code_at-code.ensures.small
+
+pub push_code-requires-clause-code : goal.push_code-requires-clause-code
+push_code-requires-clause-code g c = c.code_at-code-in-near.ensures.small
+
+pub push_code-requires-in-rest-clause-code : goal.push_code-requires-in-rest-clause-code
+push_code-requires-in-rest-clause-code g c = c.code_at-code-in-rest.ensures.small
+
+pub bounds-bytes-j-in-bytes : goal.bounds-bytes-j-in-bytes
+bounds-bytes-j-in-bytes g c = in_bytes c.args.symbols _ c.bytes.j c.requires.inside c.bytes-test.true
+
+pub code_at-code-requires-in-rest : goal.code_at-code-requires-in-rest
+code_at-code-requires-in-rest g c = in_codes c.args.symbols _ c.rest.i c.requires.inside c.rest-test.true
+
+pub code_at-code-requires-in-near : goal.code_at-code-requires-in-near
+code_at-code-requires-in-near g c =
+    let n = c.args.symbols in
+    in_codes n _ c.near.i c.requires.inside (in_near ((c.args.rule.k + 2) / 4) n _ c.near.i c.min-near.ensures c.near-test.true)
+
+pub push_code-requires-clause-room : goal.push_code-requires-clause-room
+push_code-requires-clause-room g c =
+    let n = c.args.symbols in
+    room_left n c.near.i _ _ (in_near ((c.args.rule.k + 2) / 4) n _ c.near.i c.min-near.ensures c.near-test.true) c.near.invariant.room
+
+pub push_code-requires-in-codes-clause-room : goal.push_code-requires-in-codes-clause-room
+push_code-requires-in-codes-clause-room g c =
+    let n = c.args.symbols in
+    room_left n (4 * c.bytes.j + c.codes.r) _ _ (in_byte n c.bytes.j c.codes.r c.bytes-test.true c.codes-test.true) c.codes.invariant.room
+
+pub push_code-requires-in-rest-clause-room : goal.push_code-requires-in-rest-clause-room
+push_code-requires-in-rest-clause-room g c =
+    room_left c.args.symbols c.rest.i _ _ c.rest-test.true c.rest.invariant.room

@@ -1,5 +1,6 @@
 use Rattle.std.proofs.Common.{◌≡◌, ◌+◌, ◌<◌, [], length, map, drop, get_or, subst, sym, arith, drop_of_length-le}
 use Rattle.std.proofs.lemmas.List.Elements.{All-rest}
+use Rattle.std.proofs.lemmas.Result.{IfOk-from_err}
 use Rattle.kmc_record.specs.RecordKeys.{IsRecordKey}
 use Rattle.kmc_record.specs.Lemmas.Gaining.{IsOpenRow, row_goes_on, row_ends, last_row}
 use Rattle.kmc_record.proofs.rows.push_rows.Goals as goal
@@ -47,3 +48,39 @@ returns g c =
     last_row c.args.rule.k c.args.bits c.args.rule.strands (map g.W.Word.number c.args.items.now.items)
     (map g.W.Word.number c.loop-next.items.items) _ c.loop-next.key c.loop-next.count _ c.args.keys.now end
     c.in_ok-push_row-2.ensures c.loop-next.invariant.open_row
+
+pub push_row-requires-clause-most : goal.push_row-requires-clause-most
+push_row-requires-clause-most g c = c.requires.most
+
+pub push_row-requires-clause-beside : goal.push_row-requires-clause-beside
+push_row-requires-clause-beside g c = c.requires.beside
+
+pub push_row-requires-clause-bits : goal.push_row-requires-clause-bits
+push_row-requires-clause-bits g c = c.requires.bits
+
+pub push_row-requires-clause-long : goal.push_row-requires-clause-long
+push_row-requires-clause-long g c = c.loop-next.invariant.long
+
+pub push_row-requires-clause-some : goal.push_row-requires-clause-some
+push_row-requires-clause-some g c = c.loop-next.invariant.some
+
+pub push_row-requires-2-clause-most : goal.push_row-requires-2-clause-most
+push_row-requires-2-clause-most g c = c.requires.most
+
+pub push_row-requires-2-clause-beside : goal.push_row-requires-2-clause-beside
+push_row-requires-2-clause-beside g c = c.requires.beside
+
+pub push_row-requires-2-clause-bits : goal.push_row-requires-2-clause-bits
+push_row-requires-2-clause-bits g c = c.requires.bits
+
+pub push_row-requires-2-clause-long : goal.push_row-requires-2-clause-long
+push_row-requires-2-clause-long g c = c.loop-next.invariant.long
+
+pub push_row-requires-2-clause-some : goal.push_row-requires-2-clause-some
+push_row-requires-2-clause-some g c = c.loop-next.invariant.some
+
+pub returns-in_err-push_row : goal.returns-in_err-push_row
+returns-in_err-push_row g c = IfOk-from_err _ _ c.from_residual.ensures.0
+
+pub returns-in_err-push_row-2 : goal.returns-in_err-push_row-2
+returns-in_err-push_row-2 g c = IfOk-from_err _ _ c.from_residual-in_err-push_row-2.ensures.0

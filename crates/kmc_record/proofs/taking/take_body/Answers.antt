@@ -1,8 +1,10 @@
 use Rattle.std.proofs.Common.{ℕ, ◌+◌, ◌++◌, List, [], ◌∷◌, map, refl, subst, sym, arith}
+use Rattle.std.proofs.lemmas.Result.{IfOk-from_err}
 use Rattle.kmc_record.specs.Record.{size_of}
 use Rattle.kmc_record.specs.RecordKeys.{IsTaken}
 use Rattle.kmc_record.specs.Lemmas.Taken.{none_taken}
 use Rattle.kmc_record.specs.Lemmas.Whole.{first_codes, next_body, next_inside, rest_at, same_codes, stops_there}
+use Rattle.kmc_record.proofs.Rests.{some_left, enough, record_long, no_error, no_memory, no_damage}
 use Rattle.kmc_record.proofs.taking.take_body.Goals as goal
 
 pub loop-offset-init : goal.loop-offset-init
@@ -42,3 +44,45 @@ loop-offset-preserved g c =
             (map g.W.Word.number c.take_record.new.items.items) (h.0 ++ w ∷ [])) (same_codes n rest) (c.in_ok-take_record.ensures h.0 h.2),
       );
     }
+
+pub slice_bounds-rest-count : goal.slice_bounds-rest-count
+slice_bounds-rest-count g c = c.loop-offset.invariant.inside
+
+pub first_symbols-requires-clause-some : goal.first_symbols-requires-clause-some
+first_symbols-requires-clause-some g c = some_left c.loop-offset.offset c.args.body.now c.loop-offset-test.true
+
+pub first_symbols-requires-clause-most : goal.first_symbols-requires-clause-most
+first_symbols-requires-clause-most g c = c.args.rule.within.1
+
+pub returns-in-Err-clause-ok : goal.returns-in-Err-clause-ok
+returns-in-Err-clause-ok g c = tt
+
+pub returns-in-Err-clause-memory : goal.returns-in-Err-clause-memory
+returns-in-Err-clause-memory g c = λ is. no_memory _ _ _ _ refl is
+
+pub take_record-requires-clause-most : goal.take_record-requires-clause-most
+take_record-requires-clause-most g c = c.requires.most
+
+pub take_record-requires-clause-beside : goal.take_record-requires-clause-beside
+take_record-requires-clause-beside g c = c.requires.beside
+
+pub take_record-requires-clause-short : goal.take_record-requires-clause-short
+take_record-requires-clause-short g c = c.requires.short
+
+pub take_record-requires-clause-long : goal.take_record-requires-clause-long
+take_record-requires-clause-long g c = enough c.in-Ok.symbols c.args.rule.k _ c.in-Ok.ensures.count
+
+pub take_record-requires-clause-size : goal.take_record-requires-clause-size
+take_record-requires-clause-size g c = record_long c.in-Ok.symbols (rest_at c.loop-offset.offset c.args.body.now) c.in-Ok.ensures.inside
+
+pub returns-in_err-take_record-clause-ok : goal.returns-in_err-take_record-clause-ok
+returns-in_err-take_record-clause-ok g c = IfOk-from_err _ _ c.from_residual.ensures.0
+
+pub returns-clause-damaged : goal.returns-clause-damaged
+returns-clause-damaged g c = λ fault offset is. no_error _ _ _ is
+
+pub returns-clause-memory : goal.returns-clause-memory
+returns-clause-memory g c = λ is. no_error _ _ _ is
+
+pub returns-in_err-take_record-clause-damaged : goal.returns-in_err-take_record-clause-damaged
+returns-in_err-take_record-clause-damaged g c = λ fault offset is. no_damage _ _ _ _ c.from_residual.ensures.1 is

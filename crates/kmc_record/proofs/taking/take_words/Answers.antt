@@ -1,10 +1,12 @@
-use Rattle.std.proofs.Common.{◌≡◌, ℕ, ◌+◌, ◌++◌, List, [], map, subst, arith}
+use Rattle.std.proofs.Common.{◌≡◌, ℕ, ◌++◌, List, [], map, refl, subst, arith}
+use Rattle.std.proofs.lemmas.Result.{IfOk-from_err}
 use Rattle.kmc_base.specs.Packed.{pack}
 use Rattle.kmc_base.specs.Strands.{keys}
 use Rattle.kmc_base.specs.Weights.{weighted}
 use Rattle.kmc_base.specs.Lemmas.Weights.{pow_two_some}
 use Rattle.kmc_record.specs.Lemmas.Taken.{words_taken}
 use Rattle.kmc_record.specs.Lemmas.Whole.{first_codes, next_body, rest_at, same_codes, spelled_there, stops_there}
+use Rattle.kmc_record.proofs.Rests.{some_left, enough, inside_record, no_error, no_memory, no_damage}
 use Rattle.kmc_record.proofs.taking.take_words.Goals as goal
 
 pub returns-in_err-push_record-clause-memory : goal.returns-in_err-push_record-clause-memory
@@ -32,3 +34,45 @@ returns-clause-ok g c = λ ss whole.
           (pow_two_some c.args.bits) taken),
       stops_there rule.k n c.args.offset body (λ i. omega (arith, c.type_inv.body i)) found.count found.inside found.rest ss c.requires.inside whole,
     )
+
+pub first_symbols-requires-clause-some : goal.first_symbols-requires-clause-some
+first_symbols-requires-clause-some g c = some_left c.args.offset c.args.body.now c.requires.inside
+
+pub first_symbols-requires-clause-most : goal.first_symbols-requires-clause-most
+first_symbols-requires-clause-most g c = c.args.rule.within.1
+
+pub returns-in-Err-clause-on : goal.returns-in-Err-clause-on
+returns-in-Err-clause-on g c = tt
+
+pub returns-in-Err-clause-ok : goal.returns-in-Err-clause-ok
+returns-in-Err-clause-ok g c = λ ss whole. tt
+
+pub returns-in-Err-clause-memory : goal.returns-in-Err-clause-memory
+returns-in-Err-clause-memory g c = λ ss whole is. no_memory _ _ _ _ refl is
+
+pub push_record-requires-clause-most : goal.push_record-requires-clause-most
+push_record-requires-clause-most g c = c.requires.most
+
+pub push_record-requires-clause-beside : goal.push_record-requires-clause-beside
+push_record-requires-clause-beside g c = c.requires.beside
+
+pub push_record-requires-clause-long : goal.push_record-requires-clause-long
+push_record-requires-clause-long g c = enough c.in-Ok.symbols c.args.rule.k _ c.in-Ok.ensures.count
+
+pub push_record-requires-clause-inside : goal.push_record-requires-clause-inside
+push_record-requires-clause-inside g c = inside_record c.in-Ok.symbols (rest_at c.args.offset c.args.body.now) c.in-Ok.ensures.inside
+
+pub returns-in_err-push_record-clause-on : goal.returns-in_err-push_record-clause-on
+returns-in_err-push_record-clause-on g c = IfOk-from_err _ _ c.from_residual.ensures.0
+
+pub returns-in_err-push_record-clause-ok : goal.returns-in_err-push_record-clause-ok
+returns-in_err-push_record-clause-ok g c = λ ss whole. IfOk-from_err _ _ c.from_residual.ensures.0
+
+pub returns-clause-damaged : goal.returns-clause-damaged
+returns-clause-damaged g c = λ ss whole fault at is. no_error _ _ _ is
+
+pub returns-clause-memory : goal.returns-clause-memory
+returns-clause-memory g c = λ ss whole is. no_error _ _ _ is
+
+pub returns-in_err-push_record-clause-damaged : goal.returns-in_err-push_record-clause-damaged
+returns-in_err-push_record-clause-damaged g c = λ ss whole fault at is. no_damage _ _ _ _ c.from_residual.ensures.1 is
