@@ -12,7 +12,7 @@ pub struct LargestFirst {
 }
 
 impl LargestFirst {
-    /// The places of these bodies, of which none is taken.
+    /// The places of these bodies, of which none is taken. It fails only for want of memory.
     pub fn new(alloc: Global, bodies: &[Vec<u8>]) -> Result<LargestFirst, AllocError> {
         let mut sizes = Vec::with_capacity(alloc, bodies.len())?;
         for (place, body) in bodies.iter().enumerate() {
@@ -29,7 +29,8 @@ impl LargestFirst {
         })
     }
 
-    /// The place of the next of so many bodies; none where all are taken.
+    /// The place of the next of so many bodies, from 0 on; none where all are taken. No two calls answer one place: nothing is
+    /// proved of that, and [`in_order`](crate::in_order) looks for it.
     pub fn take(&self, count: usize) -> Option<usize>
         ensures { IfSome result (λ place. place < count) }
     {

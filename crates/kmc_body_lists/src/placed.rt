@@ -19,7 +19,8 @@ pub struct Placed<W: Word, C: Shown> {
     pub list: Counts<W, C>,
 }
 
-/// The lists that two threads made, those of the second behind those of the first, or the first error.
+/// The lists that two threads made, those of the second behind those of the first, or the first error; `Memory` where the row
+/// cannot grow.
 pub fn both_made<W: Word + Drop, C: Shown + Drop>(
     first: Result<Vec<Placed<W, C>>, BodyError>,
     second: Result<Vec<Placed<W, C>>, BodyError>,
@@ -35,7 +36,8 @@ pub fn both_made<W: Word + Drop, C: Shown + Drop>(
     Ok(lists)
 }
 
-/// The lists in the order of their places, where there is one for each of so many places.
+/// The lists in the order of their places, where there is one for each of so many places. None where a place is missing or stands
+/// twice, and where memory is refused.
 pub fn in_order<W: Word + Drop, C: Shown + Drop>(
     alloc: Global,
     placed: Vec<Placed<W, C>>,

@@ -11,7 +11,8 @@ use kmc_lists::{Counts, Shown};
 use kmc_record::BodyError;
 use std::alloc::Global;
 
-/// The list of each body, one after the other, in the same room.
+/// The list of each body, counted one after the other in the same room. Where bodies are damaged, the fault is that of the first
+/// such body; `Memory` where a growth is refused before.
 pub fn list_row<W: Word + Drop, C: Shown + Drop>(
     alloc: Global,
     bodies: &[Vec<u8>],

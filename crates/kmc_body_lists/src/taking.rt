@@ -43,7 +43,9 @@ fn take_bodies<W: Word + Drop, C: Shown + Drop>(
     Ok(lists)
 }
 
-/// The lists of the bodies that at most so many threads take. Where no thread can be made, the calling thread takes them all.
+/// The lists of the bodies that at most so many threads take, each with its place, in any order. Where no thread can be made, the
+/// calling thread takes them all. An error is that of one of the threads, and no promise is made of which: who wants the fault of the
+/// first body counts anew, by [`list_row`](crate::list_row).
 #[cycle(takers)]
 pub fn take_by_threads<R: Threads + Sync, W: Word + Drop + Send, C: Shown + Drop + Send>(
     rt: &R,
