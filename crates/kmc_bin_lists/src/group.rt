@@ -8,7 +8,7 @@ ghost use Rattle.kmc_body_lists.specs.Bodies.{AreListsOfBodies, IsListAt};
 
 use crate::giants::take_giants;
 use kmc_base::{KeyRule, Word};
-use kmc_body_lists::{LargestFirst, Placed, both_made, in_order, list_row, take_by_threads};
+use kmc_body_lists::{LargestFirst, Placed, in_order, list_row, take_by_threads};
 use kmc_count::Limits;
 use kmc_lists::{Counts, Shown};
 use kmc_record::BodyError;
@@ -31,9 +31,10 @@ fn take_all<R: Threads + Sync, W: Word + Drop + Send + Sync, C: Shown + Drop + S
         (map (λ b. b.items) bodies.now) p.place p.list) lists.items) }
 {
     let order = LargestFirst::new(alloc, bodies)?;
-    let giants = take_giants(rt, alloc, &order, bodies, rule, &limits, threads)?;
-    let others = take_by_threads(rt, alloc, &order, bodies, rule, limits, threads);
-    both_made(Ok(giants), others)
+    let mut lists = take_giants(rt, alloc, &order, bodies, rule, &limits, threads)?;
+    let mut others = take_by_threads(rt, alloc, &order, bodies, rule, limits, threads)?;
+    lists.append(&mut others)?;
+    Ok(lists)
 }
 
 /// The list of each body of a group, in the order of the bodies, by at most so many threads. Where one of them meets a fault or is

@@ -10,6 +10,6 @@ mod row;
 mod taking;
 
 pub use largest_first::LargestFirst;
-pub use placed::{Placed, both_made, in_order};
+pub use placed::{Placed, in_order};
 pub use row::list_row;
 pub use taking::take_by_threads;

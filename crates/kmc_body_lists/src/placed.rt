@@ -19,20 +19,20 @@ pub struct Placed<W: Word, C: Shown> {
     pub list: Counts<W, C>,
 }
 
-/// The lists that two threads made, those of the second behind those of the first, or the first error; `Memory` where the row
+/// The lists that threads made, those of each behind those of the threads before it, or the first error; `Memory` where the row
 /// cannot grow.
-pub fn both_made<W: Word + Drop, C: Shown + Drop>(
-    first: Result<Vec<Placed<W, C>>, BodyError>,
-    second: Result<Vec<Placed<W, C>>, BodyError>,
+pub(crate) fn all_made<W: Word + Drop, C: Shown + Drop>(
+    alloc: Global,
+    rows: Vec<Result<Vec<Placed<W, C>>, BodyError>>,
 ) -> Result<Vec<Placed<W, C>>, BodyError>
     ensures { (strands : Strands) (k : ℕ) (l : Limits) (bodies : List (List ℕ))
-        → IfOk first (λ lists. All (λ p. IsListAt strands k l bodies p.place p.list) lists.items)
-        → IfOk second (λ lists. All (λ p. IsListAt strands k l bodies p.place p.list) lists.items)
+        → All (λ r. IfOk r (λ lists. All (λ p. IsListAt strands k l bodies p.place p.list) lists.items)) rows.items
         → IfOk result (λ lists. All (λ p. IsListAt strands k l bodies p.place p.list) lists.items) }
 {
-    let mut lists = first?;
-    let mut more = second?;
-    lists.append(&mut more)?;
+    let mut lists = Vec::new(alloc);
+    for row in rows {
+        lists.append(&mut row?)?;
+    }
     Ok(lists)
 }
 

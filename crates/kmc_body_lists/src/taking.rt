@@ -1,12 +1,11 @@
 //! Threads that each take the largest body that none has taken, so a thread that is slow, or has great bodies, takes fewer.
 ghost use Rattle.std.specs.Prelude.{◌≤◌, map, IfOk};
 ghost use Rattle.std.specs.List.{All};
-ghost use Rattle.std.specs.Thread.{IsSync};
 ghost use Rattle.kmc_body_lists.specs.Bodies.{IsListAt};
 
 use crate::body::list_body;
 use crate::largest_first::LargestFirst;
-use crate::placed::{Placed, both_made};
+use crate::placed::{Placed, all_made};
 use kmc_base::{KeyRule, Word};
 use kmc_count::{CountingRoom, Limits};
 use kmc_lists::Shown;
@@ -46,7 +45,6 @@ fn take_bodies<W: Word + Drop, C: Shown + Drop>(
 /// The lists of the bodies that at most so many threads take, each with its place, in any order. Where no thread can be made, the
 /// calling thread takes them all. An error is that of one of the threads, and no promise is made of which: who wants the fault of the
 /// first body counts anew, by [`list_row`](crate::list_row).
-#[cycle(takers)]
 pub fn take_by_threads<R: Threads + Sync, W: Word + Drop + Send, C: Shown + Drop + Send>(
     rt: &R,
     alloc: Global,
@@ -62,21 +60,11 @@ pub fn take_by_threads<R: Threads + Sync, W: Word + Drop + Send, C: Shown + Drop
     ensures { IfOk result (λ lists. All (λ p. IsListAt rule.strands rule.k limits
         (map (λ b. b.items) bodies.now) p.place p.list) lists.items) }
 {
-    if threads == 1 {
-        return take_bodies(alloc, order, bodies, rule, &limits);
-    }
-    let few = threads / 2;
-    let others = threads - few;
-    let front = move || -> Result<Vec<Placed<W, C>>, BodyError>
-        requires { IsSync R.row × (rule.k ≤ W.most) × (limits.cs ≤ C.greatest) × (1 ≤ few) }
+    let taker = move |_: usize| -> Result<Vec<Placed<W, C>>, BodyError>
+        requires { (rule.k ≤ W.most) × (limits.cs ≤ C.greatest) }
         ensures { IfOk result (λ lists. All (λ p. IsListAt rule.strands rule.k limits
             (map (λ b. b.items) bodies.entry.now) p.place p.list) lists.items) }
-    { take_by_threads(rt, alloc, order, bodies, rule, limits, few) };
-    let back = move || -> Result<Vec<Placed<W, C>>, BodyError>
-        requires { IsSync R.row × (rule.k ≤ W.most) × (limits.cs ≤ C.greatest) × (1 ≤ others) }
-        ensures { IfOk result (λ lists. All (λ p. IsListAt rule.strands rule.k limits
-            (map (λ b. b.items) bodies.entry.now) p.place p.list) lists.items) }
-    { take_by_threads(rt, alloc, order, bodies, rule, limits, others) };
-    let (first, second) = thread::join(rt, front, back);
-    both_made(first, second)
+    { take_bodies(alloc, order, bodies, rule, &limits) };
+    let rows = thread::map_indices(rt, alloc, threads, &taker)?;
+    all_made(alloc, rows)
 }

@@ -1,6 +1,6 @@
 -- Pairs of a range as keys.
 use Rattle.std.proofs.Common.{◌≡◌, ℕ, ◌+◌, ◌-◌, ◌*◌, ◌/◌, ◌%◌, ◌^◌, ◌<◌, ◌≤◌, List, [], ◌∷◌, ◌++◌, bit_and, All, length, get_or, map, take, drop, ap, sym}
-use Rattle.std.proofs.Common.{subst, ◌∙◌, arith, le_refl, mod-eq_of_lt, length-drop, append-nil}
+use Rattle.std.proofs.Common.{subst, ◌∙◌, arith, le_refl, mod-eq_of_lt, le-div_iff_mul-le, length-drop, append-nil}
 use Rattle.std.specs.List.Sorted.{IsSorted, IsNonDecreasingBy}
 use Rattle.std.specs.Ordering.{nat_cmp}
 use Rattle.std.proofs.Math.Nat.{add-mul}
@@ -21,6 +21,10 @@ key_holds word count least bits low few =
     let high : ((word - least) * 2 ^ bits + count) / 2 ^ bits ≡ word - least = shr_high (word - least) bits count few in
     let a : ((word - least) * 2 ^ bits + count) / 2 ^ bits + least ≡ word = omega (arith, high, low) in
     (λ i. (a i, mod_low (word - least) bits count few i))
+
+-- what is at most the greatest number shifted down can be shifted up
+pub shift_fits : (n shift : ℕ) → n ≤ (2 ^ 128 - 1) / 2 ^ shift → n * 2 ^ shift < 2 ^ 128
+shift_fits n shift low = omega (arith, (le-div_iff_mul-le (pow_pos shift)).0 low)
 
 -- how far the word lies behind the least fits, also above the bits of a count
 module _ (word least bits : ℕ) (room : (word - least + 1) * 2 ^ bits ≤ 2 ^ 64) where

@@ -1,5 +1,6 @@
 -- Lines of at most so many bytes each, one behind the other.
-use Rattle.std.proofs.Common.{◌≡◌, ℕ, ◌+◌, ◌*◌, ◌<◌, ◌≤◌, add-one, arith}
+use Rattle.std.proofs.Common.{◌≡◌, ℕ, ◌+◌, ◌*◌, ◌<◌, ◌≤◌, add-one, arith, Result, Ok, Err, sym, true≢false}
+use Rattle.std.specs.Prelude.{IsOk, is_ok, if◌then◌else◌}
 use Rattle.std.proofs.Math.Nat.{suc-mul, mul-le-mul_right}
 
 pub lines_more : (i r end line : ℕ) → end ≤ i * r → line ≤ r → end + line ≤ (i + 1) * r
@@ -14,3 +15,8 @@ line_fits i n r end line top inside room so_far short =
 -- fewer lines have room too
 pub fewer_fit : (m n r top : ℕ) → m ≤ n → n * r ≤ top → m * r ≤ top
 fewer_fit m n r top few room = omega (arith, mul-le-mul_right r few)
+
+-- a vector that was resized has so many elements
+pub resized : {A B : Type 0} (r : Result A B) (n old len : ℕ) → IsOk r → len ≡ (if is_ok r then n else old) → len ≡ n
+resized (Ok x) n old len ok is = is
+resized (Err x) n old len ok is = absurd (true≢false (sym ok))

@@ -1,7 +1,12 @@
+use Rattle.std.proofs.Common.{All, sym, subst}
+use Rattle.std.proofs.lemmas.List.Elements.{All-append}
+use Rattle.kmc_body_lists.specs.Bodies.{IsListAt}
 use Rattle.kmc_body_lists.specs.Lemmas.ManyBodies.{texts}
 use Rattle.kmc_bin_lists.proofs.group.take_all.Goals as goal
 
 pub returns : goal.returns
 returns g c =
     let a = c.args in
-    c.both_made.ensures a.rule.strands a.rule.k a.limits (texts a.bodies.now) c.in_ok-giants.ensures c.take_by_threads-others.ensures
+    subst (All (λ p. IsListAt a.rule.strands a.rule.k a.limits (texts a.bodies.now) p.place p.list)) (sym c.in_ok-append.ensures.items)
+    (All-append (λ p. IsListAt a.rule.strands a.rule.k a.limits (texts a.bodies.now) p.place p.list) c.in_ok-lists.lists.items c.in_ok-others.others.items
+    c.in_ok-lists.ensures c.in_ok-others.ensures)

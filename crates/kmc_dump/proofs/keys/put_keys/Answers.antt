@@ -1,15 +1,15 @@
-use Rattle.std.proofs.Common.{ℕ, ◌<◌, ◌^◌, All, List, ◌*◌, ◌%◌, length, map, refl, sym, ap, subst, ◌∙◌, arith}
+use Rattle.std.proofs.Common.{ℕ, ◌<◌, ◌≤◌, ◌^◌, All, List, ◌*◌, ◌%◌, length, map, ◌++◌, refl, sym, ap, subst, ◌∙◌, arith, le_trans, mod-eq_of_lt}
 use Rattle.std.proofs.lemmas.List.{length-map}
 use Rattle.std.proofs.lemmas.List.Elements.{All-filter}
-use Rattle.std.proofs.lemmas.List.Sorted.{All-permutation, IsPermutation-map}
+use Rattle.std.proofs.lemmas.List.Sorted.{All-permutation, IsPermutation-map, length_permutation}
 use Rattle.std.specs.List.{filter}
-use Rattle.kmc_device.specs.Line.{text_of}
+use Rattle.kmc_device.specs.Line.{line_room, text_of}
 use Rattle.kmc_dump.specs.Keys.{key_pair}
 use Rattle.kmc_lists.specs.Listed.{spelled}
 use Rattle.kmc_lists.specs.Ordered.{is_within, joined, packs}
 use Rattle.kmc_dump.proofs.RangeKeys.{keys_climb}
 use Rattle.kmc_lists.specs.Lemmas.Order.{part_is}
-use Rattle.kmc_dump.proofs.Gathered.{climbs_there, room_left, gathered_moved}
+use Rattle.kmc_dump.proofs.Gathered.{climbs_there, room_left, range_more, gathered_moved, gathered_long}
 use Rattle.kmc_dump.proofs.keys.put_keys.Goals as goal
 
 pub gather_keys-requires-clause-rise : goal.gather_keys-requires-clause-rise
@@ -59,3 +59,30 @@ returns-clause-lines g c =
     ∙ ap (λ (ns : List ℕ). text_of (spelled c.args.size.k (map f ns))) c.deref.ensures.value
     ∙ ap (λ (ps : List (ℕ × ℕ)). text_of (spelled c.args.size.k ps)) (part_is t
     (packs c.args.lists.now) _ c.requires.merge.rise c.requires.merge.apart moved (keys_climb least g.C.Shown.bits sorted c.sort_unstable.ensures.sorted))
+
+pub gather_keys-requires-clause-least : goal.gather_keys-requires-clause-least
+gather_keys-requires-clause-least g c = mod-eq_of_lt c.requires.least
+
+pub loop-list-preserved : goal.loop-list-preserved
+loop-list-preserved g c =
+    let least = c.args.from * 2 ^ c.args.shift % 2 ^ 128 in
+    let t = is_within (2 ^ c.args.shift) c.args.from c.args.to in
+    record {
+      capacity = le_trans c.loop-list.invariant.capacity c.gather_keys.ensures.capacity;
+      pairs = c.gather_keys.ensures.pairs
+          ∙ ap (λ (ps : List (ℕ × ℕ)). ps ++ filter t c.list-item.result.packed) c.loop-list.invariant.pairs
+          ∙ sym (range_more t c.args.lists.now c.loop-list.list-index c.list-item.result c.loop-list-test.true c.list-item.is);
+    }
+
+pub put_key_lines-requires-clause-room : goal.put_key_lines-requires-clause-room
+put_key_lines-requires-clause-room g c =
+    let f : ℕ → ℕ × ℕ = key_pair (c.args.from * 2 ^ c.args.shift % 2 ^ 128) g.C.Shown.bits in
+    let t = is_within (2 ^ c.args.shift) c.args.from c.args.to in
+    let made = c.loop-list.keys.items in
+    let long = ap length c.deref.ensures.value
+    ∙ length_permutation made c.sort_unstable.new.self.items c.sort_unstable.ensures.permutation
+    ∙ gathered_long f t c.args.lists.now c.loop-list.list-index made c.loop-list-test.false c.loop-list.invariant.pairs in
+    subst (λ n. n * line_room c.args.size.k g.C.Shown.most_digits ≤ length c.args.text.now) (sym long) c.requires.text
+
+pub returns-clause-within : goal.returns-clause-within
+returns-clause-within g c = c.put_key_lines.ensures.within

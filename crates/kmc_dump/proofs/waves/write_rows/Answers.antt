@@ -183,3 +183,35 @@ write_and_fill-requires-in-loop-next-clause-ranges g c κs within = c.requires.r
 
 pub write_buffers-requires-clause-within : goal.write_buffers-requires-clause-within
 write_buffers-requires-clause-within g c = c.loop-next.invariant.within
+
+pub write_and_fill-requires-clause-failures : goal.write_and_fill-requires-clause-failures
+write_and_fill-requires-clause-failures g c κs within = omega (arith, c.requires.failures, c.loop-next.invariant.kept)
+
+pub write_and_fill-requires-clause-inside : goal.write_and_fill-requires-clause-inside
+write_and_fill-requires-clause-inside g c κs within = omega (
+  arith,
+  length-take-le c.min-wave.result c.loop-next.back (omega (arith, c.min-wave.ensures)),
+  c.min-wave.ensures,
+  c.loop-next-test.true,
+)
+
+pub write_and_fill-requires-clause-room : goal.write_and_fill-requires-clause-room
+write_and_fill-requires-clause-room g c κs within =
+    All-take (HasRoom c.args.ranges.now.widest (line_room c.args.ranges.now.k g.C.Shown.most_digits)) c.min-wave.result c.loop-next.back
+    c.loop-next.invariant.back
+
+pub write_and_fill-requires-in-loop-next-clause-failures : goal.write_and_fill-requires-in-loop-next-clause-failures
+write_and_fill-requires-in-loop-next-clause-failures g c κs within =
+    omega (arith, c.requires.failures, c.loop-next.invariant.kept, c.in_ok-write_and_fill.ensures.kept)
+
+pub write_and_fill-requires-in-loop-next-clause-inside : goal.write_and_fill-requires-in-loop-next-clause-inside
+write_and_fill-requires-in-loop-next-clause-inside g c κs within = omega (
+  arith,
+  length-take-le c.min-full.result c.loop-next.front (omega (arith, c.min-full.ensures)),
+  c.min-full.ensures,
+  c.min-wave.ensures,
+  c.loop-next-test.true,
+)
+
+pub loop-next-smaller : goal.loop-next-smaller
+loop-next-smaller g c = omega (arith, c.min-wave.ensures, c.min-full.ensures, c.loop-next-test.true, c.loop-next.auto.back, c.requires.some)
