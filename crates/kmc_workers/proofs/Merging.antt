@@ -7,7 +7,7 @@ use Rattle.kmc_partqueue.specs.Seats.{ReaderState}
 use Rattle.kmc_store.specs.Bins.{BinList, body_at, empty_bins, Merged}
 use Rattle.kmc_store.specs.Bodies.{parts_in, AreAdded}
 use Rattle.kmc_store.specs.Laws.{MergedPartsAreAdded}
-use Rattle.kmc_workers.specs.Workers.{items_of}
+use Rattle.kmc_way.specs.Seats.{items_of}
 use Rattle.kmc_workers.specs.Shards.{begun, AreGrown}
 use Rattle.kmc_workers.specs.declared.shard.Shard.{Shard}
 

@@ -4,11 +4,10 @@ use Rattle.kmc_parts.specs.Shapes.{Sizes}
 use Rattle.kmc_parts.specs.Parts.{Parcel, ArePartsOf}
 use Rattle.kmc_partcore.specs.declared.shape.TheConstants.{MAX_ITEMS}
 use Rattle.kmc_store.specs.Deals.{chunk_at, AreSent, AreDealt}
-use Rattle.kmc_partqueue.specs.Seats.{WriterState}
-use Rattle.kmc_workers.specs.Workers.{chunks_of, IsSameWriter}
+use Rattle.kmc_workers.specs.Workers.{chunks_of}
 use Rattle.kmc_workers.specs.Causes.{AreTooMany, IsWorkersCause}
-use Rattle.kmc_workers.specs.declared.refusal.GivenUp.{GivenUp}
-use Rattle.kmc_workers.specs.declared.refusal.GivenUp.TheVariants.{Memory, NumbersSpent, Stopped}
+use Rattle.kmc_way.specs.declared.refusal.GivenUp.{GivenUp}
+use Rattle.kmc_way.specs.declared.refusal.GivenUp.TheVariants.{Memory, NumbersSpent, Stopped}
 
 module _ (shape : Sizes) (batch : ℕ) (reads : List (List ℕ)) (sp w : ℕ) where
   next_dealt : (c : ℕ) (sent own new : List Parcel) → AreDealt shape batch reads sp w c sent → AreSent shape (chunk_at batch reads c) sp w c own
@@ -44,7 +43,3 @@ module _ (shape : Sizes) (batch : ℕ) (reads : List (List ℕ)) (sp w : ℕ) wh
   cause_of NumbersSpent spent = spent refl
   cause_of Memory spent = tt
   cause_of Stopped spent = tt
-
--- the seat stays the same one
-pub same_seat : (a b c : WriterState Parcel) → IsSameWriter a b → IsSameWriter b c → IsSameWriter a c
-same_seat a b c x y = record { table = y.table ∙ x.table; number = y.number ∙ x.number; per_writer = y.per_writer ∙ x.per_writer }

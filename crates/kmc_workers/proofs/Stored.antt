@@ -20,7 +20,8 @@ use Rattle.kmc_store.specs.Deals.{AreDealt, AreGathered}
 use Rattle.kmc_store.specs.Laws.{GatheredPartsHoldReads}
 use Rattle.kmc_store.specs.Lemmas.Sums.{sum_same, sum_map, sum_flat_map}
 use Rattle.kmc_workers.specs.declared.shard.Shard.{Shard}
-use Rattle.kmc_workers.specs.Workers.{items_of, chunks_of, IsDone}
+use Rattle.kmc_way.specs.Seats.{items_of}
+use Rattle.kmc_workers.specs.Workers.{chunks_of, IsDone}
 use Rattle.kmc_workers.specs.Shards.{IsShard, AreGrown, begun}
 use Rattle.kmc_workers.proofs.Returned.{its_writer, all_writers, writers_of, writers_once}
 use Rattle.kmc_workers.specs.Lemmas.Places.{sum_places}

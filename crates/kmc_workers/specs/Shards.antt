@@ -13,7 +13,8 @@ use Rattle.kmc_partqueue.specs.Told.{IsHistoryOf}
 use Rattle.kmc_store.specs.Bins.{BinList, empty_bins}
 use Rattle.kmc_store.specs.Bodies.{AreAdded}
 use Rattle.kmc_store.specs.Deals.{AreDealt}
-use Rattle.kmc_workers.specs.Workers.{items_of, chunks_of, IsSameReader, IsFreshReader}
+use Rattle.kmc_way.specs.Seats.{items_of, IsSameReader}
+use Rattle.kmc_workers.specs.Workers.{chunks_of, IsFreshReader}
 use Rattle.kmc_workers.specs.declared.shard.Shard.{Shard}
 
 -- the seats with bins: the first goes on with those that there are, each other has empty ones

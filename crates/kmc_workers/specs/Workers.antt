@@ -1,16 +1,12 @@
 -- What a worker is given, and what it hands back.
-use Rattle.std.specs.Prelude.{◌≡◌, ℕ, ◌+◌, ◌-◌, ◌/◌, List, [], length, map}
+use Rattle.std.specs.Prelude.{◌≡◌, ℕ, ◌+◌, ◌-◌, ◌/◌, List, [], length}
 use Rattle.kmc_parts.specs.Shapes.{Sizes}
 use Rattle.kmc_parts.specs.Parts.{Parcel}
-use Rattle.kmc_partcore.specs.declared.event.Received.{Received}
 use Rattle.kmc_partcore.specs.declared.shape.QueueShape.{QueueShape}
 use Rattle.atomic_table.specs.Seated.{TableId}
 use Rattle.kmc_partqueue.specs.Seats.{WriterState, ReaderState, IsWriterOf, IsReaderOf}
+use Rattle.kmc_way.specs.Seats.{IsSameWriter}
 use Rattle.kmc_store.specs.Deals.{AreDealt}
-
--- the parts that a reader got, in order
-abbrev pub items_of : List (Received Parcel) → List Parcel
-items_of got = map (λ (e : Received Parcel). e.item) got
 
 -- into how many chunks so many reads are cut
 abbrev pub chunks_of : ℕ → ℕ → ℕ
@@ -22,18 +18,6 @@ IsFreshWriter id q s = IsWriterOf id q s × (s.sent ≡ [])
 
 abbrev pub IsFreshReader : TableId → QueueShape → ReaderState Parcel → Type 0
 IsFreshReader id q s = IsReaderOf id q s × (s.got ≡ [])
-
--- the seat is the same one
-pub record IsSameWriter (s r : WriterState Parcel) : Type 0 where
-  pub table : r.table ≡ s.table
-  pub number : r.number ≡ s.number
-  pub per_writer : r.per_writer ≡ s.per_writer
-
-pub record IsSameReader (s r : ReaderState Parcel) : Type 0 where
-  pub table : r.table ≡ s.table
-  pub number : r.number ≡ s.number
-  pub per_writer : r.per_writer ≡ s.per_writer
-  pub writers : r.writers ≡ s.writers
 
 -- the seat is back, completed, and has put the parts of its chunks, which are those dealt to its number
 pub record IsDone (shape : Sizes) (batch : ℕ) (reads : List (List ℕ)) (sp : ℕ) (s d : WriterState Parcel) : Type 0 where

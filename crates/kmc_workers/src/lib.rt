@@ -7,17 +7,14 @@
 mod filling;
 pub mod laws;
 mod passing;
-mod pause;
 mod plan;
-mod refusal;
 mod shard;
 mod splitter;
 mod storer;
-mod way;
 mod workers;
 
 pub use filling::fill_bins;
+pub use kmc_way::Refusal;
 pub use passing::pass_parts;
 pub use plan::Plan;
-pub use refusal::Refusal;
 pub use shard::Shard;

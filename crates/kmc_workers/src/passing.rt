@@ -9,14 +9,13 @@ ghost use Rattle.kmc_workers.specs.Causes.{IsCause, IsWorkersCause};
 ghost use Rattle.kmc_workers.specs.Shards.{IsShard, IsFreshShard, begun};
 
 use crate::plan::Plan;
-use crate::refusal::{GivenUp, Refusal};
 use crate::shard::Shard;
-use crate::way::Way;
 use crate::workers::{Seats, store_all};
 use kmc_partcore::QueueShape;
 use kmc_partqueue::{DoneSeat, Gate, Lanes, ReaderSeat};
 use kmc_parts::Part;
 use kmc_store::Bins;
+use kmc_way::{GivenUp, Refusal, Way};
 use std::alloc::{AllocError, Global};
 use std::mem::replace;
 use std::sync::Wait;

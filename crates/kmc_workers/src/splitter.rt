@@ -1,72 +1,14 @@
 //! What a splitter does: it cuts the chunks that are dealt to it, and puts their parts.
-ghost use Rattle.std.specs.Prelude.{◌≡◌, ◌↔◌, ◌+◌, ◌*◌, ◌<◌, ◌≤◌, ◌∷◌, ◌++◌, [], length, map, OnOk, IfOk, IfErr, IsErrOf, Err};
-ghost use Rattle.kmc_partcore.specs.declared.shape.TheConstants.{MAX_ITEMS};
-ghost use Rattle.kmc_partqueue.specs.Seats.{IsWriterOf};
+ghost use Rattle.std.specs.Prelude.{◌≡◌, ◌+◌, ◌*◌, ◌<◌, ◌≤◌, length, map, IfOk, IfErr};
 ghost use Rattle.kmc_store.specs.Deals.{chunk_at};
-ghost use Rattle.kmc_workers.specs.Workers.{chunks_of, IsSameWriter, IsFreshWriter, IsDone};
+ghost use Rattle.kmc_workers.specs.Workers.{chunks_of, IsFreshWriter, IsDone};
 ghost use Rattle.kmc_workers.specs.Causes.{IsWorkersCause};
 
-use crate::pause::Pause;
 use crate::plan::Plan;
-use crate::refusal::GivenUp;
-use crate::way::Way;
-use kmc_partqueue::{DoneSeat, Gate, Point, TryPutError, WriterSeat};
+use kmc_partqueue::{DoneSeat, Gate, WriterSeat};
 use kmc_parts::{Part, parts_of_reads};
+use kmc_way::{GivenUp, Way, put_all};
 use std::sync::Wait;
-
-/// Puts a part, and waits while the lane is full. Spent numbers come before all else; the stop word is read where the lane
-/// was full, before the next try.
-fn put_part<R: Wait, G: Gate>(
-    rt: &R,
-    way: &Way,
-    s: &mut WriterSeat<Part>,
-    part: Part,
-    gate: &G,
-) -> Result<(), GivenUp>
-    requires { IsWriterOf way.now.lanes.table.shared.table_id way.now.lanes.shape s.old }
-    ensures seat { IsSameWriter s.old s.new }
-    ensures put { OnOk result (s.new.sent ≡ s.old.sent ++ part ∷ []) }
-    ensures spent { (result ≡ Err GivenUp.NumbersSpent) ↔ (length s.old.sent ≡ MAX_ITEMS) }
-{
-    gate.pass(Point::BeforePut(s.number(), s.next_number()));
-    let mut part = part;
-    let mut pause = Pause::new();
-    for _ in rt.forever() {
-        match way.lanes.try_put(s, part, gate) {
-            Ok(number) => {
-                gate.pass(Point::AfterPut(s.number(), number));
-                return Ok(());
-            }
-            Err((TryPutError::NumbersSpent, _)) => return Err(GivenUp::NumbersSpent),
-            Err((TryPutError::Full, back)) => part = back,
-        }
-        if way.is_stopped() {
-            return Err(GivenUp::Stopped);
-        }
-        pause.wait(rt, way);
-    }
-    unreachable!()
-}
-
-/// Puts parts in their order.
-fn put_all<R: Wait, G: Gate>(
-    rt: &R,
-    way: &Way,
-    s: &mut WriterSeat<Part>,
-    parts: Vec<Part>,
-    gate: &G,
-) -> Result<(), GivenUp>
-    requires { IsWriterOf way.now.lanes.table.shared.table_id way.now.lanes.shape s.old }
-    ensures seat { IsSameWriter s.old s.new }
-    ensures put { OnOk result (s.new.sent ≡ s.old.sent ++ parts.items) }
-    ensures spent { IsErrOf result GivenUp.NumbersSpent
-        → MAX_ITEMS < length (s.old.sent ++ parts.items) }
-{
-    for part in parts {
-        put_part(rt, way, s, part, gate)?;
-    }
-    Ok(())
-}
 
 /// Into how many chunks so many reads are cut.
 fn chunks(reads: usize, batch: usize) -> usize

@@ -5,14 +5,12 @@ ghost use Rattle.kmc_workers.specs.Workers.{IsFreshReader};
 ghost use Rattle.kmc_workers.specs.Causes.{IsStorersCause};
 ghost use Rattle.kmc_workers.specs.Shards.{IsShard};
 
-use crate::pause::Pause;
-use crate::refusal::GivenUp;
 use crate::shard::Shard;
-use crate::way::Way;
-use kmc_partqueue::{Gate, Point, TryTaken};
+use kmc_partqueue::Gate;
 use kmc_parts::Part;
 use kmc_store::Bins;
 use kmc_store::laws::{absorbed_part_is_added, no_parts_are_added};
+use kmc_way::{GivenUp, Way, take_part};
 use std::sync::Wait;
 
 /// Absorbs a part that was taken. One of another shape, which no splitter sends, is refused.
@@ -29,8 +27,8 @@ fn absorb(bins: &mut Bins, part: Part) -> Result<(), GivenUp>
     }
 }
 
-/// Takes parts until the queue is finished, and absorbs them into its bins. The stop word is read before each try. A part of another
-/// shape, which no splitter sends, ends it.
+/// Takes parts until the queue is finished, and absorbs them into its bins. A part of another shape, which no splitter sends, ends
+/// it.
 pub(crate) fn store<R: Wait, G: Gate>(
     rt: &R,
     way: &Way,
@@ -45,19 +43,10 @@ pub(crate) fn store<R: Wait, G: Gate>(
     no_parts_are_added();
     absorbed_part_is_added();
     let Shard { mut seat, mut bins } = shard;
-    let mut pause = Pause::new();
     for _ in rt.forever() {
-        if way.is_stopped() {
-            return Err(GivenUp::Stopped);
-        }
-        match way.lanes.try_take(&mut seat, gate) {
-            TryTaken::Got(received) => {
-                pause = Pause::new();
-                gate.pass(Point::AfterTake(seat.number()));
-                absorb(&mut bins, received.item)?;
-            }
-            TryTaken::NotNow => pause.wait(rt, way),
-            TryTaken::Finished(_) => return Ok(Shard { seat, bins }),
+        match take_part(rt, way, &mut seat, gate)? {
+            Some(part) => absorb(&mut bins, part)?,
+            None => return Ok(Shard { seat, bins }),
         }
     }
     unreachable!()

@@ -5,16 +5,15 @@ ghost use Rattle.kmc_partqueue.specs.Counts.{Each};
 ghost use Rattle.kmc_workers.specs.Workers.{IsDone, IsFreshWriter, IsFreshReader};
 ghost use Rattle.kmc_workers.specs.Causes.{IsWorkersCause, IsStorersCause};
 ghost use Rattle.kmc_workers.specs.Shards.{IsShard, IsFreshShard};
-ghost use Rattle.kmc_workers.specs.declared.refusal.GivenUp.TheVariants.{Memory};
+ghost use Rattle.kmc_way.specs.declared.refusal.GivenUp.TheVariants.{Memory};
 
 use crate::plan::Plan;
-use crate::refusal::{GivenUp, both};
 use crate::shard::Shard;
 use crate::splitter::split;
 use crate::storer::store;
-use crate::way::Way;
 use kmc_partqueue::{DoneSeat, Gate, WriterSeat};
 use kmc_parts::{Part, Shape};
+use kmc_way::{GivenUp, Way, both};
 use std::alloc::AllocError;
 use std::snapshot::Snapshot;
 use std::sync::Wait;

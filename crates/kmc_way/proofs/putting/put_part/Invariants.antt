@@ -1,6 +1,6 @@
 use Rattle.std.proofs.Common.{◌≡◌}
-use Rattle.kmc_workers.specs.Workers.{IsSameWriter}
-use Rattle.kmc_workers.proofs.splitter.put_part.Given as goal
+use Rattle.kmc_way.specs.Seats.{IsSameWriter}
+use Rattle.kmc_way.proofs.putting.put_part.Given as goal
 
 abbrev pub invariant-loop : goal.invariant-loop
 invariant-loop g l = IsSameWriter l.initial.s l.s × (l.s.sent ≡ l.initial.s.sent) × (l.part ≡ l.initial.part)

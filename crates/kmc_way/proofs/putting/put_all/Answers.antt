@@ -1,7 +1,7 @@
 use Rattle.std.proofs.Common.{arith, ℕ, ◌<◌, ◌∙◌, sym, subst}
 use Rattle.std.proofs.lemmas.Grind.{common_steps}
-use Rattle.kmc_workers.proofs.Sent.{same_seat}
-use Rattle.kmc_workers.proofs.splitter.put_all.Goals as goal
+use Rattle.kmc_way.specs.Lemmas.SameSeats.{same_seat}
+use Rattle.kmc_way.proofs.putting.put_all.Goals as goal
 
 pub loop-part-preserved : goal.loop-part-preserved
 loop-part-preserved g c = grind (arith, common_steps)

@@ -1,6 +1,6 @@
 use Rattle.std.proofs.Common.{◌≡◌, ◌++◌}
-use Rattle.kmc_workers.specs.Workers.{IsSameWriter}
-use Rattle.kmc_workers.proofs.splitter.put_all.Given as goal
+use Rattle.kmc_way.specs.Seats.{IsSameWriter}
+use Rattle.kmc_way.proofs.putting.put_all.Given as goal
 
 abbrev pub invariant-loop-part : goal.invariant-loop-part
 invariant-loop-part g l = IsSameWriter l.initial.s l.s × (l.s.sent ≡ l.initial.s.sent ++ l.yielded)

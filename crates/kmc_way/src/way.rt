@@ -16,20 +16,22 @@ const STOPPED: u64 = 1;
 /// The most microseconds of a sleep.
 const SLEEP: u64 = 100;
 
-/// The queue that the parts pass, with its number of writers, where memory comes from, and the word that tells all workers
-/// to stop.
+/// The queue that the parts pass, the source of memory, and the word that tells all workers to stop.
 #[derive(Drop)]
-pub(crate) struct Way {
-    pub(crate) lanes: Lanes<Part>,
-    pub(crate) writers: usize,
-    pub(crate) alloc: Global,
+pub struct Way {
+    /// The queue.
+    pub lanes: Lanes<Part>,
+    /// How many writers it has.
+    pub writers: usize,
+    /// The source of the memory for parts and records.
+    pub alloc: Global,
     stop: AtomicU64,
     ghost as_many: { writers ≡ lanes.shape.writers },
 }
 
 impl Way {
     /// The way through a queue of so many writers, on which no worker has been told to stop.
-    pub(crate) fn new(lanes: Lanes<Part>, writers: usize, alloc: Global) -> Way
+    pub fn new(lanes: Lanes<Part>, writers: usize, alloc: Global) -> Way
         requires { writers ≡ lanes.shape.writers }
         ensures { (result.lanes ≡ lanes) × (result.writers ≡ writers) }
     {
@@ -42,7 +44,7 @@ impl Way {
     }
 
     /// Tells all workers to stop, those that sleep too.
-    pub(crate) fn stop(&self) {
+    pub fn stop(&self) {
         self.stop.store(STOPPED, Ordering::SeqCst);
         self.stop.wake_all();
     }
@@ -59,7 +61,7 @@ impl Way {
     }
 
     /// The queue.
-    pub(crate) fn into_lanes(self) -> Lanes<Part>
+    pub fn into_lanes(self) -> Lanes<Part>
         ensures { result ≡ self.lanes }
     {
         let Way {

@@ -1,7 +1,7 @@
 //! Why workers end without their result.
 ghost use Rattle.std.specs.Prelude.{◌≡◌, Ok, Err};
-ghost use Rattle.kmc_workers.specs.Refusals.{both, earlier, told};
-ghost use Rattle.kmc_workers.specs.declared.refusal.GivenUp.TheVariants.{Memory};
+ghost use Rattle.kmc_way.specs.Refusals.{both, earlier, told};
+ghost use Rattle.kmc_way.specs.declared.refusal.GivenUp.TheVariants.{Memory};
 
 use std::alloc::{AllocError, AllocFailed};
 
@@ -16,7 +16,7 @@ pub enum Refusal {
 
 /// Why one worker ends without its result.
 #[derive(Clone, Copy, Debug, PartialEq, Eq)]
-pub(crate) enum GivenUp {
+pub enum GivenUp {
     /// A growth or the start of a thread was refused.
     Memory,
     /// The writer has put as many parts as have numbers.
@@ -38,7 +38,7 @@ impl GivenUp {
     }
 
     /// What callers are told: a stop that has no other cause is want of memory.
-    pub(crate) fn told(self) -> Refusal
+    pub fn told(self) -> Refusal
         ensures { result ≡ told self }
     {
         match self {
@@ -49,7 +49,7 @@ impl GivenUp {
 }
 
 /// What two workers hand back, or of their refusals the one that is answered.
-pub(crate) fn both<A: Drop, B: Drop>(
+pub fn both<A: Drop, B: Drop>(
     first: Result<A, GivenUp>,
     second: Result<B, GivenUp>,
 ) -> Result<(A, B), GivenUp>
@@ -80,7 +80,7 @@ impl<T: Drop> From<AllocFailed<T>> for GivenUp {
 }
 
 impl From<AllocError> for Refusal {
-    ghost use Rattle.kmc_workers.specs.declared.refusal.Refusal.TheVariants.{Memory};
+    ghost use Rattle.kmc_way.specs.declared.refusal.Refusal.TheVariants.{Memory};
 
     ghost from_gives = { λ _ e. e ≡ Memory };
 

@@ -1,6 +1,6 @@
 use Rattle.std.proofs.Common.{◌<◌, ◌++◌, ◌∷◌, [], sym, subst, ◌∙◌}
-use Rattle.kmc_workers.proofs.Sent.{same_seat}
-use Rattle.kmc_workers.proofs.splitter.put_part.Goals as goal
+use Rattle.kmc_way.specs.Lemmas.SameSeats.{same_seat}
+use Rattle.kmc_way.proofs.putting.put_part.Goals as goal
 
 pub try_put-requires : goal.try_put-requires
 try_put-requires g c = let same = c.loop.invariant.0 in (
