@@ -1,4 +1,5 @@
 pub mod Shapes
 pub mod Parts
 pub mod Growing
+pub mod Deals
 pub mod Lemmas

@@ -13,7 +13,7 @@ use Rattle.kmc_parts.specs.Shapes.{Sizes}
 use Rattle.kmc_parts.specs.Parts.{Parcel}
 use Rattle.kmc_store.specs.Bins.{body_at}
 use Rattle.kmc_store.specs.Bodies.{parts_in, AreAdded}
-use Rattle.kmc_store.specs.Deals.{chunk_at, AreDealt, AreGathered}
+use Rattle.kmc_parts.specs.Deals.{chunk_at, AreDealt, AreGathered}
 use Rattle.kmc_store.specs.Holds.{HoldsReads}
 use Rattle.kmc_store.specs.Lemmas.Sums.{sum_same, sum_none, sum_filter, sum_map, sum_flat_map}
 use Rattle.kmc_store.proofs.Ranges.{eq_of, is_eq, only, range_one, below_same, below_none}

@@ -1,7 +1,6 @@
 pub mod Bins
 pub mod Bodies
 pub mod Holds
-pub mod Deals
 pub mod Growing
 pub mod Laws
 pub mod Lemmas

@@ -20,7 +20,7 @@ impl Pause {
     }
 
     /// Waits once more: a yield, or a sleep that a stop ends.
-    pub(crate) fn wait<R: Wait>(&mut self, rt: &R, way: &Way) {
+    pub(crate) fn wait<T: Drop, R: Wait>(&mut self, rt: &R, way: &Way<T>) {
         if self.waits < YIELDS {
             self.waits += 1;
             thread::yield_now();

@@ -8,16 +8,15 @@ use crate::pause::Pause;
 use crate::refusal::GivenUp;
 use crate::way::Way;
 use kmc_partqueue::{Gate, Point, TryPutError, WriterSeat};
-use kmc_parts::Part;
 use std::sync::Wait;
 
 /// Puts a part, and waits while the lane is full. Spent numbers come before all else; the stop word is read where the lane
 /// was full, before the next try.
-fn put_part<R: Wait, G: Gate>(
+fn put_part<T: Drop, R: Wait, G: Gate>(
     rt: &R,
-    way: &Way,
-    s: &mut WriterSeat<Part>,
-    part: Part,
+    way: &Way<T>,
+    s: &mut WriterSeat<T>,
+    part: T,
     gate: &G,
 ) -> Result<(), GivenUp>
     requires { IsWriterOf way.now.lanes.table.shared.table_id way.now.lanes.shape s.old }
@@ -46,11 +45,11 @@ fn put_part<R: Wait, G: Gate>(
 }
 
 /// Puts parts in their order, each once its lane has room. A refusal leaves those before it in the queue.
-pub fn put_all<R: Wait, G: Gate>(
+pub fn put_all<T: Drop, R: Wait, G: Gate>(
     rt: &R,
-    way: &Way,
-    s: &mut WriterSeat<Part>,
-    parts: Vec<Part>,
+    way: &Way<T>,
+    s: &mut WriterSeat<T>,
+    parts: Vec<T>,
     gate: &G,
 ) -> Result<(), GivenUp>
     requires { IsWriterOf way.now.lanes.table.shared.table_id way.now.lanes.shape s.old }

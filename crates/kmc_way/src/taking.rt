@@ -9,17 +9,16 @@ use crate::pause::Pause;
 use crate::refusal::GivenUp;
 use crate::way::Way;
 use kmc_partqueue::{Gate, Point, ReaderSeat, TryTaken};
-use kmc_parts::Part;
 use std::sync::Wait;
 
 /// Takes the next part, and waits while there is none. It is none once the queue is finished. The stop word is read before each
 /// try, and where the workers are told to stop nothing was taken.
-pub fn take_part<R: Wait, G: Gate>(
+pub fn take_part<T: Drop, R: Wait, G: Gate>(
     rt: &R,
-    way: &Way,
-    s: &mut ReaderSeat<Part>,
+    way: &Way<T>,
+    s: &mut ReaderSeat<T>,
     gate: &G,
-) -> Result<Option<Part>, GivenUp>
+) -> Result<Option<T>, GivenUp>
     requires { IsReaderOf way.now.lanes.table.shared.table_id way.now.lanes.shape s.old }
     ensures seat { IsSameReader s.old s.new }
     ensures next { IfOk result (IsNext s.old s.new) }

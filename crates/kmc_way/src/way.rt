@@ -2,7 +2,6 @@
 ghost use Rattle.std.specs.Prelude.{◌≡◌};
 
 use kmc_partqueue::Lanes;
-use kmc_parts::Part;
 use std::alloc::Global;
 use std::sync::Wait;
 use std::sync::atomic::{AtomicU64, Ordering};
@@ -18,9 +17,9 @@ const SLEEP: u64 = 100;
 
 /// The queue that the parts pass, the source of memory, and the word that tells all workers to stop.
 #[derive(Drop)]
-pub struct Way {
+pub struct Way<T> {
     /// The queue.
-    pub lanes: Lanes<Part>,
+    pub lanes: Lanes<T>,
     /// How many writers it has.
     pub writers: usize,
     /// The source of the memory for parts and records.
@@ -29,9 +28,9 @@ pub struct Way {
     ghost as_many: { writers ≡ lanes.shape.writers },
 }
 
-impl Way {
+impl<T: Drop> Way<T> {
     /// The way through a queue of so many writers, on which no worker has been told to stop.
-    pub fn new(lanes: Lanes<Part>, writers: usize, alloc: Global) -> Way
+    pub fn new(lanes: Lanes<T>, writers: usize, alloc: Global) -> Way<T>
         requires { writers ≡ lanes.shape.writers }
         ensures { (result.lanes ≡ lanes) × (result.writers ≡ writers) }
     {
@@ -61,7 +60,7 @@ impl Way {
     }
 
     /// The queue.
-    pub fn into_lanes(self) -> Lanes<Part>
+    pub fn into_lanes(self) -> Lanes<T>
         ensures { result ≡ self.lanes }
     {
         let Way {

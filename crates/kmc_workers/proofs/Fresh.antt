@@ -8,7 +8,8 @@ use Rattle.kmc_partqueue.specs.Dealing.{row_from}
 use Rattle.kmc_partqueue.specs.Seats.{WriterState, ReaderState, new_writer, new_reader}
 use Rattle.kmc_partqueue.specs.Lemmas.Numbered.{each_row}
 use Rattle.kmc_store.specs.Bins.{BinList, empty_bins}
-use Rattle.kmc_workers.specs.Workers.{IsFreshWriter, IsFreshReader}
+use Rattle.kmc_splitters.specs.Splitters.{IsFreshWriter}
+use Rattle.kmc_workers.specs.Shards.{IsFreshReader}
 use Rattle.kmc_workers.specs.Shards.{IsFreshShard, begun}
 
 module _ (id : TableId) (q r : QueueShape) where

@@ -1,9 +1,4 @@
-mod Both
-mod Chunks
-mod Few
 mod Fresh
 mod Merging
 mod Returned
-mod Sent
 mod Stored
-mod Zips

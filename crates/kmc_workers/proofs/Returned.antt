@@ -11,7 +11,7 @@ use Rattle.kmc_partqueue.specs.Dealing.{row_from}
 use Rattle.kmc_partqueue.specs.Seats.{WriterState, ReaderState, AllEnded, IsWriterOf, IsReaderOf, new_writer, new_reader}
 use Rattle.kmc_partqueue.specs.Lemmas.Numbered.{row_length, each_from, once_from}
 use Rattle.kmc_way.specs.Seats.{IsSameReader}
-use Rattle.kmc_workers.specs.Workers.{IsDone}
+use Rattle.kmc_splitters.specs.Splitters.{IsDone}
 use Rattle.kmc_store.specs.Bins.{BinList, empty_bins}
 use Rattle.kmc_workers.specs.Shards.{IsShard, begun}
 use Rattle.kmc_workers.specs.declared.shard.Shard.{Shard}

@@ -16,12 +16,12 @@ use Rattle.kmc_partqueue.specs.Lemmas.Numbered.{each_from}
 use Rattle.kmc_store.specs.Bins.{BinList, empty_bins}
 use Rattle.kmc_store.specs.Bodies.{AreAdded}
 use Rattle.kmc_store.specs.Holds.{HoldsReads}
-use Rattle.kmc_store.specs.Deals.{AreDealt, AreGathered}
+use Rattle.kmc_parts.specs.Deals.{AreDealt, AreGathered}
 use Rattle.kmc_store.specs.Laws.{GatheredPartsHoldReads}
 use Rattle.kmc_store.specs.Lemmas.Sums.{sum_same, sum_map, sum_flat_map}
 use Rattle.kmc_workers.specs.declared.shard.Shard.{Shard}
 use Rattle.kmc_way.specs.Seats.{items_of}
-use Rattle.kmc_workers.specs.Workers.{chunks_of, IsDone}
+use Rattle.kmc_splitters.specs.Splitters.{chunks_of, IsDone}
 use Rattle.kmc_workers.specs.Shards.{IsShard, AreGrown, begun}
 use Rattle.kmc_workers.proofs.Returned.{its_writer, all_writers, writers_of, writers_once}
 use Rattle.kmc_workers.specs.Lemmas.Places.{sum_places}

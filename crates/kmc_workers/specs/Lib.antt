@@ -1,5 +1,3 @@
 pub mod Causes
-pub mod Laws
 pub mod Shards
-pub mod Workers
 pub mod Lemmas

@@ -7,15 +7,19 @@ use Rattle.atomic_table.specs.Seated.{TableId}
 use Rattle.kmc_partcore.specs.History.{History}
 use Rattle.kmc_partcore.specs.declared.shape.QueueShape.{QueueShape}
 use Rattle.kmc_partqueue.specs.Counts.{Each, total_of, same}
-use Rattle.kmc_partqueue.specs.Seats.{WriterState, ReaderState, AllEnded}
+use Rattle.kmc_partqueue.specs.Seats.{WriterState, ReaderState, AllEnded, IsReaderOf}
 use Rattle.kmc_partqueue.specs.Gathered.{IsGathered}
 use Rattle.kmc_partqueue.specs.Told.{IsHistoryOf}
 use Rattle.kmc_store.specs.Bins.{BinList, empty_bins}
 use Rattle.kmc_store.specs.Bodies.{AreAdded}
-use Rattle.kmc_store.specs.Deals.{AreDealt}
+use Rattle.kmc_parts.specs.Deals.{AreDealt}
 use Rattle.kmc_way.specs.Seats.{items_of, IsSameReader}
-use Rattle.kmc_workers.specs.Workers.{chunks_of, IsFreshReader}
+use Rattle.kmc_splitters.specs.Splitters.{chunks_of}
 use Rattle.kmc_workers.specs.declared.shard.Shard.{Shard}
+
+-- a seat of the queue that has got nothing
+abbrev pub IsFreshReader : TableId → QueueShape → ReaderState Parcel → Type 0
+IsFreshReader id q s = IsReaderOf id q s × (s.got ≡ [])
 
 -- the seats with bins: the first goes on with those that there are, each other has empty ones
 abbrev pub begun : BinList → List (ReaderState Parcel) → List Shard

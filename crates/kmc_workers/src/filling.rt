@@ -6,16 +6,16 @@ ghost use Rattle.kmc_store.specs.Bins.{BinList};
 ghost use Rattle.kmc_store.specs.Bodies.{AreAdded};
 ghost use Rattle.kmc_store.specs.Holds.{HoldsReads};
 ghost use Rattle.kmc_workers.specs.Shards.{IsPassage, AreGrown};
-ghost use Rattle.kmc_workers.specs.Causes.{IsCause};
+ghost use Rattle.kmc_splitters.specs.Causes.{IsCause};
 ghost use Rattle.kmc_way.specs.Seats.{items_of};
 
 use crate::passing::pass_parts;
-use crate::plan::Plan;
 use crate::shard::Shard;
 use kmc_partcore::{QueueShape, Totals};
 use kmc_partqueue::laws::gathered;
 use kmc_partqueue::{Gate, ReaderSeat};
 use kmc_parts::{Part, Shape};
+use kmc_splitters::Plan;
 use kmc_store::Bins;
 use kmc_store::laws::{gathered_parts_hold_reads, merged_parts_are_added, no_parts_are_added};
 use kmc_way::Refusal;

@@ -4,16 +4,16 @@ ghost use Rattle.std.specs.List.{AllZip};
 ghost use Rattle.kmc_partqueue.specs.Counts.{Each};
 ghost use Rattle.kmc_partqueue.specs.Dealing.{row_from};
 ghost use Rattle.kmc_partqueue.specs.Seats.{new_writer, new_reader};
-ghost use Rattle.kmc_workers.specs.Workers.{IsDone, IsFreshWriter};
-ghost use Rattle.kmc_workers.specs.Causes.{IsCause, IsWorkersCause};
+ghost use Rattle.kmc_splitters.specs.Splitters.{IsDone, IsFreshWriter};
+ghost use Rattle.kmc_splitters.specs.Causes.{IsCause, IsWorkersCause};
 ghost use Rattle.kmc_workers.specs.Shards.{IsShard, IsFreshShard, begun};
 
-use crate::plan::Plan;
 use crate::shard::Shard;
 use crate::workers::{Seats, store_all};
 use kmc_partcore::QueueShape;
 use kmc_partqueue::{DoneSeat, Gate, Lanes, ReaderSeat};
 use kmc_parts::Part;
+use kmc_splitters::Plan;
 use kmc_store::Bins;
 use kmc_way::{GivenUp, Refusal, Way};
 use std::alloc::{AllocError, Global};
@@ -45,7 +45,7 @@ fn with_bins(
 
 /// A way through a queue of this shape, and the queue's seats, which have put and got nothing, the first reader's with
 /// these bins.
-fn open_way(alloc: Global, queue: QueueShape, bins: Bins) -> Result<(Way, Seats), AllocError>
+fn open_way(alloc: Global, queue: QueueShape, bins: Bins) -> Result<(Way<Part>, Seats), AllocError>
     ensures shape { IfOk result (λ q. q.0.lanes.shape ≡ queue) }
     ensures writers { IfOk result (λ q. q.1.writers.items
         ≡ row_from (new_writer q.0.lanes.table.shared.table_id queue) 0 queue.writers) }

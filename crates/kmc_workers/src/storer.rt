@@ -1,7 +1,7 @@
 //! What a storer does: it takes parts until the queue is finished, and absorbs them into bins.
 ghost use Rattle.std.specs.Prelude.{IfOk, IfErr, OnOk};
 ghost use Rattle.kmc_store.specs.Bins.{Absorbed};
-ghost use Rattle.kmc_workers.specs.Workers.{IsFreshReader};
+ghost use Rattle.kmc_workers.specs.Shards.{IsFreshReader};
 ghost use Rattle.kmc_workers.specs.Causes.{IsStorersCause};
 ghost use Rattle.kmc_workers.specs.Shards.{IsShard};
 
@@ -31,7 +31,7 @@ fn absorb(bins: &mut Bins, part: Part) -> Result<(), GivenUp>
 /// it.
 pub(crate) fn store<R: Wait, G: Gate>(
     rt: &R,
-    way: &Way,
+    way: &Way<Part>,
     shard: Shard,
     gate: &G,
 ) -> Result<Shard, GivenUp>

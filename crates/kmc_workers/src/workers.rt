@@ -1,39 +1,23 @@
-//! A worker for each seat of a queue, in a thread of its own.
+//! A storer for each reader of a queue, in a thread of its own, and the splitters.
 ghost use Rattle.std.specs.Prelude.{◌≡◌, ◌∷◌, ◌++◌, [], map, MatchResult, IfOk, IfErr};
 ghost use Rattle.std.specs.List.{AllZip};
 ghost use Rattle.kmc_partqueue.specs.Counts.{Each};
-ghost use Rattle.kmc_workers.specs.Workers.{IsDone, IsFreshWriter, IsFreshReader};
-ghost use Rattle.kmc_workers.specs.Causes.{IsWorkersCause, IsStorersCause};
+ghost use Rattle.kmc_splitters.specs.Splitters.{IsDone, IsFreshWriter};
+ghost use Rattle.kmc_workers.specs.Shards.{IsFreshReader};
+ghost use Rattle.kmc_splitters.specs.Causes.{IsWorkersCause};
+ghost use Rattle.kmc_workers.specs.Causes.{IsStorersCause};
 ghost use Rattle.kmc_workers.specs.Shards.{IsShard, IsFreshShard};
 ghost use Rattle.kmc_way.specs.declared.refusal.GivenUp.TheVariants.{Memory};
 
-use crate::plan::Plan;
 use crate::shard::Shard;
-use crate::splitter::split;
 use crate::storer::store;
 use kmc_partqueue::{DoneSeat, Gate, WriterSeat};
-use kmc_parts::{Part, Shape};
-use kmc_way::{GivenUp, Way, both};
-use std::alloc::AllocError;
+use kmc_parts::Part;
+use kmc_splitters::{Plan, split_all};
+use kmc_way::{GivenUp, Way, both, with_one};
 use std::snapshot::Snapshot;
 use std::sync::Wait;
 use std::thread::{Promise, PromisedHandle, Scope, Threads};
-
-/// A splitter puts the parts of its chunks and completes, or ends with a cause.
-#[derive(Drop)]
-struct Puts<'a> {
-    seat: Snapshot<WriterSeat<Part>>,
-    reads: &'a [&'a [u8]],
-    shape: Shape,
-    batch: usize,
-    writers: usize,
-}
-
-impl<'a> Promise<Result<DoneSeat<Part>, GivenUp>> for Puts<'a> {
-    ghost kept_by = { λ p r. MatchResult r
-        (λ d. IsDone p.shape p.batch (map (λ v. v.now) p.reads.now) p.writers p.seat.value d)
-        (IsWorkersCause p.shape p.batch (map (λ v. v.now) p.reads.now) p.writers) };
-}
 
 /// A storer hands its seat back, told that the queue is finished, with its bins, or ends with a cause.
 #[derive(Drop)]
@@ -45,111 +29,13 @@ impl Promise<Result<Shard, GivenUp>> for Takes {
     ghost kept_by = { λ p r. MatchResult r (λ h. IsShard p.shard.value h) IsStorersCause };
 }
 
-/// One splitter. Where it has a cause, the others stop.
-fn split_one<R: Wait, G: Gate>(
-    rt: &R,
-    way: &Way,
-    seat: WriterSeat<Part>,
-    reads: &[&[u8]],
-    plan: Plan,
-    gate: &G,
-) -> Result<DoneSeat<Part>, GivenUp>
-    requires { IsFreshWriter way.now.lanes.table.shared.table_id way.now.lanes.shape seat }
-    ensures { MatchResult result
-        (λ d. IsDone plan.shape plan.batch (map (λ v. v.now) reads.now) way.now.writers seat d)
-        (IsWorkersCause plan.shape plan.batch (map (λ v. v.now) reads.now) way.now.writers) }
-{
-    let done = split(rt, way, seat, reads, plan, gate);
-    if done.is_err() {
-        way.stop();
-    }
-    done
-}
-
-/// The list with one more at its end.
-fn with_one<T: Drop>(list: Vec<T>, one: T) -> Result<Vec<T>, AllocError>
-    ensures { IfOk result (λ v. v.items ≡ list.items ++ one ∷ []) }
-{
-    let mut list = list;
-    list.push(one)?;
-    Ok(list)
-}
-
-/// Starts one splitter. Where no thread can be made, the others stop.
-fn start_splitter<'s, E, R: Threads + Wait + Sync, G: Gate + Sync>(
-    rt: &'s R,
-    scope: &Scope<'s, E>,
-    way: &'s Way,
-    seat: WriterSeat<Part>,
-    reads: &'s [&'s [u8]],
-    plan: Plan,
-    gate: &'s G,
-) -> Result<PromisedHandle<Result<DoneSeat<Part>, GivenUp>, Puts<'s>>, GivenUp>
-    requires { IsFreshWriter way.now.lanes.table.shared.table_id way.now.lanes.shape seat }
-    ensures puts { IfOk result (λ h. (h.promise.seat.value ≡ seat) × (h.promise.shape ≡ plan.shape)
-        × (h.promise.batch ≡ plan.batch)
-        × (map (λ v. v.now) h.promise.reads.now ≡ map (λ v. v.now) reads.now)
-        × (h.promise.writers ≡ way.now.writers)) }
-    ensures cause { IfErr result (λ e. e ≡ Memory) }
-{
-    let shape = plan.shape;
-    let batch = plan.batch;
-    let writers = way.writers;
-    let promise = Puts {
-        seat: Snapshot::of(&seat),
-        reads,
-        shape,
-        batch,
-        writers,
-    };
-    let started = scope.spawn_with(
-        promise,
-        move || -> Result<DoneSeat<Part>, GivenUp>
-            requires { IsFreshWriter way.now.lanes.table.shared.table_id way.now.lanes.shape seat }
-            ensures { MatchResult result
-                (λ d. IsDone plan.shape plan.batch
-                (map (λ v. v.now) reads.entry.now) way.entry.now.writers seat d)
-                (IsWorkersCause plan.shape plan.batch
-                (map (λ v. v.now) reads.entry.now) way.entry.now.writers) }
-        { split_one(rt, way, seat, reads, plan, gate) },
-    );
-    match started {
-        Ok(child) => Ok(child),
-        Err(_) => {
-            way.stop();
-            Err(GivenUp::Memory)
-        }
-    }
-}
-
-/// Starts one splitter, then the others, and joins it.
-fn split_all<'s, E, R: Threads + Wait + Sync, G: Gate + Sync>(
-    rt: &'s R,
-    scope: &Scope<'s, E>,
-    way: &'s Way,
-    mut seats: Vec<WriterSeat<Part>>,
-    reads: &'s [&'s [u8]],
-    plan: Plan,
-    gate: &'s G,
-) -> Result<Vec<DoneSeat<Part>>, GivenUp>
-    requires { Each (IsFreshWriter way.now.lanes.table.shared.table_id way.now.lanes.shape) seats.items }
-    ensures { MatchResult result
-        (λ v. AllZip
-        (IsDone plan.shape plan.batch
-        (map (λ v. v.now) reads.now) way.now.writers) seats.items v.items)
-        (IsWorkersCause plan.shape plan.batch (map (λ v. v.now) reads.now) way.now.writers) }
-{
-    let Some(seat) = seats.pop() else {
-        return Ok(Vec::new(way.alloc));
-    };
-    let child = start_splitter(rt, scope, way, seat, reads, plan, gate)?;
-    let rest = split_all(rt, scope, way, seats, reads, plan, gate);
-    let (done, own) = both(rest, child.join(rt))?;
-    Ok(with_one(done, own)?)
-}
-
 /// One storer. Where it has a cause, the others stop.
-fn store_one<R: Wait, G: Gate>(rt: &R, way: &Way, shard: Shard, gate: &G) -> Result<Shard, GivenUp>
+fn store_one<R: Wait, G: Gate>(
+    rt: &R,
+    way: &Way<Part>,
+    shard: Shard,
+    gate: &G,
+) -> Result<Shard, GivenUp>
     requires { IsFreshReader way.now.lanes.table.shared.table_id way.now.lanes.shape shard.seat }
     ensures { MatchResult result (λ h. IsShard shard h) IsStorersCause }
 {
@@ -164,7 +50,7 @@ fn store_one<R: Wait, G: Gate>(rt: &R, way: &Way, shard: Shard, gate: &G) -> Res
 fn start_storer<'s, E, R: Threads + Wait + Sync, G: Gate + Sync>(
     rt: &'s R,
     scope: &Scope<'s, E>,
-    way: &'s Way,
+    way: &'s Way<Part>,
     shard: Shard,
     gate: &'s G,
 ) -> Result<PromisedHandle<Result<Shard, GivenUp>, Takes>, GivenUp>
@@ -202,7 +88,7 @@ pub(crate) struct Seats {
 pub(crate) fn store_all<'s, E, R: Threads + Wait + Sync, G: Gate + Sync>(
     rt: &'s R,
     scope: &Scope<'s, E>,
-    way: &'s Way,
+    way: &'s Way<Part>,
     seats: Seats,
     reads: &'s [&'s [u8]],
     plan: Plan,

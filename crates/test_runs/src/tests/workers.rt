@@ -14,7 +14,7 @@ pub mod side_by_side;
 
 use kmc_partcore::QueueShape;
 use kmc_parts::Shape;
-use kmc_workers::Plan;
+use kmc_splitters::Plan;
 use std::alloc::{AllocError, Global};
 
 /// The reads, between which stand commas.

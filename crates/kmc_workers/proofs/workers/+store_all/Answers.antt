@@ -5,12 +5,13 @@ use Rattle.std.specs.Prelude.{IfOk}
 use Rattle.std.specs.List.{AllZip}
 use Rattle.kmc_workers.specs.Shards.{IsShard}
 use Rattle.kmc_base.specs.Lemmas.PassedOn.{passed_on}
-use Rattle.kmc_workers.specs.Workers.{IsDone}
-use Rattle.kmc_workers.specs.Causes.{IsWorkersCause, IsStorersCause}
+use Rattle.kmc_splitters.specs.Splitters.{IsDone}
+use Rattle.kmc_splitters.specs.Causes.{IsWorkersCause}
+use Rattle.kmc_workers.specs.Causes.{IsStorersCause}
 use Rattle.kmc_way.specs.declared.refusal.GivenUp.{GivenUp}
 use Rattle.kmc_way.specs.declared.refusal.GivenUp.TheVariants.{Memory, NumbersSpent, Stopped}
-use Rattle.kmc_workers.proofs.Both.{both_gave, both_failed, of_ok, of_cause}
-use Rattle.kmc_workers.proofs.Zips.{zip_more}
+use Rattle.kmc_way.specs.Lemmas.Both.{both_gave, both_failed, of_ok, of_cause}
+use Rattle.kmc_way.specs.Lemmas.Zips.{zip_more}
 use Rattle.kmc_workers.proofs.workers.+store_all.Goals as goal
 
 -- what makes a storer end makes the workers end

@@ -5,7 +5,7 @@ use super::reads_of;
 use kmc_partcore::QueueShape;
 use kmc_partqueue::NoGate;
 use kmc_parts::Shape;
-use kmc_workers::Plan;
+use kmc_splitters::Plan;
 use std::alloc::{AllocError, Global};
 use std::process::Abort;
 use std::sync::Wait;

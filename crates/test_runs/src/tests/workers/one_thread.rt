@@ -4,8 +4,8 @@ use super::records::records_of;
 use kmc_partcore::{MAX_WRITERS, QueueShape};
 use kmc_parts::{Part, parts_of_reads};
 use kmc_reads::slices_of;
+use kmc_splitters::Plan;
 use kmc_store::Bins;
-use kmc_workers::Plan;
 use std::alloc::Global;
 use std::process::Abort;
 

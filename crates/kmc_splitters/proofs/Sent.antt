@@ -3,9 +3,9 @@ use Rattle.std.proofs.Common.{◌≡◌, ◌≢◌, ℕ, suc, ◌+◌, ◌%◌, 
 use Rattle.kmc_parts.specs.Shapes.{Sizes}
 use Rattle.kmc_parts.specs.Parts.{Parcel, ArePartsOf}
 use Rattle.kmc_partcore.specs.declared.shape.TheConstants.{MAX_ITEMS}
-use Rattle.kmc_store.specs.Deals.{chunk_at, AreSent, AreDealt}
-use Rattle.kmc_workers.specs.Workers.{chunks_of}
-use Rattle.kmc_workers.specs.Causes.{AreTooMany, IsWorkersCause}
+use Rattle.kmc_parts.specs.Deals.{chunk_at, AreSent, AreDealt}
+use Rattle.kmc_splitters.specs.Splitters.{chunks_of}
+use Rattle.kmc_splitters.specs.Causes.{AreTooMany, IsWorkersCause}
 use Rattle.kmc_way.specs.declared.refusal.GivenUp.{GivenUp}
 use Rattle.kmc_way.specs.declared.refusal.GivenUp.TheVariants.{Memory, NumbersSpent, Stopped}
 

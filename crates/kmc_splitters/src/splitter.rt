@@ -1,8 +1,8 @@
 //! What a splitter does: it cuts the chunks that are dealt to it, and puts their parts.
 ghost use Rattle.std.specs.Prelude.{◌≡◌, ◌+◌, ◌*◌, ◌<◌, ◌≤◌, length, map, IfOk, IfErr};
-ghost use Rattle.kmc_store.specs.Deals.{chunk_at};
-ghost use Rattle.kmc_workers.specs.Workers.{chunks_of, IsFreshWriter, IsDone};
-ghost use Rattle.kmc_workers.specs.Causes.{IsWorkersCause};
+ghost use Rattle.kmc_parts.specs.Deals.{chunk_at};
+ghost use Rattle.kmc_splitters.specs.Splitters.{chunks_of, IsFreshWriter, IsDone};
+ghost use Rattle.kmc_splitters.specs.Causes.{IsWorkersCause};
 
 use crate::plan::Plan;
 use kmc_partqueue::{DoneSeat, Gate, WriterSeat};
@@ -34,7 +34,7 @@ fn chunk_of<'a, 'b>(reads: &'a [&'b [u8]], batch: usize, c: usize) -> &'a [&'b [
 /// Cuts the chunks that are dealt to the seat, in rising order, and puts the parts of each in rising order of bins.
 pub(crate) fn split<R: Wait, G: Gate>(
     rt: &R,
-    way: &Way,
+    way: &Way<Part>,
     mut s: WriterSeat<Part>,
     reads: &[&[u8]],
     plan: Plan,

@@ -10,10 +10,10 @@ use Rattle.std.proofs.lemmas.List.Sums.{length-filter, count_by-le-length}
 use Rattle.kmc_parts.specs.Shapes.{Sizes}
 use Rattle.kmc_parts.specs.Parts.{Parcel, ArePartsOf, grown, bin_super_kmers, all_segments, empty_part}
 use Rattle.kmc_partcore.specs.declared.shape.TheConstants.{MAX_ITEMS}
-use Rattle.kmc_store.specs.Deals.{chunk_at, AreSent, AreDealt}
-use Rattle.kmc_workers.specs.Workers.{chunks_of}
-use Rattle.kmc_workers.specs.Causes.{AreTooMany}
-use Rattle.kmc_workers.specs.Laws.{FewChunksSpendNoNumbers}
+use Rattle.kmc_parts.specs.Deals.{chunk_at, AreSent, AreDealt}
+use Rattle.kmc_splitters.specs.Splitters.{chunks_of}
+use Rattle.kmc_splitters.specs.Causes.{AreTooMany}
+use Rattle.kmc_splitters.specs.Laws.{FewChunksSpendNoNumbers}
 
 -- a chunk has at most a part for each bin
 a_part_each : (number : ℕ) (reads : List (List ℕ)) (shape : Sizes) (parts : List Parcel) → ArePartsOf number reads shape parts → length parts ≤ shape.n

@@ -1,7 +1,7 @@
 use Rattle.std.proofs.Common.{map}
-use Rattle.kmc_store.specs.Deals.{AreDealt}
+use Rattle.kmc_parts.specs.Deals.{AreDealt}
 use Rattle.kmc_way.specs.Seats.{IsSameWriter}
-use Rattle.kmc_workers.proofs.splitter.split.Given as goal
+use Rattle.kmc_splitters.proofs.splitter.split.Given as goal
 
 abbrev pub invariant-loop-c : goal.invariant-loop-c
 invariant-loop-c g l = IsSameWriter l.initial.s l.s

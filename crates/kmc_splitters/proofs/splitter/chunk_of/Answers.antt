@@ -1,6 +1,6 @@
 use Rattle.std.proofs.Common.{◌*◌}
-use Rattle.kmc_workers.proofs.Chunks.{few_left, last_chunk, full_chunk}
-use Rattle.kmc_workers.proofs.splitter.chunk_of.Goals as goal
+use Rattle.kmc_splitters.proofs.Chunks.{few_left, last_chunk, full_chunk}
+use Rattle.kmc_splitters.proofs.splitter.chunk_of.Goals as goal
 
 pub returns-then-rest-batch : goal.returns-then-rest-batch
 returns-then-rest-batch c = last_chunk (λ r. r.now) c.args.reads.now (c.args.c * c.args.batch) c.args.batch

@@ -4,13 +4,13 @@ use Rattle.std.proofs.lemmas.List.{length-map}
 use Rattle.std.proofs.lemmas.Grind.{common_steps}
 use Rattle.kmc_base.specs.Lemmas.PassedOn.{passed_on}
 use Rattle.kmc_parts.specs.Parts.{ArePartsOf}
-use Rattle.kmc_workers.specs.Causes.{IsWorkersCause}
+use Rattle.kmc_splitters.specs.Causes.{IsWorkersCause}
 use Rattle.kmc_way.specs.Seats.{IsSameWriter}
-use Rattle.kmc_workers.specs.Workers.{chunks_of}
-use Rattle.kmc_workers.proofs.Sent.{next_own, next_other, too_many, cause_of}
+use Rattle.kmc_splitters.specs.Splitters.{chunks_of}
+use Rattle.kmc_splitters.proofs.Sent.{next_own, next_other, too_many, cause_of}
 use Rattle.kmc_way.specs.Lemmas.SameSeats.{same_seat}
-use Rattle.kmc_workers.proofs.splitter.split.Goals.{then-c-way+in_ok-parts+in_ok-put_all, else-c-way}
-use Rattle.kmc_workers.proofs.splitter.split.Goals as goal
+use Rattle.kmc_splitters.proofs.splitter.split.Goals.{then-c-way+in_ok-parts+in_ok-put_all, else-c-way}
+use Rattle.kmc_splitters.proofs.splitter.split.Goals as goal
 
 pub returns-in_err-put_all-clause-cause : goal.returns-in_err-put_all-clause-cause
 returns-in_err-put_all-clause-cause g c =

@@ -1,10 +1,10 @@
 use Rattle.std.proofs.Common.{[], ◌∷◌, ◌++◌, map, sym, subst, arith}
 use Rattle.std.proofs.lemmas.Grind.{common_steps, elements}
 use Rattle.std.specs.List.{AllZip}
-use Rattle.kmc_workers.specs.Workers.{IsDone}
-use Rattle.kmc_workers.proofs.Both.{both_gave, of_ok}
-use Rattle.kmc_workers.proofs.Zips.{zip_more}
-use Rattle.kmc_workers.proofs.workers.+split_all.Goals as goal
+use Rattle.kmc_splitters.specs.Splitters.{IsDone}
+use Rattle.kmc_way.specs.Lemmas.Both.{both_gave, of_ok}
+use Rattle.kmc_way.specs.Lemmas.Zips.{zip_more}
+use Rattle.kmc_splitters.proofs.starting.+split_all.Goals as goal
 
 pub returns : goal.returns
 returns g t c =

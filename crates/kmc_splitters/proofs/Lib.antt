@@ -1,0 +1,3 @@
+mod Chunks
+mod Few
+mod Sent

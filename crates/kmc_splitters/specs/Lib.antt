@@ -1,0 +1,3 @@
+pub mod Splitters
+pub mod Causes
+pub mod Laws

@@ -1,5 +1,0 @@
-use Rattle.kmc_workers.proofs.Few.{no_numbers_spent}
-use Rattle.kmc_workers.proofs.laws.few_chunks_spend_no_numbers.Goals as goal
-
-pub returns : goal.returns
-returns c = no_numbers_spent
