@@ -3,11 +3,11 @@ use Rattle.std.proofs.Common.{◌≡◌, ℕ, ◌+◌, ◌-◌, ◌<◌, ◌≤�
 use Rattle.std.proofs.Common.{append_assoc}
 use Rattle.std.proofs.lemmas.List.{take_at, take-append-drop}
 use Rattle.kmc_base.specs.Words.{windows}
-use Rattle.kmc_record.specs.Record.{spelling, IsSpelled, codes_in, size_of}
+use Rattle.kmc_spelling.specs.Record.{spelling, IsSpelled, codes_in, size_of}
 use Rattle.kmc_parts.specs.Shapes.{Sizes}
 use Rattle.kmc_parts.specs.Parts.{Parcel, IsPart, capped}
 use Rattle.kmc_judging.specs.Bodies.{AreRecordsOfBin, BeginsWithOtherBin, Belong}
-use Rattle.kmc_record.specs.Lemmas.Whole.{begins_there, first_codes, rest_at, spelled_there}
+use Rattle.kmc_spelling.specs.Lemmas.Whole.{begins_there, first_codes, rest_at, spelled_there}
 use Rattle.kmc_parts.specs.Lemmas.Grown.{part_grown}
 
 pub records_of_part : (bin : ℕ) (shape : Sizes) (body : List ℕ) (words : ℕ) → IsPart bin shape body words → AreRecordsOfBin bin shape body

@@ -1,7 +1,7 @@
 //! Which bodies belong to a bin.
 ghost use Rattle.std.specs.Prelude.{◌≡◌, ℕ, ◌+◌, ◌*◌, ◌<◌, ◌≤◌, ◌↔◌, length, take, true, IfOk, IfErr, IsTrue, slice_index};
 ghost use Rattle.kmc_base.specs.Words.{windows};
-ghost use Rattle.kmc_record.specs.Record.{codes_in, size_of};
+ghost use Rattle.kmc_spelling.specs.Record.{codes_in, size_of};
 ghost use Rattle.kmc_parts.specs.Parts.{IsPart};
 ghost use Rattle.kmc_record.specs.RecordKeys.{codes_of};
 ghost use Rattle.kmc_judging.specs.Bodies.{AreKnown, Belong, IsFirstError};

@@ -9,13 +9,13 @@ use Rattle.std.specs.List.{All, range_with_len}
 use Rattle.kmc_base.specs.Stretches.{Stretch, segments_of, stretches_from, leading}
 use Rattle.kmc_split.specs.declared.runs.Run.{Run}
 use Rattle.kmc_split.specs.Cut.{IsCut, IsRunOf}
-use Rattle.kmc_record.specs.Record.{packed_codes, codes_in}
+use Rattle.kmc_spelling.specs.Record.{packed_codes, codes_in}
 use Rattle.kmc_parts.specs.Shapes.{Sizes}
 use Rattle.kmc_parts.specs.Parts.{Parcel, grown, empty_part, bin_runs, bin_super_kmers, all_segments}
 use Rattle.kmc_parts.specs.Growing.{AreForBins, HaveGrown, HaveTaken}
-use Rattle.kmc_record.specs.Lemmas.Whole.{flat_push}
+use Rattle.kmc_spelling.specs.Lemmas.Whole.{flat_push}
 use Rattle.kmc_base.specs.Lemmas.Stretching.{long_enough, first_apart}
-use Rattle.kmc_record.specs.Lemmas.Spelled.{codes_packed, zeros_to_byte}
+use Rattle.kmc_spelling.specs.Lemmas.Spelled.{codes_packed, zeros_to_byte}
 use Rattle.kmc_parts.proofs.Parcels.{grown_as, grown_more, cuts_append, super_kmers_append, runs_before, bin_runs_before}
 
 taken_append : (shape : Sizes) (ss ts : List Stretch) (a b c : List Parcel) → HaveTaken shape ss a b → HaveTaken shape ts b c → HaveTaken shape (ss ++ ts) a c

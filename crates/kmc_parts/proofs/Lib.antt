@@ -1,4 +1,2 @@
-pub mod Written
-pub mod Copied
 pub mod Parcels
 pub mod Chunks

@@ -12,11 +12,11 @@ use Rattle.kmc_split.specs.declared.runs.Run.{Run}
 use Rattle.kmc_split.specs.Cut.{IsRunOf, run_codes}
 use Rattle.kmc_split.specs.Signature.{signature_of}
 use Rattle.kmc_base.specs.Lemmas.Windows.{length_windows, length_window}
-use Rattle.kmc_record.specs.Record.{spelling, IsSpelled}
+use Rattle.kmc_spelling.specs.Record.{spelling, IsSpelled}
 use Rattle.kmc_parts.specs.Shapes.{Sizes}
 use Rattle.kmc_parts.specs.Parts.{Parcel, all_windows, capped, grown, bin_runs, AreCuts, bin_super_kmers}
 use Rattle.kmc_parts.specs.Growing.{AreForBins, HaveGrown}
-use Rattle.kmc_parts.proofs.Copied.{window_front}
+use Rattle.kmc_spelling.specs.Lemmas.Windows.{window_front}
 
 grown_none : (k : ℕ) (p : Parcel) → p.words ≤ 2 ^ 64 - 1 → grown k [] p ≡ p
 grown_none k p h =

@@ -6,7 +6,7 @@ use Rattle.kmc_base.specs.Stretches.{Stretch, segments_of}
 use Rattle.kmc_split.specs.declared.runs.Run.{Run}
 use Rattle.kmc_split.specs.Cut.{IsCut, run_codes}
 use Rattle.kmc_split.specs.Signature.{signature_of}
-use Rattle.kmc_record.specs.Record.{spelling, IsBodyOf}
+use Rattle.kmc_spelling.specs.Record.{spelling, IsBodyOf}
 use Rattle.kmc_parts.specs.Shapes.{Sizes}
 
 -- what a part is made of; `words` is the number of words, or 2^64 - 1 where there are more

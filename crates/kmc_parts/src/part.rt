@@ -3,11 +3,11 @@ ghost use Rattle.std.specs.Prelude.{◌≡◌, ◌+◌, ◌*◌, ◌%◌, ◌<�
 ghost use Rattle.std.specs.List.{All};
 ghost use Rattle.kmc_base.specs.Words.{window, windows};
 ghost use Rattle.kmc_split.specs.Signature.{signature_of};
-ghost use Rattle.kmc_record.specs.Record.{IsSpelled, codes_in};
+ghost use Rattle.kmc_spelling.specs.Record.{IsSpelled, codes_in};
 ghost use Rattle.kmc_parts.specs.Parts.{Parcel, grown, empty_part, IsPart};
 
-use crate::copying::push_record_from;
 use crate::shape::Shape;
+use kmc_spelling::push_record_from;
 use std::alloc::{AllocError, Global};
 use std::marker::Model;
 

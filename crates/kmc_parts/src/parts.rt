@@ -3,14 +3,14 @@ ghost use Rattle.std.specs.Prelude.{◌≡◌, ℕ, ◌+◌, ◌-◌, ◌≤◌,
 ghost use Rattle.std.specs.List.{All, filter, range_with_len};
 ghost use Rattle.kmc_base.specs.Stretches.{segments_of};
 ghost use Rattle.kmc_split.specs.Cut.{IsRunOf};
-ghost use Rattle.kmc_record.specs.Record.{codes_in};
+ghost use Rattle.kmc_spelling.specs.Record.{codes_in};
 ghost use Rattle.kmc_parts.specs.Parts.{empty_part, bin_runs, ArePartsOf};
 ghost use Rattle.kmc_parts.specs.Growing.{AreForBins, HaveGrown, HaveTaken};
 
 use crate::part::Part;
 use crate::shape::Shape;
-use crate::spell::pack_codes;
 use kmc_base::leading_codes;
+use kmc_spelling::pack_codes;
 use kmc_split::{Run, Scratch, cut};
 use std::alloc::{AllocError, Global};
 

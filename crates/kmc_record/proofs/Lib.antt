@@ -1,5 +1,4 @@
-pub mod LaidOut
-pub mod Unique
+pub mod Faultless
 pub mod Filling
 pub mod Laying
 pub mod PackedBytes

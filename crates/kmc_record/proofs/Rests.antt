@@ -6,8 +6,8 @@ use Rattle.std.proofs.lemmas.Result.{err_from_is_err_and}
 use Rattle.kmc_record.specs.declared.fault.BodyError.{BodyError}
 use Rattle.kmc_record.specs.declared.fault.BodyError.TheVariants.{Memory, Damaged}
 use Rattle.kmc_record.specs.declared.fault.RecordFault.{RecordFault}
-use Rattle.kmc_record.specs.Record.{size_of}
-use Rattle.kmc_record.specs.Lemmas.Whole.{rest_at}
+use Rattle.kmc_spelling.specs.Record.{size_of}
+use Rattle.kmc_spelling.specs.Lemmas.Whole.{rest_at}
 
 rest_long : (offset : ℕ) (body : List ℕ) → length (rest_at offset body) ≡ length body - offset
 rest_long offset body = length-take-le (length body - offset) (drop offset body) (omega (arith, length-drop offset body))

@@ -1,8 +1,6 @@
 -- Lemmas on the definitions beside this file: proofs cite them, here and in the crates above, and no promise needs them to be read.
-pub mod Codes
 pub mod Turned
 pub mod KeyBytes
 pub mod Gaining
 pub mod Taken
-pub mod Spelled
 pub mod Whole

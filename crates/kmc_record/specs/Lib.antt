@@ -1,4 +1,3 @@
-pub mod Record
 pub mod Faults
 pub mod RecordWords
 pub mod RecordKeys

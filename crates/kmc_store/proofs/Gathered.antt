@@ -8,7 +8,7 @@ use Rattle.std.proofs.lemmas.List.Concat.{flat_map-append}
 use Rattle.std.specs.Prelude.{bytes_eq}
 use Rattle.std.specs.List.{sum_by, flat_map, range_with_len, AllByRecursion}
 use Rattle.kmc_split.specs.Laws.{CutExists, CutIsUnique, CutHasRuns}
-use Rattle.kmc_record.specs.Record.{spelling, IsSpelled, IsBodyOf}
+use Rattle.kmc_spelling.specs.Record.{spelling, IsSpelled, IsBodyOf}
 use Rattle.kmc_parts.specs.Shapes.{Sizes}
 use Rattle.kmc_parts.specs.Parts.{Parcel}
 use Rattle.kmc_store.specs.Bins.{body_at}

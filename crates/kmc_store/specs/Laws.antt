@@ -2,7 +2,7 @@
 use Rattle.std.specs.Prelude.{◌≡◌, ℕ, ◌*◌, ◌<◌, ◌≤◌, List, [], ◌∷◌, ◌++◌, length, map, bytes_eq}
 use Rattle.std.specs.List.{count_by}
 use Rattle.kmc_split.specs.declared.runs.Run.{Run}
-use Rattle.kmc_record.specs.Record.{spelling, IsBodyOf}
+use Rattle.kmc_spelling.specs.Record.{spelling, IsBodyOf}
 use Rattle.kmc_parts.specs.Shapes.{Sizes}
 use Rattle.kmc_parts.specs.Parts.{Parcel, AreCuts, bin_super_kmers, all_segments}
 use Rattle.kmc_store.specs.Bins.{BinList, body_at, empty_bins, Absorbed, Merged}

@@ -5,7 +5,7 @@ use Rattle.std.specs.List.{AllZip}
 use Rattle.kmc_base.specs.declared.strands.Strands.{Strands}
 use Rattle.kmc_record.specs.declared.fault.RecordFault.{RecordFault}
 use Rattle.kmc_parts.specs.Shapes.{Sizes, IsShape}
-use Rattle.kmc_record.specs.Record.{IsBodyOf}
+use Rattle.kmc_spelling.specs.Record.{IsBodyOf}
 use Rattle.kmc_record.specs.RecordWords.{record_keys}
 use Rattle.kmc_parts.specs.Parts.{IsPart}
 use Rattle.kmc_record.specs.Laws.{WholeBodyHasNoFault}

@@ -4,7 +4,7 @@ use Rattle.std.specs.List.{AllZip}
 use Rattle.kmc_base.specs.declared.strands.Strands.{Strands}
 use Rattle.kmc_reads.specs.Cuts.{AreCut}
 use Rattle.kmc_parts.specs.Shapes.{Sizes}
-use Rattle.kmc_record.specs.Record.{IsBodyOf}
+use Rattle.kmc_spelling.specs.Record.{IsBodyOf}
 use Rattle.kmc_record.specs.RecordWords.{record_keys}
 use Rattle.kmc_store.specs.Bins.{AreBins}
 use Rattle.kmc_store.specs.Holds.{HoldsReads}

@@ -3,7 +3,7 @@ ghost use Rattle.kmc_tool.specs.Laws.{HeldReadsAreCounted, CutReadsAreCounted, B
 
 use kmc_base::laws::{keys_of_segments, segments_are_maximal};
 use kmc_count::laws::keys_of_reads_are_counted;
-use kmc_record::laws::body_has_one_list;
+use kmc_spelling::laws::body_has_one_list;
 use kmc_split::laws::{canonical_fixes_signature, cut_keeps_words};
 
 /// In bins that hold reads a word has as many places as in the reads.

@@ -3,8 +3,8 @@ use Rattle.std.proofs.Common.{◌≡◌, ℕ, ◌+◌, ◌%◌, List, [], ◌∷
 use Rattle.std.proofs.lemmas.List.Elements.{All-append}
 use Rattle.kmc_base.specs.Words.{windows}
 use Rattle.kmc_split.specs.Signature.{signature_of}
-use Rattle.kmc_record.specs.Record.{spelling, IsSpelled, IsBodyOf}
-use Rattle.kmc_record.specs.Lemmas.Whole.{body_push, flat_push}
+use Rattle.kmc_spelling.specs.Record.{spelling, IsSpelled, IsBodyOf}
+use Rattle.kmc_spelling.specs.Lemmas.Whole.{body_push, flat_push}
 use Rattle.kmc_parts.specs.Parts.{Parcel, IsPart, all_windows, capped}
 
 pub part_grown : (v p : Parcel) → v ≡ p → (codes new : List ℕ) (k n w : ℕ) → IsPart v.bin v.shape v.body v.words → IsSpelled p.shape.k codes

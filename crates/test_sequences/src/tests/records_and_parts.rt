@@ -10,7 +10,9 @@ use crate::tests::given::{
 use kmc_judging::{PartError, part_of_body};
 use kmc_parts::{Part, Shape};
 use kmc_plain::{RecordError, decode, parts_of};
-use kmc_record::{RecordFault, laws};
+use kmc_record::RecordFault;
+use kmc_record::laws::{spelling_has_no_fault, whole_body_has_no_fault};
+use kmc_spelling::laws::{body_has_one_list, no_spelling_begins_another};
 use plain::plain_text;
 use rows::rows;
 use std::alloc::{AllocError, Global};
@@ -300,8 +302,8 @@ fn takes_bodies_of_records_of_two_words(rt: HostRuntime) -> Result<(), Fail> {
 
 #[test]
 fn laws_can_be_called() {
-    laws::no_spelling_begins_another();
-    laws::body_has_one_list();
-    laws::spelling_has_no_fault();
-    laws::whole_body_has_no_fault();
+    no_spelling_begins_another();
+    body_has_one_list();
+    spelling_has_no_fault();
+    whole_body_has_no_fault();
 }

@@ -5,8 +5,8 @@ use Rattle.std.specs.List.{All}
 use Rattle.kmc_base.specs.Words.{window, windows}
 use Rattle.kmc_split.specs.Cut.{run_codes}
 use Rattle.kmc_split.specs.Signature.{signature_of}
-use Rattle.kmc_record.specs.Record.{IsSpelled, codes_in}
-use Rattle.kmc_record.specs.Lemmas.Codes.{length_codes, are_codes}
+use Rattle.kmc_spelling.specs.Record.{IsSpelled, codes_in}
+use Rattle.kmc_spelling.specs.Lemmas.Codes.{length_codes, are_codes}
 use Rattle.kmc_parts.specs.Shapes.{Sizes}
 use Rattle.kmc_parts.specs.Parts.{Parcel, grown}
 use Rattle.kmc_parts.proofs.Parcels.{run_words, run_spelled, run_belongs, packed_run, run_grown}

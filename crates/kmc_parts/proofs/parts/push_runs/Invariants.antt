@@ -1,5 +1,5 @@
 use Rattle.std.proofs.Common.{take}
-use Rattle.kmc_record.specs.Record.{codes_in}
+use Rattle.kmc_spelling.specs.Record.{codes_in}
 use Rattle.kmc_parts.specs.Parts.{bin_runs}
 use Rattle.kmc_parts.specs.Growing.{HaveGrown}
 use Rattle.kmc_parts.proofs.parts.push_runs.Given as goal

@@ -1,4 +1,4 @@
-use Rattle.kmc_record.proofs.Unique.{no_fault}
+use Rattle.kmc_record.proofs.Faultless.{no_fault}
 use Rattle.kmc_record.proofs.laws.spelling_has_no_fault.Goals as goal
 
 pub returns : goal.returns

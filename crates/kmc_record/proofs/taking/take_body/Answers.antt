@@ -1,9 +1,10 @@
 use Rattle.std.proofs.Common.{ℕ, ◌+◌, ◌++◌, List, [], ◌∷◌, map, refl, subst, sym, arith}
 use Rattle.std.proofs.lemmas.Result.{IfOk-from_err}
-use Rattle.kmc_record.specs.Record.{size_of}
+use Rattle.kmc_spelling.specs.Record.{size_of}
 use Rattle.kmc_record.specs.RecordKeys.{IsTaken}
 use Rattle.kmc_record.specs.Lemmas.Taken.{none_taken}
-use Rattle.kmc_record.specs.Lemmas.Whole.{first_codes, next_body, next_inside, rest_at, same_codes, stops_there}
+use Rattle.kmc_spelling.specs.Lemmas.Whole.{first_codes, next_body, next_inside, rest_at, same_codes}
+use Rattle.kmc_record.specs.Lemmas.Whole.{stops_there}
 use Rattle.kmc_record.proofs.Rests.{some_left, enough, record_long, no_error, no_memory, no_damage}
 use Rattle.kmc_record.proofs.taking.take_body.Goals as goal
 

@@ -5,7 +5,8 @@ use Rattle.kmc_base.specs.Strands.{keys}
 use Rattle.kmc_base.specs.Weights.{weighted}
 use Rattle.kmc_base.specs.Lemmas.Weights.{pow_two_some}
 use Rattle.kmc_record.specs.Lemmas.Taken.{words_taken}
-use Rattle.kmc_record.specs.Lemmas.Whole.{first_codes, next_body, rest_at, same_codes, spelled_there, stops_there}
+use Rattle.kmc_spelling.specs.Lemmas.Whole.{first_codes, next_body, rest_at, same_codes, spelled_there}
+use Rattle.kmc_record.specs.Lemmas.Whole.{stops_there}
 use Rattle.kmc_record.proofs.Rests.{some_left, enough, inside_record, no_error, no_memory, no_damage}
 use Rattle.kmc_record.proofs.taking.take_words.Goals as goal
 

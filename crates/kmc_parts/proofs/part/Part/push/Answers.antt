@@ -1,8 +1,8 @@
 use Rattle.std.proofs.Common.{◌≡◌, length, ap, ◌∙◌, arith}
 use Rattle.kmc_base.specs.Words.{window}
 use Rattle.kmc_base.specs.Lemmas.Windows.{length_window}
-use Rattle.kmc_record.specs.Record.{codes_in}
-use Rattle.kmc_record.specs.Lemmas.Codes.{length_codes}
+use Rattle.kmc_spelling.specs.Record.{codes_in}
+use Rattle.kmc_spelling.specs.Lemmas.Codes.{length_codes}
 use Rattle.kmc_parts.specs.Parts.{Parcel}
 use Rattle.kmc_parts.specs.Lemmas.Grown.{part_grown}
 use Rattle.kmc_parts.proofs.part.Part.push.Goals as goal

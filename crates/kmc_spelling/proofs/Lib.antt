@@ -1,0 +1,3 @@
+pub mod LaidOut
+pub mod Written
+pub mod Copied

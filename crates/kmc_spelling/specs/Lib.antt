@@ -1,0 +1,3 @@
+pub mod Record
+pub mod Laws
+pub mod Lemmas
