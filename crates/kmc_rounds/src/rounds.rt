@@ -5,14 +5,14 @@ ghost use Rattle.kmc_reads.specs.declared.format.Format.{Format};
 ghost use Rattle.kmc_reads.specs.Cuts.{AreCut};
 ghost use Rattle.kmc_reads.specs.Reads.{reads_of};
 ghost use Rattle.kmc_reads.specs.Standing.{StandsCut};
-ghost use Rattle.kmc_rounds.specs.Lemmas.Fed.{AreStored, AreStoredBy};
-ghost use Rattle.kmc_rounds.specs.Rounds.{IsFedBy, AreCounts, AreCountsOf, HoldsPieces, HoldsInput, IsInputError};
+ghost use Rattle.kmc_rounds.specs.Lemmas.Stored.{AreStored, AreStoredBy};
+ghost use Rattle.kmc_input.specs.Fed.{IsFedBy, AreCounts, AreCountsOf};
+ghost use Rattle.kmc_rounds.specs.Rounds.{HoldsPieces, HoldsInput, IsInputError};
 ghost use Rattle.kmc_settings.specs.Shape.{shape_of};
 
 use crate::dealing::{Dealing, store_round};
-use crate::input_error::InputError;
-use crate::round::fill_round;
 use kmc_device::Counted;
+use kmc_input::{InputError, fill_round};
 use kmc_partqueue::Gate;
 use kmc_reads::{Feeder, Reads, ReadsError};
 use kmc_settings::Params;
@@ -34,7 +34,7 @@ pub fn round_of(params: &Params) -> usize
 }
 
 /// A round, the reads that were taken out of the feeder last, is added in threads to the bins, which are of the shape of the
-/// settings; meanwhile this thread reads and feeds the next round, as [`fill_round`](crate::fill_round) does. Both end before
+/// settings; meanwhile this thread reads and feeds the next round, as [`fill_round`](kmc_input::fill_round) does. Both end before
 /// this does. The first answer is that of the bins, which hold the round's reads too, each as its pieces of at most `limit`
 /// symbols, or were refused memory, and then what they held may be lost. The second is that of the reading: whether the text
 /// goes on. Where the one is a refusal the other may be none.

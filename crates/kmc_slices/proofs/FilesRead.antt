@@ -7,7 +7,7 @@ use Rattle.std.proofs.lemmas.List.{get_or-replicate}
 use Rattle.kmc_parts.specs.Shapes.{Sizes}
 use Rattle.kmc_store.specs.Bins.{body_at}
 use Rattle.kmc_count.specs.Lemmas.Zips.{zip_append}
-use Rattle.kmc_rounds.specs.Lemmas.Fed.{consumes_on}
+use Rattle.kmc_input.specs.Lemmas.Fed.{consumes_on}
 use Rattle.kmc_slice_files.specs.Frames.{body_of}
 use Rattle.kmc_slice_files.specs.Files.{header_bytes}
 use Rattle.kmc_slice_files.specs.Whole.{GaveFile, GaveFrames}

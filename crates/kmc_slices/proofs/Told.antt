@@ -7,11 +7,12 @@ use Rattle.kmc_reads.specs.declared.format.Format.{Format}
 use Rattle.kmc_reads.specs.Reads.{reads_of}
 use Rattle.kmc_reads.specs.Standing.{FeederState, StandsCut}
 use Rattle.kmc_parts.specs.Shapes.{Sizes}
-use Rattle.kmc_rounds.specs.declared.input_error.InputError.{InputError}
-use Rattle.kmc_rounds.specs.declared.input_error.InputError.TheVariants as input
-use Rattle.kmc_rounds.specs.Errors.{input_error}
-use Rattle.kmc_rounds.specs.Rounds.{AreCountsOf, IsFed, IsFedBy, IsInputError}
-use Rattle.kmc_rounds.specs.Lemmas.Fed.{consumes_on, refused_on}
+use Rattle.kmc_input.specs.declared.input_error.InputError.{InputError}
+use Rattle.kmc_input.specs.declared.input_error.InputError.TheVariants as input
+use Rattle.kmc_input.specs.Errors.{input_error}
+use Rattle.kmc_input.specs.Fed.{AreCountsOf, IsFed, IsFedBy}
+use Rattle.kmc_rounds.specs.Rounds.{IsInputError}
+use Rattle.kmc_input.specs.Lemmas.Fed.{consumes_on, refused_on}
 use Rattle.kmc_slices.specs.declared.error.CutError.{CutError}
 use Rattle.kmc_slices.specs.declared.error.CutError.TheVariants.{Memory, Read, Write, Input, TooLong}
 use Rattle.kmc_slices.specs.Cut.{AreReadCounts, AreWriteCounts, IsCutError, IsLastCutError, IsToldAs}

@@ -12,9 +12,10 @@ use Rattle.kmc_settings.specs.Shape.{shape_of}
 use Rattle.kmc_store.specs.Bins.{AreBins}
 use Rattle.kmc_slice_files.specs.Files.{IsSliceFile}
 use Rattle.kmc_slice_files.specs.Writes.{AreFiles, HasFailed, held_at}
-use Rattle.kmc_rounds.specs.declared.input_error.InputError.{InputError}
-use Rattle.kmc_rounds.specs.declared.input_error.InputError.TheVariants as input
-use Rattle.kmc_rounds.specs.Rounds.{HoldsPieces, IsRefused}
+use Rattle.kmc_input.specs.declared.input_error.InputError.{InputError}
+use Rattle.kmc_input.specs.declared.input_error.InputError.TheVariants as input
+use Rattle.kmc_input.specs.Fed.{IsRefused}
+use Rattle.kmc_rounds.specs.Rounds.{HoldsPieces}
 use Rattle.kmc_slices.specs.declared.error.CutError.{CutError}
 use Rattle.kmc_slices.specs.declared.error.CutError.TheVariants.{Memory, Read, Write, Input, TooLong}
 use Rattle.kmc_slices.specs.Rounds.{AreUnended}

@@ -1,8 +1,8 @@
 -- How a refusal of one step is told by the step above it.
 use Rattle.kmc_dump.specs.declared.write.DumpError.{DumpError}
 use Rattle.kmc_dump.specs.declared.write.DumpError.TheVariants as dump
-use Rattle.kmc_rounds.specs.declared.input_error.InputError.{InputError}
-use Rattle.kmc_rounds.specs.declared.input_error.InputError.TheVariants.{Memory, Read, Faulty, TooLong}
+use Rattle.kmc_input.specs.declared.input_error.InputError.{InputError}
+use Rattle.kmc_input.specs.declared.input_error.InputError.TheVariants.{Memory, Read, Faulty, TooLong}
 use Rattle.kmc_tool.specs.declared.error.RunError.{RunError}
 use Rattle.kmc_tool.specs.declared.error.RunError.TheVariants as run
 

@@ -17,8 +17,9 @@ use Rattle.kmc_lists.specs.Ordered.{CanBeMerged, whole}
 use Rattle.kmc_reads.specs.declared.error.ReadsError.{ReadsError}
 use Rattle.kmc_reads.specs.declared.error.ReadsError.TheVariants.{Memory as NoMemory}
 use Rattle.kmc_settings.specs.declared.params.Params.{Params}
-use Rattle.kmc_rounds.specs.Rounds.{AreCountsOf, IsInputError, IsRefused}
-use Rattle.kmc_rounds.specs.declared.input_error.InputError.{InputError}
+use Rattle.kmc_input.specs.Fed.{AreCountsOf, IsRefused}
+use Rattle.kmc_rounds.specs.Rounds.{IsInputError}
+use Rattle.kmc_input.specs.declared.input_error.InputError.{InputError}
 use Rattle.kmc_tool.specs.declared.error.RunError.{RunError}
 use Rattle.kmc_tool.specs.declared.error.RunError.TheVariants.{Read, Write, Input, TooLong}
 

@@ -4,7 +4,7 @@ ghost use Rattle.std.specs.Io.KnownBytes.{Appends, Consumes};
 ghost use Rattle.std.specs.Process.{exit_status};
 ghost use Rattle.kmc_device.specs.Device.{AppendsFront, GaveAll};
 ghost use Rattle.kmc_reads.specs.Stages.{fault};
-ghost use Rattle.kmc_rounds.specs.Rounds.{IsRefused};
+ghost use Rattle.kmc_input.specs.Fed.{IsRefused};
 ghost use Rattle.kmc_settings.specs.Words.{Word};
 ghost use Rattle.kmc_options.specs.Glued.{long_forms};
 ghost use Rattle.kmc_options.specs.Options.{Explains};

@@ -4,8 +4,8 @@ ghost use Rattle.kmc_tool.specs.Errors.{run_error, write_error};
 ghost use Rattle.kmc_tool.specs.Messages.{text_of_run_error};
 
 use kmc_dump::DumpError;
+use kmc_input::InputError;
 use kmc_reads::ReadsError;
-use kmc_rounds::InputError;
 use std::error::Error;
 use std::fmt;
 

@@ -1,9 +1,10 @@
 //! Inputs in rounds.
 use crate::given::settings;
 use kmc_device::Counted;
+use kmc_input::InputError;
 use kmc_partqueue::NoGate;
 use kmc_reads::{Format, ReadsError, read_all, slices_of};
-use kmc_rounds::{InputError, bins_of_input, stage_one};
+use kmc_rounds::{bins_of_input, stage_one};
 use kmc_settings::Params;
 use kmc_store::Bins;
 use kmc_tool::PIECE_SYMBOLS;

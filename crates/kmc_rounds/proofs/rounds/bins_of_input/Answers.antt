@@ -1,11 +1,12 @@
 use Rattle.std.proofs.Common.{◌≡◌, ◌+◌, ◌-◌, [], ◌++◌, Ok, sym, ap, subst, ◌∙◌, arith}
 use Rattle.kmc_store.specs.Bins.{BinList, empty_bins}
 use Rattle.kmc_store.specs.Holds.{HoldsReads}
-use Rattle.kmc_rounds.specs.Rounds.{AreCountsOf}
+use Rattle.kmc_input.specs.Fed.{AreCountsOf}
 use Rattle.kmc_settings.specs.Shape.{shape_of}
-use Rattle.kmc_rounds.specs.Errors.{input_error}
+use Rattle.kmc_input.specs.Errors.{input_error}
 use Rattle.kmc_base.specs.Lemmas.PassedOn.{passed_on}
-use Rattle.kmc_rounds.specs.Lemmas.Fed.{unfaulted, risen, counts_on, fed_cause, last_input, text_counts}
+use Rattle.kmc_input.specs.Lemmas.Fed.{unfaulted, risen, counts_on, text_counts}
+use Rattle.kmc_rounds.specs.Lemmas.Stored.{fed_cause, last_input}
 use Rattle.kmc_rounds.proofs.rounds.bins_of_input.Goals as goal
 
 pub returns-in_err-more-clause-cause : goal.returns-in_err-more-clause-cause

@@ -1,7 +1,7 @@
 use Rattle.std.proofs.Common.{◌≡◌, ◌<◌, ◌≤◌, ◌+◌, true, false}
 use Rattle.std.specs.Io.KnownBytes.{IsAtEnd}
 use Rattle.kmc_settings.specs.Shape.{shape_of}
-use Rattle.kmc_rounds.specs.Lemmas.Fed.{AreStored}
+use Rattle.kmc_rounds.specs.Lemmas.Stored.{AreStored}
 use Rattle.kmc_rounds.proofs.rounds.bins_of_input.Given as goal
 
 abbrev pub invariant-loop : goal.invariant-loop

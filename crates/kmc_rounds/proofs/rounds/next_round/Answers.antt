@@ -1,8 +1,10 @@
 use Rattle.std.proofs.Common.{◌+◌, ◌-◌, [], ◌++◌, OnOk, refl, subst, ◌∙◌, arith}
-use Rattle.kmc_rounds.specs.Rounds.{AreCounts, HoldsPieces, IsFedBy}
+use Rattle.kmc_input.specs.Fed.{AreCounts, IsFedBy}
+use Rattle.kmc_rounds.specs.Rounds.{HoldsPieces}
 use Rattle.kmc_settings.specs.Shape.{shape_of}
-use Rattle.kmc_rounds.specs.declared.input_error.InputError.TheVariants.{Memory}
-use Rattle.kmc_rounds.specs.Lemmas.Fed.{counts_err, fed_by, fed_on, memory_on, stored_err, taken_fed}
+use Rattle.kmc_input.specs.declared.input_error.InputError.TheVariants.{Memory}
+use Rattle.kmc_input.specs.Lemmas.Fed.{counts_err, fed_by, fed_on, memory_on, taken_fed}
+use Rattle.kmc_rounds.specs.Lemmas.Stored.{stored_err}
 use Rattle.kmc_rounds.proofs.rounds.next_round.Goals as goal
 
 pub returns-in_err-round-clause-stored : goal.returns-in_err-round-clause-stored

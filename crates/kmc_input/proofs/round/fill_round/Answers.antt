@@ -1,10 +1,10 @@
 use Rattle.std.proofs.Common.{inl, inr, ◌+◌, ◌++◌, Ok, true, false, refl, sym, subst, ◌∙◌, arith}
-use Rattle.kmc_rounds.specs.Rounds.{AreCounts, IsFedBy}
-use Rattle.kmc_rounds.specs.Lemmas.Causes.{same_err}
-use Rattle.kmc_rounds.specs.Lemmas.Fed.{fed_none, fed_on, fed_by}
-use Rattle.kmc_rounds.specs.declared.round.TheConstants.{BLOCK}
-use Rattle.kmc_rounds.proofs.Filled.{filled, not_full}
-use Rattle.kmc_rounds.proofs.round.fill_round.Goals as goal
+use Rattle.kmc_input.specs.Fed.{AreCounts, IsFedBy}
+use Rattle.kmc_input.specs.Lemmas.Causes.{same_err}
+use Rattle.kmc_input.specs.Lemmas.Fed.{fed_none, fed_on, fed_by}
+use Rattle.kmc_input.specs.declared.round.TheConstants.{BLOCK}
+use Rattle.kmc_input.proofs.Filled.{filled, not_full}
+use Rattle.kmc_input.proofs.round.fill_round.Goals as goal
 
 pub loop-init : goal.loop-init
 loop-init g c = record {

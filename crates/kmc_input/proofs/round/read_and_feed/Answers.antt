@@ -1,9 +1,9 @@
 use Rattle.std.proofs.Common.{rules, arith, ◌≡◌, ◌<◌, ◌+◌, length, take, sym, subst}
-use Rattle.kmc_rounds.specs.Errors.{input_error}
-use Rattle.kmc_rounds.specs.Rounds.{IsFedBy}
-use Rattle.kmc_rounds.specs.Lemmas.Causes.{same_err}
-use Rattle.kmc_rounds.specs.Lemmas.Fed.{fed_refused, reads_many, refused_for_good}
-use Rattle.kmc_rounds.proofs.round.read_and_feed.Goals as goal
+use Rattle.kmc_input.specs.Errors.{input_error}
+use Rattle.kmc_input.specs.Fed.{IsFedBy}
+use Rattle.kmc_input.specs.Lemmas.Causes.{same_err}
+use Rattle.kmc_input.specs.Lemmas.Fed.{fed_refused, reads_many, refused_for_good}
+use Rattle.kmc_input.proofs.round.read_and_feed.Goals as goal
 
 pub returns-clause-fed : goal.returns-clause-fed
 returns-clause-fed g c = λ overlap format text taken s.

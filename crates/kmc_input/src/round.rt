@@ -3,7 +3,7 @@ ghost use Rattle.std.specs.Prelude.{◌≡◌, ℕ, ◌+◌, ◌-◌, ◌^◌, �
 ghost use Rattle.std.specs.Io.KnownBytes.{IsAtEnd};
 ghost use Rattle.kmc_reads.specs.declared.format.Format.{Format};
 ghost use Rattle.kmc_reads.specs.Standing.{StandsCut};
-ghost use Rattle.kmc_rounds.specs.Rounds.{IsFedBy, IsFilled, AreCounts};
+ghost use Rattle.kmc_input.specs.Fed.{IsFedBy, IsFilled, AreCounts};
 
 use crate::input_error::InputError;
 use kmc_device::Counted;

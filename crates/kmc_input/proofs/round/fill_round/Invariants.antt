@@ -1,7 +1,7 @@
 use Rattle.std.proofs.Common.{◌≡◌, ◌⊎◌, ◌≤◌}
-use Rattle.kmc_rounds.specs.Rounds.{HasRoom}
-use Rattle.kmc_rounds.specs.Lemmas.Fed.{IsUnderWay}
-use Rattle.kmc_rounds.proofs.round.fill_round.Given as goal
+use Rattle.kmc_input.specs.Fed.{HasRoom}
+use Rattle.kmc_input.specs.Lemmas.Fed.{IsUnderWay}
+use Rattle.kmc_input.proofs.round.fill_round.Given as goal
 
 abbrev pub invariant-loop : goal.invariant-loop
 invariant-loop g l = record {

@@ -1,7 +1,7 @@
 //! Why an input was not read to its end.
 ghost use Rattle.std.specs.Prelude.{◌≡◌};
-ghost use Rattle.kmc_rounds.specs.Errors.{input_error};
-ghost use Rattle.kmc_rounds.specs.declared.input_error.InputError.TheVariants.{Memory};
+ghost use Rattle.kmc_input.specs.Errors.{input_error};
+ghost use Rattle.kmc_input.specs.declared.input_error.InputError.TheVariants.{Memory};
 
 use kmc_reads::ReadsError;
 use std::alloc::AllocError;

@@ -1,8 +1,8 @@
 -- How a refusal of the feeder is told by a round.
 use Rattle.kmc_reads.specs.declared.error.ReadsError.{ReadsError}
 use Rattle.kmc_reads.specs.declared.error.ReadsError.TheVariants as reads
-use Rattle.kmc_rounds.specs.declared.input_error.InputError.{InputError}
-use Rattle.kmc_rounds.specs.declared.input_error.InputError.TheVariants.{Memory, Faulty}
+use Rattle.kmc_input.specs.declared.input_error.InputError.{InputError}
+use Rattle.kmc_input.specs.declared.input_error.InputError.TheVariants.{Memory, Faulty}
 
 abbrev pub input_error : ReadsError → InputError
 input_error reads.Memory = Memory

@@ -2,7 +2,7 @@
 use Rattle.std.proofs.Common.{◌≡◌, ◌⊎◌, ℕ, ◌≤◌, List, [], ◌++◌, length, Option, sym, subst, append-nil, arith}
 use Rattle.kmc_reads.specs.declared.format.Format.{Format}
 use Rattle.kmc_reads.specs.Standing.{FeederState, StandsCut}
-use Rattle.kmc_rounds.specs.Rounds.{HasRoom, IsFed, IsFilled}
+use Rattle.kmc_input.specs.Fed.{HasRoom, IsFed, IsFilled}
 
 module _ (reads symbols block overlap : ℕ) (format : Format) (from to : Option (List ℕ)) (a b : ℕ) (text : List ℕ) (taken : List (List ℕ)) (old v : FeederState)
     (f : IsFed overlap format from to a b text taken v) (room : (v ≡ old) ⊎ HasRoom reads symbols v) where

@@ -2,9 +2,9 @@
 use Rattle.std.proofs.Common.{◌≡◌, ◌≢◌, ℕ, ◌≤◌, ap, refl, sym, subst, arith}
 use Rattle.std.specs.Prelude.{Result, Ok, Err, IfErr, IfOk, OnOk, IsErrAnd}
 use Rattle.kmc_base.specs.Lemmas.PassedOn.{passed_on}
-use Rattle.kmc_rounds.specs.Rounds.{AreCountsOf}
-use Rattle.kmc_rounds.specs.declared.input_error.InputError.{InputError}
-use Rattle.kmc_rounds.specs.declared.input_error.InputError.TheVariants.{Memory, Read, Faulty, TooLong}
+use Rattle.kmc_input.specs.Fed.{AreCountsOf}
+use Rattle.kmc_input.specs.declared.input_error.InputError.{InputError}
+use Rattle.kmc_input.specs.declared.input_error.InputError.TheVariants.{Memory, Read, Faulty, TooLong}
 
 pub of_err : {A E : Type 0} (P : E → Type 0) (r : Result A E) (e : E) → r ≡ Err e → IfErr r P → P e
 of_err P r e is h = subst (λ x. IfErr x P) is h

@@ -1,0 +1,3 @@
+pub mod Fed
+pub mod Errors
+pub mod Lemmas

@@ -1,0 +1,10 @@
+//! A round of reads, read from a device and fed block by block, until so many reads or symbols wait or the text ends; and why an
+//! input was not read to its end. It stands on `kmc_reads` for the feeder and on `kmc_device` for a reader whose reads and failures
+//! are counted. The layer above calls [`fill_round`] and takes the reads that wait; a refusal is an [`InputError`].
+#![tactic(auto)]
+
+mod input_error;
+mod round;
+
+pub use input_error::InputError;
+pub use round::fill_round;
