@@ -6,7 +6,7 @@ use Rattle.kmc_settings.specs.declared.params.Params.{Params}
 use Rattle.kmc_store.specs.Bins.{AreBins}
 use Rattle.kmc_judging.specs.Outside.{IsBinFault}
 use Rattle.kmc_judging.specs.declared.judging.BinFault.{BinFault}
-use Rattle.kmc_tool.specs.Stages.{IsDumpOfBins}
+use Rattle.kmc_bin_lists.specs.Stages.{IsDumpOfBins}
 use Rattle.kmc_slices.specs.Gathered.{Records}
 use Rattle.kmc_slices.specs.declared.listing.ListError.{ListError}
 use Rattle.kmc_slices.specs.declared.listing.ListError.TheVariants.{Foreign, Memory, Write}

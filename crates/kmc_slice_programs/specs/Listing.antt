@@ -8,7 +8,7 @@ use Rattle.kmc_settings.specs.declared.setting.Setting.{Setting}
 use Rattle.kmc_settings.specs.Words.{Word}
 use Rattle.kmc_store.specs.Bins.{AreBins}
 use Rattle.kmc_judging.specs.Outside.{IsBinFault}
-use Rattle.kmc_tool.specs.Stages.{IsDumpOfBins}
+use Rattle.kmc_bin_lists.specs.Stages.{IsDumpOfBins}
 use Rattle.kmc_slice_files.specs.Whole.{IsSliceFault}
 use Rattle.kmc_slice_files.specs.declared.slice.SliceFault.{SliceFault}
 use Rattle.kmc_slice_options.specs.Requests.{AsksForList, IsListRequest, IsOutOfRange}

@@ -16,7 +16,7 @@ use Rattle.kmc_count.specs.Occurrences.{count_of}
 use Rattle.kmc_count.specs.Dump.{IsDump}
 use Rattle.kmc_count.specs.Merge.{joined}
 use Rattle.kmc_sum.specs.Laws.{CountsAdd}
-use Rattle.kmc_tool.specs.Laws.{HeldReadsAreCounted, CutReadsAreCounted, BinsShareNoKey}
+use Rattle.kmc_bin_lists.specs.Laws.{HeldReadsAreCounted, CutReadsAreCounted, BinsShareNoKey}
 use Rattle.kmc_slice_files.specs.Files.{IsSlicing, IsSliceFile, file_bytes, header_bytes}
 use Rattle.kmc_slice_files.specs.Frames.{Frame, AreFrames, body_of, end_bytes, frames_bytes}
 use Rattle.kmc_slice_files.specs.Lemmas.Heads.{length_spare}

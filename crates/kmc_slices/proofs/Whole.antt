@@ -22,7 +22,7 @@ use Rattle.kmc_count.specs.Merge.{joined, AreApart}
 use Rattle.kmc_count.specs.Lemmas.Apart.{occurs_contains}
 use Rattle.kmc_count.specs.Lemmas.Zips.{zip_at}
 use Rattle.kmc_sum.specs.Sum.{listed_count, sum_of}
-use Rattle.kmc_tool.specs.Laws.{HeldReadsAreCounted, BinsShareNoKey}
+use Rattle.kmc_bin_lists.specs.Laws.{HeldReadsAreCounted, BinsShareNoKey}
 use Rattle.kmc_slices.specs.Laws.{SlicesAreWhole, OneSliceIsWhole}
 use Rattle.kmc_slices.specs.Slices.{Part, AreOfSlice, IsDumpOfSlice, all_reads, whole_body, whole_bodies}
 use Rattle.kmc_slices.proofs.Sums.{of_slice, one_slice, lone_range, one_of}

@@ -9,7 +9,7 @@ use Rattle.kmc_count.specs.declared.limits.Limits.{Limits}
 use Rattle.kmc_slice_files.specs.Files.{IsSlicing, IsSliceFile, file_bytes}
 use Rattle.kmc_slice_files.specs.Frames.{Frame, AreFrames, body_of}
 use Rattle.kmc_rounds.specs.Rounds.{HoldsPieces}
-use Rattle.kmc_tool.specs.Stages.{IsDumpOfBins}
+use Rattle.kmc_bin_lists.specs.Stages.{IsDumpOfBins}
 
 -- a part of the reads was cut to the files of S slices, each read as its pieces of at most so many symbols
 pub record AreCutTo (shape : Sizes) (limit S : ℕ) (reads files : List (List ℕ)) : Type 0 where

@@ -6,7 +6,7 @@ use Rattle.kmc_parts.specs.Shapes.{Sizes}
 use Rattle.kmc_count.specs.declared.limits.Limits.{Limits}
 use Rattle.kmc_store.specs.Bins.{AreBins, body_at}
 use Rattle.kmc_store.specs.Holds.{HoldsReads}
-use Rattle.kmc_tool.specs.Stages.{IsDumpOfBins}
+use Rattle.kmc_bin_lists.specs.Stages.{IsDumpOfBins}
 
 -- what a part of the reads was cut to: its reads, and for each bin its records and the number of their words
 pub record Part : Type 0 where

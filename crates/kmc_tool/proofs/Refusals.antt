@@ -3,11 +3,11 @@ use Rattle.std.proofs.Common.{◌≡◌, ◌≢◌, ap, refl, sym, ◌∙◌}
 use Rattle.kmc_reads.specs.declared.error.ReadsError.{ReadsError}
 use Rattle.kmc_dump.specs.declared.write.DumpError.{DumpError}
 use Rattle.kmc_dump.specs.declared.write.DumpError.TheVariants as dump
-use Rattle.kmc_tool.specs.Errors.{run_error, write_error}
+use Rattle.kmc_faults.specs.Errors.{run_error, write_error}
 use Rattle.kmc_input.specs.declared.input_error.InputError.{InputError}
 use Rattle.kmc_input.specs.declared.input_error.InputError.TheVariants.{Memory, Read, Faulty, TooLong}
-use Rattle.kmc_tool.specs.declared.error.RunError.{RunError}
-use Rattle.kmc_tool.specs.declared.error.RunError.TheVariants as run
+use Rattle.kmc_faults.specs.declared.error.RunError.{RunError}
+use Rattle.kmc_faults.specs.declared.error.RunError.TheVariants as run
 
 abbrev back : RunError → InputError
 back run.Memory = Memory

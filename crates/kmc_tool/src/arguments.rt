@@ -9,12 +9,11 @@ ghost use Rattle.kmc_settings.specs.Words.{Word};
 ghost use Rattle.kmc_options.specs.Glued.{long_forms};
 ghost use Rattle.kmc_options.specs.Options.{Explains};
 ghost use Rattle.kmc_tool.specs.Program.{IsAnswered, IsAsked, IsDone, LeavesFront};
-ghost use Rattle.kmc_tool.specs.Status.{status_of_answer};
+ghost use Rattle.kmc_faults.specs.Status.{status_of_answer};
 
-use crate::error::RunError;
-use crate::fault::Fault;
 use crate::running::run;
 use kmc_device::Counted;
+use kmc_faults::{Fault, RunError};
 use kmc_options::{ParamsError, settings};
 use kmc_reads::ReadsError;
 use kmc_settings::arguments;

@@ -2,8 +2,8 @@
 ghost use Rattle.std.specs.Prelude.{◌+◌, ◌-◌, ◌^◌, ◌<◌, ◌≤◌};
 ghost use Rattle.kmc_tool.specs.Run.{IsCountedInput};
 
-use crate::laws::{cut_reads_are_counted, held_reads_are_counted};
 use crate::listing::stage_two;
+use kmc_bin_lists::laws::{cut_reads_are_counted, held_reads_are_counted};
 use kmc_count::laws::pieces_are_counted_as_reads;
 use kmc_device::Counted;
 use kmc_input::InputError;

@@ -1,21 +1,16 @@
 //! A run: the way from the bytes of a reader to the dump on a writer, and the program: from its arguments to the exit status,
-//! with the faults that a user is shown. It stands on `kmc_options` for the settings that the arguments give, on `kmc_rounds`
+//! with the faults of `kmc_faults`. It stands on `kmc_options` for the settings that the arguments give, on `kmc_rounds`
 //! for the bins of an input, on `kmc_bin_lists` for their lists and on `kmc_dump` for the dump. The layer above calls [`program`]
 //! with the process's reader and writer, or [`run`] with settings of its own. Tests call [`run_with_gate`] and
 //! [`count_input_with`].
 #![tactic(auto)]
 
 mod arguments;
-mod error;
-mod fault;
 mod input;
-pub mod laws;
 mod listing;
 mod running;
 
 pub use arguments::{count, program, program_of};
-pub use error::RunError;
-pub use fault::Fault;
 pub use input::{MOST_READS, PIECE_SYMBOLS, count_input, count_input_with};
-pub use listing::{lists_of_bins, stage_two};
+pub use listing::stage_two;
 pub use running::{run, run_with_gate};

@@ -24,7 +24,7 @@ use Rattle.kmc_way.specs.Seats.{items_of}
 use Rattle.kmc_splitters.specs.Splitters.{chunks_of, IsDone}
 use Rattle.kmc_workers.specs.Shards.{IsShard, AreGrown, begun}
 use Rattle.kmc_workers.proofs.Returned.{its_writer, all_writers, writers_of, writers_once}
-use Rattle.kmc_workers.specs.Lemmas.Places.{sum_places}
+use Rattle.kmc_store.specs.Lemmas.SumPlaces.{sum_places}
 use Rattle.kmc_workers.proofs.Merging.{all_got}
 
 -- so many chunks of so many reads have room for all reads

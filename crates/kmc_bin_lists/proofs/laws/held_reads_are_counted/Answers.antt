@@ -1,6 +1,6 @@
 use Rattle.std.proofs.Common.{◌∙◌}
-use Rattle.kmc_tool.proofs.Counting.{held_counted}
-use Rattle.kmc_tool.proofs.laws.held_reads_are_counted.Goals as goal
+use Rattle.kmc_bin_lists.proofs.Counting.{held_counted}
+use Rattle.kmc_bin_lists.proofs.laws.held_reads_are_counted.Goals as goal
 
 pub returns : goal.returns
 returns c = λ strands shape reads bodies sss some_k some h zip x.

@@ -25,8 +25,8 @@ use Rattle.kmc_store.specs.Lemmas.Sums.{sum_same, sum_none, sum_add, sum_map, su
 use Rattle.kmc_count.specs.Occurrences.{occurrences}
 use Rattle.kmc_count.specs.Merge.{joined}
 use Rattle.kmc_count.specs.Lemmas.Zips.{zip_at}
-use Rattle.kmc_workers.specs.Lemmas.Places.{sum_places}
-use Rattle.kmc_tool.proofs.Summed.{sum_range, sum_once, sum_swap, occurs_flat}
+use Rattle.kmc_store.specs.Lemmas.SumPlaces.{sum_places}
+use Rattle.kmc_bin_lists.proofs.Summed.{sum_range, sum_once, sum_swap, occurs_flat}
 
 fuse : {A B C : Type 0} (f : B → C) (g : A → B) (xs : List A) → map (λ a. f (g a)) xs ≡ map f (map g xs)
 fuse f g [] = refl

@@ -2,10 +2,10 @@
 use Rattle.std.specs.Prelude.{ℕ, List, ◌++◌, codes}
 use Rattle.kmc_reads.specs.Messages.{text_of_reads_error}
 use Rattle.kmc_options.specs.Messages.{text_of_params_error}
-use Rattle.kmc_tool.specs.declared.error.RunError.{RunError}
-use Rattle.kmc_tool.specs.declared.error.RunError.TheVariants.{Memory, Read, Write, Input, TooLong}
-use Rattle.kmc_tool.specs.declared.fault.Fault.{Fault}
-use Rattle.kmc_tool.specs.declared.fault.Fault.TheVariants.{Options, Run}
+use Rattle.kmc_faults.specs.declared.error.RunError.{RunError}
+use Rattle.kmc_faults.specs.declared.error.RunError.TheVariants.{Memory, Read, Write, Input, TooLong}
+use Rattle.kmc_faults.specs.declared.fault.Fault.{Fault}
+use Rattle.kmc_faults.specs.declared.fault.Fault.TheVariants.{Options, Run}
 
 abbrev pub text_of_run_error : RunError → List ℕ
 text_of_run_error Memory = codes "out of memory"

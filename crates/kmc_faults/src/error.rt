@@ -1,7 +1,7 @@
 //! Why a run gave up.
 ghost use Rattle.std.specs.Prelude.{◌≡◌, Some};
-ghost use Rattle.kmc_tool.specs.Errors.{run_error, write_error};
-ghost use Rattle.kmc_tool.specs.Messages.{text_of_run_error};
+ghost use Rattle.kmc_faults.specs.Errors.{run_error, write_error};
+ghost use Rattle.kmc_faults.specs.Messages.{text_of_run_error};
 
 use kmc_dump::DumpError;
 use kmc_input::InputError;

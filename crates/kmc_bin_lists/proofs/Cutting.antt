@@ -12,8 +12,8 @@ use Rattle.kmc_base.specs.Words.{codes_of, window}
 use Rattle.kmc_base.specs.Lemmas.Orders.{lt_same}
 use Rattle.kmc_count.specs.Occurrences.{is_key_of}
 use Rattle.kmc_reads.specs.Cuts.{AddsUp}
-use Rattle.kmc_tool.specs.Laws.{CutReadsAreCounted}
-use Rattle.kmc_tool.proofs.Summed.{sum_range}
+use Rattle.kmc_bin_lists.specs.Laws.{CutReadsAreCounted}
+use Rattle.kmc_bin_lists.proofs.Summed.{sum_range}
 
 -- ---- sums over numbers in a row
 

@@ -19,7 +19,7 @@ use Rattle.kmc_spelling.specs.Laws.{BodyHasOneList}
 use Rattle.kmc_store.specs.Bins.{AreBins, body_at}
 use Rattle.kmc_count.specs.Merge.{AreApart}
 use Rattle.kmc_count.specs.Lemmas.Zips.{zip_at}
-use Rattle.kmc_tool.proofs.Counting.{keys_windows}
+use Rattle.kmc_bin_lists.proofs.Counting.{keys_windows}
 
 -- the words of records are words
 words_of_records : (k : ℕ) (ss : List (List ℕ)) → AllByRecursion (IsSpelled k) ss → All (IsWord k) (all_windows k ss)

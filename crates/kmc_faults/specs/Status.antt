@@ -1,7 +1,7 @@
 -- The exit status of a fault.
 use Rattle.std.specs.Prelude.{ℕ, Result, Ok, Err}
-use Rattle.kmc_tool.specs.declared.fault.Fault.{Fault}
-use Rattle.kmc_tool.specs.declared.fault.Fault.TheVariants.{Options, Run}
+use Rattle.kmc_faults.specs.declared.fault.Fault.{Fault}
+use Rattle.kmc_faults.specs.declared.fault.Fault.TheVariants.{Options, Run}
 use Rattle.kmc_options.specs.declared.error.ParamsError.TheVariants.{Memory, OutOfRange, Usage}
 
 -- 2 where the command line is at fault, and 1 where the run failed

@@ -3,8 +3,8 @@ use Rattle.kmc_dump.specs.declared.write.DumpError.{DumpError}
 use Rattle.kmc_dump.specs.declared.write.DumpError.TheVariants as dump
 use Rattle.kmc_input.specs.declared.input_error.InputError.{InputError}
 use Rattle.kmc_input.specs.declared.input_error.InputError.TheVariants.{Memory, Read, Faulty, TooLong}
-use Rattle.kmc_tool.specs.declared.error.RunError.{RunError}
-use Rattle.kmc_tool.specs.declared.error.RunError.TheVariants as run
+use Rattle.kmc_faults.specs.declared.error.RunError.{RunError}
+use Rattle.kmc_faults.specs.declared.error.RunError.TheVariants as run
 
 -- a refusal of the input
 abbrev pub run_error : InputError → RunError

@@ -18,8 +18,8 @@ use Rattle.kmc_body_lists.specs.Bodies.{AreListsOfBodies}
 use Rattle.kmc_bin_lists.specs.Laws.{PackedDumpsAreOne}
 use Rattle.kmc_lists.specs.Listed.{Listed, spelled, pairs_of}
 use Rattle.kmc_lists.specs.Ordered.{CanBeMerged, whole}
-use Rattle.kmc_tool.specs.Laws.{BinsShareNoKey}
-use Rattle.kmc_tool.specs.Stages.{IsDumpOfBins}
+use Rattle.kmc_bin_lists.specs.Laws.{BinsShareNoKey}
+use Rattle.kmc_bin_lists.specs.Stages.{IsDumpOfBins}
 
 -- the super-k-mers of bodies that have dumps
 pub whole_lists : (strands : Strands) (k : ℕ) (l : Limits) (bodies : List (List ℕ)) (lists : List (List (List ℕ × ℕ)))

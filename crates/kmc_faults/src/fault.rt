@@ -1,7 +1,7 @@
 //! What a fault shows its user: one line on standard error, and the exit status.
 ghost use Rattle.std.specs.Prelude.{◌≡◌, ◌≢◌, not, true, Some};
-ghost use Rattle.kmc_tool.specs.Messages.{message_of};
-ghost use Rattle.kmc_tool.specs.declared.fault.Fault.TheVariants.{Options, Run};
+ghost use Rattle.kmc_faults.specs.Messages.{message_of};
+ghost use Rattle.kmc_faults.specs.declared.fault.Fault.TheVariants.{Options, Run};
 
 use crate::error::RunError;
 use kmc_options::ParamsError;
@@ -23,7 +23,7 @@ const MISUSED: u8 = 2;
 const FAILED: u8 = 1;
 
 impl Fault {
-    ghost use Rattle.kmc_tool.specs.Status.{status_of};
+    ghost use Rattle.kmc_faults.specs.Status.{status_of};
 
     /// The exit status: 2 where the command line is at fault, and else 1.
     pub fn status(&self) -> u8

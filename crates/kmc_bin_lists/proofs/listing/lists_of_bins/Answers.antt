@@ -2,8 +2,8 @@ use Rattle.std.proofs.Common.{◌≡◌, ℕ, List, sym, ap, subst, ◌∙◌, E
 use Rattle.kmc_parts.specs.Shapes.{Sizes, IsShape}
 use Rattle.kmc_body_lists.specs.Bodies.{AreListsOfBodies}
 use Rattle.kmc_lists.specs.Lists.{lists_of}
-use Rattle.kmc_tool.proofs.BinsDump.{no_damage, listed}
-use Rattle.kmc_tool.proofs.listing.lists_of_bins.Goals as goal
+use Rattle.kmc_bin_lists.proofs.BinsDump.{no_damage, listed}
+use Rattle.kmc_bin_lists.proofs.listing.lists_of_bins.Goals as goal
 
 pub unreachable-requires : goal.unreachable-requires
 unreachable-requires g c =

@@ -1,0 +1,5 @@
+mod Summed
+mod Counting
+mod Apart
+mod BinsDump
+mod Cutting

@@ -1,0 +1,3 @@
+pub mod Status
+pub mod Messages
+pub mod Errors
