@@ -4,10 +4,11 @@ ghost use Rattle.std.specs.List.{All};
 ghost use Rattle.kmc_base.specs.Words.{windows};
 ghost use Rattle.kmc_split.specs.Signature.{signature_of};
 ghost use Rattle.kmc_split.specs.Minima.{low};
-ghost use Rattle.kmc_split.specs.SuperKmer.{super_kmer_words};
+ghost use Rattle.kmc_super_kmers.specs.SuperKmer.{super_kmer_words};
 
 use kmc_base::MAX_K;
-use kmc_split::{MAX_M, SuperKmer, lowest, offers, remainder};
+use kmc_split::{MAX_M, offers, remainder};
+use kmc_super_kmers::{SuperKmer, lowest};
 
 /// The most symbols of a super-k-mer.
 const MOST_SYMBOLS: usize = MAX_K + 255;

@@ -3,8 +3,8 @@ use Rattle.std.specs.Prelude.{◌≡◌, ℕ, List, map}
 use Rattle.std.specs.List.{flat_map}
 use Rattle.kmc_split.specs.declared.runs.Run.{Run}
 use Rattle.kmc_split.specs.Cut.{IsCut}
-use Rattle.kmc_split.specs.SuperKmer.{SuperKmerValue, super_kmer_words}
-use Rattle.kmc_split.specs.SuperKmers.{super_kmer_of_run}
+use Rattle.kmc_super_kmers.specs.SuperKmer.{SuperKmerValue, super_kmer_words}
+use Rattle.kmc_super_kmers.specs.SuperKmers.{super_kmer_of_run}
 
 -- the words of super-k-mers, one super-k-mer after another
 abbrev pub all_words : List SuperKmerValue → List (List ℕ)

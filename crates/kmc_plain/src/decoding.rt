@@ -5,7 +5,7 @@ ghost use Rattle.kmc_plain.specs.Refusals.{IsRefused};
 
 use kmc_base::MAX_K;
 use kmc_record::{RecordFault, code_at, first_symbols};
-use kmc_split::SuperKmer;
+use kmc_super_kmers::SuperKmer;
 use std::alloc::{AllocError, Global};
 
 /// Why a record was not read, in the order of the tests.

@@ -4,7 +4,7 @@ ghost use Rattle.kmc_spelling.specs.Record.{spelling, IsSpelled};
 
 use kmc_base::MAX_K;
 use kmc_spelling::push_packed;
-use kmc_split::SuperKmer;
+use kmc_super_kmers::SuperKmer;
 use std::alloc::AllocError;
 
 /// Appends the record of a super-k-mer: one byte for the number of its symbols above k, then its codes, four in a

@@ -4,7 +4,8 @@ ghost use Rattle.kmc_base.specs.Words.{windows};
 ghost use Rattle.kmc_plain.specs.SuperKmers.{IsCutInto, all_words};
 
 use kmc_base::{MAX_K, Segment};
-use kmc_split::{MAX_M, Scratch, SuperKmer, cut, super_kmer};
+use kmc_split::{MAX_M, Scratch, cut};
+use kmc_super_kmers::{SuperKmer, super_kmer};
 use std::alloc::{AllocError, Global};
 
 /// The super-k-mers of a segment: the runs of its cut, in order.

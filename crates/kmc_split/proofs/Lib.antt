@@ -1,7 +1,6 @@
 pub mod Grouping
 pub mod RowEnds
 pub mod Pairs
-pub mod Written
 pub mod Rolled
 pub mod Unique
 pub mod Kept

@@ -230,10 +230,3 @@ marks_room n less =
 pub none_is : (m : ℕ) → 3 * pair_marks m + 1 ≡ 4 ^ m
 none_is zero = omega arith
 none_is (suc m) = let h = none_is m in omega arith
-
--- fewer than three codes are not allowed
-pub short_is_not_allowed : (w : List ℕ) → length w < 3 → is_allowed w ≡ false
-short_is_not_allowed [] h = refl
-short_is_not_allowed (a ∷ []) h = refl
-short_is_not_allowed (a ∷ b ∷ []) h = refl
-short_is_not_allowed (a ∷ b ∷ d ∷ w) h = absurd (omega arith)

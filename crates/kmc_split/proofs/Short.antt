@@ -11,7 +11,7 @@ use Rattle.kmc_split.specs.Offers.{offer}
 use Rattle.kmc_split.specs.Signature.{signature_of}
 use Rattle.kmc_split.specs.Lemmas.Least.{same_runs, signature_at}
 use Rattle.kmc_split.specs.Lemmas.Lowest.{low_is}
-use Rattle.kmc_split.proofs.Pairs.{short_is_not_allowed}
+use Rattle.kmc_split.specs.Lemmas.Allowed.{short_is_not_allowed}
 
 pub short_offer : (m i : ℕ) (codes : List ℕ) → m < 3 → offer m (window m codes i) ≡ 4 ^ m - 1
 short_offer m i codes few =

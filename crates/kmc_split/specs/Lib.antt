@@ -1,7 +1,5 @@
 pub mod Signature
 pub mod Cut
-pub mod SuperKmer
-pub mod SuperKmers
 pub mod Laws
 pub mod Minima
 pub mod Rows

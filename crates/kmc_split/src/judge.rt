@@ -10,7 +10,7 @@ use crate::rolling::canonical_values;
 use crate::signatures::MAX_M;
 
 /// 1 in each of n pairs of bits.
-pub(crate) fn marks_for(n: usize) -> u16
+pub fn marks_for(n: usize) -> u16
     requires { n ≤ MAX_M }
     ensures { result ≡ pair_marks n }
 {
@@ -22,7 +22,7 @@ pub(crate) fn marks_for(n: usize) -> u16
 }
 
 /// Whether a canonical form of m codes may be a signature, given a mark for each code but the first.
-pub(crate) fn is_allowed_with(p: u16, m: usize, marks: u16) -> bool
+pub fn is_allowed_with(p: u16, m: usize, marks: u16) -> bool
     requires some { 1 ≤ m }
     requires most { m ≤ MAX_M }
     requires fits { p < 4 ^ m }
@@ -41,7 +41,7 @@ pub(crate) fn is_allowed_with(p: u16, m: usize, marks: u16) -> bool
 
 /// How many codes the forbidden beginnings have. A shorter m-mer is never allowed: there are so few of them that they would only cut
 /// reads in small pieces.
-pub(crate) const HEAD: usize = 3;
+pub const HEAD: usize = 3;
 
 /// The forbidden beginnings, packed.
 const AAA: u16 = 0;

@@ -3,7 +3,7 @@ use crate::tell;
 use kmc_judging::{PartError, part_of_body};
 use kmc_parts::{Part, Shape};
 use kmc_plain::encode;
-use kmc_split::SuperKmer;
+use kmc_super_kmers::SuperKmer;
 use std::alloc::{AllocError, Global};
 
 /// Prints bytes in hex, and ends the line.

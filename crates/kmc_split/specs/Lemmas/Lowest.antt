@@ -1,5 +1,5 @@
 -- The least value of a window, by its bounds.
-use Rattle.std.proofs.Common.{◌≡◌, ℕ, zero, suc, ◌+◌, ◌<◌, ◌≤◌, ◌-◌, ◌^◌, List, length, take, drop, slice_index, min, refl, sym, ap, ◌∙◌, arith, ◌⊎◌, inl, inr, add-one, zero-add, add-zero}
+use Rattle.std.proofs.Common.{◌≡◌, ℕ, zero, suc, ◌+◌, ◌<◌, ◌≤◌, ◌-◌, ◌^◌, List, length, take, drop, slice_index, min, refl, sym, ap, ◌∙◌, arith, ◌⊎◌, inl, inr, add-zero}
 use Rattle.std.proofs.lemmas.List.{get_or-take, get_or-drop}
 use Rattle.kmc_base.specs.Lemmas.Powers.{pow_up}
 use Rattle.kmc_split.specs.Minima.{low}
@@ -53,18 +53,6 @@ module _ (at : ℕ → ℕ) where
             | inl h ↦ inl (low_le w i j from h)
             | inr h ↦ inr (low_le w (i + d) j h (omega arith))
           ]
-
-  -- one more value at the end
-  pub low_last : (w : ℕ) → 1 ≤ w → low at (w + 1) 0 ≡ min (low at w 0) (at w)
-  low_last w some = rw add-one (last w 0 some ∙ ap (λ (j : ℕ). min (low at w 0) (at j)) (zero-add w))
-    where
-      last : (w i : ℕ) → 1 ≤ w → low at (suc w) i ≡ min (low at w i) (at (i + w))
-      last zero i some = absurd (omega arith)
-      last (suc zero) i some = refl
-      last (suc (suc w)) i some =
-          let rest = last (suc w) (i + 1) (omega arith) in
-          let place : at (i + 1 + suc w) ≡ at (i + suc (suc w)) = let e : i + 1 + suc w ≡ i + suc (suc w) = omega arith in ap at e in
-          omega arith
 
 -- the least values of a list's windows are below what its values are below
 pub lows_fit : (most w : ℕ) (values lows : List ℕ) → 1 ≤ w → length lows + w ≡ length values + 1

@@ -2,7 +2,7 @@
 use kmc_base::{Kmer, Segment};
 use kmc_parts::Shape;
 use kmc_plain::{Chunk, encode, segments};
-use kmc_split::SuperKmer;
+use kmc_super_kmers::SuperKmer;
 use std::alloc::{AllocError, Global};
 use std::process::Abort;
 use std::test::Fail;

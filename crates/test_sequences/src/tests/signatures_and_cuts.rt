@@ -8,7 +8,8 @@ use crate::tests::given::{
 use kmc_base::MAX_K;
 use kmc_judging::super_kmer_in_bin;
 use kmc_plain::super_kmers;
-use kmc_split::{MAX_M, Run, Scratch, SuperKmer, allowed, cut, laws, signature};
+use kmc_split::{MAX_M, Run, Scratch, cut, laws};
+use kmc_super_kmers::{SuperKmer, allowed, signature};
 use rows::rows;
 use std::alloc::{AllocError, Global};
 use std::process::Abort;

@@ -2,7 +2,7 @@ use Rattle.std.proofs.Common.{◌≡◌, ℕ, ◌%◌, ◌↔◌, IsTrue, List, 
 use Rattle.std.specs.List.{All}
 use Rattle.kmc_base.specs.Words.{windows}
 use Rattle.kmc_split.specs.Signature.{signature_of}
-use Rattle.kmc_split.specs.SuperKmer.{super_kmer_words}
+use Rattle.kmc_super_kmers.specs.SuperKmer.{super_kmer_words}
 use Rattle.kmc_judging.proofs.words.super_kmer_in_bin.Goals as goal
 
 pub returns : goal.returns

@@ -2,7 +2,7 @@ use Rattle.std.proofs.Common.{◌≡◌, ℕ, ◌+◌, ◌/◌, ◌<◌, ◌≤�
 use Rattle.std.proofs.lemmas.List.{take_rest}
 use Rattle.std.proofs.lemmas.List.Elements.{All-from_recursion}
 use Rattle.kmc_base.specs.declared.kmer.TheConstants.{MAX_K}
-use Rattle.kmc_split.specs.SuperKmer.{IsSuperKmer}
+use Rattle.kmc_super_kmers.specs.SuperKmer.{IsSuperKmer}
 use Rattle.kmc_spelling.specs.Record.{spelling, IsSpelled, size_of}
 use Rattle.std.specs.Prelude.{Result, Ok, Err, IfErr}
 use Rattle.std.specs.Result.{IsErrAnd}

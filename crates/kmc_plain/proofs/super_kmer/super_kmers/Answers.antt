@@ -3,8 +3,8 @@ use Rattle.std.proofs.lemmas.List.{take_all}
 use Rattle.std.proofs.lemmas.List.Folds.{flat_map-map}
 use Rattle.kmc_base.specs.Words.{windows}
 use Rattle.kmc_split.specs.Cut.{run_words}
-use Rattle.kmc_split.specs.SuperKmer.{super_kmer_words}
-use Rattle.kmc_split.specs.SuperKmers.{super_kmer_of_run}
+use Rattle.kmc_super_kmers.specs.SuperKmer.{super_kmer_words}
+use Rattle.kmc_super_kmers.specs.SuperKmers.{super_kmer_of_run}
 use Rattle.kmc_plain.specs.SuperKmers.{all_words}
 use Rattle.kmc_plain.proofs.super_kmer.super_kmers.Goals as goal
 

@@ -1,5 +1,5 @@
 use Rattle.std.proofs.Common.{◌≡◌, map, take}
-use Rattle.kmc_split.specs.SuperKmers.{super_kmer_of_run}
+use Rattle.kmc_super_kmers.specs.SuperKmers.{super_kmer_of_run}
 use Rattle.kmc_plain.proofs.super_kmer.super_kmers.Given as goal
 
 abbrev pub invariant-loop-r : goal.invariant-loop-r

@@ -1,7 +1,8 @@
 use Rattle.std.proofs.Common.{sym, arith}
 use Rattle.kmc_base.specs.Packed.{unpack}
 use Rattle.kmc_base.specs.Lemmas.Packing.{length_unpack}
-use Rattle.kmc_split.proofs.Pairs.{allowed_long, short_is_not_allowed}
+use Rattle.kmc_split.specs.Lemmas.Allowed.{short_is_not_allowed}
+use Rattle.kmc_split.proofs.Pairs.{allowed_long}
 use Rattle.kmc_split.proofs.judge.is_allowed_with.Goals as goal
 
 pub returns-then-m-lt-HEAD : goal.returns-then-m-lt-HEAD

@@ -4,7 +4,7 @@ use Rattle.kmc_base.specs.Words.{window}
 use Rattle.kmc_base.specs.Lemmas.Powers.{pow_some}
 use Rattle.kmc_base.specs.Lemmas.Rolling.{IsRolling, roll_start, step_at, fits_at, all_ones}
 use Rattle.kmc_split.specs.Lemmas.Lowest.{fits_most}
-use Rattle.kmc_split.proofs.Written.{set_more}
+use Rattle.kmc_split.specs.Lemmas.Written.{set_more}
 use Rattle.kmc_split.proofs.Rolled.{Holds, lesser_holds}
 use Rattle.kmc_split.proofs.rolling.canonical_values.Goals as goal
 

@@ -3,7 +3,7 @@ use crate::tests::given::{chunk_of, mixed_reads, shape_of};
 use kmc_judging::{PartError, part_of_body};
 use kmc_parts::Shape;
 use kmc_plain::{RecordError, decode, parts_of};
-use kmc_split::{SuperKmer, signature};
+use kmc_super_kmers::{SuperKmer, signature};
 use std::alloc::{AllocError, Global};
 use std::process::Abort;
 use std::test::Fail;

@@ -3,7 +3,7 @@ use crate::tests::given::{chunk_of, push_bin};
 use kmc_base::Segment;
 use kmc_parts::Shape;
 use kmc_plain::{encode, segments, super_kmers};
-use kmc_split::{SuperKmer, signature};
+use kmc_super_kmers::{SuperKmer, signature};
 use std::alloc::{AllocError, Global};
 use std::process::Abort;
 use std::test::Fail;

@@ -5,7 +5,7 @@ use Rattle.kmc_split.specs.Offers.{offer}
 use Rattle.kmc_split.specs.Minima.{low}
 use Rattle.kmc_split.specs.Lemmas.Lowest.{fits_most}
 use Rattle.kmc_split.specs.Lemmas.Least.{min_is, signature_is, signature_fits}
-use Rattle.kmc_split.proofs.signatures.signature_in.Goals as goal
+use Rattle.kmc_super_kmers.proofs.signatures.signature_in.Goals as goal
 
 -- what the m-mers of a word offer
 lowest_is : (m : ℕ) (codes values : List ℕ) (v : ℕ) → m ≤ length codes → length values + m ≡ length codes + 1

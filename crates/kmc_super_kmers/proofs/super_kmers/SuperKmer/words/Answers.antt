@@ -1,7 +1,7 @@
 use Rattle.std.proofs.Common.{◌≡◌, ◌+◌, ◌-◌, length, ap, ◌∙◌, arith}
-use Rattle.kmc_split.specs.SuperKmer.{SuperKmerValue, super_kmer_words}
+use Rattle.kmc_super_kmers.specs.SuperKmer.{SuperKmerValue, super_kmer_words}
 use Rattle.kmc_base.specs.Lemmas.Windows.{length_windows}
-use Rattle.kmc_split.proofs.super_kmers.SuperKmer.words.Goals as goal
+use Rattle.kmc_super_kmers.proofs.super_kmers.SuperKmer.words.Goals as goal
 
 pub returns-clause-is : goal.returns-clause-is
 returns-clause-is c =

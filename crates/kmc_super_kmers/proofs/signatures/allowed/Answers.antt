@@ -1,8 +1,8 @@
 use Rattle.std.proofs.Common.{ℕ, ap, sym, ◌∙◌, arith}
 use Rattle.kmc_base.specs.Packed.{unpack}
 use Rattle.kmc_split.specs.Signature.{is_allowed}
-use Rattle.kmc_split.proofs.Pairs.{short_is_not_allowed}
-use Rattle.kmc_split.proofs.signatures.allowed.Goals as goal
+use Rattle.kmc_split.specs.Lemmas.Allowed.{short_is_not_allowed}
+use Rattle.kmc_super_kmers.proofs.signatures.allowed.Goals as goal
 
 pub returns-then-m-lt-HEAD : goal.returns-then-m-lt-HEAD
 returns-then-m-lt-HEAD c = sym (short_is_not_allowed c.canon-form.result (omega arith)) ∙ ap is_allowed c.canon-form.ensures

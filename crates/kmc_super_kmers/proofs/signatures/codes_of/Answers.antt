@@ -2,8 +2,8 @@ use Rattle.std.proofs.Common.{◌≡◌, ℕ, ◌<◌, length, slice_index, take
 use Rattle.std.proofs.lemmas.List.{same_lists, length-take-le, get_or-take}
 use Rattle.std.proofs.lemmas.List.Elements.{All-from_get_or}
 use Rattle.std.proofs.lemmas.Grind.{get_or_default_zero}
-use Rattle.kmc_split.proofs.Written.{set_more}
-use Rattle.kmc_split.proofs.signatures.codes_of.Goals as goal
+use Rattle.kmc_split.specs.Lemmas.Written.{set_more}
+use Rattle.kmc_super_kmers.proofs.signatures.codes_of.Goals as goal
 
 pub loop-i-preserved : goal.loop-i-preserved
 loop-i-preserved c =

@@ -1,9 +1,9 @@
 use Rattle.std.proofs.Common.{◌≡◌, ℕ, ◌+◌, ◌-◌, ◌<◌, ◌++◌, List, take, drop, ap, sym, subst, ◌∙◌, arith}
 use Rattle.std.proofs.lemmas.List.Elements.{All-take, All-drop}
-use Rattle.kmc_split.specs.SuperKmer.{IsSuperKmer}
+use Rattle.kmc_super_kmers.specs.SuperKmer.{IsSuperKmer}
 use Rattle.kmc_split.specs.Cut.{run_codes}
 use Rattle.kmc_base.specs.Lemmas.Windows.{length_window}
-use Rattle.kmc_split.proofs.super_kmers.super_kmer.Goals as goal
+use Rattle.kmc_super_kmers.proofs.super_kmers.super_kmer.Goals as goal
 
 pub invariant_of-result : goal.invariant_of-result
 invariant_of-result c =

@@ -2,11 +2,11 @@
 ghost use Rattle.std.specs.Prelude.{◌≡◌, ◌+◌, ◌-◌, ◌<◌, ◌≤◌, length, MatchOption, IfOk};
 ghost use Rattle.std.specs.List.{All};
 ghost use Rattle.kmc_base.specs.Words.{window};
-ghost use Rattle.kmc_split.specs.SuperKmer.{IsSuperKmer, super_kmer_words};
-ghost use Rattle.kmc_split.specs.SuperKmers.{super_kmer_of_run};
+ghost use Rattle.kmc_super_kmers.specs.SuperKmer.{IsSuperKmer, super_kmer_words};
+ghost use Rattle.kmc_super_kmers.specs.SuperKmers.{super_kmer_of_run};
 
-use crate::runs::Run;
 use kmc_base::{Kmer, MAX_K};
+use kmc_split::Run;
 use std::alloc::{AllocError, Global};
 use std::marker::Model;
 
@@ -21,7 +21,7 @@ pub struct SuperKmer {
 }
 
 impl Model for SuperKmer {
-    ghost use Rattle.kmc_split.specs.SuperKmer.{SuperKmerValue, IsSuperKmer};
+    ghost use Rattle.kmc_super_kmers.specs.SuperKmer.{SuperKmerValue, IsSuperKmer};
 
     ghost Value = { SuperKmerValue };
 

@@ -3,7 +3,7 @@ use Rattle.std.proofs.lemmas.List.{take_all, take_more}
 use Rattle.kmc_base.specs.Packed.{unpack}
 use Rattle.kmc_base.specs.Lemmas.Packing.{fits_more, unpack_more}
 use Rattle.kmc_split.specs.Lemmas.Lowest.{fits_most}
-use Rattle.kmc_split.proofs.signatures.packed.Goals as goal
+use Rattle.kmc_super_kmers.proofs.signatures.packed.Goals as goal
 
 -- there is room for one more code
 room : (i p d : ℕ) → i < 8 → p < 4 ^ i → d < 4 → p * 4 + d < 2 ^ 16
