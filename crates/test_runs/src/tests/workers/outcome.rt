@@ -3,8 +3,8 @@
 use super::{TWICE, one_read_a_chunk, reads_of};
 use kmc_partcore::{QueueShape, Totals};
 use kmc_partqueue::Gate;
-use kmc_reads::slices_of;
 use kmc_store::Bins;
+use kmc_whole_reads::slices_of;
 use kmc_workers::{Plan, fill_bins};
 use std::alloc::Global;
 use std::process::Abort;
