@@ -1,4 +1,3 @@
 pub mod Device
-pub mod Room
 pub mod Line
 pub mod Lemmas

@@ -1,14 +1,12 @@
-//! Devices that may fail, and the text of a dump on them: a reader or a writer whose failures are counted, bytes read behind
-//! others, a text written whole, and a dump's lines in a buffer. It stands on the words of kmc_base. The layers above use that a text is written
-//! whole or the device failed, and that then a front of it went out.
+//! Devices that may fail, and the text of a dump on them: a reader or a writer whose failures are counted, a text written whole,
+//! and a dump's lines in a buffer. It stands on the words of kmc_base. The layers above use that a text is written whole or the
+//! device failed, and that then a front of it went out.
 #![tactic(auto)]
 
 mod counted;
 mod line;
-mod room;
 mod text;
 
 pub use counted::Counted;
 pub use line::{DIGITS, LINE, ROOM, line_room, make_room, put_line};
-pub use room::{ReadFault, fill_behind, read_behind};
 pub use text::{WriteFault, write_text};

@@ -1,8 +1,8 @@
 //! Reads that lie in one buffer.
-ghost use Rattle.std.specs.Prelude.{true, false, ◌≡◌, ◌<◌, ◌≤◌, length, get_or, [], ◌∷◌, ◌++◌, map, IfOk, OnOk};
+ghost use Rattle.std.specs.Prelude.{true, false, ◌≡◌, ◌<◌, ◌≤◌, length, get_or, [], ◌∷◌};
 ghost use Rattle.kmc_reads.specs.Rows.{rows_from, AreEnds};
 
-use std::alloc::{AllocError, Global};
+use std::alloc::Global;
 use std::marker::Model;
 
 /// Reads, one behind the other in one buffer, with the places where they end. Contracts see the
@@ -67,37 +67,6 @@ impl Reads {
         let end = self.ends[i];
         &self.bytes[start..end]
     }
-
-    /// The reads, each with a vector of its own.
-    pub fn to_vecs(&self, alloc: Global) -> Result<Vec<Vec<u8>>, AllocError>
-        ensures { IfOk result (λ v. map (λ r. r.items) v.items ≡ self.now) }
-    {
-        let mut reads = Vec::new(alloc);
-        for i in 0..self.len() {
-            push_read(alloc, &mut reads, self.get(i))?;
-        }
-        Ok(reads)
-    }
-}
-
-/// Reads that have a vector each, where they lie.
-pub fn slices_of(alloc: Global, reads: &[Vec<u8>]) -> Result<Vec<&[u8]>, AllocError>
-    ensures { IfOk result (λ v. map (λ s. s.now) v.items ≡ map (λ r. r.items) reads.now) }
-{
-    let mut slices = Vec::with_capacity(alloc, reads.len())?;
-    for read in reads {
-        slices.push(read.as_slice())?;
-    }
-    Ok(slices)
-}
-
-/// Adds a copy of a read.
-fn push_read(alloc: Global, reads: &mut Vec<Vec<u8>>, read: &[u8]) -> Result<(), AllocError>
-    ensures { OnOk result (map (λ r. r.items) reads.new.items
-        ≡ map (λ r. r.items) reads.old.items ++ read.now ∷ []) }
-{
-    reads.push(Vec::from_slice(alloc, read)?)?;
-    Ok(())
 }
 
 /// Where row i begins, of rows that end at these places.

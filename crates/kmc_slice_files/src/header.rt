@@ -6,8 +6,9 @@ ghost use Rattle.kmc_slice_files.specs.Files.{IsSlicing, slicing_bytes, header_b
 ghost use Rattle.kmc_slice_files.specs.Headers.{IsTold, IsOutOfRange, IsSlicingOf, IsRefused, IsHeaderFault, HeaderTells};
 
 use crate::check::check_word;
-use kmc_device::{Counted, ReadFault, WriteFault, fill_behind, write_text};
+use kmc_device::{Counted, WriteFault, write_text};
 use kmc_parts::Shape;
+use kmc_rooms::{ReadFault, fill_behind};
 use std::io::{Read, Write};
 
 /// The bytes of a header.

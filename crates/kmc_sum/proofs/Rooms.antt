@@ -6,7 +6,7 @@ use Rattle.std.proofs.lemmas.List.{length-take-le, drop-take, drop-drop, with_it
 use Rattle.std.specs.Vec.{with_items}
 use Rattle.std.specs.Global.{Global}
 use Rattle.std.specs.Io.KnownBytes.{Keeps}
-use Rattle.kmc_device.specs.Room.{CameBehind}
+use Rattle.kmc_rooms.specs.Room.{CameBehind}
 use Rattle.kmc_sum.specs.Source.{GoesOn}
 
 pub goes_nowhere : (a : Option (List ℕ)) (xs ys : List ℕ) → ys ≡ xs → GoesOn a a xs ys

@@ -1,5 +1,5 @@
 //! Tests of sums of dumps (kmc_sum), by public calls alone: worked texts, lines at fault in each field, and readers and
-//! writers that fail; and of bytes read behind others (kmc_device). Nothing stands on this crate. Random splits of random
+//! writers that fail; and of bytes read behind others (kmc_rooms). Nothing stands on this crate. Random splits of random
 //! reads are tried by bench/merge.py.
 #![tactic(auto)]
 

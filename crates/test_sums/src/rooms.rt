@@ -1,5 +1,6 @@
 //! Bytes that are read behind others.
-use kmc_device::{Counted, ReadFault, fill_behind, read_behind};
+use kmc_device::Counted;
+use kmc_rooms::{ReadFault, fill_behind, read_behind};
 use test_support::BlockReader;
 
 #[test]

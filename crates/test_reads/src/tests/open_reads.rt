@@ -1,7 +1,8 @@
 //! Open reads that are taken in pieces.
 use crate::tests::answers::assert_fed;
 use crate::tests::calls::{finish, take_open};
-use kmc_reads::{Feeder, Format, Reads, read_all};
+use kmc_reads::{Feeder, Format, Reads};
+use kmc_whole_reads::{read_all, to_vecs};
 use std::alloc::{AllocError, Global};
 use std::process::Abort;
 use test_support::Dice;
@@ -107,7 +108,7 @@ fn some_text(alloc: Global, dice: &mut Dice) -> Result<Vec<u8>, AllocError> {
 /// The places of the open reads that are taken.
 fn taken_places(alloc: Global, feeder: &mut Feeder) -> Result<(usize, usize), AllocError> {
     let taken = take_open(alloc, feeder, 2)?;
-    Ok(all_places(&taken.to_vecs(alloc)?))
+    Ok(all_places(&to_vecs(alloc, &taken)?))
 }
 
 /// Feeds a text in random blocks and takes open reads now and then: their places.
@@ -144,7 +145,7 @@ fn places_in_blocks(
     let Ok(last) = finish(feeder) else {
         return Err(AllocError);
     };
-    Ok(sums(open, all_places(&last.to_vecs(alloc)?)))
+    Ok(sums(open, all_places(&to_vecs(alloc, &last)?)))
 }
 
 /// Asserts that the places of a text are these.

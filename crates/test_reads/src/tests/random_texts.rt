@@ -2,7 +2,8 @@
 use crate::tests::answers::{assert_end_refused, assert_fed};
 use crate::tests::calls::{feed, finish, take};
 use crate::tests::plain::{Reading, plain_reads};
-use kmc_reads::{Feeder, Format, Reads, ReadsError, read_all};
+use kmc_reads::{Feeder, Format, Reads, ReadsError};
+use kmc_whole_reads::{read_all, to_vecs};
 use std::alloc::{AllocError, Global};
 use std::process::Abort;
 use test_support::Dice;
@@ -45,7 +46,7 @@ fn some_text(alloc: Global, dice: &mut Dice, format: Format) -> Result<Vec<u8>, 
 
 /// Adds copies of these reads.
 fn push_reads(alloc: Global, given: &mut Vec<Vec<u8>>, reads: &Reads) -> Result<(), AllocError> {
-    for read in &reads.to_vecs(alloc)? {
+    for read in &to_vecs(alloc, reads)? {
         given.push(Vec::from_slice(alloc, read)?)?;
     }
     Ok(())

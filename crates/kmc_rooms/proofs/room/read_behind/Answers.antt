@@ -1,7 +1,7 @@
 use Rattle.std.proofs.Common.{◌-◌, ◌≡◌, length, arith, length-drop}
 use Rattle.kmc_device.specs.Lemmas.Lines.{length_put_mid}
-use Rattle.kmc_device.specs.Lemmas.Rooms.{came_once}
-use Rattle.kmc_device.proofs.room.read_behind.Goals as goal
+use Rattle.kmc_rooms.proofs.Rooms.{came_once}
+use Rattle.kmc_rooms.proofs.room.read_behind.Goals as goal
 
 pub returns-in-Ok-clause-ok : goal.returns-in-Ok-clause-ok
 returns-in-Ok-clause-ok g c =

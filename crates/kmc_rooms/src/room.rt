@@ -2,9 +2,9 @@
 ghost use Rattle.std.specs.Prelude.{◌≡◌, ℕ, ◌+◌, ◌<◌, ◌≤◌, List, length, OnOk, OnErr, IfOk};
 ghost use Rattle.std.specs.Io.KnownBytes.{Consumes, IsAtEnd, Keeps};
 ghost use Rattle.kmc_device.specs.Device.{RisesByOne};
-ghost use Rattle.kmc_device.specs.Room.{CameBehind};
+ghost use Rattle.kmc_rooms.specs.Room.{CameBehind};
 
-use crate::counted::Counted;
+use kmc_device::Counted;
 use std::io::Read;
 
 /// A read failed.

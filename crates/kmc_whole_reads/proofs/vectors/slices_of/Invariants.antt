@@ -1,5 +1,5 @@
 use Rattle.std.proofs.Common.{◌≡◌, map, take}
-use Rattle.kmc_reads.proofs.reads.slices_of.Given as goal
+use Rattle.kmc_whole_reads.proofs.vectors.slices_of.Given as goal
 
 -- the slices of the reads so far
 abbrev pub invariant-loop-read : goal.invariant-loop-read

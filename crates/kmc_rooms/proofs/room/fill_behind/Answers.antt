@@ -1,8 +1,8 @@
 use Rattle.std.proofs.Common.{arith, refl, ◌∙◌}
 use Rattle.std.proofs.KnownBytes.{Consumes-kept}
 use Rattle.kmc_device.specs.Lemmas.Devices.{on_err}
-use Rattle.kmc_device.specs.Lemmas.Rooms.{none_came, came_then}
-use Rattle.kmc_device.proofs.room.fill_behind.Goals as goal
+use Rattle.kmc_rooms.proofs.Rooms.{none_came, came_then}
+use Rattle.kmc_rooms.proofs.room.fill_behind.Goals as goal
 
 pub loop-end-init : goal.loop-end-init
 loop-end-init g c = record { above = omega arith; inside = c.requires; same = refl; came = none_came _ _ _ }

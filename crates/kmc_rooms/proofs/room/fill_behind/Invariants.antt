@@ -1,6 +1,6 @@
 use Rattle.std.proofs.Common.{length, ◌-◌, ◌≡◌, ◌≤◌}
-use Rattle.kmc_device.specs.Room.{CameBehind}
-use Rattle.kmc_device.proofs.room.fill_behind.Given as goal
+use Rattle.kmc_rooms.specs.Room.{CameBehind}
+use Rattle.kmc_rooms.proofs.room.fill_behind.Given as goal
 
 abbrev pub invariant-loop-end : goal.invariant-loop-end
 invariant-loop-end g l = record {

@@ -2,9 +2,9 @@
 ghost use Rattle.std.specs.Prelude.{◌≡◌, ◌≢◌, map, IfOk, IfErr, Ok, Err};
 ghost use Rattle.kmc_reads.specs.Reads.{reads_of};
 
-use crate::error::ReadsError;
-use crate::feeder::Feeder;
-use crate::format::Format;
+use crate::vectors::to_vecs;
+use kmc_reads::laws::fault_stays;
+use kmc_reads::{Feeder, Format, ReadsError};
 use std::alloc::Global;
 
 /// The reads of a text in this format, each with its bytes as they stand, or the refusal of the
@@ -17,10 +17,11 @@ pub fn read_all(alloc: Global, bytes: &[u8], format: Format) -> Result<Vec<Vec<u
     ensures refused { IfErr result
         (λ e. e ≢ ReadsError.Memory → reads_of format bytes.now ≡ Err e) }
 {
+    fault_stays();
     let mut feeder = Feeder::new(alloc, format);
     feeder.feed(bytes)?;
     match feeder.finish() {
-        Ok(reads) => Ok(reads.to_vecs(alloc)?),
+        Ok(reads) => Ok(to_vecs(alloc, &reads)?),
         Err((e, _)) => Err(e),
     }
 }

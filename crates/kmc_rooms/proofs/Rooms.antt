@@ -4,7 +4,7 @@ use Rattle.std.proofs.KnownBytes.{Consumes-nil, Consumes-trans}
 use Rattle.std.proofs.lemmas.List.{length-take-le, append-nil}
 use Rattle.std.specs.Io.KnownBytes.{Consumes}
 use Rattle.kmc_device.specs.Lemmas.Lines.{put_then_take}
-use Rattle.kmc_device.specs.Room.{CameBehind}
+use Rattle.kmc_rooms.specs.Room.{CameBehind}
 use borrow.Rule.Slice.PartMut.{put_mid}
 
 pub none_came : (a : Option (List ℕ)) (to : ℕ) (room : List ℕ) → CameBehind a a to to room room

@@ -1,15 +1,14 @@
 use Rattle.std.proofs.Common.{[], sym, ap, ◌∙◌, append-nil, Ok}
 use Rattle.kmc_reads.specs.Reads.{reads_of}
-use Rattle.kmc_reads.proofs.PassedOn.{passed_on}
-use Rattle.kmc_reads.proofs.Staying.{fault_stays}
-use Rattle.kmc_reads.proofs.whole_text.read_all.Goals as goal
+use Rattle.kmc_base.specs.Lemmas.PassedOn.{passed_on}
+use Rattle.kmc_whole_reads.proofs.whole_text.read_all.Goals as goal
 
 pub returns-in_err-feed-clause-refused : goal.returns-in_err-feed-clause-refused
 returns-in_err-feed-clause-refused c =
-    let text = c.args.bytes.now in let format = c.args.format in
-    passed_on c.feed.result c.from_residual.result _ _ _ c.in_err-feed.was
-    (c.feed.ensures.refused format [] [] c.new-feeder.ensures.stands) c.from_residual.ensures.1
-    λ e found other. ap (reads_of format) (sym (append-nil text)) ∙ fault_stays format text [] e (found other).0
+    let text = c.args.bytes.now in let format = c.args.format in let e = c.in_err-feed.field-0.0 in
+    passed_on _ c.from_residual.result e c.from_residual.ensures.1 (λ other.
+    ap (reads_of format) (sym (append-nil text))
+    ∙ c.fault_stays.ensures format text [] e (c.in_err-feed.ensures.refused format [] [] c.new-feeder.ensures.stands other).0)
 
 pub returns-in-Ok-clause-ok : goal.returns-in-Ok-clause-ok
 returns-in-Ok-clause-ok c =

@@ -1,6 +1,6 @@
 use Rattle.std.proofs.Common.{arith, rules}
 use Rattle.std.proofs.lemmas.Grind.{common_steps}
-use Rattle.kmc_reads.proofs.reads.Reads.to_vecs.Goals as goal
+use Rattle.kmc_whole_reads.proofs.vectors.to_vecs.Goals as goal
 
 pub loop-i-preserved : goal.loop-i-preserved
 loop-i-preserved c = grind (arith, common_steps)
