@@ -1,4 +1,3 @@
-pub mod Refusals
 pub mod Seats
 pub mod Taken
 pub mod Lemmas
