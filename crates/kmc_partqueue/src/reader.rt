@@ -6,17 +6,15 @@ ghost use Rattle.kmc_partqueue.specs.Dealing.{one_of_readers, fresh_reader};
 ghost use Rattle.kmc_partqueue.specs.Gathered.{Tells};
 ghost use Rattle.kmc_partqueue.specs.Plays.{looking, seeing, taking, freeing, ending};
 ghost use Rattle.kmc_partqueue.specs.Ends.{SawAllEnds};
-ghost use Rattle.kmc_partqueue.specs.Answers.{Answers, IsFinished, TakeAnswers, IsLast};
+ghost use Rattle.kmc_partqueue.specs.Answers.{Answers, IsFinished};
 
 use crate::gate::{Gate, Point};
 use crate::lanes::Lanes;
 use crate::steps::{ClaimPart, ReadEnd, ReadHead, ReleaseSlot, SeePublishedPart};
 use crate::views::View;
 use atomic_table::Seat;
-use kmc_partcore::{MAX_ITEMS, MAX_WRITERS, QueueShape, Received, Taken, Totals};
+use kmc_partcore::{MAX_ITEMS, MAX_WRITERS, QueueShape, Received, Totals};
 use std::marker::Model;
-use std::sync::Wait;
-use std::thread;
 
 /// The seat of a reader. It keeps the total of each lane that it has seen at its end.
 #[derive(Drop)]
@@ -285,24 +283,5 @@ impl<T> Lanes<T> {
         } else {
             TryTaken::NotNow
         }
-    }
-
-    /// Takes a part, or is told that there will be none. It tries again, and yields between two tries, for as long as a round takes nothing.
-    pub fn take<R: Wait, G: Gate>(&self, rt: &R, s: &mut ReaderSeat<T>, gate: &G) -> Taken<T>
-        requires { IsReaderOf self.now.table.shared.table_id self.now.shape s.old }
-        ensures seat { (s.new.table ≡ s.old.table) × (s.new.number ≡ s.old.number) × (s.new.per_writer ≡ s.old.per_writer) × (s.new.writers ≡ s.old.writers) }
-        ensures answer { TakeAnswers s.old s.new result }
-        ensures notes { KeepsNotes s.old s.new }
-        ensures again { AllEnded s.old.writers s.old.totals → (s.new ≡ s.old) × IsLast result }
-    {
-        for _ in rt.forever() {
-            match self.try_take(s, gate) {
-                TryTaken::Got(part) => return Taken::Got(part),
-                TryTaken::NotNow => {}
-                TryTaken::Finished(totals) => return Taken::Finished(totals),
-            }
-            thread::yield_now();
-        }
-        unreachable!()
     }
 }

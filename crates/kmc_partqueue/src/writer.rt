@@ -1,5 +1,5 @@
 //! What a writer does with its seat.
-ghost use Rattle.std.specs.Prelude.{◌≡◌, ◌+◌, ◌*◌, ◌/◌, ◌%◌, ◌↔◌, [], ◌∷◌, ◌++◌, length, MatchResult, IfErr, false, Option, Some, None, Err};
+ghost use Rattle.std.specs.Prelude.{◌≡◌, ◌+◌, ◌*◌, ◌/◌, ◌%◌, [], ◌∷◌, ◌++◌, length, MatchResult, IfErr, false, Option, Some, None, Err};
 ghost use Rattle.kmc_partqueue.specs.Dealing.{one_of_writers};
 ghost use Rattle.kmc_partqueue.specs.Seats.{IsWriterOf, open_writer};
 ghost use Rattle.kmc_partqueue.specs.Refusals.{Refused};
@@ -13,8 +13,6 @@ use crate::views::View;
 use atomic_table::Seat;
 use kmc_partcore::MAX_ITEMS;
 use std::marker::Model;
-use std::sync::Wait;
-use std::thread;
 
 /// The seat of a writer. One that is dropped before it has completed leaves its lane open for good, and no reader is ever answered that the queue is finished.
 #[derive(Drop)]
@@ -134,32 +132,5 @@ impl<T> Lanes<T> {
             .store::<CloseLane>(&mut s.seat, s.number, s.count + 1);
         let WriterSeat { seat, number, .. } = s;
         DoneSeat { seat, number }
-    }
-
-    /// Puts a part. It tries again, and yields between two tries, for as long as the next slot is not free.
-    pub fn put<R: Wait, G: Gate>(
-        &self,
-        rt: &R,
-        s: &mut WriterSeat<T>,
-        part: T,
-        gate: &G,
-    ) -> PutResult<T>
-        requires { IsWriterOf self.now.table.shared.table_id self.now.shape s.old }
-        ensures seat { (s.new.table ≡ s.old.table) × (s.new.number ≡ s.old.number)
-            × (s.new.per_writer ≡ s.old.per_writer) }
-        ensures put { MatchResult result
-            (λ n. (n ≡ length s.old.sent) × (s.new.sent ≡ s.old.sent ++ part ∷ []))
-            (λ e. (e ≡ (NumbersSpent, part)) × (s.new.sent ≡ s.old.sent)) }
-        ensures spent { (result ≡ Err (NumbersSpent, part)) ↔ (length s.old.sent ≡ MAX_ITEMS) }
-    {
-        let mut part = part;
-        for _ in rt.forever() {
-            match self.try_put(s, part, gate) {
-                Err((TryPutError::Full, back)) => part = back,
-                answer => return answer,
-            }
-            thread::yield_now();
-        }
-        unreachable!()
     }
 }

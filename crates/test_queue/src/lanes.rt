@@ -4,6 +4,7 @@ ghost use Rattle.kmc_partqueue.specs.Seats.{IsWriterOf, IsReaderOf};
 
 use kmc_partcore::{QueueShape, Taken, Totals};
 use kmc_partqueue::{DoneSeat, Lanes, NoGate, ReaderSeat, TryPutError, TryTaken, WriterSeat};
+use kmc_waiting_queue::{put, take};
 use std::alloc::Global;
 use std::process::Abort;
 use std::test::Fail;
@@ -191,11 +192,11 @@ fn outcome(taken: Taken<u8>) -> (Option<(usize, u64, u8)>, Option<u64>) {
 #[test]
 fn the_calls_that_wait_answer_at_once_where_they_can(rt: HostRuntime) -> Result<(), Fail> {
     let (lanes, mut writer, mut reader) = queue_of_one(&rt, rt.alloc(), 1)?;
-    let put = lanes.put(&rt, &mut writer, 5, &NoGate).ok();
-    let first = outcome(lanes.take(&rt, &mut reader, &NoGate));
-    assert!(rt; put == Some(0) && first == (Some((0, 0, 5)), None));
+    let number = put(&lanes, &rt, &mut writer, 5, &NoGate).ok();
+    let first = outcome(take(&lanes, &rt, &mut reader, &NoGate));
+    assert!(rt; number == Some(0) && first == (Some((0, 0, 5)), None));
     drop(lanes.complete(writer));
-    let last = outcome(lanes.take(&rt, &mut reader, &NoGate));
+    let last = outcome(take(&lanes, &rt, &mut reader, &NoGate));
     assert!(rt; last == (None, Some(1)));
     Ok(())
 }

@@ -7,6 +7,7 @@ ghost use Rattle.kmc_partqueue.specs.Seats.{IsWriterOf, IsReaderOf, new_writer, 
 use crate::seen::{EACH, Seen, WRITERS, item_of};
 use kmc_partcore::{Taken, Totals};
 use kmc_partqueue::{DoneSeat, Lanes, NoGate, ReaderSeat, WriterSeat};
+use kmc_waiting_queue::{put, take};
 use std::alloc::AllocError;
 use std::sync::Wait;
 use std::thread;
@@ -26,7 +27,7 @@ fn put_all<R: Wait>(
 {
     for number in 0..EACH {
         let item = item_of(seat.number(), number);
-        if lanes.put(rt, &mut seat, item, &NoGate).ok() != Some(number) {
+        if put(lanes, rt, &mut seat, item, &NoGate).ok() != Some(number) {
             seen.note_strange();
         }
     }
@@ -46,7 +47,7 @@ fn take_all<R: Wait>(
 {
     let mut least = [0u64; WRITERS];
     for _ in 0..WRITERS as u64 * EACH + 1 {
-        match lanes.take(rt, &mut seat, &NoGate) {
+        match take(lanes, rt, &mut seat, &NoGate) {
             Taken::Got(part) => seen.came(least.as_mut_slice(), part),
             Taken::Empty => unreachable!(),
             Taken::Finished(totals) => {

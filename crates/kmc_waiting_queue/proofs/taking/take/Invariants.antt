@@ -1,6 +1,6 @@
 use Rattle.std.proofs.Common.{◌≡◌}
 use Rattle.kmc_partqueue.specs.Seats.{AllEnded, KeepsNotes}
-use Rattle.kmc_partqueue.proofs.lanes.Lanes.take.Given as goal
+use Rattle.kmc_waiting_queue.proofs.taking.take.Given as goal
 
 abbrev pub invariant-loop : goal.invariant-loop
 invariant-loop g l =

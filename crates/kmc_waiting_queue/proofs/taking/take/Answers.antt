@@ -1,6 +1,6 @@
 use Rattle.std.proofs.Common.{◌∙◌, ◌++◌, ◌∷◌, [], ap, sym, subst}
 use Rattle.kmc_partqueue.specs.Seats.{AllEnded}
-use Rattle.kmc_partqueue.proofs.lanes.Lanes.take.Goals as goal
+use Rattle.kmc_waiting_queue.proofs.taking.take.Goals as goal
 
 pub returns-in-Got-clause-again : goal.returns-in-Got-clause-again
 returns-in-Got-clause-again g c =

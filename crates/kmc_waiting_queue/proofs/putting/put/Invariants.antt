@@ -1,5 +1,5 @@
 use Rattle.std.proofs.Common.{◌≡◌}
-use Rattle.kmc_partqueue.proofs.lanes.Lanes.put.Given as goal
+use Rattle.kmc_waiting_queue.proofs.putting.put.Given as goal
 
 abbrev pub invariant-loop : goal.invariant-loop
 invariant-loop g l =
