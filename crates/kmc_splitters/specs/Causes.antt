@@ -5,10 +5,10 @@ use Rattle.kmc_parts.specs.Parts.{Parcel}
 use Rattle.kmc_partcore.specs.declared.shape.TheConstants.{MAX_ITEMS}
 use Rattle.kmc_parts.specs.Deals.{AreDealt}
 use Rattle.kmc_splitters.specs.Splitters.{chunks_of}
-use Rattle.kmc_refusals.specs.declared.refusal.GivenUp.{GivenUp}
-use Rattle.kmc_refusals.specs.declared.refusal.GivenUp.TheVariants.{Memory, NumbersSpent, Stopped}
-use Rattle.kmc_refusals.specs.declared.refusal.Refusal.{Refusal}
-use Rattle.kmc_refusals.specs.declared.refusal.Refusal.TheVariants as refusal
+use Rattle.kmc_way.specs.declared.refusal.GivenUp.{GivenUp}
+use Rattle.kmc_way.specs.declared.refusal.GivenUp.TheVariants.{Memory, NumbersSpent, Stopped}
+use Rattle.kmc_way.specs.declared.refusal.Refusal.{Refusal}
+use Rattle.kmc_way.specs.declared.refusal.Refusal.TheVariants as refusal
 
 -- the chunks dealt to a writer give more parts than have numbers: those below some number do
 pub record AreTooMany (shape : Sizes) (batch : ℕ) (reads : List (List ℕ)) (sp chunks w : ℕ) : Type 0 where

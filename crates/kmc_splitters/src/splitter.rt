@@ -7,8 +7,7 @@ ghost use Rattle.kmc_splitters.specs.Causes.{IsWorkersCause};
 use crate::plan::Plan;
 use kmc_partqueue::{DoneSeat, Gate, WriterSeat};
 use kmc_parts::{Part, parts_of_reads};
-use kmc_refusals::GivenUp;
-use kmc_way::{Way, put_all};
+use kmc_way::{GivenUp, Way, put_all};
 use std::sync::Wait;
 
 /// Into how many chunks so many reads are cut.

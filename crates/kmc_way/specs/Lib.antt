@@ -1,3 +1,4 @@
+pub mod Refusals
 pub mod Seats
 pub mod Taken
 pub mod Lemmas

@@ -5,9 +5,9 @@ ghost use Rattle.kmc_partqueue.specs.Seats.{IsWriterOf};
 ghost use Rattle.kmc_way.specs.Seats.{IsSameWriter};
 
 use crate::pause::Pause;
+use crate::refusal::GivenUp;
 use crate::way::Way;
 use kmc_partqueue::{Gate, Point, TryPutError, WriterSeat};
-use kmc_refusals::GivenUp;
 use std::sync::Wait;
 
 /// Puts a part, and waits while the lane is full. Spent numbers come before all else; the stop word is read where the lane

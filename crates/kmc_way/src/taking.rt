@@ -3,12 +3,12 @@ ghost use Rattle.std.specs.Prelude.{◌≡◌, IfOk, IfErr};
 ghost use Rattle.kmc_partqueue.specs.Seats.{IsReaderOf};
 ghost use Rattle.kmc_way.specs.Seats.{IsSameReader};
 ghost use Rattle.kmc_way.specs.Taken.{IsNext};
-ghost use Rattle.kmc_refusals.specs.declared.refusal.GivenUp.TheVariants.{Stopped};
+ghost use Rattle.kmc_way.specs.declared.refusal.GivenUp.TheVariants.{Stopped};
 
 use crate::pause::Pause;
+use crate::refusal::GivenUp;
 use crate::way::Way;
 use kmc_partqueue::{Gate, Point, ReaderSeat, TryTaken};
-use kmc_refusals::GivenUp;
 use std::sync::Wait;
 
 /// Takes the next part, and waits while there is none. It is none once the queue is finished. The stop word is read before each

@@ -11,6 +11,6 @@ mod storer;
 mod workers;
 
 pub use filling::fill_bins;
-pub use kmc_refusals::Refusal;
+pub use kmc_way::Refusal;
 pub use passing::pass_parts;
 pub use shard::Shard;

@@ -8,10 +8,9 @@ ghost use Rattle.kmc_workers.specs.Shards.{IsShard};
 use crate::shard::Shard;
 use kmc_partqueue::Gate;
 use kmc_parts::Part;
-use kmc_refusals::GivenUp;
 use kmc_store::Bins;
 use kmc_store::laws::{absorbed_part_is_added, no_parts_are_added};
-use kmc_way::{Way, take_part};
+use kmc_way::{GivenUp, Way, take_part};
 use std::sync::Wait;
 
 /// Absorbs a part that was taken. One of another shape, which no splitter sends, is refused.

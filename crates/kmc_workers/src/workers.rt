@@ -7,15 +7,14 @@ ghost use Rattle.kmc_workers.specs.Shards.{IsFreshReader};
 ghost use Rattle.kmc_splitters.specs.Causes.{IsWorkersCause};
 ghost use Rattle.kmc_workers.specs.Causes.{IsStorersCause};
 ghost use Rattle.kmc_workers.specs.Shards.{IsShard, IsFreshShard};
-ghost use Rattle.kmc_refusals.specs.declared.refusal.GivenUp.TheVariants.{Memory};
+ghost use Rattle.kmc_way.specs.declared.refusal.GivenUp.TheVariants.{Memory};
 
 use crate::shard::Shard;
 use crate::storer::store;
 use kmc_partqueue::{DoneSeat, Gate, WriterSeat};
 use kmc_parts::Part;
-use kmc_refusals::{GivenUp, both, with_one};
 use kmc_splitters::{Plan, split_all};
-use kmc_way::Way;
+use kmc_way::{GivenUp, Way, both, with_one};
 use std::snapshot::Snapshot;
 use std::sync::Wait;
 use std::thread::{Promise, PromisedHandle, Scope, Threads};

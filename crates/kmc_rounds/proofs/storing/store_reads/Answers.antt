@@ -3,7 +3,7 @@ use Rattle.std.proofs.lemmas.List.{length-map}
 use Rattle.kmc_partcore.specs.declared.shape.TheConstants.{MAX_ITEMS}
 use Rattle.kmc_parts.specs.Shapes.{Sizes}
 use Rattle.kmc_splitters.specs.Causes.{IsCause}
-use Rattle.kmc_refusals.specs.declared.refusal.Refusal.TheVariants.{NumbersSpent}
+use Rattle.kmc_way.specs.declared.refusal.Refusal.TheVariants.{NumbersSpent}
 use Rattle.kmc_rounds.specs.declared.storing.TheConstants.{CHUNKS_OF_A_SPLITTER}
 use Rattle.kmc_rounds.proofs.storing.store_reads.Goals as goal
 

@@ -2,8 +2,8 @@ use Rattle.std.proofs.Common.{[], ◌∷◌, ◌++◌, map, sym, subst, arith}
 use Rattle.std.proofs.lemmas.Grind.{common_steps, elements}
 use Rattle.std.specs.List.{AllZip}
 use Rattle.kmc_splitters.specs.Splitters.{IsDone}
-use Rattle.kmc_refusals.specs.Lemmas.Both.{both_gave, of_ok}
-use Rattle.kmc_refusals.specs.Lemmas.Zips.{zip_more}
+use Rattle.kmc_way.specs.Lemmas.Both.{both_gave, of_ok}
+use Rattle.kmc_way.specs.Lemmas.Zips.{zip_more}
 use Rattle.kmc_splitters.proofs.starting.+split_all.Goals as goal
 
 pub returns : goal.returns

@@ -8,10 +8,10 @@ use Rattle.kmc_base.specs.Lemmas.PassedOn.{passed_on}
 use Rattle.kmc_splitters.specs.Splitters.{IsDone}
 use Rattle.kmc_splitters.specs.Causes.{IsWorkersCause}
 use Rattle.kmc_workers.specs.Causes.{IsStorersCause}
-use Rattle.kmc_refusals.specs.declared.refusal.GivenUp.{GivenUp}
-use Rattle.kmc_refusals.specs.declared.refusal.GivenUp.TheVariants.{Memory, NumbersSpent, Stopped}
-use Rattle.kmc_refusals.specs.Lemmas.Both.{both_gave, both_failed, of_ok, of_cause}
-use Rattle.kmc_refusals.specs.Lemmas.Zips.{zip_more}
+use Rattle.kmc_way.specs.declared.refusal.GivenUp.{GivenUp}
+use Rattle.kmc_way.specs.declared.refusal.GivenUp.TheVariants.{Memory, NumbersSpent, Stopped}
+use Rattle.kmc_way.specs.Lemmas.Both.{both_gave, both_failed, of_ok, of_cause}
+use Rattle.kmc_way.specs.Lemmas.Zips.{zip_more}
 use Rattle.kmc_workers.proofs.workers.+store_all.Goals as goal
 
 -- what makes a storer end makes the workers end

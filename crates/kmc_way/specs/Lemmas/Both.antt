@@ -1,9 +1,9 @@
 -- What two workers hand back.
 use Rattle.std.proofs.Common.{◌≡◌, ap, sym, subst}
 use Rattle.std.specs.Prelude.{Result, Ok, Err, MatchResult, IfErr}
-use Rattle.kmc_refusals.specs.Refusals.{both, earlier}
-use Rattle.kmc_refusals.specs.declared.refusal.GivenUp.{GivenUp}
-use Rattle.kmc_refusals.specs.declared.refusal.GivenUp.TheVariants.{Memory, NumbersSpent, Stopped}
+use Rattle.kmc_way.specs.Refusals.{both, earlier}
+use Rattle.kmc_way.specs.declared.refusal.GivenUp.{GivenUp}
+use Rattle.kmc_way.specs.declared.refusal.GivenUp.TheVariants.{Memory, NumbersSpent, Stopped}
 
 -- where both hand something back, each does
 pub both_gave : {A B : Type 0} (x : Result A GivenUp) (y : Result B GivenUp) (a : A) (b : B) → Ok (a, b) ≡ both x y → (x ≡ Ok a) × (y ≡ Ok b)

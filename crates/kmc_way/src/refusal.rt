@@ -1,7 +1,7 @@
 //! Why workers end without their result.
 ghost use Rattle.std.specs.Prelude.{◌≡◌, Ok, Err};
-ghost use Rattle.kmc_refusals.specs.Refusals.{both, earlier, told};
-ghost use Rattle.kmc_refusals.specs.declared.refusal.GivenUp.TheVariants.{Memory};
+ghost use Rattle.kmc_way.specs.Refusals.{both, earlier, told};
+ghost use Rattle.kmc_way.specs.declared.refusal.GivenUp.TheVariants.{Memory};
 
 use std::alloc::{AllocError, AllocFailed};
 
@@ -80,7 +80,7 @@ impl<T: Drop> From<AllocFailed<T>> for GivenUp {
 }
 
 impl From<AllocError> for Refusal {
-    ghost use Rattle.kmc_refusals.specs.declared.refusal.Refusal.TheVariants.{Memory};
+    ghost use Rattle.kmc_way.specs.declared.refusal.Refusal.TheVariants.{Memory};
 
     ghost from_gives = { λ _ e. e ≡ Memory };
 

@@ -1,9 +1,9 @@
 -- Which of two refusals is answered, and what callers are told of it.
 use Rattle.std.specs.Prelude.{Result, Ok, Err}
-use Rattle.kmc_refusals.specs.declared.refusal.GivenUp.{GivenUp}
-use Rattle.kmc_refusals.specs.declared.refusal.GivenUp.TheVariants.{Memory, NumbersSpent, Stopped}
-use Rattle.kmc_refusals.specs.declared.refusal.Refusal.{Refusal}
-use Rattle.kmc_refusals.specs.declared.refusal.Refusal.TheVariants as refusal
+use Rattle.kmc_way.specs.declared.refusal.GivenUp.{GivenUp}
+use Rattle.kmc_way.specs.declared.refusal.GivenUp.TheVariants.{Memory, NumbersSpent, Stopped}
+use Rattle.kmc_way.specs.declared.refusal.Refusal.{Refusal}
+use Rattle.kmc_way.specs.declared.refusal.Refusal.TheVariants as refusal
 
 -- want of memory before spent numbers, and either before a stop
 abbrev pub earlier : GivenUp → GivenUp → GivenUp
