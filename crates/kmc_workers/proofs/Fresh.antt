@@ -9,8 +9,8 @@ use Rattle.kmc_partqueue.specs.Seats.{WriterState, ReaderState, new_writer, new_
 use Rattle.kmc_partqueue.specs.Lemmas.Numbered.{each_row}
 use Rattle.kmc_store.specs.Bins.{BinList, empty_bins}
 use Rattle.kmc_splitters.specs.Splitters.{IsFreshWriter}
-use Rattle.kmc_workers.specs.Shards.{IsFreshReader}
-use Rattle.kmc_workers.specs.Shards.{IsFreshShard, begun}
+use Rattle.kmc_storers.specs.Shards.{IsFreshReader}
+use Rattle.kmc_storers.specs.Shards.{IsFreshShard, begun}
 
 module _ (id : TableId) (q r : QueueShape) where
   pub fresh_writers : (l : List (WriterState Parcel)) → l ≡ row_from (new_writer id r) 0 r.writers → q ≡ r → Each (IsFreshWriter id q) l

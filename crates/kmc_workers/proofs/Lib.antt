@@ -1,4 +1,3 @@
 mod Fresh
-mod Merging
 mod Returned
 mod Stored

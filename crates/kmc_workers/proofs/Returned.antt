@@ -13,8 +13,8 @@ use Rattle.kmc_partqueue.specs.Lemmas.Numbered.{row_length, each_from, once_from
 use Rattle.kmc_way.specs.Seats.{IsSameReader}
 use Rattle.kmc_splitters.specs.Splitters.{IsDone}
 use Rattle.kmc_store.specs.Bins.{BinList, empty_bins}
-use Rattle.kmc_workers.specs.Shards.{IsShard, begun}
-use Rattle.kmc_workers.specs.declared.shard.Shard.{Shard}
+use Rattle.kmc_storers.specs.Shards.{IsShard, begun}
+use Rattle.kmc_storers.specs.declared.shard.Shard.{Shard}
 
 module _ {A B : Type 0} (R : A → B → Type 0) (f : ℕ → A) where
   -- as many came back as went out

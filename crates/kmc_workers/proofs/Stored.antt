@@ -19,13 +19,12 @@ use Rattle.kmc_store.specs.Holds.{HoldsReads}
 use Rattle.kmc_parts.specs.Deals.{AreDealt, AreGathered}
 use Rattle.kmc_store.specs.Laws.{GatheredPartsHoldReads}
 use Rattle.kmc_store.specs.Lemmas.Sums.{sum_same, sum_map, sum_flat_map}
-use Rattle.kmc_workers.specs.declared.shard.Shard.{Shard}
+use Rattle.kmc_storers.specs.declared.shard.Shard.{Shard}
 use Rattle.kmc_way.specs.Seats.{items_of}
 use Rattle.kmc_splitters.specs.Splitters.{chunks_of, IsDone}
-use Rattle.kmc_workers.specs.Shards.{IsShard, AreGrown, begun}
+use Rattle.kmc_storers.specs.Shards.{IsShard, AreGrown, all_got, begun}
 use Rattle.kmc_workers.proofs.Returned.{its_writer, all_writers, writers_of, writers_once}
 use Rattle.kmc_store.specs.Lemmas.SumPlaces.{sum_places}
-use Rattle.kmc_workers.proofs.Merging.{all_got}
 
 -- so many chunks of so many reads have room for all reads
 chunks_cover : (batch n : ℕ) → 0 < batch → n ≤ chunks_of batch n * batch

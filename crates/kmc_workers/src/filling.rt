@@ -1,58 +1,22 @@
 //! Reads into bins: through the queue to the storers, whose bins become one.
-ghost use Rattle.std.specs.Prelude.{◌≡◌, ℕ, ◌<◌, List, ◌++◌, length, map, IfOk, IfErr};
-ghost use Rattle.std.specs.List.{flat_map};
-ghost use Rattle.kmc_partqueue.specs.Counts.{Each};
-ghost use Rattle.kmc_store.specs.Bins.{BinList};
-ghost use Rattle.kmc_store.specs.Bodies.{AreAdded};
+ghost use Rattle.std.specs.Prelude.{◌≡◌, ℕ, List, ◌++◌, map, IfOk, IfErr};
 ghost use Rattle.kmc_store.specs.Holds.{HoldsReads};
-ghost use Rattle.kmc_workers.specs.Shards.{IsPassage, AreGrown};
+ghost use Rattle.kmc_workers.specs.Passages.{IsPassage};
 ghost use Rattle.kmc_splitters.specs.Causes.{IsCause};
-ghost use Rattle.kmc_way.specs.Seats.{items_of};
 
 use crate::passing::pass_parts;
-use crate::shard::Shard;
 use kmc_partcore::{QueueShape, Totals};
 use kmc_partqueue::laws::gathered;
-use kmc_partqueue::{Gate, ReaderSeat};
-use kmc_parts::{Part, Shape};
+use kmc_partqueue::Gate;
+use kmc_parts::Part;
 use kmc_splitters::Plan;
 use kmc_store::Bins;
-use kmc_store::laws::{gathered_parts_hold_reads, merged_parts_are_added, no_parts_are_added};
+use kmc_store::laws::gathered_parts_hold_reads;
+use kmc_storers::merge_shards;
 use kmc_way::Refusal;
 use std::alloc::{AllocError, Global};
 use std::sync::Wait;
 use std::thread::Threads;
-
-/// The bins of the shards merged into one, and the seats in the order of the shards. The first shard's records are taken
-/// over with no copy.
-fn merge_shards(
-    alloc: Global,
-    shape: Shape,
-    shards: Vec<Shard>,
-) -> Result<(Bins, Vec<ReaderSeat<Part>>), AllocError>
-    requires { Each (λ h. h.bins.shape ≡ shape) shards.items }
-    ensures shape { IfOk result (λ r. r.0.shape ≡ shape) }
-    ensures seats { IfOk result (λ r. r.1.items ≡ map (λ h. h.seat) shards.items) }
-    ensures bodies { (before : BinList) → 0 < length shards.items → before.shape ≡ shape
-        → AreGrown before shards.items
-        → IfOk result
-        (λ r. AreAdded shape before.bodies r.0.bodies (flat_map (λ s. items_of s.got) r.1.items)) }
-{
-    // what some seats got stays added with each shard
-    no_parts_are_added();
-    merged_parts_are_added();
-    let mut bins = Bins::new(alloc, shape)?;
-    let mut seats = Vec::new(alloc);
-    for shard in shards {
-        let Shard { seat, bins: own } = shard;
-        match bins.merge(own) {
-            Ok(()) => {}
-            Err(_) => return Err(AllocError),
-        }
-        seats.push(seat)?;
-    }
-    Ok((bins, seats))
-}
 
 /// Bins that hold the reads too, beside those that they held, and how many parts each splitter put: the parts of the reads
 /// pass through a queue of this shape, as [`pass_parts`] says, all seats are gathered, and the bins of all storers are

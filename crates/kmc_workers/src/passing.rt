@@ -6,42 +6,20 @@ ghost use Rattle.kmc_partqueue.specs.Dealing.{row_from};
 ghost use Rattle.kmc_partqueue.specs.Seats.{new_writer, new_reader};
 ghost use Rattle.kmc_splitters.specs.Splitters.{IsDone, IsFreshWriter};
 ghost use Rattle.kmc_splitters.specs.Causes.{IsCause, IsWorkersCause};
-ghost use Rattle.kmc_workers.specs.Shards.{IsShard, IsFreshShard, begun};
+ghost use Rattle.kmc_storers.specs.Shards.{IsShard, IsFreshShard, begun};
 
-use crate::shard::Shard;
 use crate::workers::{Seats, store_all};
 use kmc_partcore::QueueShape;
-use kmc_partqueue::{DoneSeat, Gate, Lanes, ReaderSeat};
+use kmc_partqueue::{DoneSeat, Gate, Lanes};
 use kmc_parts::Part;
 use kmc_splitters::Plan;
 use kmc_store::Bins;
+use kmc_storers::{Shard, with_bins};
 use kmc_way::{GivenUp, Refusal, Way};
 use std::alloc::{AllocError, Global};
-use std::mem::replace;
 use std::sync::Wait;
 use std::thread;
 use std::thread::Threads;
-
-/// The seats of readers with bins: the first goes on with these, each other has empty ones.
-fn with_bins(
-    alloc: Global,
-    readers: Vec<ReaderSeat<Part>>,
-    bins: Bins,
-) -> Result<Vec<Shard>, AllocError>
-    ensures { IfOk result (λ v. v.items ≡ begun bins readers.items) }
-{
-    let shape = bins.shape();
-    let mut shards = Vec::new(alloc);
-    let mut next = bins;
-    for seat in readers {
-        let empty = Bins::new(alloc, shape)?;
-        shards.push(Shard {
-            seat,
-            bins: replace(&mut next, empty),
-        })?;
-    }
-    Ok(shards)
-}
 
 /// A way through a queue of this shape, and the queue's seats, which have put and got nothing, the first reader's with
 /// these bins.

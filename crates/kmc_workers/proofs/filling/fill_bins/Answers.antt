@@ -3,7 +3,7 @@ use Rattle.kmc_partcore.specs.declared.shape.QueueShape.{QueueShape}
 use Rattle.kmc_parts.specs.Shapes.{Sizes}
 use Rattle.kmc_partqueue.specs.Counts.{Each}
 use Rattle.kmc_partqueue.specs.Told.{IsHistoryOf}
-use Rattle.kmc_workers.specs.declared.shard.Shard.{Shard}
+use Rattle.kmc_storers.specs.declared.shard.Shard.{Shard}
 use Rattle.kmc_workers.proofs.Returned.{writers_of, writers_once, readers_of, readers_once, one_ended}
 use Rattle.kmc_partqueue.specs.Dealing.{row_from}
 use Rattle.kmc_partqueue.specs.Seats.{new_reader}

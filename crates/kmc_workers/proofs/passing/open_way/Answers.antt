@@ -1,6 +1,6 @@
 use Rattle.std.proofs.Common.{sym, subst}
 use Rattle.kmc_partqueue.specs.Counts.{Each}
-use Rattle.kmc_workers.specs.Shards.{IsFreshShard}
+use Rattle.kmc_storers.specs.Shards.{IsFreshShard}
 use Rattle.kmc_workers.proofs.Fresh.{fresh_writers, fresh_readers, fresh_shards}
 use Rattle.kmc_workers.proofs.passing.open_way.Goals as goal
 

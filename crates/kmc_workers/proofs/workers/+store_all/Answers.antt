@@ -3,11 +3,11 @@ use Rattle.std.proofs.Common.{ℕ, List, [], ◌∷◌, ◌++◌, map, sym, subs
 use Rattle.std.proofs.lemmas.Grind.{common_steps, elements}
 use Rattle.std.specs.Prelude.{IfOk}
 use Rattle.std.specs.List.{AllZip}
-use Rattle.kmc_workers.specs.Shards.{IsShard}
+use Rattle.kmc_storers.specs.Shards.{IsShard}
 use Rattle.kmc_base.specs.Lemmas.PassedOn.{passed_on}
 use Rattle.kmc_splitters.specs.Splitters.{IsDone}
 use Rattle.kmc_splitters.specs.Causes.{IsWorkersCause}
-use Rattle.kmc_workers.specs.Causes.{IsStorersCause}
+use Rattle.kmc_storers.specs.Causes.{IsStorersCause}
 use Rattle.kmc_way.specs.declared.refusal.GivenUp.{GivenUp}
 use Rattle.kmc_way.specs.declared.refusal.GivenUp.TheVariants.{Memory, NumbersSpent, Stopped}
 use Rattle.kmc_way.specs.Lemmas.Both.{both_gave, both_failed, of_ok, of_cause}

@@ -1,9 +1,9 @@
 //! What a storer does: it takes parts until the queue is finished, and absorbs them into bins.
 ghost use Rattle.std.specs.Prelude.{IfOk, IfErr, OnOk};
 ghost use Rattle.kmc_store.specs.Bins.{Absorbed};
-ghost use Rattle.kmc_workers.specs.Shards.{IsFreshReader};
-ghost use Rattle.kmc_workers.specs.Causes.{IsStorersCause};
-ghost use Rattle.kmc_workers.specs.Shards.{IsShard};
+ghost use Rattle.kmc_storers.specs.Shards.{IsFreshReader};
+ghost use Rattle.kmc_storers.specs.Causes.{IsStorersCause};
+ghost use Rattle.kmc_storers.specs.Shards.{IsShard};
 
 use crate::shard::Shard;
 use kmc_partqueue::Gate;

@@ -4,10 +4,10 @@ use Rattle.std.specs.Vec.Iter.{into_iter_items}
 use Rattle.kmc_parts.specs.Parts.{Parcel}
 use Rattle.kmc_partqueue.specs.Seats.{ReaderState}
 use Rattle.kmc_store.specs.Bins.{BinList, empty_bins}
-use Rattle.kmc_workers.specs.declared.shard.Shard.{Shard}
-use Rattle.kmc_workers.specs.Shards.{begun}
-use Rattle.kmc_workers.proofs.Merging.{begun_more, next_more}
-use Rattle.kmc_workers.proofs.passing.with_bins.Goals as goal
+use Rattle.kmc_storers.specs.declared.shard.Shard.{Shard}
+use Rattle.kmc_storers.specs.Shards.{begun}
+use Rattle.kmc_storers.proofs.Merges.{begun_more, next_more}
+use Rattle.kmc_storers.proofs.beginning.with_bins.Goals as goal
 
 pub loop-seat-preserved : goal.loop-seat-preserved
 loop-seat-preserved c =

@@ -3,7 +3,7 @@ use Rattle.kmc_way.specs.Seats.{items_of}
 use Rattle.kmc_way.specs.Taken.{IsNext}
 use Rattle.kmc_way.specs.Lemmas.SameSeats.{same_reader}
 use Rattle.kmc_store.specs.Bodies.{AreAdded}
-use Rattle.kmc_workers.proofs.storer.store.Goals as goal
+use Rattle.kmc_storers.proofs.storer.store.Goals as goal
 
 pub loop-preserved : goal.loop-preserved
 loop-preserved g c =

@@ -7,11 +7,11 @@ use Rattle.kmc_partqueue.specs.Counts.{Each}
 use Rattle.kmc_partqueue.specs.Seats.{ReaderState}
 use Rattle.kmc_store.specs.Bins.{BinList}
 use Rattle.kmc_store.specs.Bodies.{AreAdded}
-use Rattle.kmc_workers.specs.declared.shard.Shard.{Shard}
+use Rattle.kmc_storers.specs.declared.shard.Shard.{Shard}
 use Rattle.kmc_way.specs.Seats.{items_of}
-use Rattle.kmc_workers.specs.Shards.{AreGrown}
-use Rattle.kmc_workers.proofs.Merging.{all_got, all_before, next_shape, grown_rest, one_more, before_next}
-use Rattle.kmc_workers.proofs.filling.merge_shards.Goals as goal
+use Rattle.kmc_storers.specs.Shards.{AreGrown, all_got}
+use Rattle.kmc_storers.proofs.Merges.{all_before, next_shape, grown_rest, one_more, before_next}
+use Rattle.kmc_storers.proofs.merging.merge_shards.Goals as goal
 
 pub loop-shard-preserved : goal.loop-shard-preserved
 loop-shard-preserved c =

@@ -1,8 +1,8 @@
 use Rattle.std.proofs.Common.{◌≡◌, ◌++◌}
 use Rattle.std.specs.Vec.Iter.{into_iter_items}
-use Rattle.kmc_workers.specs.Shards.{begun}
-use Rattle.kmc_workers.proofs.Merging.{before_next}
-use Rattle.kmc_workers.proofs.passing.with_bins.Given as goal
+use Rattle.kmc_storers.specs.Shards.{begun}
+use Rattle.kmc_storers.proofs.Merges.{before_next}
+use Rattle.kmc_storers.proofs.beginning.with_bins.Given as goal
 
 abbrev pub invariant-loop-seat : goal.invariant-loop-seat
 invariant-loop-seat l = record {

@@ -8,12 +8,8 @@ use Rattle.kmc_store.specs.Bins.{BinList, body_at, empty_bins, Merged}
 use Rattle.kmc_store.specs.Bodies.{parts_in, AreAdded}
 use Rattle.kmc_store.specs.Laws.{MergedPartsAreAdded}
 use Rattle.kmc_way.specs.Seats.{items_of}
-use Rattle.kmc_workers.specs.Shards.{begun, AreGrown}
-use Rattle.kmc_workers.specs.declared.shard.Shard.{Shard}
-
--- the parts that all seats got, seat after seat
-abbrev pub all_got : List (ReaderState Parcel) → List Parcel
-all_got seats = flat_map (λ (s : ReaderState Parcel). items_of s.got) seats
+use Rattle.kmc_storers.specs.Shards.{all_got, begun, AreGrown}
+use Rattle.kmc_storers.specs.declared.shard.Shard.{Shard}
 
 -- what the bins of some storers were before, all together
 abbrev pub before_all : {A : Type 0} → List A → BinList → BinList

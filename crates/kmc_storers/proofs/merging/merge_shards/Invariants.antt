@@ -3,9 +3,9 @@ use Rattle.std.specs.Vec.Iter.{into_iter_items}
 use Rattle.kmc_partqueue.specs.Counts.{Each}
 use Rattle.kmc_store.specs.Bins.{BinList}
 use Rattle.kmc_store.specs.Bodies.{AreAdded}
-use Rattle.kmc_workers.specs.Shards.{AreGrown}
-use Rattle.kmc_workers.proofs.Merging.{all_got, before_all}
-use Rattle.kmc_workers.proofs.filling.merge_shards.Given as goal
+use Rattle.kmc_storers.specs.Shards.{AreGrown, all_got}
+use Rattle.kmc_storers.proofs.Merges.{before_all}
+use Rattle.kmc_storers.proofs.merging.merge_shards.Given as goal
 
 -- the shards so far are merged
 abbrev pub invariant-loop-shard : goal.invariant-loop-shard

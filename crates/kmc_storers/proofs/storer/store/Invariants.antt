@@ -1,7 +1,7 @@
 use Rattle.std.proofs.Common.{◌≡◌}
 use Rattle.kmc_store.specs.Bodies.{AreAdded}
 use Rattle.kmc_way.specs.Seats.{items_of, IsSameReader}
-use Rattle.kmc_workers.proofs.storer.store.Given as goal
+use Rattle.kmc_storers.proofs.storer.store.Given as goal
 
 abbrev pub invariant-loop : goal.invariant-loop
 invariant-loop g l = IsSameReader l.fn.shard.seat l.seat × (l.bins.shape ≡ l.fn.shard.bins.shape)
