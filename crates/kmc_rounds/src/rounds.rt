@@ -69,23 +69,10 @@ pub fn feed_round<T: Threads + Wait + Sync, R: Read, G: Gate + Sync>(
         rt,
         &mut || -> Result<(), AllocError>
             requires { bins.now.shape ≡ shape_of dealing.now.params }
-            ensures shape { bins.exit.now.shape ≡ shape_of dealing.entry.now.params }
-            ensures holds { (held : List (List ℕ))
-                → HoldsPieces
-                (shape_of dealing.entry.now.params) dealing.entry.now.limit held bins.entry.now.bodies
-                → OnOk result
-                (HoldsPieces (shape_of dealing.entry.now.params) dealing.entry.now.limit
-                (held ++ round.entry.now) bins.exit.now.bodies) }
         { store_round(rt, bins, round, dealing) },
         &mut || -> Result<bool, InputError>
             requires failures { reader.now.failures < 2 ^ 64 - 1 }
             requires reads { reader.now.reads ≤ most }
-            ensures counts { AreCounts most reader.entry.now.reads reader.exit.now.reads reader.entry.now.failures reader.exit.now.failures result }
-            ensures fed { (overlap : ℕ) (format : Format) (text : List ℕ) (taken : List (List ℕ))
-                → StandsCut overlap format text taken feeder.entry.now
-                → IsFedBy overlap format (R.remaining reader.entry.now.inner)
-                (R.remaining reader.exit.now.inner) reader.entry.now.reads reader.exit.now.reads text taken feeder.exit.now result }
-            ensures at_end { result ≡ Ok false → IsAtEnd (R.remaining reader.exit.now.inner) }
         { fill_round(reader, feeder, most, reads, symbols) },
     )
 }
