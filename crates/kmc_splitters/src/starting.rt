@@ -83,11 +83,6 @@ fn start_splitter<'s, E, R: Threads + Wait + Sync, G: Gate + Sync>(
         promise,
         move || -> Result<DoneSeat<Part>, GivenUp>
             requires { IsFreshWriter way.now.lanes.table.shared.table_id way.now.lanes.shape seat }
-            ensures { MatchResult result
-                (λ d. IsDone plan.shape plan.batch
-                (map (λ v. v.now) reads.entry.now) way.entry.now.writers seat d)
-                (IsWorkersCause plan.shape plan.batch
-                (map (λ v. v.now) reads.entry.now) way.entry.now.writers) }
         { split_one(rt, way, seat, reads, plan, gate) },
     );
     match started {

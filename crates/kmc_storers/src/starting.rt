@@ -60,7 +60,6 @@ pub fn start_storer<'s, E, R: Threads + Wait + Sync, G: Gate + Sync>(
         promise,
         move || -> Result<Shard, GivenUp>
             requires { IsFreshReader way.now.lanes.table.shared.table_id way.now.lanes.shape shard.seat }
-            ensures { MatchResult result (λ h. IsShard shard h) IsStorersCause }
         { store_one(rt, way, shard, gate) },
     );
     match started {

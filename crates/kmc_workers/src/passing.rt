@@ -74,13 +74,6 @@ pub fn pass_parts<R: Threads + Wait + Sync, G: Gate + Sync>(
         move |scope| -> Result<(Vec<DoneSeat<Part>>, Vec<Shard>), GivenUp>
             requires shards { Each (IsFreshShard shared.now.lanes.table.shared.table_id shared.now.lanes.shape plan.shape) seats.shards.items }
             requires writers { Each (IsFreshWriter shared.now.lanes.table.shared.table_id shared.now.lanes.shape) seats.writers.items }
-            ensures done { IfOk result (λ q. AllZip
-                (IsDone plan.shape plan.batch
-                (map (λ v. v.now) reads.entry.now) shared.entry.now.writers) seats.writers.items q.0.items) }
-            ensures shards { IfOk result (λ q. AllZip IsShard seats.shards.items q.1.items) }
-            ensures cause { IfErr result
-                (IsWorkersCause plan.shape plan.batch
-                (map (λ v. v.now) reads.entry.now) shared.entry.now.writers) }
         { store_all(rt, scope, shared, seats, reads, plan, gate) },
     );
     match back {
