@@ -1,5 +1,6 @@
 -- A refusal of a step, as the run tells it.
-use Rattle.std.proofs.Common.{◌≡◌, ◌≢◌, ap, refl, sym, ◌∙◌}
+use Rattle.std.proofs.Common.{◌≡◌, ◌≢◌, ℕ, ap, refl, sym, ◌∙◌}
+use Rattle.std.specs.Prelude.{Ok, Err, IsErrOf}
 use Rattle.kmc_reads.specs.declared.error.ReadsError.{ReadsError}
 use Rattle.kmc_dump.specs.declared.write.DumpError.{DumpError}
 use Rattle.kmc_dump.specs.declared.write.DumpError.TheVariants as dump
@@ -7,6 +8,7 @@ use Rattle.kmc_faults.specs.Errors.{run_error, write_error}
 use Rattle.kmc_input.specs.declared.input_error.InputError.{InputError}
 use Rattle.kmc_input.specs.declared.input_error.InputError.TheVariants.{Memory, Read, Faulty, TooLong}
 use Rattle.kmc_faults.specs.declared.error.RunError.{RunError}
+use Rattle.kmc_faults.specs.declared.fault.Fault.TheVariants.{Run}
 use Rattle.kmc_faults.specs.declared.error.RunError.TheVariants as run
 
 abbrev back : RunError → InputError
@@ -54,3 +56,11 @@ is_write dump.Write is = refl
 pub is_memory : (e : DumpError) → write_error e ≢ run.Write → e ≡ dump.Memory
 is_memory dump.Memory other = refl
 is_memory dump.Write other = absurd (other refl)
+
+-- an answer is no refusal
+pub no_refusal : {lines : ℕ} {e : RunError} → IsErrOf (Ok lines) e → ⊥
+no_refusal is = absurd (cc)
+
+-- a refusal that is told as one of a run is that of the run
+pub of_run : {e told : RunError} → IsErrOf {T = ℕ} (Err (Run e)) (Run told) → IsErrOf {T = ℕ} (Err e) told
+of_run is = cc

@@ -13,7 +13,7 @@ use Rattle.kmc_input.specs.declared.input_error.InputError.TheVariants as input
 use Rattle.kmc_faults.specs.declared.error.RunError.TheVariants as run
 use Rattle.kmc_input.specs.Lemmas.Causes.{cause_of, kept_by, most_by, no_answer, not_ok, of_err}
 use Rattle.kmc_base.specs.Lemmas.PassedOn.{passed_on}
-use Rattle.kmc_tool.proofs.Refusals.{same_input, no_write, no_read, no_input, no_length, is_write, is_memory}
+use Rattle.kmc_tool.proofs.Refusals.{no_refusal, same_input, no_write, no_read, no_input, no_length, is_write, is_memory}
 use Rattle.kmc_tool.proofs.Written.{is_dump_of}
 use Rattle.kmc_tool.proofs.running.run_with_gate.Goals as goal
 
@@ -98,11 +98,11 @@ returns g c =
         written.ok,
       );
       sound = (sound.0, written.kept, sound.2);
-      read_failed = λ is. absurd (cc);
-      write_failed = λ is. absurd (cc);
-      input = λ e is. absurd (cc);
+      read_failed = λ is. absurd (no_refusal is);
+      write_failed = λ is. absurd (no_refusal is);
+      input = λ e is. absurd (no_refusal is);
       faulty = tt;
-      long = λ is. absurd (cc);
+      long = λ is. absurd (no_refusal is);
       silent = tt;
       reader_kept = tt;
       reads_most = omega (arith, sound.2);
