@@ -20,7 +20,7 @@ pub enum Reply<T> {
 }
 
 /// An item that left the queue, with its writer and its number among that writer's items, from 0.
-#[derive(Drop, Clone, PartialEq, Eq, Debug)]
+#[derive(Drop)]
 pub struct Received<T> {
     pub writer: usize,
     pub number: u64,
@@ -28,7 +28,7 @@ pub struct Received<T> {
 }
 
 /// What a reader is answered.
-#[derive(Drop, Clone, PartialEq, Eq, Debug)]
+#[derive(Drop)]
 pub enum Taken<T> {
     /// An item, which is no longer in the queue.
     Got(Received<T>),
@@ -39,7 +39,7 @@ pub enum Taken<T> {
 }
 
 /// Why a writer was not registered. The causes are tested in this order.
-#[derive(Clone, Copy, PartialEq, Eq, Debug)]
+#[derive(Clone, Copy)]
 pub enum RegisterError {
     NoSuchWriter,
     /// Also after the writer has completed.
@@ -47,7 +47,7 @@ pub enum RegisterError {
 }
 
 /// Why an item was not accepted. The causes are tested in this order.
-#[derive(Clone, Copy, PartialEq, Eq, Debug)]
+#[derive(Clone, Copy)]
 pub enum PutError {
     NoSuchWriter,
     NotRegistered,
@@ -59,13 +59,13 @@ pub enum PutError {
 }
 
 /// Why a reader was answered nothing.
-#[derive(Clone, Copy, PartialEq, Eq, Debug)]
+#[derive(Clone, Copy)]
 pub enum TakeError {
     NoSuchReader,
 }
 
 /// Why a writer did not complete. The causes are tested in this order.
-#[derive(Clone, Copy, PartialEq, Eq, Debug)]
+#[derive(Clone, Copy)]
 pub enum CompleteError {
     NoSuchWriter,
     NotRegistered,

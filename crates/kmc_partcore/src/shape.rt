@@ -15,7 +15,7 @@ pub const MAX_READERS: usize = 8;
 pub const MAX_ITEMS: u64 = 4294967295;
 
 /// The shape of a queue. Writers and readers are numbered from 0.
-#[derive(Clone, Copy, PartialEq, Eq, Debug)]
+#[derive(Clone, Copy)]
 pub struct QueueShape {
     pub writers: usize,
     pub per_writer: usize,

@@ -1,11 +1,11 @@
 //! How many items were accepted of each writer.
-ghost use Rattle.std.specs.Prelude.{◌≡◌, ℕ, ◌≤◌, List, length, slice_get};
+ghost use Rattle.std.specs.Prelude.{◌≡◌, ◌≤◌, length, slice_get};
 
 use crate::shape::MAX_WRITERS;
 use std::marker::Model;
 
 /// A count for each writer of a queue, held without a growth. A clause sees the list of the counts.
-#[derive(Drop, Clone, Debug)]
+#[derive(Drop)]
 pub struct Totals {
     counts: [u64; MAX_WRITERS],
     writers: usize,
@@ -44,24 +44,4 @@ impl Totals {
         }
         None
     }
-}
-
-impl PartialEq for Totals {
-    ghost use Rattle.std.specs.Prelude.{bytes_eq};
-    ghost use Rattle.std.specs.Cmp.{partial_equiv_from_equiv};
-    ghost use Rattle.std.specs.Cmp.Lexicographic.{nat_list_eq_equiv};
-
-    ghost eq = { bytes_eq };
-
-    ghost laws = { partial_equiv_from_equiv nat_list_eq_equiv };
-
-    fn eq(&self, other: &Totals) -> bool {
-        self.counts[..self.writers] == other.counts[..other.writers]
-    }
-}
-
-impl Eq for Totals {
-    ghost use Rattle.std.specs.Cmp.Lexicographic.{nat_list_eq_equiv};
-
-    ghost laws = { nat_list_eq_equiv };
 }

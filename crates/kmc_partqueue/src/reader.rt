@@ -38,7 +38,7 @@ impl<T> Model for ReaderSeat<T> {
 }
 
 /// What a try to take answers.
-#[derive(Drop, Clone, PartialEq, Eq, Debug)]
+#[derive(Drop)]
 pub enum TryTaken<T> {
     /// A part, which is no longer in the queue.
     Got(Received<T>),

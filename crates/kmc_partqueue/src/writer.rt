@@ -67,7 +67,7 @@ impl<T> WriterSeat<T> {
 }
 
 /// Why a part was not put. NumbersSpent is tested first, before any step.
-#[derive(Drop, Clone, Copy, PartialEq, Eq, Debug)]
+#[derive(Drop, Clone, Copy)]
 pub enum TryPutError {
     /// The next slot of the lane is not yet free again.
     Full,

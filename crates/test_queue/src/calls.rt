@@ -2,10 +2,9 @@
 //! and then each call with its answer, as `tests_model/queue_model.py` spells them.
 use crate::lists;
 use kmc_partcore::{
-    CompleteError, Event, MAX_WRITERS, PutError, QueueShape, Received, RegisterError, Reply,
-    TakeError, Taken, Totals,
+    CompleteError, Event, MAX_WRITERS, PutError, QueueShape, RegisterError, Reply, TakeError,
+    Taken, Totals,
 };
-use kmc_partqueue::TryTaken;
 use kmc_plain_queue::{PartCore, run};
 use std::alloc::{AllocError, Global};
 use std::process::Abort;
@@ -274,43 +273,6 @@ fn totals_answer_for_the_writers_of_the_queue(rt: HostRuntime) -> Result<(), Fai
             && totals.of(2) == Some(4294967295)
             && totals.of(3).is_none()
     );
-    Ok(())
-}
-
-fn part() -> Received<u8> {
-    Received {
-        writer: 1,
-        number: 2,
-        item: 7,
-    }
-}
-
-#[test]
-fn answers_compare(rt: HostRuntime) -> Result<(), Fail> {
-    let got = Taken::Got(part());
-    let totals = Taken::Finished(Totals::new(&[2]));
-    assert!(rt;
-        got == got.clone()? && got != totals && totals == Taken::Finished(Totals::new(&[2]))
-    );
-    assert!(rt; totals != Taken::Finished(Totals::new(&[2, 0])) && got != Taken::Empty);
-    Ok(())
-}
-
-#[test]
-fn tries_and_shapes_compare(rt: HostRuntime) -> Result<(), Fail> {
-    assert!(rt; TryTaken::Got(part()) != TryTaken::NotNow);
-    assert!(rt;
-        QueueShape::new(1, 2, 1) == QueueShape::new(1, 2, 1)
-            && QueueShape::new(1, 2, 1) != QueueShape::new(1, 2, 2)
-    );
-    Ok(())
-}
-
-#[test]
-fn answers_print(rt: HostRuntime) -> Result<(), Fail> {
-    let got = Taken::Got(part().clone()?);
-    let text = format!(in rt.alloc(); "{got:?}")?;
-    assert!(rt; text.as_str() == "Got(Received { writer: 1, number: 2, item: 7 })");
     Ok(())
 }
 

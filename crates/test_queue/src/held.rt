@@ -16,6 +16,15 @@ use test_support::gathered;
 /// A wait that is not over after so many turns notes a failure.
 const TURNS: u32 = 20000000;
 
+/// Whether both points are of one writer that holds the slot for one part, or of one reader that has claimed one part.
+fn is_same(a: Point, b: Point) -> bool {
+    match (a, b) {
+        (Point::SlotHeld(w, n), Point::SlotHeld(v, m)) => w == v && n == m,
+        (Point::PartClaimed(r, w, n), Point::PartClaimed(q, v, m)) => r == q && w == v && n == m,
+        _ => false,
+    }
+}
+
 /// Holds the call that passes its point, until it is let go or the turns are spent.
 #[derive(Drop)]
 struct Hold {
@@ -42,7 +51,7 @@ impl Hold {
 
 impl Gate for Hold {
     fn pass(&self, point: Point) {
-        if point == self.at {
+        if is_same(point, self.at) {
             self.reached.store(true, Ordering::SeqCst);
             if !is_seen(&self.let_go) {
                 self.spent.store(true, Ordering::SeqCst);
