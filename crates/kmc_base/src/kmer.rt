@@ -19,7 +19,7 @@ use std::marker::Model;
 pub const MAX_K: usize = 64;
 
 /// A word of 1 to [`MAX_K`] codes, which contracts see as the list of its codes.
-#[derive(Clone, Copy, Debug)]
+#[derive(Clone, Copy)]
 pub struct Kmer {
     k: u8,
     packed: u128,

@@ -12,7 +12,7 @@ const LEAST_RECORDS: usize = 1024;
 
 /// What the bins before tell of the next one: where few of their records were equal, sorting its records saves nothing. Whatever
 /// it says, the count is the same.
-#[derive(Clone, Copy, Debug)]
+#[derive(Clone, Copy)]
 pub(crate) struct Repeats {
     plain: u32,
 }

@@ -8,7 +8,7 @@ use kmc_options::ParamsError;
 use std::fmt;
 
 /// Why the program ends without its dump. Its text is the line for the user.
-#[derive(Clone, Copy, Debug, PartialEq, Eq)]
+#[derive(Clone, Copy)]
 pub enum Fault {
     /// The command line gives no settings.
     Options(ParamsError),

@@ -11,7 +11,7 @@ use kmc_base::{MOST_WEIGHT_BITS, Word};
 use std::alloc::AllocError;
 
 /// The words from the first to the last, and in how many parts they are to be counted.
-#[derive(Clone, Copy, Debug)]
+#[derive(Clone, Copy)]
 pub(crate) struct Share {
     pub(crate) first: u128,
     pub(crate) last: u128,

@@ -12,7 +12,7 @@ use std::alloc::{AllocError, Global};
 use std::marker::Model;
 
 /// The records of one chunk whose words belong to one bin, and how many words they have.
-#[derive(Debug, Drop)]
+#[derive(Drop)]
 pub struct Part {
     chunk: u64,
     bin: usize,

@@ -33,7 +33,7 @@ const BATCH: usize = 1024;
 
 /// What a run is told: what its text is, what it counts and lists, and how it shares the work.
 /// The dump depends on the format, `k`, the strands and the limits alone.
-#[derive(Clone, Copy, Debug, PartialEq, Eq)]
+#[derive(Clone, Copy)]
 pub struct Params {
     /// The format of the input.
     pub format: Format,

@@ -8,7 +8,7 @@ use kmc_partcore::MAX_WRITERS;
 use kmc_parts::MOST_BINS;
 
 /// A range of numbers, both ends included, with the number that stands where none is given.
-#[derive(Clone, Copy, Debug, PartialEq, Eq)]
+#[derive(Clone, Copy)]
 pub struct Bounds {
     pub least: u64,
     pub most: u64,

@@ -7,7 +7,7 @@ use crate::signatures::{MAX_M, Sig};
 use std::alloc::AllocError;
 
 /// Words that stand at neighbouring places of a segment and have one signature.
-#[derive(Clone, Copy, Debug, PartialEq, Eq)]
+#[derive(Clone, Copy)]
 pub struct Run {
     /// The place of the first word, from 0.
     pub start: usize,

@@ -10,7 +10,7 @@ pub const MAX_M: usize = 8;
 /// The signature of a word, which contracts see as a number: the least value of the allowed canonical forms of
 /// its m-mers, and 4^m - 1 where there is none (KMC 2, Bioinformatics 2015; which m-mers are allowed is this project's
 /// rule).
-#[derive(Clone, Copy, Debug, PartialEq, Eq)]
+#[derive(Clone, Copy)]
 pub struct Sig {
     value: u16,
 }

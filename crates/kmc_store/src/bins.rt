@@ -8,7 +8,7 @@ use std::alloc::{AllocError, Global};
 use std::marker::Model;
 
 /// For each bin of a shape the records that came to it, and how many words they have.
-#[derive(Debug, Drop)]
+#[derive(Drop)]
 pub struct Bins {
     shape: Shape,
     bodies: Vec<Vec<u8>>,

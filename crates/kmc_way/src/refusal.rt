@@ -6,7 +6,7 @@ ghost use Rattle.kmc_way.specs.declared.refusal.GivenUp.TheVariants.{Memory};
 use std::alloc::{AllocError, AllocFailed};
 
 /// Why the workers end without their result.
-#[derive(Clone, Copy, Debug, PartialEq, Eq)]
+#[derive(Clone, Copy)]
 pub enum Refusal {
     /// A growth or the start of a thread was refused.
     Memory,
@@ -15,7 +15,7 @@ pub enum Refusal {
 }
 
 /// Why one worker ends without its result.
-#[derive(Clone, Copy, Debug, PartialEq, Eq)]
+#[derive(Clone, Copy)]
 pub enum GivenUp {
     /// A growth or the start of a thread was refused.
     Memory,

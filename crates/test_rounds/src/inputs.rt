@@ -69,7 +69,12 @@ fn assert_filled<R: Abort + Threads + Wait + Sync>(
 ) -> Result<(), Fail> {
     let (answer, failures, _) = bins_of(rt, alloc, text, block, 0, params, 1 << 32);
     assert_eq!(rt; failures, 0);
-    assert!(rt; are_as_long(&answer?, whole), "{block} {params:?}");
+    assert!(rt;
+        are_as_long(&answer?, whole),
+        "{block}, {} splitters, rounds of {}",
+        params.sp,
+        params.batch
+    );
     Ok(())
 }
 

@@ -104,7 +104,14 @@ fn assert_dump<R: Abort + Threads + Wait + Sync>(
 ) -> Result<usize, Fail> {
     let want = dump_of_whole(rt, alloc, text, params)?;
     let dump = dump_in_pieces(rt, alloc, text, block, params, limit)?;
-    assert_eq!(rt; dump.as_slice(), want.as_slice(), "{limit} {params:?}");
+    assert_eq!(rt;
+        dump.as_slice(),
+        want.as_slice(),
+        "{limit}, k {}, {} splitters, rounds of {}",
+        params.k,
+        params.sp,
+        params.batch
+    );
     Ok(want.len())
 }
 

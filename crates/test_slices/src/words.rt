@@ -158,7 +158,7 @@ fn files_are_listed_by_limits_strands_and_threads(rt: HostRuntime) {
             [params.limits.ci, params.limits.cx, params.limits.cs],
             [3, 90, 80]
         );
-        assert_eq!(rt; (params.sr, params.strands), (5, Strands::Apart));
+        assert!(rt; (params.sr, params.strands) == (5, Strands::Apart));
         assert_eq!(rt; request.files.len(), 2);
         assert_eq!(rt; request.files[0].as_str(), "a.0");
         assert_eq!(rt; request.files[1].as_str(), "b.0");

@@ -157,7 +157,8 @@ fn assert_lists<R: Abort + Threads + Sync>(
     let lists = packed_lists(rt, alloc, bodies, k, limits, threads)?;
     assert!(rt;
         are_plain(&lists, &plain),
-        "k {k}, {limits:?}, {threads} threads"
+        "k {k}, up to {}, {threads} threads",
+        limits.cs
     );
     Ok(())
 }

@@ -17,7 +17,13 @@ pub fn assert_dump<R: Abort + Threads + Wait + Sync>(
     wanted: u64,
 ) -> Result<(), Fail> {
     let (text, lines) = by_ranges(rt, alloc, reads, params)?;
-    assert!(rt; text.as_slice() == want && lines == wanted, "{params:?}");
+    assert!(rt;
+        text.as_slice() == want && lines == wanted,
+        "k {}, up to {}, {} threads",
+        params.k,
+        params.limits.cs,
+        params.sr
+    );
     Ok(())
 }
 

@@ -122,7 +122,8 @@ fn assert_plain<R: Abort + Threads + Sync>(
     bodies.push(body)?;
     let lists = list_bins(rt, alloc, bodies, k, strands, &LIMITS, 1);
     let lists = lists.ok().ok_or("records")?;
-    assert!(rt; are_plain(&lists, &plain), "k {k}, {strands:?}");
+    let joined = strands == Strands::Joined;
+    assert!(rt; are_plain(&lists, &plain), "k {k}, joined {joined}");
     Ok(())
 }
 

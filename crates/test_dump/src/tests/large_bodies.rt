@@ -72,9 +72,10 @@ fn assert_plain<R: Abort + Threads + Sync>(
         let bodies = between_others(alloc, &body, k)?;
         let lists = list_bins(rt, alloc, bodies, k, strands, &LIMITS, threads);
         let lists = lists.ok().ok_or("records")?;
+        let joined = strands == Strands::Joined;
         assert!(rt;
             are_plain(&lists, &plain),
-            "k {k}, {strands:?}, {threads} threads"
+            "k {k}, joined {joined}, {threads} threads"
         );
     }
     Ok(())

@@ -30,10 +30,8 @@ pub(super) fn passed<R: Abort + Threads + Wait + Sync, G: Gate + Sync>(
 ) -> Outcome {
     let slices = slices_of(alloc, reads).expect(rt, "memory");
     let bins = Bins::new(alloc, plan.shape).expect(rt, "memory");
-    let (bins, totals) = fill_bins(rt, alloc, bins, &slices, plan, queue, gate).expect(
-        rt,
-        "no worker refused",
-    );
+    let made = fill_bins(rt, alloc, bins, &slices, plan, queue, gate);
+    let (bins, totals) = made.ok().expect(rt, "no worker refused");
     Outcome { totals, bins }
 }
 
