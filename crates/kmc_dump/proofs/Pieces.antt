@@ -1,11 +1,10 @@
 -- What is out while ranges go out in waves.
 use Rattle.std.proofs.Common.{◌≡◌, ℕ, ◌+◌, ◌-◌, ◌<◌, ◌≤◌, List, [], ◌∷◌, ◌++◌, length, get_or, take, drop, Option, sym, ap, subst, ◌∙◌, arith, append-nil}
 use Rattle.std.specs.List.{flat_map}
-use Rattle.std.specs.Io.KnownBytes.{Keeps, Appends}
+use Rattle.std.specs.Io.KnownBytes.{Appends}
 use Rattle.std.proofs.lemmas.List.{take-append-drop, take_more}
 use Rattle.std.proofs.Math.Seq.{take-append_seam}
 use Rattle.std.proofs.lemmas.Grind.{flat_map-append}
-use Rattle.std.proofs.KnownBytes.{Appends-kept}
 use Rattle.kmc_device.specs.Device.{AppendsFront, WritesOut}
 use Rattle.kmc_device.specs.Lemmas.Devices.{front_after, front_of, gathered_out}
 use Rattle.kmc_lists.specs.Listed.{Listed}
@@ -63,7 +62,3 @@ module _ (k w : ℕ) (pos : 0 < w) (lists : List Listed) (bounds : List ℕ)
       let rest = range_text k w (get_or bounds first 0) (get_or bounds last 0) lists in
       let front : AppendsFront a c (upto first) = subst (AppendsFront a c) before.1 (front_after a b c before.0 held before.2 now) in
       subst (AppendsFront a c) (rest_joins first last less inside) (front_of a c (upto first) rest front)
-
-  -- all ranges are out
-  pub all_out : (first last : ℕ) (a b c : Option (List ℕ)) → first ≡ last → Appends a b (upto first) → Keeps b c → Appends a c (upto last)
-  all_out first last a b c same before kept = subst (λ n. Appends a c (upto n)) same (Appends-kept a b c (upto first) before kept)

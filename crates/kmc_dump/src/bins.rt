@@ -3,6 +3,7 @@ ghost use Rattle.std.specs.Prelude.{◌≡◌, ◌-◌, ◌^◌, ◌<◌, ◌≤
 ghost use Rattle.std.specs.Io.KnownBytes.{Appends};
 ghost use Rattle.kmc_device.specs.Device.{AppendsFront, RisesByOne};
 ghost use Rattle.kmc_device.specs.Line.{text_of};
+ghost use Rattle.kmc_dump.specs.Written.{IsDumped};
 ghost use Rattle.kmc_lists.specs.Listed.{spelled};
 ghost use Rattle.kmc_lists.specs.Lists.{lists_of};
 ghost use Rattle.kmc_lists.specs.Ordered.{CanBeMerged, whole};
@@ -15,6 +16,43 @@ use kmc_lists::{BinLists, SizedLists};
 use std::alloc::Global;
 use std::io::Write;
 use std::thread::Threads;
+
+/// Writes the dump of the lists of bins, each in the words and counts that they have.
+fn write_sized<R: Threads + Sync, D: Write>(
+    rt: &R,
+    alloc: Global,
+    writer: &mut Counted<D>,
+    lists: &BinLists,
+    size: WordSize,
+    threads: usize,
+) -> Result<u64, DumpError>
+    requires merge { CanBeMerged size.k (lists_of lists.now) }
+    requires threads { 1 ≤ threads }
+    requires failures { writer.old.failures < 2 ^ 64 - 1 }
+    ensures { IsDumped D.contents (text_of (spelled size.k (whole (lists_of lists.now))))
+        (length (whole (lists_of lists.now))) writer.old writer.new result }
+{
+    match lists {
+        BinLists::Narrow(SizedLists::Byte(lists)) => write_lists(
+            rt, alloc, writer, lists, size, threads,
+        ),
+        BinLists::Narrow(SizedLists::Half(lists)) => write_lists(
+            rt, alloc, writer, lists, size, threads,
+        ),
+        BinLists::Narrow(SizedLists::Full(lists)) => write_lists(
+            rt, alloc, writer, lists, size, threads,
+        ),
+        BinLists::Wide(SizedLists::Byte(lists)) => write_lists(
+            rt, alloc, writer, lists, size, threads,
+        ),
+        BinLists::Wide(SizedLists::Half(lists)) => write_lists(
+            rt, alloc, writer, lists, size, threads,
+        ),
+        BinLists::Wide(SizedLists::Full(lists)) => write_lists(
+            rt, alloc, writer, lists, size, threads,
+        ),
+    }
+}
 
 /// Writes the dump of the lists of bins that share no word: the lines of all their pairs in the order of the words, and
 /// nothing else. The answer is the number of lines. Ranges of words are made by so many threads, and written by the calling
@@ -44,25 +82,5 @@ pub fn write_bins<R: Threads + Sync, D: Write>(
         (text_of (spelled k (whole (lists_of lists.now)))) }
     ensures silent { IsErrOf result DumpError.Memory → writer.new ≡ writer.old }
 {
-    let size = WordSize { k };
-    match lists {
-        BinLists::Narrow(SizedLists::Byte(lists)) => write_lists(
-            rt, alloc, writer, lists, size, threads,
-        ),
-        BinLists::Narrow(SizedLists::Half(lists)) => write_lists(
-            rt, alloc, writer, lists, size, threads,
-        ),
-        BinLists::Narrow(SizedLists::Full(lists)) => write_lists(
-            rt, alloc, writer, lists, size, threads,
-        ),
-        BinLists::Wide(SizedLists::Byte(lists)) => write_lists(
-            rt, alloc, writer, lists, size, threads,
-        ),
-        BinLists::Wide(SizedLists::Half(lists)) => write_lists(
-            rt, alloc, writer, lists, size, threads,
-        ),
-        BinLists::Wide(SizedLists::Full(lists)) => write_lists(
-            rt, alloc, writer, lists, size, threads,
-        ),
-    }
+    write_sized(rt, alloc, writer, lists, WordSize { k }, threads)
 }

@@ -24,4 +24,4 @@ pub use ranges::Ranges;
 pub use wave::fill_wave;
 pub use waves::write_ranges;
 pub use word_size::WordSize;
-pub use write::{DumpError, write_lists};
+pub use write::DumpError;

@@ -1,21 +1,38 @@
 //! The text of all ranges on a device, a wave at a time.
-ghost use Rattle.std.specs.Prelude.{◌≡◌, ℕ, ◌+◌, ◌-◌, ◌*◌, ◌^◌, ◌<◌, ◌≤◌, List, length, take, All, vec_len, vec_capacity, OnOk, OnErr};
-ghost use Rattle.std.specs.Io.KnownBytes.{Appends};
-ghost use Rattle.kmc_device.specs.Device.{AppendsFront, RisesByOne};
+ghost use Rattle.std.specs.Prelude.{◌-◌, ◌^◌, ◌<◌, ◌≤◌, length, take, All};
+ghost use Rattle.std.specs.List.{flat_map};
 ghost use Rattle.kmc_device.specs.Line.{line_room, text_of};
+ghost use Rattle.kmc_dump.specs.Ranges.{AreRanges};
 ghost use Rattle.kmc_dump.specs.Rooms.{HasRoom};
+ghost use Rattle.kmc_dump.specs.Written.{IsWritten};
 ghost use Rattle.kmc_lists.specs.Listed.{spelled};
 ghost use Rattle.kmc_lists.specs.Ordered.{whole};
-ghost use Rattle.kmc_dump.specs.Ranges.{AreRanges};
 
 use crate::buffers::Buffer;
 use crate::ranges::Ranges;
-use crate::turn::{write_and_fill, write_buffers};
+use crate::turn::{Filling, write_and_fill, write_buffers};
 use kmc_base::Word;
 use kmc_device::{Counted, WriteFault};
 use kmc_lists::{Counts, Shown};
 use std::io::Write;
 use std::thread::Threads;
+
+/// Writes what is filled of each buffer, and flushes.
+fn write_last<D: Write, W: Word + Drop, C: Shown + Drop>(
+    writer: &mut Counted<D>,
+    buffers: &[Buffer<W, C>],
+) -> Result<(), WriteFault>
+    requires failures { writer.old.failures < 2 ^ 64 - 1 }
+    requires within { All (λ b. b.filled ≤ length b.text.items) buffers.now }
+    ensures { IsWritten D.contents (flat_map (λ b. take b.filled b.text.items) buffers.now)
+        writer.old writer.new result }
+{
+    write_buffers(writer, buffers)?;
+    match writer.flush() {
+        Ok(()) => Ok(()),
+        Err(_) => Err(WriteFault),
+    }
+}
 
 /// Writes the text of all ranges over two rows of buffers, and flushes: while one row is written the other is filled with
 /// the next ranges. The front row may have no buffer; then a row is filled, and written before it is filled again.
@@ -25,59 +42,45 @@ fn write_rows<
     W: Word + Drop + Send + Sync,
     C: Shown + Drop + Send + Sync,
 >(
-    rt: &R,
     writer: &mut Counted<D>,
-    lists: &[Counts<W, C>],
-    ranges: &Ranges,
+    filling: &Filling<'_, R, W, C>,
     front: &mut [Buffer<W, C>],
     back: &mut [Buffer<W, C>],
 ) -> Result<(), WriteFault>
-    requires ranges { AreRanges ranges.now lists.now }
+    requires ranges { AreRanges filling.now.ranges.now filling.now.lists.now }
     requires some { 1 ≤ length back.old }
-    requires front { All (HasRoom ranges.now.widest (line_room ranges.now.k C.most_digits)) front.old }
-    requires back { All (HasRoom ranges.now.widest (line_room ranges.now.k C.most_digits)) back.old }
+    requires front { All (HasRoom filling.now.ranges.now.widest (line_room filling.now.ranges.now.k C.most_digits)) front.old }
+    requires back { All (HasRoom filling.now.ranges.now.widest (line_room filling.now.ranges.now.k C.most_digits)) back.old }
     requires failures { writer.old.failures < 2 ^ 64 - 1 }
-    ensures ok { OnOk result (Appends (D.contents writer.old.inner) (D.contents writer.new.inner)
-        (text_of (spelled ranges.now.k (whole lists.now)))) }
-    ensures kept { OnOk result (writer.new.failures ≡ writer.old.failures) }
-    ensures failed { OnErr result (RisesByOne writer.old.failures writer.new.failures) }
-    ensures front { OnErr result
-        (AppendsFront (D.contents writer.old.inner) (D.contents writer.new.inner)
-        (text_of (spelled ranges.now.k (whole lists.now)))) }
+    ensures { IsWritten D.contents
+        (text_of (spelled filling.now.ranges.now.k (whole filling.now.lists.now)))
+        writer.old writer.new result }
 {
-    let count = ranges.bounds.len() - 1;
+    let count = filling.ranges.bounds.len() - 1;
     let mut next = 0;
     // Of the ranges before `next` the last so many stand in the front row, and those before them are out.
     let mut full = 0;
     while next < count {
         let wave = back.len().min(count - next);
         write_and_fill(
-            rt,
             writer,
             &front[..full],
-            lists,
-            ranges,
+            filling,
             next,
             &mut back[..wave],
         )?;
         next += wave;
         full = front.len().min(count - next);
         write_and_fill(
-            rt,
             writer,
             &back[..wave],
-            lists,
-            ranges,
+            filling,
             next,
             &mut front[..full],
         )?;
         next += full;
     }
-    write_buffers(writer, &front[..full])?;
-    match writer.flush() {
-        Ok(()) => Ok(()),
-        Err(_) => Err(WriteFault),
-    }
+    write_last(writer, &front[..full])
 }
 
 /// Writes the text of all pairs of the lists in the order of their words, and flushes. The buffers have room for the widest
@@ -99,15 +102,11 @@ pub fn write_ranges<
     requires buffers { 1 ≤ length buffers.old }
     requires room { All (HasRoom ranges.now.widest (line_room ranges.now.k C.most_digits)) buffers.old }
     requires failures { writer.old.failures < 2 ^ 64 - 1 }
-    ensures ok { OnOk result (Appends (D.contents writer.old.inner) (D.contents writer.new.inner)
-        (text_of (spelled ranges.now.k (whole lists.now)))) }
-    ensures kept { OnOk result (writer.new.failures ≡ writer.old.failures) }
-    ensures failed { OnErr result (RisesByOne writer.old.failures writer.new.failures) }
-    ensures front { OnErr result
-        (AppendsFront (D.contents writer.old.inner) (D.contents writer.new.inner)
-        (text_of (spelled ranges.now.k (whole lists.now)))) }
+    ensures { IsWritten D.contents (text_of (spelled ranges.now.k (whole lists.now)))
+        writer.old writer.new result }
 {
     let half = buffers.len() / 2;
     let (front, back) = buffers.split_at_mut(half);
-    write_rows(rt, writer, lists, ranges, front, back)
+    let filling = Filling { rt, lists, ranges };
+    write_rows(writer, &filling, front, back)
 }

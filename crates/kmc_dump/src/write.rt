@@ -1,10 +1,9 @@
 //! The dump of lists that share no word, on a device.
-ghost use Rattle.std.specs.Prelude.{◌≡◌, ◌+◌, ◌-◌, ◌^◌, ◌<◌, ◌≤◌, length, OnOk, OnErr, IfOk, IsErrOf};
-ghost use Rattle.std.specs.Io.KnownBytes.{Appends};
-ghost use Rattle.kmc_device.specs.Device.{AppendsFront, RisesByOne};
+ghost use Rattle.std.specs.Prelude.{◌≡◌, ◌-◌, ◌^◌, ◌<◌, ◌≤◌, length, OnErr, IfOk};
 ghost use Rattle.kmc_device.specs.Line.{text_of};
 ghost use Rattle.kmc_lists.specs.Listed.{spelled};
 ghost use Rattle.kmc_lists.specs.Ordered.{CanBeMerged, joined, packs, whole};
+ghost use Rattle.kmc_dump.specs.Written.{IsDumped};
 ghost use Rattle.kmc_dump.specs.declared.write.DumpError.TheVariants.{Memory};
 
 use crate::buffers::make_buffers;
@@ -56,7 +55,7 @@ fn count_pairs<W: Word + Drop, C: Shown + Drop>(lists: &[Counts<W, C>]) -> Resul
 /// time, while the calling thread writes those before; no list of all pairs is made. One thread does all in turn. All memory
 /// is had before the first write: after a refusal other than `Write` nothing was written, and after `Write` a front of the
 /// dump.
-pub fn write_lists<
+pub(crate) fn write_lists<
     R: Threads + Sync,
     D: Write,
     W: Word + Drop + Send + Sync,
@@ -72,16 +71,8 @@ pub fn write_lists<
     requires merge { CanBeMerged size.k lists.now }
     requires threads { 1 ≤ threads }
     requires failures { writer.old.failures < 2 ^ 64 - 1 }
-    ensures ok { OnOk result (Appends (D.contents writer.old.inner) (D.contents writer.new.inner)
-        (text_of (spelled size.k (whole lists.now)))) }
-    ensures lines { IfOk result (λ lines. lines ≡ length (whole lists.now)) }
-    ensures kept { OnOk result (writer.new.failures ≡ writer.old.failures) }
-    ensures failed { IsErrOf result DumpError.Write
-        → RisesByOne writer.old.failures writer.new.failures }
-    ensures front { IsErrOf result DumpError.Write
-        → AppendsFront (D.contents writer.old.inner) (D.contents writer.new.inner)
-        (text_of (spelled size.k (whole lists.now))) }
-    ensures silent { IsErrOf result DumpError.Memory → writer.new ≡ writer.old }
+    ensures { IsDumped D.contents (text_of (spelled size.k (whole lists.now))) (length (whole lists.now))
+        writer.old writer.new result }
 {
     let total = count_pairs(lists)?;
     let ranges = part_words(alloc, lists, size, total)?;

@@ -11,12 +11,13 @@ abbrev pub invariant-loop-next : goal.invariant-loop-next
 invariant-loop-next g l = record {
   inside : l.next ≤ l.count;
   fits : l.full ≤ length l.front;
-  front : All (HasRoom l.ranges.widest (line_room l.ranges.k g.C.Shown.most_digits)) l.front;
-  back : All (HasRoom l.ranges.widest (line_room l.ranges.k g.C.Shown.most_digits)) l.back;
+  front : All (HasRoom l.filling.ranges.now.widest (line_room l.filling.ranges.now.k g.C.Shown.most_digits)) l.front;
+  back : All (HasRoom l.filling.ranges.now.widest (line_room l.filling.ranges.now.k g.C.Shown.most_digits)) l.back;
   within : All (λ b. b.filled ≤ length b.text.items) (take l.full l.front);
   kept : l.writer.failures ≡ l.initial.writer.failures;
   out : WritesOut (g.D.Write.contents l.initial.writer.inner) (g.D.Write.contents l.writer.inner)
-      (range_text l.ranges.k (2 ^ l.ranges.shift) (get_or l.ranges.bounds.items 0 0) (get_or l.ranges.bounds.items l.next 0) l.lists)
+      (range_text l.filling.ranges.now.k (2 ^ l.filling.ranges.now.shift) (get_or l.filling.ranges.now.bounds.items 0 0)
+      (get_or l.filling.ranges.now.bounds.items l.next 0) l.filling.lists.now)
       (flat_map (λ b. take b.filled b.text.items) (take l.full l.front));
 }
 

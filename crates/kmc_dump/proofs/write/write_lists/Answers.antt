@@ -1,22 +1,49 @@
-use Rattle.std.proofs.Common.{sym, ◌∙◌, rules}
+use Rattle.std.proofs.Common.{sym, subst, ◌∙◌, Ok, Err}
 use Rattle.std.proofs.lemmas.List.Sorted.{length_permutation}
+use Rattle.kmc_device.specs.Line.{text_of}
+use Rattle.kmc_lists.specs.Listed.{spelled}
 use Rattle.kmc_lists.specs.Ordered.{joined, packs, whole}
 use Rattle.kmc_lists.specs.Lemmas.Order.{in_order_moves}
+use Rattle.kmc_dump.specs.Written.{IsWritten}
+use Rattle.kmc_dump.proofs.Writing.{dumped, front_dumped, none_dumped}
 use Rattle.kmc_dump.proofs.write.write_lists.Goals as goal
 
-pub returns-in-Ok-clause-lines : goal.returns-in-Ok-clause-lines
-returns-in-Ok-clause-lines g c =
-    let all = joined (packs c.args.lists.now) in
-    c.in_ok-total.ensures.total ∙ sym (length_permutation all (whole c.args.lists.now) (in_order_moves all))
+pub returns-in_err-total : goal.returns-in_err-total
+returns-in_err-total g c = none_dumped g.D.Write.contents _ _ c.args.writer.now c.from_residual.result c.from_residual.ensures.1
 
-pub returns-in_err-buffers-clause-silent : goal.returns-in_err-buffers-clause-silent
-returns-in_err-buffers-clause-silent g c = search rules
+pub part_words-requires : goal.part_words-requires
+part_words-requires g c = c.requires.merge
+
+pub returns-in_err-ranges : goal.returns-in_err-ranges
+returns-in_err-ranges g c =
+    none_dumped g.D.Write.contents _ _ c.args.writer.now c.from_residual-in_err-ranges.result c.from_residual-in_err-ranges.ensures.1
+
+pub returns-in_err-buffers : goal.returns-in_err-buffers
+returns-in_err-buffers g c =
+    none_dumped g.D.Write.contents _ _ c.args.writer.now c.from_residual-in_err-buffers.result c.from_residual-in_err-buffers.ensures.1
 
 pub write_ranges-requires-clause-failures : goal.write_ranges-requires-clause-failures
-write_ranges-requires-clause-failures g c κs within = search rules
+write_ranges-requires-clause-failures g c κs within = c.requires.failures
 
-pub returns-in-Ok-clause-kept : goal.returns-in-Ok-clause-kept
-returns-in-Ok-clause-kept g c = search rules
+pub write_ranges-requires-clause-ranges : goal.write_ranges-requires-clause-ranges
+write_ranges-requires-clause-ranges g c κs within = c.in_ok-ranges.ensures.are
 
-pub returns-clause-failed : goal.returns-clause-failed
-returns-clause-failed g c = search rules
+pub returns-in-Ok : goal.returns-in-Ok
+returns-in-Ok g c =
+    let lists = c.args.lists.now in
+    let all = joined (packs lists) in
+    let bytes = g.D.Write.contents in
+    let old = c.args.writer.now in
+    let new = c.write_ranges.new.writer in
+    dumped bytes _ _ old new c.in_ok-total.total tt
+    (c.in_ok-total.ensures.total ∙ sym (length_permutation all (whole lists) (in_order_moves all)))
+    (subst (λ k. IsWritten bytes (text_of (spelled k (whole lists))) old new (Ok tt)) c.in_ok-ranges.ensures.k c.in-Ok.ensures)
+
+pub returns : goal.returns
+returns g c =
+    let lists = c.args.lists.now in
+    let bytes = g.D.Write.contents in
+    let old = c.args.writer.now in
+    let new = c.write_ranges.new.writer in
+    front_dumped bytes _ _ old new c.in-Err.field-0
+    (subst (λ k. IsWritten bytes (text_of (spelled k (whole lists))) old new (Err c.in-Err.field-0)) c.in_ok-ranges.ensures.k c.in-Err.ensures)

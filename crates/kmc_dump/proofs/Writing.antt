@@ -1,0 +1,117 @@
+-- What was written, by the answers of calls.
+use Rattle.std.proofs.Common.{◌≡◌, ℕ, ◌-◌, ◌≤◌, ◌<◌, ◌^◌, List, [], ◌∷◌, length, get_or, Option, Result, Ok, Err, refl, sym, subst, ◌∙◌, true≢false, arith}
+use Rattle.std.specs.Prelude.{IsErr, IsErrAnd}
+use Rattle.std.specs.List.{flat_map}
+use Rattle.std.specs.Io.KnownBytes.{Appends}
+use Rattle.std.proofs.KnownBytes.{Appends-nil}
+use Rattle.std.proofs.lemmas.Nat.{pow_pos}
+use Rattle.kmc_device.specs.Device.{AppendsFront, RisesByOne, Watched, WritesOut}
+use Rattle.kmc_device.specs.Lemmas.Devices.{gathered_out}
+use Rattle.kmc_device.specs.Line.{text_of}
+use Rattle.kmc_lists.specs.Listed.{Listed, spelled}
+use Rattle.kmc_lists.specs.Ordered.{whole}
+use Rattle.kmc_dump.specs.Ranges.{range_text, AreRanges}
+use Rattle.kmc_dump.specs.Written.{IsWritten, IsDumped}
+use Rattle.kmc_dump.specs.declared.write.DumpError.{DumpError}
+use Rattle.kmc_dump.specs.declared.write.DumpError.TheVariants.{Memory, Write}
+use Rattle.kmc_dump.specs.declared.ranges.Ranges.{Ranges}
+use Rattle.kmc_dump.proofs.Pieces.{turn_out, turn_front}
+use Rattle.kmc_dump.proofs.Texts.{all_text}
+
+-- a call failed when a front was out
+pub refused : {D A E : Type 0} (contents : D → Option (List ℕ)) (text : List ℕ) (old now new : Watched D) (r : Result A E) → IsErr r
+    → now.failures ≡ old.failures → RisesByOne now.failures new.failures → AppendsFront (contents old.inner) (contents new.inner) text
+    → IsWritten contents text old new r
+refused contents text old now new (Ok x) is kept failed front = absurd (true≢false (sym is))
+refused contents text old now new (Err e) is kept failed front = record {
+  ok = tt;
+  kept = tt;
+  failed = subst (λ n. RisesByOne n new.failures) kept failed;
+  front = front;
+}
+
+-- the text is out, and no call failed
+pub all_out : {D A E : Type 0} (contents : D → Option (List ℕ)) (text : List ℕ) (old new : Watched D) (x : A) → new.failures ≡ old.failures
+    → Appends (contents old.inner) (contents new.inner) text → IsWritten {A = A} {E = E} contents text old new (Ok x)
+all_out contents text old new x kept out = record { ok = out; kept = kept; failed = tt; front = tt }
+
+-- nothing was held
+pub none_out : {D S A E : Type 0} (contents : D → Option (List ℕ)) (f : S → List ℕ) (ss : List S) (old : Watched D) (x : A) → length ss ≡ 0
+    → IsWritten {A = A} {E = E} contents (flat_map f ss) old old (Ok x)
+none_out contents f [] old x none = all_out contents [] old old x refl (Appends-nil (contents old.inner))
+none_out contents f (s ∷ ss) old x none = absurd (omega (arith, none))
+
+-- the dump is out
+pub dumped : {D A E : Type 0} (contents : D → Option (List ℕ)) (text : List ℕ) (count : ℕ) (old new : Watched D) (n : ℕ) (x : A) → n ≡ count
+    → IsWritten {A = A} {E = E} contents text old new (Ok x) → IsDumped contents text count old new (Ok n)
+dumped contents text count old new n x is done = record {
+  ok = done.ok;
+  lines = is;
+  kept = done.kept;
+  failed = λ other. absurd (cc);
+  front = λ other. absurd (cc);
+  silent = λ other. absurd (cc);
+}
+
+-- a front of the dump is out
+pub front_dumped : {D A E : Type 0} (contents : D → Option (List ℕ)) (text : List ℕ) (count : ℕ) (old new : Watched D) (e : E)
+    → IsWritten {A = A} {E = E} contents text old new (Err e) → IsDumped contents text count old new (Err Write)
+front_dumped contents text count old new e done = record {
+  ok = tt;
+  lines = tt;
+  kept = tt;
+  failed = λ is. done.failed;
+  front = λ is. done.front;
+  silent = λ other. absurd (cc);
+}
+
+-- a growth was refused before anything was out
+pub none_dumped : {D : Type 0} (contents : D → Option (List ℕ)) (text : List ℕ) (count : ℕ) (old : Watched D) (r : Result ℕ DumpError)
+    → IsErrAnd r (λ e. e ≡ Memory) → IsDumped contents text count old old r
+none_dumped contents text count old (Ok n) memory = elim memory [ ]
+none_dumped contents text count old (Err e) memory = record {
+  ok = tt;
+  lines = tt;
+  kept = tt;
+  failed = λ other. absurd (cc);
+  front = λ other. absurd (cc);
+  silent = λ is. refl;
+}
+
+module _ {D : Type 0} (contents : D → Option (List ℕ)) (r : Ranges) (lists : List Listed) (are : AreRanges r lists) where
+  -- the text of the ranges from one on to before another
+  abbrev pub between : ℕ → ℕ → List ℕ
+  between m n = range_text r.k (2 ^ r.shift) (get_or r.bounds.items m 0) (get_or r.bounds.items n 0) lists
+
+  -- what was held is out, and the next ranges are held
+  pub turn_done : {A E : Type 0} (old now new : Watched D) (first m : ℕ) (held next : List ℕ) (x : A) → first ≤ m → m < length r.bounds.items
+      → WritesOut (contents old.inner) (contents now.inner) (between 0 first) held → IsWritten {A = A} {E = E} contents held now new (Ok x)
+      → next ≡ between first m → WritesOut (contents old.inner) (contents new.inner) (between 0 m) next
+  turn_done old now new first m held next x less inside before done is =
+      turn_out r.k (2 ^ r.shift) (pow_pos r.shift) lists r.bounds.items (λ i inside. (are.bounds i inside).0)
+      first m (contents old.inner) (contents now.inner) (contents new.inner) held next less inside before done.ok is
+
+  -- of what was held a front is out
+  pub turn_failed : {A B E F : Type 0} (old now new : Watched D) (first : ℕ) (held : List ℕ) (e : F) (answer : Result B E) → first < length r.bounds.items
+      → now.failures ≡ old.failures → WritesOut (contents old.inner) (contents now.inner) (between 0 first) held
+      → IsWritten {A = A} {E = F} contents held now new (Err e) → IsErr answer → IsWritten contents (text_of (spelled r.k (whole lists))) old new answer
+  turn_failed old now new first held e answer inside kept before done is =
+      refused contents (text_of (spelled r.k (whole lists))) old now new answer is kept done.failed
+      (subst (AppendsFront (contents old.inner) (contents new.inner)) (all_text r lists are)
+      (turn_front r.k (2 ^ r.shift) (pow_pos r.shift) lists r.bounds.items (λ i inside. (are.bounds i inside).0)
+      first (length r.bounds.items - 1) (contents old.inner) (contents now.inner) (contents new.inner) held
+      (omega (arith, inside)) (omega (arith, inside)) before done.front))
+
+  -- what was held was the last
+  pub last_turn : {A E : Type 0} (old now new : Watched D) (first : ℕ) (held : List ℕ) (answer : Result A E) → first ≡ length r.bounds.items - 1
+      → now.failures ≡ old.failures → WritesOut (contents old.inner) (contents now.inner) (between 0 first) held
+      → IsWritten contents held now new answer → IsWritten contents (text_of (spelled r.k (whole lists))) old new answer
+  last_turn old now new first held (Ok x) last kept before done =
+      let text : between 0 first ≡ text_of (spelled r.k (whole lists)) =
+      subst (λ n. between 0 n ≡ text_of (spelled r.k (whole lists))) (sym last) (all_text r lists are) in
+      all_out contents (text_of (spelled r.k (whole lists))) old new x (done.kept ∙ kept)
+      (subst (Appends (contents old.inner) (contents new.inner)) text
+      (gathered_out (contents old.inner) (contents now.inner) (contents new.inner) (between 0 first) held before done.ok))
+  last_turn old now new first held (Err e) last kept before done =
+      let some : 1 ≤ length r.bounds.items = are.ends in
+      turn_failed old now new first held e (Err e) (omega arith) kept before done refl
