@@ -62,22 +62,26 @@ fn write_rows<
     let mut full = 0;
     while next < count {
         let wave = back.len().min(count - next);
-        write_and_fill(
+        let Ok(()) = write_and_fill(
             writer,
             &front[..full],
             filling,
             next,
             &mut back[..wave],
-        )?;
+        ) else {
+            return Err(WriteFault);
+        };
         next += wave;
         full = front.len().min(count - next);
-        write_and_fill(
+        let Ok(()) = write_and_fill(
             writer,
             &back[..wave],
             filling,
             next,
             &mut front[..full],
-        )?;
+        ) else {
+            return Err(WriteFault);
+        };
         next += full;
     }
     write_last(writer, &front[..full])

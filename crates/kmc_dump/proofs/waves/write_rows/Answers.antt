@@ -47,17 +47,17 @@ write_and_fill-requires-clause-room g c κs within =
       room = All-take (HasRoom r.widest (line_room r.k g.C.Shown.most_digits)) c.min-wave.result c.loop-next.back c.loop-next.invariant.back;
     }
 
-pub returns-in_err-write_and_fill : goal.returns-in_err-write_and_fill
-returns-in_err-write_and_fill g c =
+pub returns-in_default : goal.returns-in_default
+returns-in_default g c =
     let of = c.args.filling.now in
     turn_failed g.D.Write.contents of.ranges.now of.lists.now c.requires.ranges c.args.writer.now c.loop-next.writer c.write_and_fill.new.writer
-    c.loop-next.next _ c.in_err-write_and_fill.field-0.0 c.from_residual.result
+    c.loop-next.next _ c.in_default.field-0 _
     (omega (arith, c.loop-next.invariant.inside, c.requires.ranges.ends)) c.loop-next.invariant.kept c.loop-next.invariant.out
-    c.in_err-write_and_fill.ensures.written c.from_residual.ensures.0
+    c.in_default.ensures.written refl
 
 pub write_and_fill-requires-in-loop-next-clause-failures : goal.write_and_fill-requires-in-loop-next-clause-failures
 write_and_fill-requires-in-loop-next-clause-failures g c κs within =
-    omega (arith, c.requires.failures, c.loop-next.invariant.kept, c.in_ok-write_and_fill.ensures.written.kept)
+    omega (arith, c.requires.failures, c.loop-next.invariant.kept, c.in-Ok.ensures.written.kept)
 
 pub write_and_fill-requires-in-loop-next-clause-within : goal.write_and_fill-requires-in-loop-next-clause-within
 write_and_fill-requires-in-loop-next-clause-within g c κs within =
@@ -69,7 +69,7 @@ write_and_fill-requires-in-loop-next-clause-within g c κs within =
       c.min-wave.ensures,
       length-take-le wave c.loop-next.back (omega (arith, c.min-wave.ensures)),
     ) in
-    subst (All (λ b. b.filled ≤ length b.text.items)) (sym (front_row wave now (drop wave c.loop-next.back) long)) c.in_ok-write_and_fill.ensures.filled.within
+    subst (All (λ b. b.filled ≤ length b.text.items)) (sym (front_row wave now (drop wave c.loop-next.back) long)) c.in-Ok.ensures.filled.within
 
 pub write_and_fill-requires-in-loop-next-clause-room : goal.write_and_fill-requires-in-loop-next-clause-room
 write_and_fill-requires-in-loop-next-clause-room g c κs within =
@@ -86,8 +86,8 @@ write_and_fill-requires-in-loop-next-clause-room g c κs within =
       room = All-take (HasRoom r.widest (line_room r.k g.C.Shown.most_digits)) c.min-full.result c.loop-next.front c.loop-next.invariant.front;
     }
 
-pub returns-in_err-write_and_fill-2 : goal.returns-in_err-write_and_fill-2
-returns-in_err-write_and_fill-2 g c =
+pub returns-in_default-write_and_fill : goal.returns-in_default-write_and_fill
+returns-in_default-write_and_fill g c =
     let bytes = g.D.Write.contents in
     let r = c.args.filling.now.ranges.now in
     let lists = c.args.filling.now.lists.now in
@@ -100,15 +100,15 @@ returns-in_err-write_and_fill-2 g c =
       c.min-wave.ensures,
       length-take-le wave c.loop-next.back (omega (arith, c.min-wave.ensures)),
     ) in
-    let done = c.in_ok-write_and_fill.ensures in
+    let done = c.in-Ok.ensures in
     let out = turn_done bytes r lists c.requires.ranges c.args.writer.now c.loop-next.writer c.write_and_fill.new.writer next (next + wave) _ _ _
     (omega arith) (omega (arith, c.min-wave.ensures, c.loop-next-test.true, c.requires.ranges.ends)) c.loop-next.invariant.out done.written
     (ap (flat_map (λ b. take b.filled b.text.items)) (front_row wave now (drop wave c.loop-next.back) long) ∙ done.filled.texts
     ∙ ap (λ n. between bytes r lists c.requires.ranges next (next + n)) long) in
     turn_failed bytes r lists c.requires.ranges c.args.writer.now c.write_and_fill.new.writer c.write_and_fill-in-loop-next.new.writer
-    (next + wave) _ c.in_err-write_and_fill-2.field-0.0 c.from_residual-in_err-write_and_fill-2.result
+    (next + wave) _ c.in_default-write_and_fill.field-0 _
     (omega (arith, c.min-wave.ensures, c.loop-next-test.true, c.requires.ranges.ends)) (done.written.kept ∙ c.loop-next.invariant.kept) out
-    c.in_err-write_and_fill-2.ensures.written c.from_residual-in_err-write_and_fill-2.ensures.0
+    c.in_default-write_and_fill.ensures.written refl
 
 pub loop-next-preserved : goal.loop-next-preserved
 loop-next-preserved g c =
@@ -133,8 +133,8 @@ loop-next-preserved g c =
       c.min-full.ensures,
       length-take-le full c.loop-next.front (omega (arith, c.min-full.ensures)),
     ) in
-    let done = c.in_ok-write_and_fill.ensures in
-    let done_then = c.in_ok-write_and_fill-2.ensures in
+    let done = c.in-Ok.ensures in
+    let done_then = c.in-Ok-write_and_fill.ensures in
     let row_then = front_row full then (drop full c.loop-next.front) long_then in
     let room = HasRoom {W = g.row.W.Denot} {C = g.row.C.Denot} r.widest (line_room r.k g.C.Shown.most_digits) in
     let out = turn_done bytes r lists c.requires.ranges c.args.writer.now c.loop-next.writer c.write_and_fill.new.writer next (next + wave) _ _ _
