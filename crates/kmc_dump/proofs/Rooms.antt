@@ -1,6 +1,6 @@
 -- Lines of at most so many bytes each, one behind the other.
 use Rattle.std.proofs.Common.{◌≡◌, ℕ, ◌+◌, ◌*◌, ◌<◌, ◌≤◌, add-one, arith, Result, Ok, Err, sym, true≢false}
-use Rattle.std.specs.Prelude.{IsOk, is_ok, if◌then◌else◌}
+use Rattle.std.specs.Prelude.{IsOk, IsErr, OnOk, is_ok, if◌then◌else◌}
 use Rattle.std.proofs.Math.Nat.{suc-mul, mul-le-mul_right}
 
 pub lines_more : (i r end line : ℕ) → end ≤ i * r → line ≤ r → end + line ≤ (i + 1) * r
@@ -20,3 +20,8 @@ fewer_fit m n r top few room = omega (arith, mul-le-mul_right r few)
 pub resized : {A B : Type 0} (r : Result A B) (n old len : ℕ) → IsOk r → len ≡ (if is_ok r then n else old) → len ≡ n
 resized (Ok x) n old len ok is = is
 resized (Err x) n old len ok is = absurd (true≢false (sym ok))
+
+-- a refusal gives nothing
+pub no_answer : {A E : Type 0} (r : Result A E) (P : Type 0) → IsErr r → OnOk r P
+no_answer (Ok x) P is = absurd (true≢false (sym is))
+no_answer (Err e) P is = tt

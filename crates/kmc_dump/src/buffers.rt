@@ -1,5 +1,5 @@
 //! Room for ranges, had before the first byte of a dump goes out.
-ghost use Rattle.std.specs.Prelude.{◌≡◌, ℕ, ◌*◌, ◌≤◌, List, length, All, vec_len, vec_capacity, IfOk};
+ghost use Rattle.std.specs.Prelude.{◌≡◌, ℕ, ◌+◌, ◌*◌, All, vec_len, IfOk, OnOk};
 ghost use Rattle.kmc_device.specs.Line.{line_room};
 ghost use Rattle.kmc_dump.specs.Rooms.{HasRoom};
 
@@ -19,23 +19,27 @@ pub struct Buffer<W, C> {
     pub filled: usize,
 }
 
-/// Room for so many pairs and bytes.
-fn make_buffer<W: Word + Drop, C: Shown + Drop>(
+/// Puts a buffer with room for so many pairs and bytes behind the others.
+fn add_buffer<W: Word + Drop, C: Shown + Drop>(
+    buffers: &mut Vec<Buffer<W, C>>,
     alloc: Global,
     widest: usize,
     bytes: usize,
-) -> Result<Buffer<W, C>, AllocError>
-    ensures { IfOk result (λ b. (widest ≤ vec_capacity b.pairs) × (bytes ≤ vec_capacity b.text)) }
+) -> Result<(), AllocError>
+    ensures { (line : ℕ) → bytes ≡ widest * line → All (HasRoom widest line) buffers.old.items
+        → OnOk result ((vec_len buffers.new ≡ vec_len buffers.old + 1)
+        × All (HasRoom widest line) buffers.new.items) }
 {
     let pairs = Vec::with_capacity(alloc, widest)?;
     let keys = Vec::with_capacity(alloc, widest)?;
     let text = Vec::with_capacity(alloc, bytes)?;
-    Ok(Buffer {
+    buffers.push(Buffer {
         pairs,
         keys,
         text,
         filled: 0,
-    })
+    })?;
+    Ok(())
 }
 
 /// So many buffers, each with room for `widest` pairs of words of this size, and for their lines.
@@ -54,7 +58,7 @@ pub fn make_buffers<W: Word + Drop, C: Shown + Drop>(
     };
     let mut buffers = Vec::with_capacity(alloc, count)?;
     for _made in 0..count {
-        buffers.push(make_buffer(alloc, widest, bytes)?)?;
+        add_buffer(&mut buffers, alloc, widest, bytes)?;
     }
     Ok(buffers)
 }

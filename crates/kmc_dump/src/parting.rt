@@ -103,8 +103,7 @@ fn join_slots<W: Word + Drop, C: Shown + Drop>(
     requires shift { shift < 128 }
     requires room { slots * 2 ^ shift ≤ 2 ^ 128 }
     requires inside { All (λ p. p.0 / 2 ^ shift < slots) (joined (packs lists.now)) }
-    ensures k { IfOk result (λ r. r.k ≡ size.k) }
-    ensures are { IfOk result (λ r. AreRanges r lists.now) }
+    ensures { IfOk result (λ r. (r.k ≡ size.k) × AreRanges r lists.now) }
 {
     let sizes = slot_sizes(alloc, lists, shift, slots)?;
     let fine = shift.min(FINEST);
@@ -159,8 +158,7 @@ pub fn part_words<W: Word + Drop, C: Shown + Drop>(
     total: usize,
 ) -> Result<Ranges, AllocError>
     requires { CanBeMerged size.k lists.now }
-    ensures k { IfOk result (λ r. r.k ≡ size.k) }
-    ensures are { IfOk result (λ r. AreRanges r lists.now) }
+    ensures { IfOk result (λ r. (r.k ≡ size.k) × AreRanges r lists.now) }
 {
     let symbols = leading(total, size);
     let shift = 2 * (size.k - symbols) as u32;

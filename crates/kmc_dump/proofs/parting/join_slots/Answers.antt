@@ -89,8 +89,8 @@ loop-slot-preserved g c =
           along w (to * q + q) lists _ _ _ _ _ _ made (sym b.widest-is) (sym (ap (λ (v : Vec ℕ Global). v.items) b.bounds-is)) (sym b.pending-is)
     ])
 
-pub returns-clause-are : goal.returns-clause-are
-returns-clause-are g c =
+pub returns : goal.returns
+returns g c =
     let a = c.args in
     let fine = c.min-fine.result in
     let w = 2 ^ fine in
@@ -105,7 +105,7 @@ returns-clause-are g c =
     (sym items) (subst (λ n. ArePartedTo w c.max.result (c.loop-slot.bounds.items ++ n * q ∷ []) (n * q) 0 lists) end made) in
     let last : get_or c.push-2.new.self.items (length c.push-2.new.self.items - 1) 0 ≡ a.slots * q = ap (λ (l : List ℕ). get_or l (length l - 1) 0) items
     ∙ last_bound c.loop-slot.bounds.items (a.slots * q) in
-    record {
+    (refl, record {
       some = a.size.within.0;
       most = a.size.within.1;
       merge = c.requires.merge;
@@ -115,4 +115,4 @@ returns-clause-are g c =
       first = whole.first;
       last = subst (λ n. All (λ p. p.0 / w < n) (joined (packs lists))) (sym last)
           (all_before a.shift fine a.slots q c.min-fine.ensures c.finer_slots-step.ensures (joined (packs lists)) c.requires.inside);
-    }
+    })

@@ -20,3 +20,6 @@ join_slots-requires-clause-room g c =
     let slots = one_shl (2 * s) 64 (omega (arith, c.leading-symbols.ensures.few)) in
     let product = ap (λ n. n * 2 ^ (2 * (k - s))) slots in
     omega (arith, product, all_slots k s c.leading-symbols.ensures.within c.args.size.within.1)
+
+pub returns : goal.returns
+returns g c = c.join_slots.ensures

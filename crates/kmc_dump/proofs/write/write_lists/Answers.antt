@@ -26,7 +26,7 @@ pub write_ranges-requires-clause-failures : goal.write_ranges-requires-clause-fa
 write_ranges-requires-clause-failures g c κs within = c.requires.failures
 
 pub write_ranges-requires-clause-ranges : goal.write_ranges-requires-clause-ranges
-write_ranges-requires-clause-ranges g c κs within = c.in_ok-ranges.ensures.are
+write_ranges-requires-clause-ranges g c κs within = c.in_ok-ranges.ensures.1
 
 pub returns-in-Ok : goal.returns-in-Ok
 returns-in-Ok g c =
@@ -37,7 +37,7 @@ returns-in-Ok g c =
     let new = c.write_ranges.new.writer in
     dumped bytes _ _ old new c.in_ok-total.total tt
     (c.in_ok-total.ensures.total ∙ sym (length_permutation all (whole lists) (in_order_moves all)))
-    (subst (λ k. IsWritten bytes (text_of (spelled k (whole lists))) old new (Ok tt)) c.in_ok-ranges.ensures.k c.in-Ok.ensures)
+    (subst (λ k. IsWritten bytes (text_of (spelled k (whole lists))) old new (Ok tt)) c.in_ok-ranges.ensures.0 c.in-Ok.ensures)
 
 pub returns : goal.returns
 returns g c =
@@ -46,4 +46,4 @@ returns g c =
     let old = c.args.writer.now in
     let new = c.write_ranges.new.writer in
     front_dumped bytes _ _ old new c.in-Err.field-0
-    (subst (λ k. IsWritten bytes (text_of (spelled k (whole lists))) old new (Err c.in-Err.field-0)) c.in_ok-ranges.ensures.k c.in-Err.ensures)
+    (subst (λ k. IsWritten bytes (text_of (spelled k (whole lists))) old new (Err c.in-Err.field-0)) c.in_ok-ranges.ensures.0 c.in-Err.ensures)
