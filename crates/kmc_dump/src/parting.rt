@@ -1,6 +1,7 @@
 //! The choice of ranges.
-ghost use Rattle.std.specs.Prelude.{◌≡◌, ℕ, ◌+◌, ◌-◌, ◌*◌, ◌/◌, ◌^◌, ◌<◌, ◌≤◌, length, All, IfOk};
+ghost use Rattle.std.specs.Prelude.{◌≡◌, ℕ, ◌+◌, ◌-◌, ◌*◌, ◌/◌, ◌^◌, ◌<◌, ◌≤◌, List, length, All, IfOk, OnOk, slice_index_or};
 ghost use Rattle.std.specs.List.{AllByRecursion};
+ghost use Rattle.kmc_lists.specs.Listed.{Listed};
 ghost use Rattle.kmc_lists.specs.Ordered.{Rises, CanBeMerged, joined, packs};
 ghost use Rattle.kmc_dump.specs.Ranges.{count_within, ArePartedTo, AreRanges};
 
@@ -91,7 +92,59 @@ fn finer_slots(bits: u32) -> u128
     1 << bits
 }
 
-/// Ranges of neighbouring slots; a slot with very many pairs is parted.
+/// Ranges of neighbouring slots: their bounds so far, the most pairs of one, and how many pairs lie behind the last bound.
+#[derive(Drop)]
+struct Joined {
+    bounds: Vec<u128>,
+    widest: usize,
+    pending: usize,
+}
+
+/// Puts a bound behind the pairs that lie behind the last.
+fn close_range(joined: &mut Joined, to: u128) -> Result<(), AllocError>
+    ensures none { OnOk result (joined.new.pending ≡ 0) }
+    ensures last { OnOk result (slice_index_or joined.new.bounds.items
+        (length joined.new.bounds.items - 1) 0 ≡ to) }
+    ensures are { (weight : ℕ) (lists : List Listed)
+        → ArePartedTo weight joined.old.widest joined.old.bounds.items to joined.old.pending lists
+        → OnOk result (ArePartedTo weight joined.new.widest joined.new.bounds.items to 0 lists) }
+{
+    joined.bounds.push(to)?;
+    joined.widest = joined.widest.max(joined.pending);
+    joined.pending = 0;
+    Ok(())
+}
+
+/// Puts a slot with so many pairs to the ranges; one with very many is parted.
+fn add_slot<W: Word + Drop, C: Shown + Drop>(
+    joined: &mut Joined,
+    lists: &[Counts<W, C>],
+    shift: u32,
+    from: u128,
+    to: u128,
+    size: usize,
+) -> Result<(), AllocError>
+    requires rise { AllByRecursion Rises (packs lists.now) }
+    requires shift { shift < 128 }
+    requires range { from ≤ to }
+    requires size { size ≡ count_within (2 ^ shift) from to lists.now }
+    ensures { ArePartedTo (2 ^ shift) joined.old.widest joined.old.bounds.items from joined.old.pending lists.now
+        → OnOk result (ArePartedTo
+        (2 ^ shift) joined.new.widest joined.new.bounds.items to joined.new.pending lists.now) }
+{
+    if joined.pending > 0 && size > USUAL.saturating_sub(joined.pending) {
+        close_range(joined, from)?;
+    }
+    if joined.pending == 0 && size > WIDE {
+        let most = part_range(&mut joined.bounds, lists, shift, from, to, size)?;
+        joined.widest = joined.widest.max(most);
+    } else {
+        joined.pending += size;
+    }
+    Ok(())
+}
+
+/// Ranges of neighbouring slots.
 fn join_slots<W: Word + Drop, C: Shown + Drop>(
     alloc: Global,
     lists: &[Counts<W, C>],
@@ -108,31 +161,27 @@ fn join_slots<W: Word + Drop, C: Shown + Drop>(
     let sizes = slot_sizes(alloc, lists, shift, slots)?;
     let fine = shift.min(FINEST);
     let step = finer_slots(shift - fine);
-    let mut bounds = Vec::new(alloc);
-    bounds.push(0)?;
-    let mut widest = 0;
-    let mut pending = 0;
+    let mut joined = Joined {
+        bounds: Vec::new(alloc),
+        widest: 0,
+        pending: 0,
+    };
+    joined.bounds.push(0)?;
     for slot in 0..slots {
-        let size = sizes[slot];
         let begin = slot as u128 * step;
-        if pending > 0 && size > USUAL.saturating_sub(pending) {
-            bounds.push(begin)?;
-            widest = widest.max(pending);
-            pending = 0;
-        }
-        if pending == 0 && size > WIDE {
-            let most = part_range(&mut bounds, lists, fine, begin, begin + step, size)?;
-            widest = widest.max(most);
-        } else {
-            pending += size;
-        }
+        add_slot(&mut joined, lists, fine, begin, begin + step, sizes[slot])?;
     }
-    bounds.push(slots as u128 * step)?;
+    close_range(&mut joined, slots as u128 * step)?;
+    let Joined {
+        bounds,
+        widest,
+        pending: _,
+    } = joined;
     Ok(Ranges {
         k: size.k,
         shift: fine,
         bounds,
-        widest: widest.max(pending),
+        widest,
     })
 }
 

@@ -62,24 +62,12 @@ fn write_rows<
     let mut full = 0;
     while next < count {
         let wave = back.len().min(count - next);
-        let Ok(()) = write_and_fill(
-            writer,
-            &front[..full],
-            filling,
-            next,
-            &mut back[..wave],
-        ) else {
+        let Ok(()) = write_and_fill(writer, &front[..full], filling, next, &mut back[..wave]) else {
             return Err(WriteFault);
         };
         next += wave;
         full = front.len().min(count - next);
-        let Ok(()) = write_and_fill(
-            writer,
-            &back[..wave],
-            filling,
-            next,
-            &mut front[..full],
-        ) else {
+        let Ok(()) = write_and_fill(writer, &back[..wave], filling, next, &mut front[..full]) else {
             return Err(WriteFault);
         };
         next += full;
