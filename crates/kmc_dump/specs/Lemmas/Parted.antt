@@ -29,10 +29,6 @@ max_above a b = go (is_lt (nat_cmp b a)) refl
     go true e = let less : b < a = grind (arith, nat_tests) in (omega arith, omega (arith, less))
     go false e = let less : a ≤ b = grind (arith, nat_tests) in (omega (arith, less), omega arith)
 
-pub along : (w to : ℕ) (lists : List Listed) (widest wider : ℕ) (bounds others : List ℕ) (n m : ℕ) → ArePartedTo w widest bounds to n lists → widest
-    ≡ wider → bounds ≡ others → n ≡ m → ArePartedTo w wider others to m lists
-along w to lists widest wider bounds others n m h a b e = coe 0 1 (i. ArePartedTo w (a i) (b i) to (e i) lists) h
-
 none : (w a : ℕ) (ps : List (ℕ × ℕ)) → length (within w a a ps) ≡ 0
 none w a [] = refl
 none w a (p ∷ ps) =
