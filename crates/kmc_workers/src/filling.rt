@@ -6,8 +6,8 @@ ghost use Rattle.kmc_splitters.specs.Causes.{IsCause};
 
 use crate::passing::pass_parts;
 use kmc_partcore::{QueueShape, Totals};
-use kmc_partqueue::laws::gathered;
 use kmc_partqueue::Gate;
+use kmc_partqueue::laws::gathered;
 use kmc_parts::Part;
 use kmc_splitters::Plan;
 use kmc_store::Bins;
