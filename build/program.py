@@ -4,8 +4,8 @@
 usage: build/program.py PROGRAM, at the top of the repository. The program is left as crates/PROGRAM/out/PROGRAM.
 
 It asks the kit's compiler for each library as `rt ci` does: from nothing, and what stands above a library reads its statements
-and not its proofs. A library is begun once those that it names are done, first the one with the longest chain above it. Each gets one
-process, since several for one check take up to twice the processor seconds; the first also gets those that no other wants.
+and not its proofs. A library is begun once those that it names are done, of several the one that stands first in crates.txt. Each gets
+one process, since several for one check take up to twice the processor seconds; the first also gets those that no other wants.
 What was built before from the same files is kept. `rt` in a crate's folder makes libraries of its own, in the place of these, and
 neither takes the other's.
 """
@@ -151,15 +151,6 @@ def build(crates, name, jobs):
     print(f"build: {name}, {time.time() - began:.0f} s", flush=True)
 
 
-def weights(crates, order):
-    """How many lines of code, definitions and proofs there are from each crate on, along the longest chain of those above it."""
-    found = {}
-    for name in reversed(order):
-        above = [found[it] for it in found if name in crates[it]]
-        found[name] = max(above, default=0) + sum(text_of(it).count(b"\n") for it in files_of(name))
-    return found
-
-
 def free_memory():
     """The bytes of memory that the system can give."""
     with open("/proc/meminfo", encoding="ascii") as lines:
@@ -169,8 +160,8 @@ def free_memory():
 def build_all(crates, order):
     """Builds the crates side by side, each after those that it names."""
     cores, room = len(os.sched_getaffinity(0)), free_memory() // MEMORY_OF_A_CHECK
-    at_once, weight = max(1, min(cores, room)), weights(crates, order)
-    left, running, done = sorted(order, key=lambda it: -weight[it]), {}, set()
+    at_once = max(1, min(cores, room))
+    left, running, done = [it for it in crates if it in order], {}, set()
     with ThreadPoolExecutor(at_once) as pool:
         while left or running:
             ready = [it for it in left if all(other in done for other in crates[it] if other in crates)]
