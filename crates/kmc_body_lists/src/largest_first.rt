@@ -4,10 +4,10 @@ ghost use Rattle.std.specs.Prelude.{◌<◌, IfSome};
 use std::alloc::{AllocError, Global};
 use std::sync::atomic::{AtomicUsize, Ordering};
 
-/// The places of bodies, the largest first, and how many of them are taken. Threads share it.
+/// The sizes of bodies with their places, the largest last, and how many of them are taken. Threads share it.
 #[derive(Drop)]
 pub struct LargestFirst {
-    places: Vec<usize>,
+    sizes: Vec<(usize, usize)>,
     taken: AtomicUsize,
 }
 
@@ -18,13 +18,9 @@ impl LargestFirst {
         for (place, body) in bodies.iter().enumerate() {
             sizes.push((body.len(), place))?;
         }
-        sizes.sort_unstable_by_key(|size| size.0);
-        let mut places = Vec::with_capacity(alloc, bodies.len())?;
-        for (_, place) in sizes.iter().rev() {
-            places.push(*place)?;
-        }
+        sizes.sort_unstable();
         Ok(LargestFirst {
-            places,
+            sizes,
             taken: AtomicUsize::new(0),
         })
     }
@@ -35,7 +31,8 @@ impl LargestFirst {
         ensures { IfSome result (λ place. place < count) }
     {
         let turn = self.taken.fetch_add(1, Ordering::SeqCst);
-        let place = *self.places.get(turn)?;
+        let left = self.sizes.len().checked_sub(turn)?;
+        let place = self.sizes.get(left.checked_sub(1)?)?.1;
         if place < count { Some(place) } else { None }
     }
 }

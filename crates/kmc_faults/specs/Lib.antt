@@ -1,3 +1,4 @@
 pub mod Status
 pub mod Messages
 pub mod Errors
+pub mod Lemmas

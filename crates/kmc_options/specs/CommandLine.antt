@@ -34,6 +34,17 @@ option_rule s = rule_of Set (name_of s)
 abbrev pub flag_rule : Flag → Rule
 flag_rule f = rule_of SetTrue (flag_name f)
 
+-- no positional argument, no help, no version, and no option yet
+abbrev pub plain : App
+plain = record {
+  top = record (new_shape (codes "kmc")) {
+    no_binary_name = true;
+    disable_help_flag = true;
+    disable_version_flag = true;
+  };
+  subs = [];
+}
+
 -- the eight options and the four flags, and nothing else: no positional argument, no help, no
 -- version
 abbrev pub command : App

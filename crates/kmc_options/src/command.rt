@@ -1,9 +1,11 @@
 //! The command that reads words in long form.
-ghost use Rattle.std.specs.Prelude.{◌≡◌, IfOk, MatchResult, map, string_bytes, true};
+ghost use Rattle.std.specs.Prelude.{◌≡◌, ◌⊎◌, IfOk, MatchResult, false, map, string_bytes, true};
 ghost use Rattle.std.specs.List.{fold};
-ghost use Rattle.clap.specs.Words.{app_of, found_of, rows_of, with_rule};
-ghost use Rattle.kmc_options.specs.CommandLine.{command, found, is_accepted, rule_of};
+ghost use Rattle.clap.specs.declared.error.kind.ErrorKind.TheVariants.{OutOfMemory};
+ghost use Rattle.clap.specs.Words.{app_of, found_of, rows_of, rule_of as rule_of_arg, with_rule};
+ghost use Rattle.kmc_options.specs.CommandLine.{command, found, is_accepted, plain, rule_of};
 ghost use Rattle.kmc_options.specs.Parsed.{FailsAs};
+ghost use Rattle.kmc_options.specs.declared.error.ParamsError.TheVariants.{Memory, Usage};
 
 use crate::error::ParamsError;
 use crate::named::{FLAGS, Named, OPTIONS};
@@ -18,24 +20,43 @@ pub fn parse<'a>(alloc: Global, words: &'a [String]) -> Result<ArgMatches<'a>, P
         × (rows_of (found_of m) ≡ found (map string_bytes words.entry.now)))
         (FailsAs (map string_bytes words.entry.now)) }
 {
-    let command = command(alloc)?;
+    let Ok(command) = command(alloc) else {
+        return Err(ParamsError::Memory);
+    };
     match command.try_get_matches_from(words) {
         Ok(matches) => Ok(matches),
-        Err(error) => match error.kind() {
-            ErrorKind::OutOfMemory => Err(ParamsError::Memory),
-            _ => Err(ParamsError::Usage),
-        },
+        Err(error) => Err(fault(error.kind())),
+    }
+}
+
+// Every fault but want of memory is one of the words.
+fn fault(kind: ErrorKind) -> ParamsError
+    ensures memory { kind ≡ OutOfMemory → result ≡ Memory }
+    ensures usage { (kind ≡ OutOfMemory) ⊎ (result ≡ Usage) }
+{
+    match kind {
+        ErrorKind::OutOfMemory => ParamsError::Memory,
+        _ => ParamsError::Usage,
     }
 }
 
 fn command<'a>(alloc: Global) -> Result<Command<'a>, AllocError>
     ensures { IfOk result (λ r. app_of r ≡ command) }
 {
-    let plain = Command::new(alloc, "kmc")
+    let Ok(with_options) = with_each(alloc, plain(alloc), &OPTIONS) else {
+        return Err(AllocError);
+    };
+    with_each(alloc, with_options, &FLAGS)
+}
+
+// The command without its options and flags.
+fn plain<'a>(alloc: Global) -> Command<'a>
+    ensures { app_of result ≡ plain }
+{
+    Command::new(alloc, "kmc")
         .no_binary_name(true)
         .disable_help_flag(true)
-        .disable_version_flag(true);
-    with_each(alloc, with_each(alloc, plain, &OPTIONS)?, &FLAGS)
+        .disable_version_flag(true)
 }
 
 fn with_each<'a, N: Named>(
@@ -49,19 +70,19 @@ fn with_each<'a, N: Named>(
 {
     let mut command = plain;
     for named in all {
-        command = with(alloc, command, *named)?;
+        let Ok(longer) = command.arg(argument(alloc, *named)) else {
+            return Err(AllocError);
+        };
+        command = longer;
     }
     Ok(command)
 }
 
-fn with<'a, N: Named>(
-    alloc: Global,
-    command: Command<'a>,
-    named: N,
-) -> Result<Command<'a>, AllocError>
-    ensures { IfOk result (λ r.
-        app_of r ≡ with_rule (app_of command.entry) (rule_of N.action (N.known_as named))) }
+// The argument with the name's rule; it is no argument of subcommands.
+fn argument<'a, N: Named>(alloc: Global, named: N) -> Arg<'a>
+    ensures rule { rule_of_arg result ≡ rule_of N.action (N.known_as named) }
+    ensures local { result.global ≡ false }
 {
     let name: &'a str = named.name();
-    command.arg(Arg::new(alloc, name).long(name).action(N::action()))
+    Arg::new(alloc, name).long(name).action(N::action())
 }

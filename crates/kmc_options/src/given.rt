@@ -1,14 +1,14 @@
 //! From the matches of a command line to the settings of a run.
-ghost use Rattle.std.specs.Prelude.{◌≡◌, MatchResult, Some, None, option_map};
+ghost use Rattle.std.specs.Prelude.{◌≡◌, IfSome, MatchResult, Some, None, option_map};
 ghost use Rattle.clap.specs.Words.{first_of, found_of, rows_of};
 ghost use Rattle.kmc_options.specs.CommandLine.{format_of, is_set, strands_of, value_of};
-ghost use Rattle.kmc_options.specs.Options.{AreGiven, Faults};
+ghost use Rattle.kmc_options.specs.Options.{AreGiven, Faults, first_out_of_range};
 ghost use Rattle.kmc_settings.specs.Kept.{HasUsualQueue};
 ghost use Rattle.kmc_settings.specs.Settings.{IsFor};
-ghost use Rattle.kmc_options.specs.declared.error.ParamsError.TheVariants.{OutOfRange, Usage};
+ghost use Rattle.kmc_options.specs.declared.error.ParamsError.TheVariants.{Usage};
 
 use crate::error::ParamsError;
-use crate::named::{Flag, Named};
+use crate::named::{Flag, Named, OPTIONS};
 use clap::ArgMatches;
 use kmc_base::Strands;
 use kmc_count::Limits;
@@ -22,14 +22,17 @@ pub fn given(matches: &ArgMatches<'_>) -> Result<Params, ParamsError>
         (Faults (rows_of (found_of matches.now))) }
 {
     let format = format(matches)?;
-    let k = value(matches, Setting::K)?;
-    let p = value(matches, Setting::P)?;
-    let n = value(matches, Setting::N)?;
-    let ci = value(matches, Setting::Ci)?;
-    let cx = value(matches, Setting::Cx)?;
-    let cs = value(matches, Setting::Cs)?;
-    let sp = value(matches, Setting::Sp)?;
-    let sr = value(matches, Setting::Sr)?;
+    if let Some(setting) = first_out_of_range(matches) {
+        return Err(ParamsError::OutOfRange(setting));
+    }
+    let k = number(matches, Setting::K);
+    let p = number(matches, Setting::P);
+    let n = number(matches, Setting::N);
+    let ci = number(matches, Setting::Ci);
+    let cx = number(matches, Setting::Cx);
+    let cs = number(matches, Setting::Cs);
+    let sp = number(matches, Setting::Sp);
+    let sr = number(matches, Setting::Sr);
     let limits = Limits { ci, cx, cs };
     let params = Params::new(
         format,
@@ -46,17 +49,36 @@ pub fn given(matches: &ArgMatches<'_>) -> Result<Params, ParamsError>
     }
 }
 
-/// The number of the option, given or by default.
-fn value(matches: &ArgMatches<'_>, setting: Setting) -> Result<u64, ParamsError>
-    ensures { MatchResult result
-        (λ n. (value_of (rows_of (found_of matches.now)) setting ≡ Some n) × IsFor setting n)
-        (λ e. (value_of (rows_of (found_of matches.now)) setting ≡ None)
-        × (e ≡ OutOfRange setting)) }
+/// The first option whose value is out of range.
+fn first_out_of_range(matches: &ArgMatches<'_>) -> Option<Setting>
+    ensures { result ≡ first_out_of_range (rows_of (found_of matches.now)) }
 {
-    match setting.chosen(given_text(matches, setting.name())) {
-        Some(number) => Ok(number),
-        None => Err(ParamsError::OutOfRange(setting)),
+    for setting in &OPTIONS {
+        if value(matches, *setting).is_none() {
+            return Some(*setting);
+        }
     }
+    None
+}
+
+/// The number of the option, where none is out of range.
+fn number(matches: &ArgMatches<'_>, setting: Setting) -> u64
+    requires { first_out_of_range (rows_of (found_of matches.now)) ≡ None }
+    ensures value { value_of (rows_of (found_of matches.now)) setting ≡ Some result }
+    ensures in_range { IsFor setting result }
+{
+    match value(matches, setting) {
+        Some(number) => number,
+        None => unreachable!(),
+    }
+}
+
+/// The number of the option, given or by default, where it is in range.
+fn value(matches: &ArgMatches<'_>, setting: Setting) -> Option<u64>
+    ensures value { result ≡ value_of (rows_of (found_of matches.now)) setting }
+    ensures in_range { IfSome result (IsFor setting) }
+{
+    setting.chosen(given_text(matches, setting.name()))
 }
 
 /// The format by its flags, of which at most one may stand.

@@ -3,7 +3,7 @@ ghost use Rattle.std.specs.Prelude.{◌≡◌, IfOk, option_map, string_bytes};
 ghost use Rattle.std.specs.Option.{option_map_or};
 ghost use Rattle.kmc_options.specs.Glued.{is_flag, long_form, option_in, value_in, with_value};
 
-use crate::named::{FLAGS, Named, OPTIONS};
+use crate::named::{Named, OPTIONS};
 use kmc_settings::{Setting, rest_after};
 use std::alloc::{AllocError, Global};
 
@@ -38,19 +38,19 @@ fn changed(alloc: Global, word: &str) -> Result<Option<String>, AllocError>
 fn is_flag(word: &str) -> bool
     ensures { result ≡ is_flag word.now }
 {
-    FLAGS
-        .iter()
-        .any(|flag| word.strip_prefix("-") == Some(flag.name()))
+    word == "-fa" || word == "-fq" || word == "-fm" || word == "-b"
 }
 
 // The option to which the word glues a value.
 fn option_in(word: &str) -> Option<Setting>
     ensures { result ≡ option_in word.now }
 {
-    OPTIONS
-        .iter()
-        .copied()
-        .find(|setting| value_in(*setting, word).is_some())
+    for setting in &OPTIONS {
+        if value_in(*setting, word).is_some() {
+            return Some(*setting);
+        }
+    }
+    None
 }
 
 // The value that the word glues to the option's name.

@@ -1,7 +1,7 @@
 //! Input formats.
 
 /// The format of an input text.
-#[derive(Clone, Copy, Debug, PartialEq, Eq)]
+#[derive(Clone, Copy)]
 pub enum Format {
     /// A header line beginning with `>`, then the lines of its sequence up to the next header.
     Fasta,

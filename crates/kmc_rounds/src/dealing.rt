@@ -1,12 +1,10 @@
 //! How the reads of a round are dealt to the splitters: long ones as pieces.
-ghost use Rattle.std.specs.Prelude.{◌≡◌, ℕ, ◌≤◌, List, ◌++◌, map, IfOk, OnOk};
-ghost use Rattle.std.specs.List.{flat_map};
-ghost use Rattle.kmc_base.specs.Pieces.{pieces};
+ghost use Rattle.std.specs.Prelude.{◌≡◌, ℕ, ◌≤◌, List, ◌++◌, OnOk};
 ghost use Rattle.kmc_rounds.specs.Rounds.{HoldsPieces};
 ghost use Rattle.kmc_settings.specs.Shape.{shape_of};
 
 use crate::storing::store_reads;
-use kmc_base::push_pieces;
+use kmc_input::pieces_of;
 use kmc_partqueue::Gate;
 use kmc_reads::Reads;
 use kmc_settings::Params;
@@ -30,19 +28,6 @@ pub struct Dealing<'a, G> {
     /// It is told of the points that the parts of the reads pass.
     pub gate: &'a G,
     pub ghost some: { params.k ≤ limit },
-}
-
-/// The pieces of the reads, where they lie, one read after the other.
-fn pieces_of(alloc: Global, reads: &Reads, k: usize, limit: usize) -> Result<Vec<&[u8]>, AllocError>
-    requires some { 1 ≤ k }
-    requires most { k ≤ limit }
-    ensures { IfOk result (λ v. map (λ s. s.now) v.items ≡ flat_map (pieces k limit) reads.now) }
-{
-    let mut out = Vec::new(alloc);
-    for i in 0..reads.len() {
-        push_pieces(&mut out, reads.get(i), k, limit)?;
-    }
-    Ok(out)
 }
 
 /// Adds the reads of a round to the bins, each as its pieces: a few chunks of pieces for each splitter, so that all of them work

@@ -1,5 +1,5 @@
 //! The reads of a text, a round at a time, into bins: a round is cut in threads while the caller's thread reads on.
-ghost use Rattle.std.specs.Prelude.{◌≡◌, ◌≢◌, ℕ, ◌+◌, ◌-◌, ◌*◌, ◌^◌, ◌<◌, ◌≤◌, min, List, ◌++◌, Option, false, IfOk, IfErr, OnOk, Ok, Err};
+ghost use Rattle.std.specs.Prelude.{◌≡◌, ◌≢◌, ℕ, ◌+◌, ◌-◌, ◌*◌, ◌^◌, ◌<◌, ◌≤◌, min, List, [], ◌++◌, Option, false, IfOk, IfErr, OnOk, Ok, Err};
 ghost use Rattle.std.specs.Io.KnownBytes.{IsAtEnd};
 ghost use Rattle.kmc_reads.specs.declared.format.Format.{Format};
 ghost use Rattle.kmc_reads.specs.Cuts.{AreCut};
@@ -138,6 +138,50 @@ fn next_round<T: Threads + Wait + Sync, R: Read, G: Gate + Sync>(
     Ok(more)
 }
 
+/// Each round of a text but the last goes into the bins, which hold no reads, while this thread reads and feeds the next one. The
+/// feeder, which has taken nothing, is left with the last round, and the reader at its end. At most `max_reads` reads may give bytes.
+fn earlier_rounds<T: Threads + Wait + Sync, R: Read, G: Gate + Sync>(
+    rt: &T,
+    bins: &mut Bins,
+    feeder: &mut Feeder,
+    dealing: &Dealing<'_, G>,
+    reader: &mut Counted<R>,
+    max_reads: u64,
+) -> Result<(), InputError>
+    requires shape { bins.old.shape ≡ shape_of dealing.now.params }
+    requires bins { HoldsPieces (shape_of dealing.now.params) dealing.now.limit [] bins.old.bodies }
+    requires feeder { StandsCut
+        (dealing.now.params.k - 1) dealing.now.params.format [] [] feeder.old }
+    requires failures { reader.old.failures < 2 ^ 64 - 1 }
+    requires reads { reader.old.reads + max_reads < 2 ^ 64 }
+    requires most { max_reads ≤ 2 ^ 32 }
+    ensures shape { bins.new.shape ≡ shape_of dealing.now.params }
+    ensures stored { OnOk result
+        (AreStored dealing.now.params.format (shape_of dealing.now.params) dealing.now.limit
+        (R.remaining reader.old.inner)
+        (R.remaining reader.new.inner) reader.old.reads reader.new.reads bins.new feeder.new
+        × IsAtEnd (R.remaining reader.new.inner)
+        × (reader.new.failures ≡ reader.old.failures)
+        × (reader.old.reads ≤ reader.new.reads)
+        × (reader.new.reads < reader.old.reads + max_reads)) }
+    ensures cause { IfErr result (λ e. AreCountsOf
+        (reader.old.reads
+        + max_reads) reader.old.reads reader.new.reads reader.old.failures reader.new.failures e
+        × IsInputError dealing.now.params.format max_reads (R.remaining reader.old.inner)
+        (R.remaining reader.new.inner) e) }
+{
+    let most = reader.reads() + max_reads;
+    let full = round_of(&dealing.params);
+    let mut more = fill_round(reader, feeder, most, full, dealing.symbols)?;
+    for _ in 0..1u64 << 32 {
+        if !more {
+            return Ok(());
+        }
+        more = next_round(rt, bins, feeder, dealing, reader, most)?;
+    }
+    Err(InputError::TooLong)
+}
+
 /// Bins that hold the reads of all that the reader gives, of which at most `max_reads` reads may give bytes. Of a
 /// round's reads and the next round's bytes no more than one round is held at a time, beside the bins: a FASTA read that
 /// is open is taken in pieces. Each read is held as its pieces of at most `limit` symbols.
@@ -177,13 +221,6 @@ pub fn bins_of_input<T: Threads + Wait + Sync, R: Read, G: Gate + Sync>(
     };
     let mut bins = Bins::new(alloc, params.shape())?;
     let mut feeder = Feeder::new(alloc, params.format);
-    let most = reader.reads() + max_reads;
-    let mut more = fill_round(reader, &mut feeder, most, round_of(params), ROUND)?;
-    for _ in 0..1u64 << 32 {
-        if !more {
-            return Ok(last_round(rt, bins, feeder, &dealing)?);
-        }
-        more = next_round(rt, &mut bins, &mut feeder, &dealing, reader, most)?;
-    }
-    Err(InputError::TooLong)
+    earlier_rounds(rt, &mut bins, &mut feeder, &dealing, reader, max_reads)?;
+    Ok(last_round(rt, bins, feeder, &dealing)?)
 }

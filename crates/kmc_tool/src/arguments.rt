@@ -9,11 +9,10 @@ ghost use Rattle.kmc_settings.specs.Words.{Word};
 ghost use Rattle.kmc_options.specs.Glued.{long_forms};
 ghost use Rattle.kmc_options.specs.Options.{Explains};
 ghost use Rattle.kmc_tool.specs.Program.{IsAnswered, IsAsked, IsDone, LeavesFront};
-ghost use Rattle.kmc_faults.specs.Status.{status_of_answer};
 
 use crate::running::run;
 use kmc_device::Counted;
-use kmc_faults::{Fault, RunError};
+use kmc_faults::{Fault, RunError, ended};
 use kmc_options::{ParamsError, settings};
 use kmc_reads::ReadsError;
 use kmc_settings::arguments;
@@ -74,22 +73,6 @@ pub fn count<T: Threads + Wait + Sync, R: Read, W: Write>(
     match run(rt, alloc, reader, writer, &params) {
         Ok(lines) => Ok(lines),
         Err(error) => Err(Fault::Run(error)),
-    }
-}
-
-/// Shows a fault, unless it is a write to a closed pipe, and gives the exit status: 0 where there is no fault. A line that
-/// cannot be written changes nothing of the status.
-fn ended(rt: &impl Eprint, answer: Result<u64, Fault>, pipe_closed: bool) -> ExitCode
-    ensures { exit_status result ≡ status_of_answer answer }
-{
-    match answer {
-        Ok(_) => ExitCode::from(0),
-        Err(fault) => {
-            if fault.is_told(pipe_closed) {
-                let _ = rt.eprintln(fault);
-            }
-            ExitCode::from(fault.status())
-        }
     }
 }
 

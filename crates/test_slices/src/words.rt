@@ -76,7 +76,7 @@ fn options_of_the_cut_are_kept(rt: HostRuntime) {
     let line = "-fa -k31 -p7 -n64 -sp4 -slices64 a/b.c";
     let request = cut_of(&rt, line).expect(&rt, line);
     let params = &request.params;
-    assert_eq!(rt; params.format, Format::Fasta);
+    assert!(rt; matches!(params.format, Format::Fasta));
     assert_eq!(rt; [params.k, params.p, params.n, params.sp], [31, 7, 64, 4]);
     assert_eq!(rt; (request.slices, request.prefix.as_str()), (64, "a/b.c"));
 }

@@ -1,9 +1,24 @@
-use Rattle.std.proofs.Common.{All, sym, subst}
-use Rattle.std.proofs.lemmas.List.Elements.{All-push}
+use Rattle.std.proofs.Common.{◌≡◌, List, [], ◌∷◌, ◌++◌, All, sym, subst}
+use Rattle.std.proofs.lemmas.List.Elements.{All-nil, All-push}
+use Rattle.std.proofs.lemmas.Result.{IfOk-from_err}
 use Rattle.kmc_body_lists.specs.Bodies.{IsListAt}
 use Rattle.kmc_body_lists.specs.Lemmas.ManyBodies.{texts}
 use Rattle.kmc_body_lists.specs.Lemmas.PlacedLists.{listed_at}
 use Rattle.kmc_body_lists.proofs.taking.take_bodies.Goals as goal
+
+one_more : {X : Type 0} (P : X → Type 0) (xs more : List X) (x : X) → more ≡ xs ++ x ∷ [] → All P xs → P x → All P more
+one_more P xs more x pushed all here = subst (All P) (sym pushed) (All-push P xs x all here)
+
+pub loop-init : goal.loop-init
+loop-init g c =
+    subst (All (λ p. IsListAt c.args.rule.strands c.args.rule.k c.args.limits.now (texts c.args.bodies.now) p.place p.list)) (sym c.new-lists.ensures.items)
+    (All-nil (λ p. IsListAt c.args.rule.strands c.args.rule.k c.args.limits.now (texts c.args.bodies.now) p.place p.list))
+
+pub list_body-requires-clause-most : goal.list_body-requires-clause-most
+list_body-requires-clause-most g c = c.requires.most
+
+pub list_body-requires-clause-wide : goal.list_body-requires-clause-wide
+list_body-requires-clause-wide g c = c.requires.wide
 
 pub loop-preserved : goal.loop-preserved
 loop-preserved g c =
@@ -11,7 +26,13 @@ loop-preserved g c =
     let l = c.args.limits.now in
     let bodies = c.args.bodies.now in
     let list = c.in_ok-list.list in
-    subst (All (λ p. IsListAt rule.strands rule.k l (texts bodies) p.place p.list)) (sym c.in-Ok.ensures.items)
-    (All-push (λ p. IsListAt rule.strands rule.k l (texts bodies) p.place p.list) c.loop.lists.items _ c.loop.invariant
+    one_more (λ p. IsListAt rule.strands rule.k l (texts bodies) p.place p.list) c.loop.lists.items c.push.new.self.items _ c.in-Ok.ensures.items
+    c.loop.invariant
     (listed_at rule.strands rule.k l bodies c.in-Some.place c.index-bodies-place.result c.deref.result.now list c.in-Some.ensures c.index-bodies-place.is
-    c.deref.ensures.value c.in_ok-list.ensures.list c.in_ok-list.ensures.ok))
+    c.deref.ensures.value c.in_ok-list.ensures.list c.in_ok-list.ensures.ok)
+
+pub returns-in_err-list : goal.returns-in_err-list
+returns-in_err-list g c = IfOk-from_err _ _ c.from_residual.ensures.0
+
+pub returns-in-Err : goal.returns-in-Err
+returns-in-Err g c = tt

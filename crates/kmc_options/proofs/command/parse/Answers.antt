@@ -1,27 +1,38 @@
 -- `clap` says which words a command without rules between arguments refuses, and what it finds.
-use Rattle.std.proofs.Common.{◌∙◌, inl, inr, map}
+use Rattle.std.proofs.Common.{◌≡◌, ◌∙◌, List, inl, inr, map, subst, sym}
 use Rattle.std.specs.Prelude.{string_bytes}
 use Rattle.clap.specs.Simple.{app_of}
 use Rattle.clap.specs.Matches.{found_of}
 use Rattle.clap.specs.Walk.{rows_of}
+use Rattle.kmc_options.specs.Parsed.{FailsAs}
+use Rattle.kmc_options.specs.declared.error.ParamsError.{ParamsError}
+use Rattle.kmc_options.specs.declared.error.ParamsError.TheVariants.{Memory}
 use Rattle.kmc_options.proofs.Judging.{accepts, finds, judged, plain, refuses}
 use Rattle.kmc_options.proofs.command.parse.Goals as goal
+use Rattle.kmc_settings.specs.Words.{Word}
 
-pub returns-in-Ok : goal.returns-in-Ok
-returns-in-Ok c =
-    let app = app_of c.in_ok-command.command in
+for_memory : (words : List Word) (e : ParamsError) → e ≡ Memory → FailsAs words e
+for_memory words e is = subst (FailsAs words) (sym is) tt
+
+pub returns-in-Ok-try_get_matches_from : goal.returns-in-Ok-try_get_matches_from
+returns-in-Ok-try_get_matches_from c =
+    let app = app_of c.in-Ok.command in
     let words = map string_bytes c.args.words.now in
-    let is = c.in_ok-command.ensures in (
-      accepts app words is (c.in-Ok.ensures.kinds (judged app is)),
-      finds app words (rows_of (found_of c.in-Ok.matches)) is (c.in-Ok.ensures.matches (plain app is)).0,
+    let is = c.in-Ok.ensures in (
+      accepts app words is (c.in-Ok-try_get_matches_from.ensures.kinds (judged app is)),
+      finds app words (rows_of (found_of c.in-Ok-try_get_matches_from.matches)) is (c.in-Ok-try_get_matches_from.ensures.matches (plain app is)).0,
     )
 
-pub returns : goal.returns
-returns c =
-    let app = app_of c.in_ok-command.command in
+pub returns-in-Err : goal.returns-in-Err
+returns-in-Err c =
+    let app = app_of c.in-Ok.command in
     let words = map string_bytes c.args.words.now in
-    let is = c.in_ok-command.ensures in
-    elim (c.in-Err.ensures.kinds (judged app is)) [
-      | inl memory ↦ absurd (c.in_default.not-OutOfMemory (c.kind.ensures ∙ memory))
-      | inr among ↦ refuses app words _ is among
+    let is = c.in-Ok.ensures in
+    let memory = for_memory words c.fault.result in
+    elim c.fault.ensures.usage [
+      | inl kind ↦ memory (c.fault.ensures.memory kind)
+      | inr usage ↦ elim (c.in-Err.ensures.kinds (judged app is)) [
+        | inl kind ↦ memory (c.fault.ensures.memory (c.kind.ensures ∙ kind))
+        | inr among ↦ subst (FailsAs words) (sym usage) (refuses app words _ is among)
+      ]
     ]

@@ -11,7 +11,8 @@ pub loop-named-preserved : goal.loop-named-preserved
 loop-named-preserved g c =
     let rule : g.row.N.Denot → Rule = λ n. rule_of g.N.Named.action (g.N.Named.known_as n) in
     let one = added with_rule rule (app_of c.args.plain) c.args.all.now c.loop-named.named-index c.named-item.result (omega arith) in
-    c.in_ok-command.ensures ∙ ap (λ a. with_rule a (rule c.named-item.result)) c.loop-named.invariant
+    c.in-Ok.ensures.shape c.argument.ensures.local ∙ ap (with_rule (app_of c.loop-named.command)) c.argument.ensures.rule
+    ∙ ap (λ a. with_rule a (rule c.named-item.result)) c.loop-named.invariant
     ∙ ap (λ n. with_rule (fold with_rule (app_of c.args.plain) (map rule (take c.loop-named.named-index c.args.all.now))) (rule n)) c.named-item.is ∙ sym one
 
 pub returns : goal.returns

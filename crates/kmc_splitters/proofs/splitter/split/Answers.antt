@@ -1,6 +1,9 @@
-use Rattle.std.proofs.Common.{ℕ, ◌<◌, ◌≡◌, length, map, sym, ap, subst, ◌∙◌, arith}
+use Rattle.std.proofs.Common.{ℕ, ◌+◌, ◌*◌, ◌<◌, ◌≤◌, ◌≡◌, length, map, refl, sym, ap, subst, ◌∙◌, arith}
 use Rattle.std.specs.Prelude.{Err}
 use Rattle.std.proofs.lemmas.List.{length-map}
+use Rattle.std.proofs.Math.Nat.{mul-le-mul_right}
+use Rattle.std.proofs.lemmas.Result.{IfOk-from_err}
+use borrow.Author.Count.{falls}
 use Rattle.std.proofs.lemmas.Grind.{common_steps}
 use Rattle.kmc_base.specs.Lemmas.PassedOn.{passed_on}
 use Rattle.kmc_parts.specs.Parts.{ArePartsOf}
@@ -11,6 +14,55 @@ use Rattle.kmc_splitters.proofs.Sent.{next_own, next_other, too_many, cause_of}
 use Rattle.kmc_way.specs.Lemmas.SameSeats.{same_seat}
 use Rattle.kmc_splitters.proofs.splitter.split.Goals.{then-c-way+in_ok-parts+in_ok-put_all, else-c-way}
 use Rattle.kmc_splitters.proofs.splitter.split.Goals as goal
+
+some_writers : (number queue writers : ℕ) → number < queue → writers ≡ queue → 0 < writers
+some_writers number queue writers below same = omega arith
+
+-- a chunk starts within the reads
+chunk_within : (c chunks batch reads : ℕ) → c < chunks → chunks * batch < reads + batch → c * batch ≤ reads
+chunk_within c chunks batch reads near most =
+    let earlier : c + 1 ≤ chunks = omega arith in
+    let behind : (c + 1) * batch ≤ chunks * batch = mul-le-mul_right batch earlier in
+    let one_more : (c + 1) * batch ≡ c * batch + batch = grind arith in
+    omega (arith, behind, one_more, most)
+
+pub chunks-c-end-requires : goal.chunks-c-end-requires
+chunks-c-end-requires g c = c.args.plan.some.0
+
+pub loop-c-init : goal.loop-c-init
+loop-c-init g c = (record { table = refl; number = refl; per_writer = refl }, c.requires.1)
+
+pub nonzero_rem-c : goal.nonzero_rem-c
+nonzero_rem-c g c = some_writers c.args.s.number c.args.way.now.lanes.shape.writers c.args.way.now.writers c.requires.0.2 c.args.way.now.as_many
+
+pub chunk_of-chunk-requires : goal.chunk_of-chunk-requires
+chunk_of-chunk-requires g c = (
+  c.args.plan.some.0,
+  chunk_within c.loop-c.c c.chunks-c-end.result c.args.plan.batch (length c.args.reads.now) c.loop-c-test.true c.chunks-c-end.ensures.most,
+)
+
+pub put_all-requires : goal.put_all-requires
+put_all-requires g c = let same = c.loop-c.invariant.0 in (
+  same.table ∙ c.requires.0.0,
+  same.per_writer ∙ c.requires.0.1,
+  subst (λ n. n < c.args.way.now.lanes.shape.writers) (sym same.number) c.requires.0.2,
+)
+
+pub complete-requires : goal.complete-requires
+complete-requires g c = let same = c.loop-c.invariant.0 in (
+  same.table ∙ c.requires.0.0,
+  same.per_writer ∙ c.requires.0.1,
+  subst (λ n. n < c.args.way.now.lanes.shape.writers) (sym same.number) c.requires.0.2,
+)
+
+pub returns-in_err-parts-clause-done : goal.returns-in_err-parts-clause-done
+returns-in_err-parts-clause-done g c = IfOk-from_err _ _ c.from_residual.ensures.0
+
+pub returns-in_err-put_all-clause-done : goal.returns-in_err-put_all-clause-done
+returns-in_err-put_all-clause-done g c = IfOk-from_err _ _ c.from_residual-in_err-put_all.ensures.0
+
+pub loop-c-smaller : goal.loop-c-smaller
+loop-c-smaller g c = falls c.chunks-c-end.result c.loop-c.c c.loop-c-test.true
 
 pub returns-in_err-put_all-clause-cause : goal.returns-in_err-put_all-clause-cause
 returns-in_err-put_all-clause-cause g c =

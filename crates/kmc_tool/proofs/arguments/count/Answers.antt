@@ -1,5 +1,5 @@
 use Rattle.std.proofs.Common.{rules}
-use Rattle.kmc_tool.proofs.Refusals.{of_run}
+use Rattle.kmc_faults.specs.Lemmas.Refusals.{of_run}
 use Rattle.kmc_tool.proofs.arguments.count.Goals as goal
 
 pub returns-in-Err-clause-input : goal.returns-in-Err-clause-input

@@ -1,6 +1,6 @@
 use Rattle.std.proofs.Common.{arith}
 use Rattle.std.proofs.lemmas.Grind.{common_steps}
-use Rattle.kmc_rounds.proofs.dealing.pieces_of.Goals as goal
+use Rattle.kmc_input.proofs.pieces.pieces_of.Goals as goal
 
 pub loop-i-preserved : goal.loop-i-preserved
 loop-i-preserved c = grind (arith, common_steps)
