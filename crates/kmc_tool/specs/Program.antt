@@ -1,12 +1,20 @@
 -- What the program's arguments ask for, and what it answers.
-use Rattle.std.specs.Prelude.{◌≡◌, ℕ, ◌+◌, true, List, Option}
-use Rattle.std.specs.Io.KnownBytes.{Appends}
+use Rattle.std.specs.Prelude.{◌≡◌, ◌≢◌, ℕ, ◌+◌, ◌^◌, ◌≤◌, true, List, [], length, None, Option, Result, IfOk, IfErr, IsErrOf}
+use Rattle.std.specs.Io.KnownBytes.{Appends, Consumes}
 use Rattle.kmc_device.specs.Device.{AppendsFront, GaveAll, Watched}
+use Rattle.kmc_reads.specs.Stages.{fault}
+use Rattle.kmc_reads.specs.declared.error.ReadsError.{ReadsError}
+use Rattle.kmc_input.specs.Fed.{IsRefused}
+use Rattle.kmc_faults.specs.declared.error.RunError.{RunError}
+use Rattle.kmc_faults.specs.declared.error.RunError.TheVariants.{Read, Write, Input, TooLong}
+use Rattle.kmc_faults.specs.declared.fault.Fault.{Fault}
+use Rattle.kmc_faults.specs.declared.fault.Fault.TheVariants.{Options, Run}
 use Rattle.kmc_tool.specs.Run.{IsDumpOf}
 use Rattle.kmc_settings.specs.declared.params.Params.{Params}
 use Rattle.kmc_settings.specs.Words.{Word}
 use Rattle.kmc_options.specs.CommandLine.{found}
-use Rattle.kmc_options.specs.Options.{AreGiven, is_taken}
+use Rattle.kmc_options.specs.Options.{AreGiven, Explains, is_taken}
+use Rattle.kmc_options.specs.declared.error.ParamsError.{ParamsError}
 
 -- the words, in long form, give settings
 pub record IsAsked (words : List Word) : Type 0 where
@@ -18,6 +26,29 @@ pub record IsAsked (words : List Word) : Type 0 where
 pub record IsAnswered (words : List Word) (bytes text : List ℕ) (lines : ℕ) : Type 0 where
   pub asked : IsAsked words
   pub dump : IsDumpOf asked.params.format bytes asked.params.strands asked.params.k asked.params.limits text lines
+
+-- a count of what a reader gives by the words, in long form, from the reader to a writer, each before and after, by its answer
+pub record IsCount {R W : Type 0} (words : List Word) (remaining : R → Option (List ℕ)) (contents : W → Option (List ℕ))
+    (reader read : Watched R) (writer written : Watched W) (answer : Result ℕ Fault) : Type 0 where
+  -- what was written is the dump that the words ask for, and the answer is its number of lines
+  pub ok : IfOk answer (λ lines. (bytes text : List ℕ) × GaveAll (remaining reader.inner) (remaining read.inner) bytes
+      × IsAnswered words bytes text lines × Appends (contents writer.inner) (contents written.inner) text)
+  pub sound : IfOk answer (λ lines. (read.failures ≡ reader.failures) × (written.failures ≡ writer.failures))
+  -- each fault has its cause
+  pub options : (e : ParamsError) → IsErrOf answer (Options e) → Explains words e × (read ≡ reader)
+  pub run : (e : RunError) → IsErrOf answer (Run e) → IsAsked words
+  pub input : (e : ReadsError) → IsErrOf answer (Run (Input e)) → (asked : IsAsked words)
+      × IsRefused asked.params.format (remaining reader.inner) (remaining read.inner) [] e
+  pub read_failed : IsErrOf answer (Run Read) → read.failures ≡ reader.failures + 1
+  pub write_failed : IsErrOf answer (Run Write) → (written.failures ≡ writer.failures + 1) × (bytes text : List ℕ) × (lines : ℕ)
+      × GaveAll (remaining reader.inner) (remaining read.inner) bytes
+      × IsAnswered words bytes text lines × AppendsFront (contents writer.inner) (contents written.inner) text
+  pub long : IsErrOf answer (Run TooLong) → (asked : IsAsked words) × (read.reads ≡ reader.reads + 2 ^ 32)
+      × (bytes : List ℕ) × Consumes (remaining reader.inner) (remaining read.inner) bytes
+      × (2 ^ 32 ≤ length bytes) × (fault asked.params.format bytes ≡ None)
+  -- only a failed write leaves anything written, and no other fault passes over a failed read
+  pub silent : IfErr answer (λ e. e ≢ Run Write → written ≡ writer)
+  pub kept : IfErr answer (λ e. e ≢ Run Read → read.failures ≡ reader.failures)
 
 -- the dump that the words ask for was written whole, and no device failed
 pub record IsDone {R W : Type 0} (words : List Word) (remaining : R → Option (List ℕ)) (contents : W → Option (List ℕ))

@@ -1,20 +1,15 @@
 //! The program: from its arguments to the dump and the exit status.
-ghost use Rattle.std.specs.Prelude.{◌≡◌, ◌≢◌, ℕ, ◌+◌, ◌-◌, ◌^◌, ◌<◌, ◌≤◌, ◌⊎◌, List, [], None, IfOk, IfErr, IsErrOf, length, map, string_bytes};
-ghost use Rattle.std.specs.Io.KnownBytes.{Appends, Consumes};
+ghost use Rattle.std.specs.Prelude.{◌≡◌, ◌+◌, ◌-◌, ◌^◌, ◌<◌, ◌≤◌, ◌⊎◌, List, map, string_bytes};
 ghost use Rattle.std.specs.Process.{exit_status};
-ghost use Rattle.kmc_device.specs.Device.{AppendsFront, GaveAll};
-ghost use Rattle.kmc_reads.specs.Stages.{fault};
-ghost use Rattle.kmc_input.specs.Fed.{IsRefused};
 ghost use Rattle.kmc_settings.specs.Words.{Word};
 ghost use Rattle.kmc_options.specs.Glued.{long_forms};
 ghost use Rattle.kmc_options.specs.Options.{Explains};
-ghost use Rattle.kmc_tool.specs.Program.{IsAnswered, IsAsked, IsDone, LeavesFront};
+ghost use Rattle.kmc_tool.specs.Program.{IsCount, IsDone, LeavesFront};
 
 use crate::running::run;
 use kmc_device::Counted;
-use kmc_faults::{Fault, RunError, ended};
+use kmc_faults::{Fault, ended};
 use kmc_options::{ParamsError, settings};
-use kmc_reads::ReadsError;
 use kmc_settings::arguments;
 use std::alloc::{AllocError, Global};
 use std::io::{Read, Write};
@@ -36,40 +31,12 @@ pub fn count<T: Threads + Wait + Sync, R: Read, W: Write>(
     requires reader { reader.old.failures < 2 ^ 64 - 1 }
     requires writer { writer.old.failures < 2 ^ 64 - 1 }
     requires reads { reader.old.reads + 2 ^ 32 < 2 ^ 64 }
-    ensures ok { IfOk result (λ lines. (bytes text : List ℕ)
-        × GaveAll (R.remaining reader.old.inner) (R.remaining reader.new.inner) bytes
-        × IsAnswered (long_forms (map string_bytes argv.items)) bytes text lines
-        × Appends (W.contents writer.old.inner) (W.contents writer.new.inner) text) }
-    ensures sound { IfOk result (λ lines. (reader.new.failures ≡ reader.old.failures)
-        × (writer.new.failures ≡ writer.old.failures)) }
-    ensures options { (e : ParamsError) → IsErrOf result (Fault.Options e)
-        → Explains (long_forms (map string_bytes argv.items)) e × (reader.new ≡ reader.old) }
-    ensures run { (e : RunError) → IsErrOf result (Fault.Run e)
-        → IsAsked (long_forms (map string_bytes argv.items)) }
-    ensures input { (e : ReadsError) → IsErrOf result (Fault.Run (RunError.Input e))
-        → (asked : IsAsked (long_forms (map string_bytes argv.items)))
-        × IsRefused asked.params.format (R.remaining reader.old.inner)
-        (R.remaining reader.new.inner) [] e }
-    ensures read { IsErrOf result (Fault.Run RunError.Read)
-        → reader.new.failures ≡ reader.old.failures + 1 }
-    ensures write { IsErrOf result (Fault.Run RunError.Write)
-        → (writer.new.failures ≡ writer.old.failures + 1)
-        × (bytes text : List ℕ) × (lines : ℕ)
-        × GaveAll (R.remaining reader.old.inner) (R.remaining reader.new.inner) bytes
-        × IsAnswered (long_forms (map string_bytes argv.items)) bytes text lines
-        × AppendsFront (W.contents writer.old.inner) (W.contents writer.new.inner) text }
-    ensures long { IsErrOf result (Fault.Run RunError.TooLong)
-        → (asked : IsAsked (long_forms (map string_bytes argv.items)))
-        × (reader.new.reads ≡ reader.old.reads + 2 ^ 32)
-        × (bytes : List ℕ)
-        × Consumes (R.remaining reader.old.inner) (R.remaining reader.new.inner) bytes
-        × (2 ^ 32 ≤ length bytes)
-        × (fault asked.params.format bytes ≡ None) }
-    ensures silent { IfErr result (λ e. e ≢ Fault.Run RunError.Write → writer.new ≡ writer.old) }
-    ensures kept { IfErr result
-        (λ e. e ≢ Fault.Run RunError.Read → reader.new.failures ≡ reader.old.failures) }
+    ensures { IsCount (long_forms (map string_bytes argv.items)) R.remaining W.contents reader.old reader.new writer.old writer.new result }
 {
-    let params = settings(alloc, argv)?;
+    let params = match settings(alloc, argv) {
+        Ok(params) => params,
+        Err(error) => return Err(Fault::Options(error)),
+    };
     match run(rt, alloc, reader, writer, &params) {
         Ok(lines) => Ok(lines),
         Err(error) => Err(Fault::Run(error)),

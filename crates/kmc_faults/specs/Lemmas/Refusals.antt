@@ -8,7 +8,8 @@ use Rattle.kmc_faults.specs.Errors.{run_error, write_error}
 use Rattle.kmc_input.specs.declared.input_error.InputError.{InputError}
 use Rattle.kmc_input.specs.declared.input_error.InputError.TheVariants.{Memory, Read, Faulty, TooLong}
 use Rattle.kmc_faults.specs.declared.error.RunError.{RunError}
-use Rattle.kmc_faults.specs.declared.fault.Fault.TheVariants.{Run}
+use Rattle.kmc_faults.specs.declared.fault.Fault.TheVariants.{Options, Run}
+use Rattle.kmc_options.specs.declared.error.ParamsError.{ParamsError}
 use Rattle.kmc_faults.specs.declared.error.RunError.TheVariants as run
 
 abbrev back : RunError → InputError
@@ -58,9 +59,19 @@ is_memory dump.Memory other = refl
 is_memory dump.Write other = absurd (other refl)
 
 -- an answer is no refusal
-pub no_refusal : {lines : ℕ} {e : RunError} → IsErrOf (Ok lines) e → ⊥
+pub no_refusal : {E : Type 0} {lines : ℕ} {e : E} → IsErrOf {T = ℕ} (Ok lines) e → ⊥
 no_refusal is = absurd (cc)
 
 -- a refusal that is told as one of a run is that of the run
 pub of_run : {e told : RunError} → IsErrOf {T = ℕ} (Err (Run e)) (Run told) → IsErrOf {T = ℕ} (Err e) told
 of_run is = cc
+
+-- and one of the options that of the options
+pub of_options : {e told : ParamsError} → IsErrOf {T = ℕ} (Err (Options e)) (Options told) → e ≡ told
+of_options is = cc
+
+pub no_run : {e : ParamsError} {told : RunError} → IsErrOf {T = ℕ} (Err (Options e)) (Run told) → ⊥
+no_run is = absurd (cc)
+
+pub no_options : {e : RunError} {told : ParamsError} → IsErrOf {T = ℕ} (Err (Run e)) (Options told) → ⊥
+no_options is = absurd (cc)

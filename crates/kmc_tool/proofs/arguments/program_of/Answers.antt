@@ -23,7 +23,7 @@ returns-clause-done g c = λ zero.
 pub returns-clause-failed : goal.returns-clause-failed
 returns-clause-failed g c = λ one.
     one_or_other c.count-answer.result (sym c.ended.ensures ∙ one) c.count-answer.ensures.silent (λ is.
-    let told = c.count-answer.ensures.write is in
+    let told = c.count-answer.ensures.write_failed is in
     record {
       bytes = told.1;
       text = told.2;
