@@ -121,7 +121,8 @@ fn numbers_of(given: &Params) -> [u64; 11] {
 #[test]
 fn no_option_means_the_defaults(rt: HostRuntime) {
     let given = given(&rt, "");
-    assert!(rt; (given.format, given.strands) == (Format::Fastq, Strands::Joined));
+    let told = (given.format, given.strands);
+    assert!(rt; matches!(told, (Format::Fastq, Strands::Joined)));
     assert_eq!(rt;
         numbers_of(&given),
         [25, 9, 512, 2, 1_000_000_000, 255, 2, 2, 1, 8, 1024]
@@ -132,7 +133,8 @@ fn no_option_means_the_defaults(rt: HostRuntime) {
 fn each_option_gives_its_own_setting(rt: HostRuntime) {
     let line = "-fa -k31 -p7 -n64 -ci3 -cx90 -cs80 -sp4 -sr5 -b";
     let given = given(&rt, line);
-    assert!(rt; (given.format, given.strands) == (Format::Fasta, Strands::Apart));
+    let told = (given.format, given.strands);
+    assert!(rt; matches!(told, (Format::Fasta, Strands::Apart)));
     assert_eq!(rt;
         numbers_of(&given),
         [31, 7, 64, 3, 90, 80, 4, 5, 1, 8, 1024]

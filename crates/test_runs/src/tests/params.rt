@@ -21,7 +21,8 @@ fn queue_of(params: &Params) -> [usize; 3] {
 #[test]
 fn settings_in_range_are_kept(rt: HostRuntime) {
     let made = sized(64, 11, 2000, 16, 15).expect(&rt, "in range");
-    assert!(rt; (made.format, made.strands) == (Format::Fasta, Strands::Joined));
+    let told = (made.format, made.strands);
+    assert!(rt; matches!(told, (Format::Fasta, Strands::Joined)));
     assert_eq!(rt; sizes_of(&made), [64, 11, 2000, 16, 15]);
     let limits = [made.limits.ci, made.limits.cx, made.limits.cs];
     assert_eq!(rt; (limits, queue_of(&made)), ([1, 2, 3], [1, 8, 1024]));
@@ -79,6 +80,7 @@ fn strands_alone_are_changed(rt: HostRuntime) {
     let apart = sized(31, 7, 64, 3, 4)
         .expect(&rt, "in range")
         .with_strands(Strands::Apart);
-    assert!(rt; (apart.format, apart.strands) == (Format::Fasta, Strands::Apart));
+    let told = (apart.format, apart.strands);
+    assert!(rt; matches!(told, (Format::Fasta, Strands::Apart)));
     assert_eq!(rt; sizes_of(&apart), [31, 7, 64, 3, 4]);
 }

@@ -1,6 +1,8 @@
 use Rattle.std.proofs.Common.{◌≡◌, ℕ, ◌+◌, ◌*◌, ◌-◌, ◌/◌, ◌^◌, ◌<◌, ◌≤◌, min, List, length, get_or, take, map, vec_len, vec_capacity, ap, sym, ◌∙◌, arith}
+use Rattle.std.proofs.Common.{◌%◌, max, Fits, w8, w64}
 use Rattle.std.proofs.lemmas.List.{length-take-le, get_or-take}
 use Rattle.std.proofs.lemmas.Result.{IfOk-from_err}
+use borrow.Author.Count.{falls}
 use Rattle.kmc_base.specs.Lemmas.Packs.{AreCodes}
 use Rattle.kmc_base.specs.Lemmas.Rolling.{IsRolling, ahead_quarters, behind_quarters, codes_front, roll_start, step_at, byte_step, fits_at}
 use Rattle.kmc_spelling.specs.Record.{codes_in}
@@ -47,6 +49,86 @@ in_byte n j r less few = omega (arith, less, few)
 room_left : (n i len capacity : ℕ) → i < n → len + (n - i) ≤ capacity → len < capacity
 room_left n i len capacity less room = omega (arith, less, room)
 
+code_inside : (n i : ℕ) (bs : List ℕ) → n ≤ 4 * length bs → i < n → i < length (take n (codes_in bs))
+code_inside n i bs inside less = omega (arith, long bs n inside, less)
+
+ended : (i n : ℕ) → i ≤ n → n ≤ i → i ≡ n
+ended i n most least = omega (arith, most, least)
+
+head_less : (k n i : ℕ) → k ≤ n → i < k - 1 → i < n
+head_less k n i enough less = omega (arith, enough, less)
+
+whole_bytes : (k : ℕ) → 4 * ((k - 1) / 4) ≤ k - 1
+whole_bytes k = omega arith
+
+byte_begun : (n j : ℕ) → j < n / 4 → min (4 * j) n ≡ 4 * j + 0
+byte_begun n j less = omega (arith, less)
+
+code_on : (j r : ℕ) → 4 * j + r + 1 ≡ 4 * j + (r + 1)
+code_on j r = omega arith
+
+byte_ended : (n j r : ℕ) → j < n / 4 → r ≤ 4 → 4 ≤ r → 4 * j + r ≡ min (4 * (j + 1)) n
+byte_ended n j r less most least = omega (arith, less, most, least)
+
+-- a word has at most 64 symbols, and a record fewer than 4000
+begun_fits : (k : ℕ) → k ≤ 64 → Fits w64 (k + 2)
+begun_fits k most = omega (arith, most)
+
+near_fits : (k : ℕ) → k ≤ 64 → Fits w64 (4 * ((k + 2) / 4))
+near_fits k most = omega (arith, most)
+
+whole_fits : (k : ℕ) → k ≤ 64 → Fits w64 (4 * ((k - 1) / 4))
+whole_fits k most = omega (arith, most)
+
+symbols_fit : (n size : ℕ) → n ≤ 4 * size → size < 1000 → Fits w64 (n + 1)
+symbols_fit n size inside few = omega (arith, inside, few)
+
+last_fits : (n size : ℕ) → n ≤ 4 * size → size < 1000 → Fits w64 (4 * (n / 4))
+last_fits n size inside few = omega (arith, inside, few)
+
+all_places : (k n : ℕ) → k ≤ n → k ≤ n + 1
+all_places k n enough = omega (arith, enough)
+
+top_far : (k most top j : ℕ) → j < (k - 1) / 4 → k ≤ most → top ≡ 4 ^ (k - 1) → (i : ℕ) × (3 ≤ i) × (i < most) × (top ≡ 4 ^ i)
+top_far k most top j less room is = (k - 1, omega (arith, less), omega (arith, less, room), is)
+
+-- where a code is in its byte
+twice_fits : (r : ℕ) → r < 4 → Fits w64 (2 * r)
+twice_fits r few = omega (arith, few)
+
+twice_most : (r : ℕ) → r < 4 → 2 * r ≤ 6
+twice_most r few = omega (arith, few)
+
+shift_fits : (r : ℕ) → Fits w8 (6 - 2 * r)
+shift_fits r = omega arith
+
+shift_most : (r : ℕ) → 6 - 2 * r < 8
+shift_most r = omega arith
+
+is_code : (n : ℕ) → n % 4 < 4
+is_code n = omega arith
+
+first_end : (k : ℕ) → 1 ≤ k → k - 1 + 1 ≡ k
+first_end k some = omega (arith, some)
+
+far_enough : (k i : ℕ) → k - 1 ≤ i → k ≤ i + 1
+far_enough k i far = omega (arith, far)
+
+far_in_bytes : (k j r : ℕ) → (k + 2) / 4 ≤ j → k ≤ 4 * j + r + 1
+far_in_bytes k j r far = omega (arith, far)
+
+near_ended : (k n near i : ℕ) → 1 ≤ k → k ≤ n → near ≡ min n (4 * ((k + 2) / 4)) → (k - 1 ≤ near → i ≤ near) → near ≤ i
+    → i ≡ min (4 * ((k + 2) / 4)) n
+near_ended k n near i some enough is most least =
+    let far : k - 1 ≤ near = omega (arith, some, enough, is) in
+    omega (arith, most far, least, is)
+
+last_most : (begun n near last : ℕ) → near ≡ min n (4 * begun) → last ≡ max near (4 * (n / 4)) → last ≤ n
+last_most begun n near last is end = omega (arith, is, end)
+
+far_in_rest : (k n near last i : ℕ) → k ≤ n → near ≡ min n (4 * ((k + 2) / 4)) → last ≡ max near (4 * (n / 4)) → last ≤ i → k ≤ i + 1
+far_in_rest k n near last i enough is end far = omega (arith, enough, is, end, far)
+
 front_inside : (k n j : ℕ) (bs : List ℕ) → k ≤ n → n ≤ 4 * length bs → j < (k - 1) / 4 → 4 * j < length (take n (codes_in bs))
 front_inside k n j bs enough inside less = omega (arith, long bs n inside, enough, less)
 
@@ -89,7 +171,7 @@ front-preserved g c =
 
 pub head-init : goal.head-init
 head-init g c =
-    let end : c.front.j ≡ (c.args.rule.k - 1) / 4 = omega arith in
+    let end = ended c.front.j ((c.args.rule.k - 1) / 4) c.front.auto.j-end c.front-test.false in
     rw end at c.front.invariant
 
 pub behind-back-requires-clause-back : goal.behind-back-requires-clause-back
@@ -98,17 +180,17 @@ behind-back-requires-clause-back g c =
     let bs = c.args.bytes.now in
     fits c.args.rule.strands c.args.rule.k c.args.symbols c.args.weight.bits c.args.weight.times c.args.rule.within.0 (codes_in bs) (are_codes bs)
     (within bs c.args.symbols c.requires.inside) (num c.top-top.result) c.top-top.ensures
-    c.head.i (num c.head.forward) (num c.head.back) (omega arith) c.head.invariant
+    c.head.i (num c.head.forward) (num c.head.back) (head_less c.args.rule.k c.args.symbols c.head.i c.requires.long c.head-test.true) c.head.invariant
 
 pub head-preserved : goal.head-preserved
 head-preserved g c =
     let num = g.W.Word.number in
     let bs = c.args.bytes.now in
     let n = c.args.symbols in
-    let less : c.head.i < n = omega arith in
+    let less = head_less c.args.rule.k n c.head.i c.requires.long c.head-test.true in
     step_at c.args.rule.k c.args.rule.within.0 (take n (codes_in bs)) c.head.i c.code_at-code.result (num c.head.forward) (num c.head.back)
     (num c.ahead-forward.result) (num c.behind-back.result) (num c.top-top.result)
-    (small bs n) (omega (arith, long bs n c.requires.inside)) (c.code_at-code.ensures.is ∙ sym
+    (small bs n) (code_inside n c.head.i bs c.requires.inside less) (c.code_at-code.ensures.is ∙ sym
     (get_or-take n (codes_in bs) c.head.i 0 less)) c.top-top.ensures c.ahead-forward.ensures c.behind-back.ensures c.head.invariant
 
 pub near-init : goal.near-init
@@ -117,10 +199,10 @@ near-init g c =
     let bs = c.args.bytes.now in
     let n = c.args.symbols in
     let old = map num c.args.words.now.items in
-    let end : c.head.i ≡ c.args.rule.k - 1 = omega arith in
+    let end = ended c.head.i (c.args.rule.k - 1) (c.head.auto.i-end (whole_bytes c.args.rule.k)) c.head-test.false in
     let r = held_first c.args.rule.strands c.args.rule.k n c.args.weight.bits c.args.weight.times c.args.rule.within.0 (codes_in bs) (are_codes bs)
     (within bs n c.requires.inside) (num c.top-top.result) c.top-top.ensures (c.args.rule.k - 1) (num c.head.forward) (num c.head.back) old
-    (vec_len c.reserve.new.self) (vec_capacity c.reserve.new.self) (omega arith)
+    (vec_len c.reserve.new.self) (vec_capacity c.reserve.new.self) (first_end c.args.rule.k c.args.rule.within.0)
     (omega (arith, c.in_ok-reserve.ensures.ok)) (rw end at c.head.invariant) in
     record {
       rolling = r.rolling;
@@ -135,7 +217,7 @@ push_code-requires-clause-back g c =
     let n = c.args.symbols in
     fits c.args.rule.strands c.args.rule.k n c.args.weight.bits c.args.weight.times c.args.rule.within.0 (codes_in bs) (are_codes bs)
     (within bs n c.requires.inside) (num c.top-top.result) c.top-top.ensures c.near.i (num c.near.forward) (num c.near.back)
-    (omega (arith, c.min-near.ensures)) c.near.invariant.rolling
+    (in_near ((c.args.rule.k + 2) / 4) n _ c.near.i c.min-near.ensures c.near-test.true) c.near.invariant.rolling
 
 pub near-preserved : goal.near-preserved
 near-preserved g c =
@@ -147,15 +229,17 @@ near-preserved g c =
     (num c.push_code.result.0) (num c.push_code.result.1)
     (map num c.args.words.now.items) (map num c.near.words.items) (map num c.push_code.new.words.items) (vec_len c.near.words)
     (vec_capacity c.near.words) (vec_len c.push_code.new.words) (vec_capacity c.push_code.new.words)
-    (omega (arith, c.min-near.ensures))
-    (omega arith) c.code_at-code-in-near.ensures.is c.push_code.ensures.ahead c.push_code.ensures.behind c.push_code.ensures.pushed c.push_code.ensures.len c.push_code.ensures.capacity c.near.invariant
+    (in_near ((c.args.rule.k + 2) / 4) n _ c.near.i c.min-near.ensures c.near-test.true)
+    (far_enough c.args.rule.k c.near.i c.near.auto.i) c.code_at-code-in-near.ensures.is c.push_code.ensures.ahead c.push_code.ensures.behind
+    c.push_code.ensures.pushed c.push_code.ensures.len c.push_code.ensures.capacity c.near.invariant
 
 pub bytes-init : goal.bytes-init
 bytes-init g c =
     let num = g.W.Word.number in
     let bs = c.args.bytes.now in
     let n = c.args.symbols in
-    let here : c.near.i ≡ min (4 * ((c.args.rule.k + 2) / 4)) n = omega (arith, c.min-near.ensures) in
+    let here = near_ended c.args.rule.k n c.min-near.result c.near.i c.args.rule.within.0 c.requires.long c.min-near.ensures
+    c.near.auto.i-end c.near-test.false in
     rw here at c.near.invariant
 
 pub codes-init : goal.codes-init
@@ -163,7 +247,7 @@ codes-init g c =
     let num = g.W.Word.number in
     let bs = c.args.bytes.now in
     let n = c.args.symbols in
-    let here : min (4 * c.bytes.j) n ≡ 4 * c.bytes.j + 0 = omega arith in
+    let here = byte_begun n c.bytes.j c.bytes-test.true in
     rw here at c.bytes.invariant
 
 pub push_code-requires-in-codes-clause-back : goal.push_code-requires-in-codes-clause-back
@@ -173,22 +257,23 @@ push_code-requires-in-codes-clause-back g c =
     let n = c.args.symbols in
     fits c.args.rule.strands c.args.rule.k n c.args.weight.bits c.args.weight.times c.args.rule.within.0 (codes_in bs) (are_codes bs)
     (within bs n c.requires.inside) (num c.top-top.result) c.top-top.ensures (4 * c.bytes.j + c.codes.r) (num c.codes.forward) (num c.codes.back)
-    (omega arith) c.codes.invariant.rolling
+    (in_byte n c.bytes.j c.codes.r c.bytes-test.true c.codes-test.true) c.codes.invariant.rolling
 
 pub codes-preserved : goal.codes-preserved
 codes-preserved g c =
     let num = g.W.Word.number in
     let bs = c.args.bytes.now in
     let n = c.args.symbols in
-    let up : 4 * c.bytes.j + c.codes.r + 1 ≡ 4 * c.bytes.j + (c.codes.r + 1) = omega arith in
+    let up = code_on c.bytes.j c.codes.r in
     let r = held_more c.args.rule.strands c.args.rule.k n c.args.weight.bits c.args.weight.times c.args.rule.within.0 (codes_in bs) (are_codes bs)
     (within bs n c.requires.inside) (num c.top-top.result) c.top-top.ensures (4 * c.bytes.j + c.codes.r) _ (num c.codes.forward)
     (num c.codes.back) (num c.push_code-in-codes.result.0) (num c.push_code-in-codes.result.1)
     (map num c.args.words.now.items) (map num c.codes.words.items) (map num c.push_code-in-codes.new.words.items) (vec_len c.codes.words)
     (vec_capacity c.codes.words) (vec_len c.push_code-in-codes.new.words) (vec_capacity c.push_code-in-codes.new.words)
-    (omega arith) (omega arith)
+    (in_byte n c.bytes.j c.codes.r c.bytes-test.true c.codes-test.true) (far_in_bytes c.args.rule.k c.bytes.j c.codes.r c.bytes.auto.j)
     (sym (at bs c.bytes.j c.codes.r
-    (omega arith) c.codes-test.true)) c.push_code-in-codes.ensures.ahead c.push_code-in-codes.ensures.behind c.push_code-in-codes.ensures.pushed c.push_code-in-codes.ensures.len c.push_code-in-codes.ensures.capacity c.codes.invariant in
+    (in_bytes n _ c.bytes.j c.requires.inside c.bytes-test.true) c.codes-test.true)) c.push_code-in-codes.ensures.ahead
+    c.push_code-in-codes.ensures.behind c.push_code-in-codes.ensures.pushed c.push_code-in-codes.ensures.len c.push_code-in-codes.ensures.capacity c.codes.invariant in
     rw up at r
 
 pub bytes-preserved : goal.bytes-preserved
@@ -196,7 +281,7 @@ bytes-preserved g c =
     let num = g.W.Word.number in
     let bs = c.args.bytes.now in
     let n = c.args.symbols in
-    let here : 4 * c.bytes.j + c.codes.r ≡ min (4 * (c.bytes.j + 1)) n = omega arith in
+    let here = byte_ended n c.bytes.j c.codes.r c.bytes-test.true c.codes.auto.r-end c.codes-test.false in
     rw here at c.codes.invariant
 
 pub rest-init : goal.rest-init
@@ -227,23 +312,22 @@ rest-preserved g c =
     (num c.push_code-in-rest.result.0) (num c.push_code-in-rest.result.1)
     (map num c.args.words.now.items) (map num c.rest.words.items) (map num c.push_code-in-rest.new.words.items) (vec_len c.rest.words)
     (vec_capacity c.rest.words) (vec_len c.push_code-in-rest.new.words) (vec_capacity c.push_code-in-rest.new.words)
-    c.rest-test.true (omega (
-      arith,
-      c.min-near.ensures,
-      c.max-last.ensures,
-    )) c.code_at-code-in-rest.ensures.is c.push_code-in-rest.ensures.ahead c.push_code-in-rest.ensures.behind c.push_code-in-rest.ensures.pushed c.push_code-in-rest.ensures.len c.push_code-in-rest.ensures.capacity c.rest.invariant
+    c.rest-test.true
+    (far_in_rest c.args.rule.k n c.min-near.result c.max-last.result c.rest.i c.requires.long c.min-near.ensures c.max-last.ensures c.rest.auto.i)
+    c.code_at-code-in-rest.ensures.is c.push_code-in-rest.ensures.ahead c.push_code-in-rest.ensures.behind c.push_code-in-rest.ensures.pushed
+    c.push_code-in-rest.ensures.len c.push_code-in-rest.ensures.capacity c.rest.invariant
 
 pub returns : goal.returns
 returns g c =
     let num = g.W.Word.number in
     let bs = c.args.bytes.now in
     let n = c.args.symbols in
-    let least : c.max-last.result ≤ n = omega (arith, c.min-near.ensures, c.max-last.ensures) in
+    let least = last_most ((c.args.rule.k + 2) / 4) n c.min-near.result c.max-last.result c.min-near.ensures c.max-last.ensures in
     let most : c.rest.i ≤ n = c.rest.auto.i-end least in
     held_all c.args.rule.strands c.args.rule.k n c.args.weight.bits c.args.weight.times c.args.rule.within.0 (codes_in bs) (are_codes bs)
     (within bs n c.requires.inside) (num c.top-top.result) c.top-top.ensures c.rest.i (num c.rest.forward) (num c.rest.back)
     (map num c.args.words.now.items) (map num c.rest.words.items) (vec_len c.rest.words) (vec_capacity c.rest.words)
-    (omega arith) c.rest.invariant
+    (ended c.rest.i n most c.rest-test.false) c.rest.invariant
 
 pub push_code-requires-clause-beside : goal.push_code-requires-clause-beside
 push_code-requires-clause-beside g c =
@@ -335,3 +419,57 @@ push_code-requires-in-codes-clause-room g c =
 pub push_code-requires-in-rest-clause-room : goal.push_code-requires-in-rest-clause-room
 push_code-requires-in-rest-clause-room g c =
     room_left c.args.symbols c.rest.i _ _ c.rest-test.true c.rest.invariant.room
+
+pub overflow_add-symbols : goal.overflow_add-symbols
+overflow_add-symbols g c = symbols_fit c.args.symbols (length c.args.bytes.now) c.requires.inside c.requires.few
+
+pub overflow_sub-symbols : goal.overflow_sub-symbols
+overflow_sub-symbols g c = all_places c.args.rule.k c.args.symbols c.requires.long
+
+pub overflow_add-begun : goal.overflow_add-begun
+overflow_add-begun g c = begun_fits c.args.rule.k c.args.rule.within.1
+
+pub overflow_mul-begun : goal.overflow_mul-begun
+overflow_mul-begun g c = near_fits c.args.rule.k c.args.rule.within.1
+
+pub overflow_mul-symbols : goal.overflow_mul-symbols
+overflow_mul-symbols g c = last_fits c.args.symbols (length c.args.bytes.now) c.requires.inside c.requires.few
+
+pub slide_byte-requires-clause-top : goal.slide_byte-requires-clause-top
+slide_byte-requires-clause-top g c = top_far c.args.rule.k g.W.Word.most _ c.front.j c.front-test.true c.requires.most c.top-top.ensures
+
+pub front-smaller : goal.front-smaller
+front-smaller g c = falls ((c.args.rule.k - 1) / 4) c.front.j c.front-test.true
+
+pub overflow_step-i : goal.overflow_step-i
+overflow_step-i g c = whole_fits c.args.rule.k c.args.rule.within.1
+
+pub head-smaller : goal.head-smaller
+head-smaller g c = falls (c.args.rule.k - 1) c.head.i c.head-test.true
+
+pub near-smaller : goal.near-smaller
+near-smaller g c = falls c.min-near.result c.near.i c.near-test.true
+
+pub overflow_mul-code : goal.overflow_mul-code
+overflow_mul-code g c = twice_fits c.codes.r c.codes-test.true
+
+pub overflow_sub-code : goal.overflow_sub-code
+overflow_sub-code g c = twice_most c.codes.r c.codes-test.true
+
+pub overflow_cast-code : goal.overflow_cast-code
+overflow_cast-code g c = shift_fits c.codes.r
+
+pub overflow_shr-code : goal.overflow_shr-code
+overflow_shr-code g c = shift_most c.codes.r
+
+pub push_code-requires-in-codes-clause-code : goal.push_code-requires-in-codes-clause-code
+push_code-requires-in-codes-clause-code g c = is_code _
+
+pub codes-smaller : goal.codes-smaller
+codes-smaller g c = falls 4 c.codes.r c.codes-test.true
+
+pub bytes-smaller : goal.bytes-smaller
+bytes-smaller g c = falls (c.args.symbols / 4) c.bytes.j c.bytes-test.true
+
+pub rest-smaller : goal.rest-smaller
+rest-smaller g c = falls c.args.symbols c.rest.i c.rest-test.true

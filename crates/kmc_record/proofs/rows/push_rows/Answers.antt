@@ -1,10 +1,48 @@
-use Rattle.std.proofs.Common.{◌≡◌, ◌+◌, ◌<◌, [], length, map, drop, get_or, subst, sym, arith, drop_of_length-le}
+use Rattle.std.proofs.Common.{◌≡◌, ℕ, ◌+◌, ◌<◌, List, [], ◌∷◌, All, length, map, drop, get_or, subst, sym, ap, ◌∙◌, arith, drop_of_length-le}
 use Rattle.std.proofs.lemmas.List.Elements.{All-rest}
+use Rattle.std.proofs.lemmas.List.Sums.{sum_by-append}
 use Rattle.std.proofs.lemmas.Result.{IfOk-from_err}
-use Rattle.kmc_record.specs.RecordKeys.{IsRecordKey}
-use Rattle.kmc_record.specs.Lemmas.Gaining.{IsOpenRow, row_goes_on, row_ends, last_row}
+use Rattle.std.specs.List.{sum_by}
+use borrow.Author.Count.{falls}
+use Rattle.kmc_base.specs.declared.strands.Strands.{Strands}
+use Rattle.kmc_base.specs.Strands.{keys}
+use Rattle.kmc_record.specs.RecordKeys.{codes_of, key_words, IsRecordKey}
+use Rattle.kmc_record.specs.Lemmas.Gaining.{IsOpenRow, row_goes_on, row_ends, last_row, no_rows}
 use Rattle.kmc_record.proofs.rows.push_rows.Goals as goal
 use Rattle.kmc_record.proofs.rows.push_rows.Goals.{then-next-key, else-next-key+in_ok-push_row}
+
+first_row : (k f : ℕ) (strands : Strands) (start : List ℕ) (key : ℕ) (rest all : List ℕ) → all ≡ key ∷ rest
+    → IsOpenRow k f strands start start key 1 rest all
+first_row k f strands start key rest all is = record {
+  each = λ g.
+      let e : sum_by g (key_words strands k all) ≡ sum_by g (keys strands k (codes_of key)) + sum_by g (key_words strands k rest) =
+      ap (λ ns. sum_by g (key_words strands k ns)) is ∙ sum_by-append g (keys strands k (codes_of key)) (key_words strands k rest) in
+      omega (arith, e);
+  fit = λ fits. fits;
+}
+
+first_long : (k key : ℕ) (rest all : List ℕ) → all ≡ key ∷ rest → All (IsRecordKey k) all → IsRecordKey k key
+first_long k key rest all is longs = (subst (All (IsRecordKey k)) is longs) 0 0 (omega arith)
+
+pub returns-in_default : goal.returns-in_default
+returns-in_default g c =
+    no_rows c.args.rule.k c.args.bits c.args.rule.strands (map g.W.Word.number c.args.items.now.items) c.args.keys.now c.in_default.ensures.cases
+
+pub loop-next-init : goal.loop-next-init
+loop-next-init g c =
+    let rule = c.args.rule in let key = c.in-Some.first.now in let rest = c.in-Some.rest.now in let all = c.args.keys.now in
+    record {
+      some = omega arith;
+      few = omega arith;
+      long = first_long rule.k key rest all c.in-Some.ensures.cases.0 c.requires.long;
+      open_row = first_row rule.k c.args.bits rule.strands (map g.W.Word.number c.args.items.now.items) key rest all c.in-Some.ensures.cases.0;
+    }
+
+pub bounds-rest-next-index : goal.bounds-rest-next-index
+bounds-rest-next-index g c = c.loop-next-test.true
+
+pub loop-next-smaller : goal.loop-next-smaller
+loop-next-smaller g c = falls (length c.in-Some.rest.now) c.loop-next.next-index c.loop-next-test.true
 
 pub loop-next-preserved : goal.loop-next-preserved
 loop-next-preserved g c =

@@ -1,11 +1,12 @@
-use Rattle.std.proofs.Common.{ℕ, ◌+◌, ◌++◌, List, [], ◌∷◌, map, refl, subst, sym, arith}
+use Rattle.std.proofs.Common.{ℕ, ◌+◌, ◌++◌, List, [], ◌∷◌, length, map, refl, subst, sym, take_all, arith}
 use Rattle.std.proofs.lemmas.Result.{IfOk-from_err}
-use Rattle.kmc_spelling.specs.Record.{size_of}
+use Rattle.kmc_spelling.specs.Record.{size_of, IsBodyOf}
 use Rattle.kmc_record.specs.RecordKeys.{IsTaken}
 use Rattle.kmc_record.specs.Lemmas.Taken.{none_taken}
 use Rattle.kmc_spelling.specs.Lemmas.Whole.{first_codes, next_body, next_inside, rest_at, same_codes}
 use Rattle.kmc_record.specs.Lemmas.Whole.{stops_there}
-use Rattle.kmc_record.proofs.Rests.{some_left, enough, record_long, no_error, no_memory, no_damage}
+use Rattle.kmc_record.proofs.Rests.{some_left, enough, record_long, few_symbols, symbols_fit, size_fits, some_size, all_of, few_bytes, less_left, found_fault}
+use Rattle.kmc_record.proofs.Rests.{no_error, no_memory, no_damage}
 use Rattle.kmc_record.proofs.taking.take_body.Goals as goal
 
 pub loop-offset-init : goal.loop-offset-init
@@ -87,3 +88,55 @@ returns-clause-memory g c = λ is. no_error _ _ _ is
 
 pub returns-in_err-take_record-clause-damaged : goal.returns-in_err-take_record-clause-damaged
 returns-in_err-take_record-clause-damaged g c = λ fault offset is. no_damage _ _ _ _ c.from_residual.ensures.1 is
+
+pub slice_bounds-rest-start : goal.slice_bounds-rest-start
+slice_bounds-rest-start g c = c.loop-offset.invariant.inside
+
+pub slice_bounds-rest-end : goal.slice_bounds-rest-end
+slice_bounds-rest-end g c = all_of (length c.args.body.now)
+
+pub returns-in-Err-clause-damaged : goal.returns-in-Err-clause-damaged
+returns-in-Err-clause-damaged g c = λ fault offset is.
+    found_fault c.args.rule.k c.args.body.now c.loop-offset.invariant.records.0 c.loop-offset.offset offset c.in-Err.fault fault c.loop-offset-test.true
+    c.loop-offset.invariant.records.1 c.in-Err.ensures.fault is
+
+pub overflow_add-size : goal.overflow_add-size
+overflow_add-size g c =
+    let few = few_symbols c.args.rule.k c.in-Ok.symbols c.loop-offset.offset c.args.body.now (λ i. omega (arith, c.type_inv.body i)) c.in-Ok.ensures.count
+    c.in-Ok.ensures.inside c.in-Ok.ensures.rest c.args.rule.within.1 in
+    symbols_fit c.in-Ok.symbols few
+
+pub overflow_add-size-in-loop-offset : goal.overflow_add-size-in-loop-offset
+overflow_add-size-in-loop-offset g c =
+    let few = few_symbols c.args.rule.k c.in-Ok.symbols c.loop-offset.offset c.args.body.now (λ i. omega (arith, c.type_inv.body i)) c.in-Ok.ensures.count
+    c.in-Ok.ensures.inside c.in-Ok.ensures.rest c.args.rule.within.1 in
+    size_fits c.in-Ok.symbols few
+
+pub slice_bounds-take_record-count : goal.slice_bounds-take_record-count
+slice_bounds-take_record-count g c = some_size c.in-Ok.symbols
+
+pub slice_bounds-take_record-start : goal.slice_bounds-take_record-start
+slice_bounds-take_record-start g c = some_size c.in-Ok.symbols
+
+pub slice_bounds-take_record-end : goal.slice_bounds-take_record-end
+slice_bounds-take_record-end g c = c.in-Ok.ensures.inside
+
+pub take_record-requires-clause-few : goal.take_record-requires-clause-few
+take_record-requires-clause-few g c =
+    let few = few_symbols c.args.rule.k c.in-Ok.symbols c.loop-offset.offset c.args.body.now (λ i. omega (arith, c.type_inv.body i)) c.in-Ok.ensures.count
+    c.in-Ok.ensures.inside c.in-Ok.ensures.rest c.args.rule.within.1 in
+    few_bytes c.in-Ok.symbols (rest_at c.loop-offset.offset c.args.body.now) few c.in-Ok.ensures.inside
+
+pub overflow_add-offset : goal.overflow_add-offset
+overflow_add-offset g c =
+    let few = few_symbols c.args.rule.k c.in-Ok.symbols c.loop-offset.offset c.args.body.now (λ i. omega (arith, c.type_inv.body i)) c.in-Ok.ensures.count
+    c.in-Ok.ensures.inside c.in-Ok.ensures.rest c.args.rule.within.1 in
+    size_fits c.in-Ok.symbols few
+
+pub loop-offset-smaller : goal.loop-offset-smaller
+loop-offset-smaller g c = less_left c.in-Ok.symbols c.loop-offset.offset (length c.args.body.now) c.loop-offset-test.true
+
+pub returns-clause-ok : goal.returns-clause-ok
+returns-clause-ok g c =
+    let h = c.loop-offset.invariant.records in
+    (h.0, subst (IsBodyOf c.args.rule.k h.0) (take_all c.loop-offset.offset c.args.body.now c.loop-offset-test.false) h.1, h.2)

@@ -1,13 +1,14 @@
-use Rattle.std.proofs.Common.{◌≡◌, ℕ, ◌++◌, List, [], map, refl, subst, arith}
+use Rattle.std.proofs.Common.{◌≡◌, ℕ, ◌++◌, List, [], length, map, refl, subst, arith}
 use Rattle.std.proofs.lemmas.Result.{IfOk-from_err}
 use Rattle.kmc_base.specs.Packed.{pack}
 use Rattle.kmc_base.specs.Strands.{keys}
 use Rattle.kmc_base.specs.Weights.{weighted}
 use Rattle.kmc_base.specs.Lemmas.Weights.{pow_two_some}
 use Rattle.kmc_record.specs.Lemmas.Taken.{words_taken}
-use Rattle.kmc_spelling.specs.Lemmas.Whole.{first_codes, next_body, rest_at, same_codes, spelled_there}
+use Rattle.kmc_spelling.specs.Lemmas.Whole.{first_codes, next_body, next_inside, rest_at, same_codes, spelled_there}
 use Rattle.kmc_record.specs.Lemmas.Whole.{stops_there}
-use Rattle.kmc_record.proofs.Rests.{some_left, enough, inside_record, no_error, no_memory, no_damage}
+use Rattle.kmc_record.proofs.Rests.{some_left, enough, inside_record, few_symbols, symbols_fit, size_fits, some_size, all_of, less_is_most, few_bytes, behind_it}
+use Rattle.kmc_record.proofs.Rests.{found_fault, no_error, no_memory, no_damage}
 use Rattle.kmc_record.proofs.taking.take_words.Goals as goal
 
 pub returns-in_err-push_record-clause-memory : goal.returns-in_err-push_record-clause-memory
@@ -77,3 +78,49 @@ returns-clause-memory g c = λ ss whole is. no_error _ _ _ is
 
 pub returns-in_err-push_record-clause-damaged : goal.returns-in_err-push_record-clause-damaged
 returns-in_err-push_record-clause-damaged g c = λ ss whole fault at is. no_damage _ _ _ _ c.from_residual.ensures.1 is
+
+pub slice_bounds-rest-count : goal.slice_bounds-rest-count
+slice_bounds-rest-count g c = less_is_most c.args.offset (length c.args.body.now) c.requires.inside
+
+pub slice_bounds-rest-start : goal.slice_bounds-rest-start
+slice_bounds-rest-start g c = less_is_most c.args.offset (length c.args.body.now) c.requires.inside
+
+pub slice_bounds-rest-end : goal.slice_bounds-rest-end
+slice_bounds-rest-end g c = all_of (length c.args.body.now)
+
+pub returns-in-Err-clause-damaged : goal.returns-in-Err-clause-damaged
+returns-in-Err-clause-damaged g c = λ ss whole fault at is.
+    found_fault c.args.rule.k c.args.body.now ss c.args.offset at c.in-Err.fault fault c.requires.inside whole c.in-Err.ensures.fault is
+
+pub overflow_add-size : goal.overflow_add-size
+overflow_add-size g c =
+    let few = few_symbols c.args.rule.k c.in-Ok.symbols c.args.offset c.args.body.now (λ i. omega (arith, c.type_inv.body i)) c.in-Ok.ensures.count
+    c.in-Ok.ensures.inside c.in-Ok.ensures.rest c.args.rule.within.1 in
+    symbols_fit c.in-Ok.symbols few
+
+pub overflow_add-size-2 : goal.overflow_add-size-2
+overflow_add-size-2 g c =
+    let few = few_symbols c.args.rule.k c.in-Ok.symbols c.args.offset c.args.body.now (λ i. omega (arith, c.type_inv.body i)) c.in-Ok.ensures.count
+    c.in-Ok.ensures.inside c.in-Ok.ensures.rest c.args.rule.within.1 in
+    size_fits c.in-Ok.symbols few
+
+pub slice_bounds-push_record-count : goal.slice_bounds-push_record-count
+slice_bounds-push_record-count g c = some_size c.in-Ok.symbols
+
+pub slice_bounds-push_record-start : goal.slice_bounds-push_record-start
+slice_bounds-push_record-start g c = some_size c.in-Ok.symbols
+
+pub slice_bounds-push_record-end : goal.slice_bounds-push_record-end
+slice_bounds-push_record-end g c = c.in-Ok.ensures.inside
+
+pub push_record-requires-clause-few : goal.push_record-requires-clause-few
+push_record-requires-clause-few g c =
+    let few = few_symbols c.args.rule.k c.in-Ok.symbols c.args.offset c.args.body.now (λ i. omega (arith, c.type_inv.body i)) c.in-Ok.ensures.count
+    c.in-Ok.ensures.inside c.in-Ok.ensures.rest c.args.rule.within.1 in
+    few_bytes c.in-Ok.symbols (rest_at c.args.offset c.args.body.now) few c.in-Ok.ensures.inside
+
+pub returns-clause-on : goal.returns-clause-on
+returns-clause-on g c =
+    behind_it c.in-Ok.symbols c.args.offset (length c.args.body.now)
+    (next_inside c.args.rule.k c.in-Ok.symbols c.args.offset c.args.body.now (λ i. omega (arith, c.type_inv.body i)) c.in-Ok.ensures.count
+    c.in-Ok.ensures.inside c.in-Ok.ensures.rest)

@@ -1,9 +1,11 @@
-use Rattle.std.proofs.Common.{◌≡◌, ◌+◌, ◌-◌, [], ◌++◌, sym, ap, subst, ◌∙◌, arith}
+use Rattle.std.proofs.Common.{◌≡◌, ◌+◌, ◌-◌, [], ◌++◌, refl, sym, ap, subst, ◌∙◌, arith}
 use Rattle.kmc_store.specs.Bins.{BinList, empty_bins}
 use Rattle.kmc_store.specs.Holds.{HoldsReads}
 use Rattle.kmc_settings.specs.Shape.{shape_of}
 use Rattle.kmc_input.specs.Errors.{input_error}
 use Rattle.kmc_base.specs.Lemmas.PassedOn.{passed_on}
+use Rattle.kmc_input.specs.declared.input_error.InputError.TheVariants.{Memory}
+use Rattle.kmc_input.specs.Lemmas.Causes.{no_answer, not_ok}
 use Rattle.kmc_input.specs.Lemmas.Fed.{text_counts}
 use Rattle.kmc_rounds.specs.Lemmas.Stored.{last_input}
 use Rattle.kmc_rounds.proofs.rounds.bins_of_input.Goals as goal
@@ -20,6 +22,40 @@ earlier_rounds-requires-clause-bins g c κs within =
 
 pub earlier_rounds-requires-clause-feeder : goal.earlier_rounds-requires-clause-feeder
 earlier_rounds-requires-clause-feeder g c κs within = c.new-feeder.ensures.cut (c.args.params.now.k - 1)
+
+pub returns-in_err-bins-clause-ok : goal.returns-in_err-bins-clause-ok
+returns-in_err-bins-clause-ok g c = no_answer _ _ c.from_residual.result c.from_residual.ensures.1
+
+pub returns-in_err-bins-clause-sound : goal.returns-in_err-bins-clause-sound
+returns-in_err-bins-clause-sound g c = not_ok _ _ c.from_residual.result c.from_residual.ensures.1
+
+pub returns-in_err-earlier_rounds-clause-ok : goal.returns-in_err-earlier_rounds-clause-ok
+returns-in_err-earlier_rounds-clause-ok g c = no_answer _ _ c.from_residual-in_err-earlier_rounds.result c.from_residual-in_err-earlier_rounds.ensures.1
+
+pub returns-in_err-earlier_rounds-clause-sound : goal.returns-in_err-earlier_rounds-clause-sound
+returns-in_err-earlier_rounds-clause-sound g c = not_ok _ _ c.from_residual-in_err-earlier_rounds.result c.from_residual-in_err-earlier_rounds.ensures.1
+
+pub returns-in_err-last_round-clause-ok : goal.returns-in_err-last_round-clause-ok
+returns-in_err-last_round-clause-ok g c = no_answer _ _ c.from_residual-in_err-last_round.result c.from_residual-in_err-last_round.ensures.1
+
+pub returns-in_err-last_round-clause-sound : goal.returns-in_err-last_round-clause-sound
+returns-in_err-last_round-clause-sound g c = not_ok _ _ c.from_residual-in_err-last_round.result c.from_residual-in_err-last_round.ensures.1
+
+pub returns-in_err-bins-clause-counts : goal.returns-in_err-bins-clause-counts
+returns-in_err-bins-clause-counts g c = passed_on _ c.from_residual.result Memory c.from_residual.ensures.1 (refl, omega arith, omega arith)
+
+pub returns-in_err-bins-clause-cause : goal.returns-in_err-bins-clause-cause
+returns-in_err-bins-clause-cause g c = passed_on _ c.from_residual.result Memory c.from_residual.ensures.1 tt
+
+pub returns-in_err-earlier_rounds-clause-counts : goal.returns-in_err-earlier_rounds-clause-counts
+returns-in_err-earlier_rounds-clause-counts g c =
+    let to = c.from_residual-in_err-earlier_rounds in
+    passed_on _ to.result c.in_err-earlier_rounds.field-0.0 to.ensures.1 c.in_err-earlier_rounds.ensures.cause.0
+
+pub returns-in_err-earlier_rounds-clause-cause : goal.returns-in_err-earlier_rounds-clause-cause
+returns-in_err-earlier_rounds-clause-cause g c =
+    let to = c.from_residual-in_err-earlier_rounds in
+    passed_on _ to.result c.in_err-earlier_rounds.field-0.0 to.ensures.1 c.in_err-earlier_rounds.ensures.cause.1
 
 pub returns-in_err-last_round-clause-counts : goal.returns-in_err-last_round-clause-counts
 returns-in_err-last_round-clause-counts g c =

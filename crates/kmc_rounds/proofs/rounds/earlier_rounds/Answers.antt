@@ -1,6 +1,7 @@
 use Rattle.std.proofs.Common.{◌≡◌, ◌+◌, ◌-◌, [], Ok, ap, subst, ◌∙◌, arith}
 use Rattle.kmc_input.specs.Fed.{AreCountsOf}
 use Rattle.kmc_base.specs.Lemmas.PassedOn.{passed_on}
+use Rattle.kmc_input.specs.Lemmas.Causes.{not_ok}
 use Rattle.kmc_input.specs.Lemmas.Fed.{unfaulted, risen, counts_on}
 use Rattle.kmc_rounds.specs.Lemmas.Stored.{fed_cause}
 use Rattle.kmc_rounds.proofs.rounds.earlier_rounds.Goals as goal
@@ -11,9 +12,11 @@ returns-in_err-more-clause-cause g c =
     let old = c.args.reader.now in let new = c.fill_round.new.reader in
     let counts = subst (λ n. AreCountsOf (n + c.args.max_reads) old.reads new.reads old.failures new.failures e) c.reads.ensures
     c.in_err-more.ensures.counts in
-    passed_on _ to.result e to.ensures.1
-    (counts, fed_cause (p.k - 1) p.format c.args.max_reads _ _ old.reads new.reads old.failures new.failures []
-    c.fill_round.new.feeder e (c.in_err-more.ensures.fed (p.k - 1) p.format [] [] c.requires.feeder) counts)
+    passed_on _ to.result e to.ensures.1 (
+      counts,
+      fed_cause (p.k - 1) p.format c.args.max_reads _ _ old.reads new.reads old.failures new.failures []
+          c.fill_round.new.feeder e (c.in_err-more.ensures.fed (p.k - 1) p.format [] [] c.requires.feeder) counts,
+    )
 
 pub loop-init : goal.loop-init
 loop-init g c =
@@ -50,9 +53,11 @@ returns-in_err-more-2-clause-cause g c =
     let by = c.in_err-more-2.ensures.stored p.format _ old.reads inv.stored in
     let counts = counts_on e (old.reads + c.args.max_reads) old.reads mid.reads new.reads old.failures mid.failures new.failures
     (omega (arith, inv.many)) inv.kept told in
-    passed_on _ to.result e to.ensures.1
-    (counts, fed_cause (p.k - 1) p.format c.args.max_reads _ _ old.reads new.reads old.failures new.failures by.0
-    c.next_round.new.feeder e by.1 counts)
+    passed_on _ to.result e to.ensures.1 (
+      counts,
+      fed_cause (p.k - 1) p.format c.args.max_reads _ _ old.reads new.reads old.failures new.failures by.0
+          c.next_round.new.feeder e by.1 counts,
+    )
 
 pub loop-preserved : goal.loop-preserved
 loop-preserved g c =
@@ -83,3 +88,21 @@ returns-clause-cause g c =
         unfaulted (p.k - 1) p.format st.fed.bytes st.taken c.loop.feeder st.fed.stands,
       ),
     )
+
+pub returns-in_err-more-clause-shape : goal.returns-in_err-more-clause-shape
+returns-in_err-more-clause-shape g c = c.requires.shape
+
+pub returns-in_err-more-clause-stored : goal.returns-in_err-more-clause-stored
+returns-in_err-more-clause-stored g c = not_ok _ _ c.from_residual.result c.from_residual.ensures.1
+
+pub returns-then-not-more-clause-shape : goal.returns-then-not-more-clause-shape
+returns-then-not-more-clause-shape g c = c.loop.invariant.shaped
+
+pub returns-then-not-more-clause-cause : goal.returns-then-not-more-clause-cause
+returns-then-not-more-clause-cause g c = tt
+
+pub returns-in_err-more-2-clause-shape : goal.returns-in_err-more-2-clause-shape
+returns-in_err-more-2-clause-shape g c = c.next_round.ensures.shape
+
+pub returns-in_err-more-2-clause-stored : goal.returns-in_err-more-2-clause-stored
+returns-in_err-more-2-clause-stored g c = not_ok _ _ c.from_residual-in_err-more-2.result c.from_residual-in_err-more-2.ensures.1

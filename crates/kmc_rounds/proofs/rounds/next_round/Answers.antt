@@ -1,4 +1,5 @@
-use Rattle.std.proofs.Common.{◌+◌, ◌-◌, [], ◌++◌, OnOk, refl, subst, ◌∙◌, arith}
+use Rattle.std.proofs.Common.{◌≡◌, Bool, ◌+◌, ◌-◌, [], ◌++◌, OnOk, refl, subst, ◌∙◌, arith}
+use Rattle.std.specs.Prelude.{Result, Ok, IsErrAnd}
 use Rattle.kmc_input.specs.Fed.{AreCounts, IsFedBy}
 use Rattle.kmc_rounds.specs.Rounds.{HoldsPieces}
 use Rattle.kmc_settings.specs.Shape.{shape_of}
@@ -6,6 +7,10 @@ use Rattle.kmc_input.specs.declared.input_error.InputError.TheVariants.{Memory}
 use Rattle.kmc_input.specs.Lemmas.Fed.{counts_err, fed_by, fed_on, memory_on, taken_fed}
 use Rattle.kmc_rounds.specs.Lemmas.Stored.{stored_err}
 use Rattle.kmc_rounds.proofs.rounds.next_round.Goals as goal
+
+-- what is passed on is no answer
+no_end : {E : Type 0} (P : Type 0) (Q : E → Type 0) (r : Result Bool E) (b : Bool) → IsErrAnd r Q → r ≡ Ok b → P
+no_end P Q r b is same = absurd (subst (λ x. IsErrAnd x Q) same is)
 
 pub returns-in_err-round-clause-stored : goal.returns-in_err-round-clause-stored
 returns-in_err-round-clause-stored g c = λ format first before st.
@@ -78,3 +83,24 @@ returns-clause-counts g c =
 
 pub returns-clause-at_end : goal.returns-clause-at_end
 returns-clause-at_end g c = λ e. c.feed_round-stored.ensures.at_end (c.in_ok-more.was ∙ e)
+
+pub returns-in_err-round-clause-shape : goal.returns-in_err-round-clause-shape
+returns-in_err-round-clause-shape g c = c.requires.shape
+
+pub returns-in_err-round-clause-at_end : goal.returns-in_err-round-clause-at_end
+returns-in_err-round-clause-at_end g c = no_end _ _ c.from_residual.result _ c.from_residual.ensures.1
+
+pub returns-in_err-more-clause-shape : goal.returns-in_err-more-clause-shape
+returns-in_err-more-clause-shape g c = c.feed_round-stored.ensures.shape
+
+pub returns-in_err-more-clause-at_end : goal.returns-in_err-more-clause-at_end
+returns-in_err-more-clause-at_end g c = no_end _ _ c.from_residual-in_err-more.result _ c.from_residual-in_err-more.ensures.1
+
+pub returns-in_err-stored-clause-shape : goal.returns-in_err-stored-clause-shape
+returns-in_err-stored-clause-shape g c = c.feed_round-stored.ensures.shape
+
+pub returns-in_err-stored-clause-at_end : goal.returns-in_err-stored-clause-at_end
+returns-in_err-stored-clause-at_end g c = no_end _ _ c.from_residual-in_err-stored.result _ c.from_residual-in_err-stored.ensures.1
+
+pub returns-clause-shape : goal.returns-clause-shape
+returns-clause-shape g c = c.feed_round-stored.ensures.shape

@@ -1,7 +1,7 @@
 use Rattle.kmc_parts.specs.Shapes.{Sizes}
 use Rattle.std.proofs.Common.{ℕ, List, [], ◌∷◌, ◌++◌, map, sym, subst, arith}
 use Rattle.std.proofs.lemmas.Grind.{common_steps, elements}
-use Rattle.std.specs.Prelude.{IfOk}
+use Rattle.std.specs.Prelude.{Result, Ok, Err, IfOk, IsErrAnd}
 use Rattle.std.specs.List.{AllZip}
 use Rattle.kmc_storers.specs.Shards.{IsShard}
 use Rattle.kmc_base.specs.Lemmas.PassedOn.{passed_on}
@@ -19,6 +19,61 @@ storers_cause : (shape : Sizes) (batch : ℕ) (reads : List (List ℕ)) (sp : �
 storers_cause shape batch reads sp NumbersSpent h = absurd h
 storers_cause shape batch reads sp Memory h = tt
 storers_cause shape batch reads sp Stopped h = tt
+
+-- where a refusal is passed on there is no answer
+no_answer : {A E : Type 0} (P : A → Type 0) (Q : E → Type 0) (r : Result A E) → IsErrAnd r Q → IfOk r P
+no_answer P Q (Ok x) is = absurd is
+no_answer P Q (Err x) is = tt
+
+pub returns-in_err-done-clause-done : goal.returns-in_err-done-clause-done
+returns-in_err-done-clause-done g t c = no_answer _ _ c.from_residual.result c.from_residual.ensures.1
+
+pub returns-in_err-done-clause-shards : goal.returns-in_err-done-clause-shards
+returns-in_err-done-clause-shards g t c = no_answer _ _ c.from_residual.result c.from_residual.ensures.1
+
+pub returns-in_err-done-clause-cause : goal.returns-in_err-done-clause-cause
+returns-in_err-done-clause-cause g t c =
+    let a = c.args in
+    passed_on (IsWorkersCause a.plan.shape a.plan.batch (map (λ v. v.now) a.reads.now) a.way.now.writers) c.from_residual.result
+    c.in_err-done.field-0.0 c.from_residual.ensures.1 c.in_err-done.ensures
+
+pub returns-in_err-child-clause-done : goal.returns-in_err-child-clause-done
+returns-in_err-child-clause-done g t c = no_answer _ _ c.from_residual-in_err-child.result c.from_residual-in_err-child.ensures.1
+
+pub returns-in_err-child-clause-shards : goal.returns-in_err-child-clause-shards
+returns-in_err-child-clause-shards g t c = no_answer _ _ c.from_residual-in_err-child.result c.from_residual-in_err-child.ensures.1
+
+pub returns-in_err-child-clause-cause : goal.returns-in_err-child-clause-cause
+returns-in_err-child-clause-cause g t c =
+    let a = c.args in let back = c.from_residual-in_err-child in
+    let P = IsWorkersCause a.plan.shape a.plan.batch (map (λ v. v.now) a.reads.now) a.way.now.writers in
+    passed_on P back.result c.in_err-child.field-0.0 back.ensures.1 (subst P (sym c.in_err-child.ensures.cause) tt)
+
+pub returns-in_err-others-clause-done : goal.returns-in_err-others-clause-done
+returns-in_err-others-clause-done g t c = no_answer _ _ c.from_residual-in_err-others.result c.from_residual-in_err-others.ensures.1
+
+pub returns-in_err-others-clause-shards : goal.returns-in_err-others-clause-shards
+returns-in_err-others-clause-shards g t c = no_answer _ _ c.from_residual-in_err-others.result c.from_residual-in_err-others.ensures.1
+
+pub returns-in_err-with_one-clause-done : goal.returns-in_err-with_one-clause-done
+returns-in_err-with_one-clause-done g t c = no_answer _ _ c.from_residual-in_err-with_one.result c.from_residual-in_err-with_one.ensures.1
+
+pub returns-in_err-with_one-clause-shards : goal.returns-in_err-with_one-clause-shards
+returns-in_err-with_one-clause-shards g t c = no_answer _ _ c.from_residual-in_err-with_one.result c.from_residual-in_err-with_one.ensures.1
+
+pub returns-in_err-with_one-clause-cause : goal.returns-in_err-with_one-clause-cause
+returns-in_err-with_one-clause-cause g t c =
+    let a = c.args in let back = c.from_residual-in_err-with_one in
+    passed_on (IsWorkersCause a.plan.shape a.plan.batch (map (λ v. v.now) a.reads.now) a.way.now.writers) back.result Memory back.ensures.1 tt
+
+pub store_all-rest-requires-clause-writers : goal.store_all-rest-requires-clause-writers
+store_all-rest-requires-clause-writers g t c κs within = c.requires.writers
+
+pub returns-clause-cause : goal.returns-clause-cause
+returns-clause-cause g t c = tt
+
+pub returns-in_default-clause-done : goal.returns-in_default-clause-done
+returns-in_default-clause-done g t c = c.in_ok-done.ensures
 
 pub returns-clause-shards : goal.returns-clause-shards
 returns-clause-shards g t c =
