@@ -3,9 +3,8 @@ use Rattle.kmc_store.specs.Bins.{BinList, empty_bins}
 use Rattle.kmc_store.specs.Holds.{HoldsReads}
 use Rattle.kmc_settings.specs.Shape.{shape_of}
 use Rattle.kmc_input.specs.Errors.{input_error}
-use Rattle.kmc_base.specs.Lemmas.PassedOn.{passed_on}
+use Rattle.kmc_base.specs.Lemmas.PassedOn.{no_answer, not_ok, passed_on}
 use Rattle.kmc_input.specs.declared.input_error.InputError.TheVariants.{Memory}
-use Rattle.kmc_input.specs.Lemmas.Causes.{no_answer, not_ok}
 use Rattle.kmc_input.specs.Lemmas.Fed.{text_counts}
 use Rattle.kmc_rounds.specs.Lemmas.Stored.{last_input}
 use Rattle.kmc_rounds.proofs.rounds.bins_of_input.Goals as goal

@@ -1,7 +1,6 @@
 use Rattle.std.proofs.Common.{◌≡◌, ◌+◌, ◌-◌, [], Ok, ap, subst, ◌∙◌, arith}
 use Rattle.kmc_input.specs.Fed.{AreCountsOf}
-use Rattle.kmc_base.specs.Lemmas.PassedOn.{passed_on}
-use Rattle.kmc_input.specs.Lemmas.Causes.{not_ok}
+use Rattle.kmc_base.specs.Lemmas.PassedOn.{not_ok, passed_on}
 use Rattle.kmc_input.specs.Lemmas.Fed.{unfaulted, risen, counts_on}
 use Rattle.kmc_rounds.specs.Lemmas.Stored.{fed_cause}
 use Rattle.kmc_rounds.proofs.rounds.earlier_rounds.Goals as goal

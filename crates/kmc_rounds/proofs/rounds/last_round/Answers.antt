@@ -1,7 +1,6 @@
 use Rattle.std.proofs.Common.{◌-◌, refl}
-use Rattle.kmc_base.specs.Lemmas.PassedOn.{passed_on}
+use Rattle.kmc_base.specs.Lemmas.PassedOn.{no_answer, passed_on}
 use Rattle.kmc_reads.specs.declared.error.ReadsError.TheVariants.{Memory}
-use Rattle.kmc_input.specs.Lemmas.Causes.{no_answer}
 use Rattle.kmc_rounds.proofs.rounds.last_round.Goals as goal
 
 pub returns-clause-holds : goal.returns-clause-holds

@@ -11,8 +11,8 @@ use Rattle.kmc_input.specs.Fed.{AreCountsOf}
 use Rattle.kmc_rounds.specs.Rounds.{IsInputError}
 use Rattle.kmc_input.specs.declared.input_error.InputError.TheVariants as input
 use Rattle.kmc_faults.specs.declared.error.RunError.TheVariants as run
-use Rattle.kmc_input.specs.Lemmas.Causes.{cause_of, kept_by, most_by, no_answer, not_ok, of_err}
-use Rattle.kmc_base.specs.Lemmas.PassedOn.{passed_on}
+use Rattle.kmc_input.specs.Lemmas.Causes.{kept_by, most_by}
+use Rattle.kmc_base.specs.Lemmas.PassedOn.{cause_of, no_answer, not_ok, of_err, passed_on}
 use Rattle.kmc_faults.specs.Lemmas.Refusals.{no_refusal, same_input, no_write, no_read, no_input, no_length, is_write, is_memory}
 use Rattle.kmc_tool.proofs.Written.{is_dump_of}
 use Rattle.kmc_tool.proofs.running.run_with_gate.Goals as goal

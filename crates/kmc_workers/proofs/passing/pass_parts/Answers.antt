@@ -1,5 +1,5 @@
 use Rattle.std.proofs.Common.{rules, ◌≡◌, ℕ, List, map, sym, subst, ap, ◌∙◌}
-use Rattle.std.specs.Prelude.{Result, Ok, Err, IfOk, IfErr, IsErrAnd}
+use Rattle.std.specs.Prelude.{Result, Ok, IfOk, IfErr}
 use Rattle.std.specs.List.{AllZip}
 use Rattle.atomic_table.specs.Seated.{TableId}
 use Rattle.kmc_parts.specs.Shapes.{Sizes}
@@ -10,7 +10,7 @@ use Rattle.kmc_partqueue.specs.Seats.{WriterState, new_writer, new_reader}
 use Rattle.kmc_store.specs.Bins.{BinList}
 use Rattle.kmc_storers.specs.Shards.{IsShard, begun}
 use Rattle.kmc_storers.specs.declared.shard.Shard.{Shard}
-use Rattle.kmc_base.specs.Lemmas.PassedOn.{passed_on}
+use Rattle.kmc_base.specs.Lemmas.PassedOn.{no_answer, of_err, passed_on}
 use Rattle.kmc_splitters.specs.Splitters.{IsDone}
 use Rattle.kmc_splitters.specs.Causes.{IsCause, IsWorkersCause}
 use Rattle.kmc_way.specs.Refusals.{told}
@@ -18,17 +18,9 @@ use Rattle.kmc_way.specs.declared.refusal.GivenUp.{GivenUp}
 use Rattle.kmc_way.specs.declared.refusal.GivenUp.TheVariants.{Memory, NumbersSpent, Stopped}
 use Rattle.kmc_workers.proofs.passing.pass_parts.Goals as goal
 
--- where a refusal is passed on there is no answer
-no_answer : {A E : Type 0} (P : A → Type 0) (Q : E → Type 0) (r : Result A E) → IsErrAnd r Q → IfOk r P
-no_answer P Q (Ok x) is = absurd is
-no_answer P Q (Err x) is = tt
-
--- what is known of a result holds of its answer, and of its cause
+-- what is known of a result holds of its answer
 given : {A E : Type 0} (P : A → Type 0) (r : Result A E) (x : A) → r ≡ Ok x → IfOk r P → P x
 given P r x is h = subst (λ y. IfOk y P) is h
-
-cause_given : {A E : Type 0} (P : E → Type 0) (r : Result A E) (e : E) → r ≡ Err e → IfErr r P → P e
-cause_given P r e is h = subst (λ y. IfErr y P) is h
 
 -- what is told of the workers has their cause
 told_of : (shape : Sizes) (batch : ℕ) (reads : List (List ℕ)) (sp : ℕ) (e : GivenUp) → IsWorkersCause shape batch reads sp e
@@ -98,4 +90,4 @@ returns-in-Err-clause-cause g c =
     = search (rules, c.scoped-back.ensures) in
     subst (IsCause a.plan.shape a.plan.batch reads a.queue.writers) (sym c.told.ensures)
     (told_cause a.plan.shape a.plan.batch reads way.writers a.queue.writers c.in-Err.cause
-    (way.as_many ∙ ap (λ q. q.writers) c.in_ok-way.ensures.shape) (cause_given _ c.scoped-back.result _ c.in-Err.is gave))
+    (way.as_many ∙ ap (λ q. q.writers) c.in_ok-way.ensures.shape) (of_err _ c.scoped-back.result _ c.in-Err.is gave))

@@ -1,10 +1,10 @@
 use Rattle.kmc_parts.specs.Shapes.{Sizes}
 use Rattle.std.proofs.Common.{ℕ, List, [], ◌∷◌, ◌++◌, map, sym, subst, arith}
 use Rattle.std.proofs.lemmas.Grind.{common_steps, elements}
-use Rattle.std.specs.Prelude.{Result, Ok, Err, IfOk, IsErrAnd}
+use Rattle.std.specs.Prelude.{IfOk}
 use Rattle.std.specs.List.{AllZip}
 use Rattle.kmc_storers.specs.Shards.{IsShard}
-use Rattle.kmc_base.specs.Lemmas.PassedOn.{passed_on}
+use Rattle.kmc_base.specs.Lemmas.PassedOn.{no_answer, passed_on}
 use Rattle.kmc_splitters.specs.Splitters.{IsDone}
 use Rattle.kmc_splitters.specs.Causes.{IsWorkersCause}
 use Rattle.kmc_storers.specs.Causes.{IsStorersCause}
@@ -19,11 +19,6 @@ storers_cause : (shape : Sizes) (batch : ℕ) (reads : List (List ℕ)) (sp : �
 storers_cause shape batch reads sp NumbersSpent h = absurd h
 storers_cause shape batch reads sp Memory h = tt
 storers_cause shape batch reads sp Stopped h = tt
-
--- where a refusal is passed on there is no answer
-no_answer : {A E : Type 0} (P : A → Type 0) (Q : E → Type 0) (r : Result A E) → IsErrAnd r Q → IfOk r P
-no_answer P Q (Ok x) is = absurd is
-no_answer P Q (Err x) is = tt
 
 pub returns-in_err-done-clause-done : goal.returns-in_err-done-clause-done
 returns-in_err-done-clause-done g t c = no_answer _ _ c.from_residual.result c.from_residual.ensures.1
