@@ -5,7 +5,8 @@ usage: build/program.py PROGRAM, at the top of the repository. The program is le
 
 It asks the kit's compiler for each library as `rt ci` does: from nothing, and what stands above a library reads its statements
 and not its proofs. A library is begun once those that it names are done, of several the one that stands first in crates.txt. Each gets
-one process, since several for one check take up to twice the processor seconds; the first also gets those that no other wants.
+one process, since several for one check take up to twice the processor seconds; where processors are free, a library gets two, with which
+it ends soonest, and the program all.
 What was built before from the same files is kept. `rt` in a crate's folder makes libraries of its own, in the place of these, and
 neither takes the other's.
 """
@@ -21,6 +22,8 @@ from concurrent.futures import FIRST_COMPLETED, ThreadPoolExecutor, wait
 
 PARTS = ("src", "specs", "proofs")
 TARGET = "x86_64-unknown-linux-gnu"
+# more processes than so many for a library take more time than they spare
+PROCESSES_OF_A_LIBRARY = 2
 # a check takes up to so many bytes of memory
 MEMORY_OF_A_CHECK = 4 << 30
 # the compiler's allocator keeps what is freed, in place of giving it back to the system and asking for it again
@@ -167,7 +170,8 @@ def build_all(crates, order):
             ready = [it for it in left if all(other in done for other in crates[it] if other in crates)]
             for place, name in enumerate(ready, 1):
                 free = at_once - sum(jobs for _, jobs in running.values())
-                jobs = max(1, free - (len(ready) - place))
+                most = at_once if is_program(name) else PROCESSES_OF_A_LIBRARY
+                jobs = min(most, max(1, free - (len(ready) - place)))
                 if jobs <= free:
                     left.remove(name)
                     running[pool.submit(build, crates, name, jobs)] = name, jobs
