@@ -1,0 +1,3 @@
+mod Fresh
+mod Returned
+mod Stored

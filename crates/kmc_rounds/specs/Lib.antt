@@ -1,2 +1,3 @@
+pub mod Passages
 pub mod Rounds
 pub mod Lemmas

@@ -20,8 +20,8 @@ use Rattle.kmc_settings.specs.declared.params.Params.{Params}
 use Rattle.kmc_input.specs.Fed.{AreCountsOf, IsRefused}
 use Rattle.kmc_rounds.specs.Rounds.{IsInputError}
 use Rattle.kmc_input.specs.declared.input_error.InputError.{InputError}
-use Rattle.kmc_faults.specs.declared.error.RunError.{RunError}
-use Rattle.kmc_faults.specs.declared.error.RunError.TheVariants.{Read, Write, Input, TooLong}
+use Rattle.kmc_tool.specs.declared.error.RunError.{RunError}
+use Rattle.kmc_tool.specs.declared.error.RunError.TheVariants.{Read, Write, Input, TooLong}
 
 -- the pairs are the dump of the direct count of the reads of all that a reader gave
 pub record IsDumpOfInput (format : Format) (strands : Strands) (k : ℕ) (limits : Limits) (old new : Option (List ℕ)) (pairs : List (List ℕ × ℕ)) : Type 0 where

@@ -2,10 +2,10 @@
 ghost use Rattle.std.specs.Prelude.{◌+◌, ◌-◌, ◌^◌, ◌<◌};
 ghost use Rattle.kmc_tool.specs.Run.{IsRun};
 
+use crate::error::RunError;
 use crate::input::{MOST_READS, count_input_with};
 use kmc_device::Counted;
 use kmc_dump::write_bins;
-use kmc_faults::RunError;
 use kmc_partqueue::{Gate, NoGate};
 use kmc_reads::laws::memory_is_no_fault;
 use kmc_settings::Params;

@@ -1,7 +1,7 @@
-use kmc_faults::{Fault, RunError};
 use kmc_options::ParamsError;
 use kmc_reads::ReadsError;
 use kmc_settings::Setting;
+use kmc_tool::{Fault, RunError};
 use std::alloc::Global;
 use std::process::Abort;
 

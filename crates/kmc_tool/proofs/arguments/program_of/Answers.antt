@@ -1,6 +1,6 @@
 use Rattle.std.proofs.Common.{sym, ◌∙◌, subst}
 use Rattle.std.specs.Prelude.{◌≤◌}
-use Rattle.kmc_faults.specs.Lemmas.Statuses.{at_most_2, done_only, one_or_other, only_misuse}
+use Rattle.kmc_tool.proofs.Statuses.{at_most_2, done_only, one_or_other, only_misuse}
 use Rattle.kmc_base.specs.Lemmas.PassedOn.{of_err}
 use Rattle.kmc_tool.proofs.arguments.program_of.Goals as goal
 

@@ -6,14 +6,14 @@ use Rattle.kmc_device.specs.Line.{text_of}
 use Rattle.kmc_lists.specs.Listed.{spell, spelled}
 use Rattle.kmc_lists.specs.Lists.{lists_of}
 use Rattle.kmc_lists.specs.Ordered.{whole}
-use Rattle.kmc_faults.specs.Errors.{run_error, write_error}
+use Rattle.kmc_tool.specs.Errors.{run_error, write_error}
 use Rattle.kmc_input.specs.Fed.{AreCountsOf}
 use Rattle.kmc_rounds.specs.Rounds.{IsInputError}
 use Rattle.kmc_input.specs.declared.input_error.InputError.TheVariants as input
-use Rattle.kmc_faults.specs.declared.error.RunError.TheVariants as run
+use Rattle.kmc_tool.specs.declared.error.RunError.TheVariants as run
 use Rattle.kmc_input.specs.Lemmas.Causes.{kept_by, most_by}
 use Rattle.kmc_base.specs.Lemmas.PassedOn.{cause_of, no_answer, not_ok, of_err, passed_on}
-use Rattle.kmc_faults.specs.Lemmas.Refusals.{no_refusal, same_input, no_write, no_read, no_input, no_length, is_write, is_memory}
+use Rattle.kmc_tool.proofs.Refusals.{no_refusal, same_input, no_write, no_read, no_input, no_length, is_write, is_memory}
 use Rattle.kmc_tool.proofs.Written.{is_dump_of}
 use Rattle.kmc_tool.proofs.running.run_with_gate.Goals as goal
 

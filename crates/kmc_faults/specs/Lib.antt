@@ -1,4 +1,0 @@
-pub mod Status
-pub mod Messages
-pub mod Errors
-pub mod Lemmas
