@@ -16,3 +16,7 @@ pub mod Members
 pub mod WrittenBack
 pub mod Places
 pub mod Mirrored
+pub mod Codes
+pub mod Spelled
+pub mod Whole
+pub mod Unique

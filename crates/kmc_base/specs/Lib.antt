@@ -8,4 +8,6 @@ pub mod Places
 pub mod Pieces
 pub mod Bytes
 pub mod Laws
+pub mod Record
+pub mod SpellingLaws
 pub mod Lemmas

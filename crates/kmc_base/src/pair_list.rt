@@ -1,4 +1,4 @@
-//! Lists that take the pairs of a dump: in plain form here, in packed form in kmc_lists.
+//! Lists that take the pairs of a dump: in plain form here, in packed form in kmc_device.
 ghost use Rattle.std.specs.Prelude.{◌≡◌, ℕ, ◌-◌, ◌^◌, ◌<◌, ◌≤◌, ◌++◌, ◌∷◌, [], List, OnOk};
 ghost use Rattle.kmc_base.specs.Packed.{unpack};
 

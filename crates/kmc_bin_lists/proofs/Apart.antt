@@ -11,11 +11,11 @@ use Rattle.kmc_base.specs.Strands.{key}
 use Rattle.kmc_base.specs.Lemmas.Keys.{IsWord, keys_are_words}
 use Rattle.kmc_split.specs.Signature.{signature_of}
 use Rattle.kmc_split.specs.Laws.{CanonicalFixesSignature}
-use Rattle.kmc_parts.specs.Shapes.{Sizes}
-use Rattle.kmc_spelling.specs.Record.{IsBodyOf, IsSpelled}
+use Rattle.kmc_store.specs.Shapes.{Sizes}
+use Rattle.kmc_base.specs.Record.{IsBodyOf, IsSpelled}
 use Rattle.kmc_record.specs.RecordWords.{record_keys}
-use Rattle.kmc_parts.specs.Parts.{all_windows}
-use Rattle.kmc_spelling.specs.Laws.{BodyHasOneList}
+use Rattle.kmc_store.specs.Parts.{all_windows}
+use Rattle.kmc_base.specs.SpellingLaws.{BodyHasOneList}
 use Rattle.kmc_store.specs.Bins.{AreBins, body_at}
 use Rattle.kmc_count.specs.Merge.{AreApart}
 use Rattle.kmc_count.specs.Lemmas.Zips.{zip_at}

@@ -4,10 +4,10 @@ use Rattle.std.specs.Prelude.{slice_index}
 use Rattle.std.specs.List.{AllZip}
 use Rattle.kmc_base.specs.declared.strands.Strands.{Strands}
 use Rattle.kmc_record.specs.declared.fault.RecordFault.{RecordFault}
-use Rattle.kmc_parts.specs.Shapes.{Sizes, IsShape}
-use Rattle.kmc_spelling.specs.Record.{IsBodyOf}
+use Rattle.kmc_store.specs.Shapes.{Sizes, IsShape}
+use Rattle.kmc_base.specs.Record.{IsBodyOf}
 use Rattle.kmc_record.specs.RecordWords.{record_keys}
-use Rattle.kmc_parts.specs.Parts.{IsPart}
+use Rattle.kmc_store.specs.Parts.{IsPart}
 use Rattle.kmc_record.specs.Laws.{WholeBodyHasNoFault}
 use Rattle.kmc_store.specs.Bins.{AreBins, body_at}
 use Rattle.kmc_count.specs.declared.limits.Limits.{Limits}
@@ -16,8 +16,8 @@ use Rattle.kmc_count.specs.Laws.{DumpsOfBodiesAreOfKeys}
 use Rattle.kmc_count.specs.Merge.{AreApart, AreDumps}
 use Rattle.kmc_body_lists.specs.Bodies.{AreListsOfBodies}
 use Rattle.kmc_bin_lists.specs.Laws.{PackedDumpsAreOne}
-use Rattle.kmc_lists.specs.Listed.{Listed, spelled, pairs_of}
-use Rattle.kmc_lists.specs.Ordered.{CanBeMerged, whole}
+use Rattle.kmc_device.specs.Listed.{Listed, spelled, pairs_of}
+use Rattle.kmc_device.specs.Ordered.{CanBeMerged, whole}
 use Rattle.kmc_bin_lists.specs.Laws.{BinsShareNoKey}
 use Rattle.kmc_bin_lists.specs.Stages.{IsDumpOfBins}
 

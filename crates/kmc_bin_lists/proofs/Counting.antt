@@ -14,11 +14,11 @@ use Rattle.kmc_base.specs.Places.{IsSegment, counted_words}
 use Rattle.kmc_split.specs.declared.runs.Run.{Run}
 use Rattle.kmc_split.specs.Cut.{run_codes, run_words}
 use Rattle.kmc_split.specs.Laws.{CutKeepsWords}
-use Rattle.kmc_parts.specs.Shapes.{Sizes}
-use Rattle.kmc_spelling.specs.Record.{IsBodyOf}
+use Rattle.kmc_store.specs.Shapes.{Sizes}
+use Rattle.kmc_base.specs.Record.{IsBodyOf}
 use Rattle.kmc_record.specs.RecordWords.{record_keys}
-use Rattle.kmc_parts.specs.Parts.{AreCuts, bin_runs, bin_super_kmers, all_segments}
-use Rattle.kmc_spelling.specs.Laws.{BodyHasOneList}
+use Rattle.kmc_store.specs.Parts.{AreCuts, bin_runs, bin_super_kmers, all_segments}
+use Rattle.kmc_base.specs.SpellingLaws.{BodyHasOneList}
 use Rattle.kmc_store.specs.Bins.{body_at}
 use Rattle.kmc_store.specs.Holds.{HoldsReads}
 use Rattle.kmc_store.specs.Lemmas.Sums.{sum_same, sum_none, sum_add, sum_map, sum_flat_map, sum_filter}

@@ -3,8 +3,8 @@ use Rattle.std.specs.Prelude.{ℕ, List, map, ◌≡◌, ◌-◌, ◌≤◌}
 use Rattle.std.specs.List.{All, AllZip}
 use Rattle.kmc_base.specs.declared.strands.Strands.{Strands}
 use Rattle.kmc_reads.specs.Cuts.{AreCut}
-use Rattle.kmc_parts.specs.Shapes.{Sizes}
-use Rattle.kmc_spelling.specs.Record.{IsBodyOf}
+use Rattle.kmc_store.specs.Shapes.{Sizes}
+use Rattle.kmc_base.specs.Record.{IsBodyOf}
 use Rattle.kmc_record.specs.RecordWords.{record_keys}
 use Rattle.kmc_store.specs.Bins.{AreBins}
 use Rattle.kmc_store.specs.Holds.{HoldsReads}
@@ -12,8 +12,8 @@ use Rattle.kmc_count.specs.declared.limits.Limits.{Limits}
 use Rattle.kmc_count.specs.Occurrences.{occurrences, count_of}
 use Rattle.kmc_count.specs.Dump.{IsDump}
 use Rattle.kmc_count.specs.Merge.{AreApart, AreDumps, IsMerged, joined}
-use Rattle.kmc_lists.specs.Listed.{Listed, spelled, pairs_of, IsListOf}
-use Rattle.kmc_lists.specs.Ordered.{CanBeMerged, whole}
+use Rattle.kmc_device.specs.Listed.{Listed, spelled, pairs_of, IsListOf}
+use Rattle.kmc_device.specs.Ordered.{CanBeMerged, whole}
 
 -- the whole of lists is their merged list
 abbrev pub WholeIsMerged : Type 0

@@ -2,7 +2,7 @@
 use Rattle.std.specs.Prelude.{ℕ, List, map}
 use Rattle.std.specs.List.{AllZip}
 use Rattle.kmc_base.specs.declared.strands.Strands.{Strands}
-use Rattle.kmc_spelling.specs.Record.{IsBodyOf}
+use Rattle.kmc_base.specs.Record.{IsBodyOf}
 use Rattle.kmc_record.specs.RecordWords.{record_keys}
 use Rattle.kmc_count.specs.declared.limits.Limits.{Limits}
 use Rattle.kmc_count.specs.Occurrences.{occurrences}

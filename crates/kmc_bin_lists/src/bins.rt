@@ -7,7 +7,7 @@ ghost use Rattle.kmc_body_lists.specs.Bodies.{AreListsOfBodies};
 use crate::group::list_group;
 use kmc_base::{KeyRule, Word};
 use kmc_count::Limits;
-use kmc_lists::{Counts, Shown};
+use kmc_device::{Counts, Shown};
 use kmc_record::BodyError;
 use std::alloc::Global;
 use std::thread::Threads;

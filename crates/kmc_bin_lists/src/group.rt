@@ -10,7 +10,7 @@ use crate::giants::take_giants;
 use kmc_base::{KeyRule, Word};
 use kmc_body_lists::{LargestFirst, Placed, in_order, list_row, take_by_threads};
 use kmc_count::Limits;
-use kmc_lists::{Counts, Shown};
+use kmc_device::{Counts, Shown};
 use kmc_record::BodyError;
 use std::alloc::Global;
 use std::thread::Threads;

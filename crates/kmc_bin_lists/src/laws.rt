@@ -1,9 +1,8 @@
 //! Laws of packed lists, and of counting by bins, each the contract of a function that does nothing but call other laws.
 ghost use Rattle.kmc_bin_lists.specs.Laws.{WholeIsMerged, PackedDumpsAreOne, HeldReadsAreCounted, CutReadsAreCounted, BinsShareNoKey};
 
-use kmc_base::laws::{keys_of_segments, segments_are_maximal};
+use kmc_base::laws::{body_has_one_list, keys_of_segments, segments_are_maximal};
 use kmc_count::laws::{dumps_can_be_merged, keys_of_reads_are_counted, merged_dumps_are_one};
-use kmc_spelling::laws::body_has_one_list;
 use kmc_split::laws::{canonical_fixes_signature, cut_keeps_words};
 
 /// The pairs of lists that can be merged, in the order of their words, are their merged list.

@@ -1,9 +1,9 @@
 //! Stage two: each bin is counted by itself, and their lists make one dump.
 ghost use Rattle.std.specs.Prelude.{◌≡◌, ◌≤◌, IfOk};
 ghost use Rattle.kmc_body_lists.specs.Bodies.{AreListsOfBodies};
-ghost use Rattle.kmc_lists.specs.Listed.{spelled};
-ghost use Rattle.kmc_lists.specs.Lists.{lists_of};
-ghost use Rattle.kmc_lists.specs.Ordered.{CanBeMerged, whole};
+ghost use Rattle.kmc_device.specs.Listed.{spelled};
+ghost use Rattle.kmc_device.specs.Lists.{lists_of};
+ghost use Rattle.kmc_device.specs.Ordered.{CanBeMerged, whole};
 ghost use Rattle.kmc_bin_lists.specs.Stages.{IsDumpOfBins};
 
 use crate::laws::{bins_share_no_key, packed_dumps_are_one};
@@ -11,7 +11,7 @@ use crate::lists::list_bins;
 use kmc_base::Strands;
 use kmc_count::Limits;
 use kmc_count::laws::dumps_of_bodies_are_of_keys;
-use kmc_lists::BinLists;
+use kmc_device::BinLists;
 use kmc_record::BodyError;
 use kmc_record::laws::whole_body_has_no_fault;
 use kmc_store::Bins;

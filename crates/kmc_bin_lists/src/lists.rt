@@ -3,12 +3,12 @@ ghost use Rattle.std.specs.Prelude.{ℕ, ◌≤◌, map, IfOk, IsErrOf};
 ghost use Rattle.kmc_record.specs.declared.fault.RecordFault.{RecordFault};
 ghost use Rattle.kmc_count.specs.Bodies.{IsFirstDamaged};
 ghost use Rattle.kmc_body_lists.specs.Bodies.{AreListsOfBodies};
-ghost use Rattle.kmc_lists.specs.Lists.{sized_lists, lists_of};
+ghost use Rattle.kmc_device.specs.Lists.{sized_lists, lists_of};
 
 use crate::bins::list_bodies;
 use kmc_base::{KeyRule, MAX_K, Strands, Word};
 use kmc_count::Limits;
-use kmc_lists::{BinLists, SizedLists};
+use kmc_device::{BinLists, SizedLists};
 use kmc_record::BodyError;
 use std::alloc::Global;
 use std::thread::Threads;

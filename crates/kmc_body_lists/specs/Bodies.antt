@@ -4,7 +4,7 @@ use Rattle.std.specs.List.{All}
 use Rattle.kmc_base.specs.declared.strands.Strands.{Strands}
 use Rattle.kmc_count.specs.declared.limits.Limits.{Limits}
 use Rattle.kmc_count.specs.Bodies.{AreDumpsOfBodies, IsDumpOfBody}
-use Rattle.kmc_lists.specs.Listed.{Listed, pairs_of, IsListOf}
+use Rattle.kmc_device.specs.Listed.{Listed, pairs_of, IsListOf}
 
 -- as many lists as bodies, each of words of k codes, and the dump of the body at its place
 pub record AreListsOfBodies (strands : Strands) (k : ℕ) (l : Limits) (bodies : List (List ℕ)) (lists : List Listed) : Type 0 where

@@ -3,11 +3,11 @@ ghost use Rattle.std.specs.Prelude.{ℕ, ◌<◌, ◌≤◌, IfOk, IsErrOf};
 ghost use Rattle.kmc_record.specs.Faults.{IsFirstFault};
 ghost use Rattle.kmc_record.specs.declared.fault.RecordFault.{RecordFault};
 ghost use Rattle.kmc_count.specs.Bodies.{IsDumpOfBody, WantsMemory};
-ghost use Rattle.kmc_lists.specs.Listed.{IsListOf, pairs_of};
+ghost use Rattle.kmc_device.specs.Listed.{IsListOf, pairs_of};
 
 use kmc_base::{KeyRule, Word};
 use kmc_count::{CountingRoom, Limits, count_into};
-use kmc_lists::{Counts, Shown};
+use kmc_device::{Counts, Shown};
 use kmc_record::BodyError;
 use std::alloc::Global;
 

@@ -6,7 +6,7 @@ ghost use Rattle.kmc_count.specs.declared.limits.Limits.{Limits};
 ghost use Rattle.kmc_body_lists.specs.Bodies.{AreListsOfBodies, IsListAt};
 
 use kmc_base::Word;
-use kmc_lists::{Counts, Shown};
+use kmc_device::{Counts, Shown};
 use kmc_record::BodyError;
 use std::alloc::Global;
 

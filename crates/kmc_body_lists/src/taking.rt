@@ -8,7 +8,7 @@ use crate::largest_first::LargestFirst;
 use crate::placed::{Placed, all_made};
 use kmc_base::{KeyRule, Word};
 use kmc_count::{CountingRoom, Limits};
-use kmc_lists::Shown;
+use kmc_device::Shown;
 use kmc_record::BodyError;
 use std::alloc::Global;
 use std::thread;

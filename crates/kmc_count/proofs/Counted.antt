@@ -7,7 +7,7 @@ use Rattle.std.specs.List.Sorted.{IsPermutation}
 use Rattle.kmc_base.specs.declared.strands.Strands.{Strands}
 use Rattle.kmc_base.specs.Packed.{unpack}
 use Rattle.kmc_base.specs.Weights.{item, items, item_weight, worth}
-use Rattle.kmc_spelling.specs.Record.{IsBodyOf}
+use Rattle.kmc_base.specs.Record.{IsBodyOf}
 use Rattle.kmc_record.specs.RecordKeys.{key_words, Gains, IsRecordKey, IsTaken}
 use Rattle.kmc_record.specs.Lemmas.Taken.{moved_keys}
 use Rattle.kmc_count.specs.Bodies.{AreItemsOfBody}

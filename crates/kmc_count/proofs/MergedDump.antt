@@ -7,9 +7,9 @@ use Rattle.std.proofs.lemmas.List.Elements.{Contains-append_right}
 use Rattle.std.proofs.lemmas.List.Sorted.{IsPermutation-map, All-permutation, Contains-permutation}
 use Rattle.std.proofs.lemmas.Slice.Zip.{AllZip-long}
 use Rattle.kmc_base.specs.declared.strands.Strands.{Strands}
-use Rattle.kmc_spelling.specs.Record.{IsBodyOf}
+use Rattle.kmc_base.specs.Record.{IsBodyOf}
 use Rattle.kmc_record.specs.RecordWords.{record_keys}
-use Rattle.kmc_spelling.specs.Laws.{BodyHasOneList}
+use Rattle.kmc_base.specs.SpellingLaws.{BodyHasOneList}
 use Rattle.kmc_count.specs.declared.limits.Limits.{Limits}
 use Rattle.kmc_count.specs.Occurrences.{occurrences}
 use Rattle.kmc_count.specs.Dump.{IsListed, shown, words_of, IsDump}

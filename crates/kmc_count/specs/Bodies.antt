@@ -4,7 +4,7 @@ use Rattle.std.specs.List.{All, AllZip, sum_by}
 use Rattle.kmc_base.specs.Weights.{items, worth, AreItems}
 use Rattle.kmc_base.specs.declared.strands.Strands.{Strands}
 use Rattle.kmc_record.specs.declared.fault.RecordFault.{RecordFault}
-use Rattle.kmc_spelling.specs.Record.{IsBodyOf}
+use Rattle.kmc_base.specs.Record.{IsBodyOf}
 use Rattle.kmc_record.specs.RecordWords.{record_keys}
 use Rattle.kmc_record.specs.Faults.{IsFirstFault}
 use Rattle.kmc_record.specs.Refusals.{StopsAtRecord}

@@ -11,9 +11,9 @@ use Rattle.std.proofs.lemmas.List.Sorted.{IsNonDecreasingBy-from_sort}
 use Rattle.kmc_base.specs.Packed.{unpack}
 use Rattle.kmc_device.specs.Line.{line_of, text_of}
 use Rattle.kmc_dump.specs.Keys.{key_pair, key_pairs}
-use Rattle.kmc_lists.specs.Listed.{spell, spelled}
-use Rattle.kmc_lists.specs.Ordered.{Climbs, IsCut}
-use Rattle.kmc_lists.specs.Lemmas.Order.{climbs_from, slot_up}
+use Rattle.kmc_device.specs.Listed.{spell, spelled}
+use Rattle.kmc_device.specs.Ordered.{Climbs, IsCut}
+use Rattle.kmc_device.specs.Lemmas.Order.{climbs_from, slot_up}
 
 -- a key holds its pair
 pub key_holds : (word count least bits : ℕ) → least ≤ word → count < 2 ^ bits → key_pair least bits ((word - least) * 2 ^ bits + count) ≡ (word, count)

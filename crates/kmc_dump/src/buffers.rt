@@ -5,8 +5,7 @@ ghost use Rattle.kmc_dump.specs.Rooms.{HasRoom};
 
 use crate::word_size::WordSize;
 use kmc_base::Word;
-use kmc_device::line_room;
-use kmc_lists::Shown;
+use kmc_device::{Shown, line_room};
 use std::alloc::{AllocError, Global};
 
 /// Room for the pairs of one range, also as keys, and for its text, whose first `filled` bytes are the range's. The thread that

@@ -2,14 +2,13 @@
 ghost use Rattle.std.specs.Prelude.{◌≡◌, ℕ, ◌+◌, ◌-◌, ◌*◌, ◌^◌, ◌<◌, ◌≤◌, List, [], ◌∷◌, ◌++◌, length, take, map, All, IsTrue, vec_len, vec_capacity};
 ghost use Rattle.kmc_device.specs.Line.{line_room, text_of};
 ghost use Rattle.kmc_dump.specs.Keys.{key_pair, key_pairs};
-ghost use Rattle.kmc_lists.specs.Listed.{spelled};
-ghost use Rattle.kmc_lists.specs.Ordered.{Climbs, within, whole, CanBeMerged};
+ghost use Rattle.kmc_device.specs.Listed.{spelled};
+ghost use Rattle.kmc_device.specs.Ordered.{Climbs, within, whole, CanBeMerged};
 ghost use Rattle.kmc_dump.specs.Ranges.{count_within};
 
 use crate::word_size::WordSize;
 use kmc_base::{Kmer, Word};
-use kmc_device::put_line;
-use kmc_lists::{Counts, Shown};
+use kmc_device::{Counts, Shown, put_line};
 
 /// Whether a word of the range and a count, side by side, always fit 64 bits.
 pub fn fit_keys<C: Shown>(shift: u32, from: u128, to: u128) -> bool

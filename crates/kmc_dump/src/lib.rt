@@ -1,5 +1,5 @@
-//! The dump that is written from packed lists by ranges of words. It stands on the words of kmc_base, on the lists of kmc_lists,
-//! and on kmc_device for the dump's lines and for devices whose failures are counted.
+//! The dump that is written from packed lists by ranges of words. It stands on the words of kmc_base and on
+//! kmc_device for lists, for the dump's lines and for devices whose failures are counted.
 //! The layer above uses that the dump is the pairs of all lists in order, and that it is written whole or the device failed.
 #![tactic(auto)]
 

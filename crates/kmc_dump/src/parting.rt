@@ -1,15 +1,15 @@
 //! The choice of ranges.
 ghost use Rattle.std.specs.Prelude.{◌≡◌, ℕ, ◌+◌, ◌-◌, ◌*◌, ◌/◌, ◌^◌, ◌<◌, ◌≤◌, List, length, All, IfOk, OnOk, slice_index_or};
 ghost use Rattle.std.specs.List.{AllByRecursion};
-ghost use Rattle.kmc_lists.specs.Listed.{Listed};
-ghost use Rattle.kmc_lists.specs.Ordered.{Rises, CanBeMerged, joined, packs};
+ghost use Rattle.kmc_device.specs.Listed.{Listed};
+ghost use Rattle.kmc_device.specs.Ordered.{Rises, CanBeMerged, joined, packs};
 ghost use Rattle.kmc_dump.specs.Ranges.{count_within, ArePartedTo, AreRanges};
 
 use crate::ranges::Ranges;
 use crate::slots::slot_sizes;
 use crate::word_size::WordSize;
 use kmc_base::Word;
-use kmc_lists::{Counts, Shown};
+use kmc_device::{Counts, Shown};
 use std::alloc::{AllocError, Global};
 
 /// Slots that follow one another are one range while they have no more pairs than this: so many that the threads which fill

@@ -1,10 +1,10 @@
 //! How many pairs lie in each slot.
 ghost use Rattle.std.specs.Prelude.{◌≡◌, ℕ, ◌+◌, ◌/◌, ◌^◌, ◌<◌, length, All, slice_index, OnOk, IfOk, vec_len};
-ghost use Rattle.kmc_lists.specs.Ordered.{within, joined, packs};
+ghost use Rattle.kmc_device.specs.Ordered.{within, joined, packs};
 ghost use Rattle.kmc_dump.specs.Ranges.{AreSizes};
 
 use kmc_base::Word;
-use kmc_lists::{Counts, Shown};
+use kmc_device::{Counts, Shown};
 use std::alloc::{AllocError, Global};
 
 /// Adds the pairs of a list to the numbers of pairs of their slots. It fails where a number is too large, for which no

@@ -8,8 +8,7 @@ use crate::buffers::Buffer;
 use crate::ranges::Ranges;
 use crate::wave::fill_wave;
 use kmc_base::Word;
-use kmc_device::{Counted, WriteFault, write_text};
-use kmc_lists::{Counts, Shown};
+use kmc_device::{Counted, Counts, Shown, WriteFault, write_text};
 use std::io::Write;
 use std::thread::{Threads, join_mut};
 

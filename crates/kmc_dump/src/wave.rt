@@ -10,7 +10,7 @@ use crate::range::put_range;
 use crate::ranges::Ranges;
 use crate::word_size::WordSize;
 use kmc_base::Word;
-use kmc_lists::{Counts, Shown};
+use kmc_device::{Counts, Shown};
 use std::thread;
 use std::thread::Threads;
 

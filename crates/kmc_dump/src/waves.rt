@@ -5,15 +5,14 @@ ghost use Rattle.kmc_device.specs.Line.{line_room, text_of};
 ghost use Rattle.kmc_dump.specs.Ranges.{AreRanges};
 ghost use Rattle.kmc_dump.specs.Rooms.{HasRoom};
 ghost use Rattle.kmc_dump.specs.Written.{IsWritten};
-ghost use Rattle.kmc_lists.specs.Listed.{spelled};
-ghost use Rattle.kmc_lists.specs.Ordered.{whole};
+ghost use Rattle.kmc_device.specs.Listed.{spelled};
+ghost use Rattle.kmc_device.specs.Ordered.{whole};
 
 use crate::buffers::Buffer;
 use crate::ranges::Ranges;
 use crate::turn::{Filling, write_and_fill, write_buffers};
 use kmc_base::Word;
-use kmc_device::{Counted, WriteFault};
-use kmc_lists::{Counts, Shown};
+use kmc_device::{Counted, Counts, Shown, WriteFault};
 use std::io::Write;
 use std::thread::Threads;
 

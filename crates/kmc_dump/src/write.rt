@@ -1,8 +1,8 @@
 //! The dump of lists that share no word, on a device.
 ghost use Rattle.std.specs.Prelude.{◌≡◌, ◌-◌, ◌^◌, ◌<◌, ◌≤◌, length, OnErr, IfOk};
 ghost use Rattle.kmc_device.specs.Line.{text_of};
-ghost use Rattle.kmc_lists.specs.Listed.{spelled};
-ghost use Rattle.kmc_lists.specs.Ordered.{CanBeMerged, joined, packs, whole};
+ghost use Rattle.kmc_device.specs.Listed.{spelled};
+ghost use Rattle.kmc_device.specs.Ordered.{CanBeMerged, joined, packs, whole};
 ghost use Rattle.kmc_dump.specs.Written.{IsDumped};
 ghost use Rattle.kmc_dump.specs.declared.write.DumpError.TheVariants.{Memory};
 
@@ -11,8 +11,7 @@ use crate::parting::part_words;
 use crate::waves::write_ranges;
 use crate::word_size::WordSize;
 use kmc_base::Word;
-use kmc_device::Counted;
-use kmc_lists::{Counts, Shown};
+use kmc_device::{Counted, Counts, Shown};
 use std::alloc::{AllocError, Global};
 use std::io::Write;
 use std::thread::Threads;

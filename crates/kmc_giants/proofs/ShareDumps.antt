@@ -21,11 +21,11 @@ use Rattle.kmc_count.specs.Occurrences.{same_word, weight_of}
 use Rattle.kmc_count.specs.Lemmas.BodyDumps.{body_dump}
 use Rattle.kmc_count.specs.Lemmas.Listing.{same_is}
 use Rattle.kmc_count.specs.Lemmas.Runs.{weight_of_cons}
-use Rattle.kmc_lists.specs.Listed.{Listed, spell, spelled, pairs_of, IsListOf}
-use Rattle.kmc_lists.specs.Ordered.{Rises}
+use Rattle.kmc_device.specs.Listed.{Listed, spell, spelled, pairs_of, IsListOf}
+use Rattle.kmc_device.specs.Ordered.{Rises}
 use Rattle.kmc_giants.specs.declared.share.Share.{Share}
 use Rattle.kmc_giants.specs.Shares.{is_from, has_word_from, of_share, AreListsOfItems, IsDumpOfShare}
-use Rattle.kmc_lists.specs.Lemmas.Filters.{filter_every}
+use Rattle.kmc_device.specs.Lemmas.Filters.{filter_every}
 use Rattle.kmc_giants.specs.Lemmas.PackedDumps.{rising_numbers, all_both}
 use Rattle.kmc_giants.proofs.SharedBodies.{items_joined}
 use Rattle.kmc_giants.specs.Lemmas.Whole.{rising_words}

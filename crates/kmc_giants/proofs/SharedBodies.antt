@@ -7,7 +7,7 @@ use Rattle.std.specs.List.{sum_by}
 use Rattle.kmc_base.specs.declared.strands.Strands.{Strands}
 use Rattle.kmc_base.specs.Strands.{keys}
 use Rattle.kmc_record.specs.Lemmas.Gaining.{worth_append}
-use Rattle.kmc_spelling.specs.Record.{spelling, IsSpelled}
+use Rattle.kmc_base.specs.Record.{spelling, IsSpelled}
 use Rattle.kmc_record.specs.RecordWords.{record_keys}
 use Rattle.kmc_count.specs.Bodies.{AreItemsOfBody}
 

@@ -9,8 +9,8 @@ use Rattle.std.proofs.lemmas.List.{length-map, get_or-map, get_or-drop, get_or-t
 use Rattle.std.proofs.lemmas.List.Elements.{recursion_from_All, filter-append}
 use Rattle.std.proofs.lemmas.List.Sorted.{IsNonDecreasingBy-from_sort}
 use Rattle.kmc_giants.specs.Shares.{has_word_from}
-use Rattle.kmc_lists.specs.Lemmas.Filters.{filter_none, filter_every}
-use Rattle.kmc_lists.specs.Lemmas.Order.{slot_up}
+use Rattle.kmc_device.specs.Lemmas.Filters.{filter_none, filter_every}
+use Rattle.kmc_device.specs.Lemmas.Order.{slot_up}
 
 module _ {A : Type 0} (num : A → ℕ) where
   rises : (xs : List A) → IsSorted nat_cmp (map num xs) → IsNonDecreasingBy num xs

@@ -11,7 +11,7 @@ use Rattle.kmc_count.specs.Occurrences.{weight_of}
 use Rattle.kmc_count.specs.Dump.{IsDump}
 use Rattle.kmc_count.specs.Bodies.{AreItemsOfBody}
 use Rattle.kmc_count.specs.Merge.{joined}
-use Rattle.kmc_lists.specs.Listed.{Listed, pairs_of, IsListOf}
+use Rattle.kmc_device.specs.Listed.{Listed, pairs_of, IsListOf}
 
 -- a number from the first to the last
 abbrev pub is_from : ℕ → ℕ → ℕ → Bool

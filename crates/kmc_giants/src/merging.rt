@@ -11,7 +11,7 @@ ghost use Rattle.kmc_giants.specs.declared.share.Share.{Share};
 use crate::share::{Share, gather_items, halves};
 use kmc_base::{KeyRule, MOST_WEIGHT_BITS, Word};
 use kmc_count::{Limits, tally};
-use kmc_lists::{Counts, Shown};
+use kmc_device::{Counts, Shown};
 use std::alloc::{AllocError, Global};
 use std::thread;
 use std::thread::Threads;

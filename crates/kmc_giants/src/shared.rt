@@ -4,14 +4,14 @@ ghost use Rattle.std.specs.Thread.{IsSync};
 ghost use Rattle.kmc_base.specs.declared.strands.Strands.{Strands};
 ghost use Rattle.kmc_base.specs.declared.word.TheConstants.{MOST_WEIGHT_BITS};
 ghost use Rattle.kmc_count.specs.Bodies.{IsDumpOfBody};
-ghost use Rattle.kmc_lists.specs.Listed.{IsListOf, pairs_of};
+ghost use Rattle.kmc_device.specs.Listed.{IsListOf, pairs_of};
 ghost use Rattle.kmc_giants.specs.Shares.{AreListsOfItems};
 
 use crate::merging::list_share;
 use crate::share::Share;
 use kmc_base::{KeyRule, MOST_WEIGHT_BITS, Word};
 use kmc_count::{Limits, items_of_body};
-use kmc_lists::{Counts, Shown};
+use kmc_device::{Counts, Shown};
 use kmc_record::BodyError;
 use std::alloc::Global;
 use std::thread;

@@ -3,12 +3,12 @@ use Rattle.std.proofs.Common.{◌≡◌, ℕ, ◌+◌, ◌-◌, ◌<◌, ◌≤�
 use Rattle.std.proofs.Common.{append_assoc}
 use Rattle.std.proofs.lemmas.List.{take_at, take-append-drop}
 use Rattle.kmc_base.specs.Words.{windows}
-use Rattle.kmc_spelling.specs.Record.{spelling, IsSpelled, codes_in, size_of}
-use Rattle.kmc_parts.specs.Shapes.{Sizes}
-use Rattle.kmc_parts.specs.Parts.{Parcel, IsPart, capped}
+use Rattle.kmc_base.specs.Record.{spelling, IsSpelled, codes_in, size_of}
+use Rattle.kmc_store.specs.Shapes.{Sizes}
+use Rattle.kmc_store.specs.Parts.{Parcel, IsPart, capped}
 use Rattle.kmc_judging.specs.Bodies.{AreRecordsOfBin, BeginsWithOtherBin, Belong}
-use Rattle.kmc_spelling.specs.Lemmas.Whole.{begins_there, first_codes, rest_at, spelled_there}
-use Rattle.kmc_parts.specs.Lemmas.Grown.{part_grown}
+use Rattle.kmc_base.specs.Lemmas.Whole.{begins_there, first_codes, rest_at, spelled_there}
+use Rattle.kmc_store.specs.Lemmas.Grown.{part_grown}
 
 pub records_of_part : (bin : ℕ) (shape : Sizes) (body : List ℕ) (words : ℕ) → IsPart bin shape body words → AreRecordsOfBin bin shape body
 records_of_part bin shape body words h = record { super_kmers = h.super_kmers; records = h.records; belong = h.belong }

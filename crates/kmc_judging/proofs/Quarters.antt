@@ -1,8 +1,8 @@
 -- Four codes are put in a row, those of one byte.
 use Rattle.std.proofs.Common.{◌≡◌, ℕ, ◌+◌, ◌*◌, ◌/◌, ◌%◌, ◌<◌, List, [], ◌∷◌, ◌++◌, length, get_or, set, take, sym, ap, ◌∙◌, arith, length-set}
 use Rattle.std.proofs.lemmas.List.{take_more, take_more_set}
-use Rattle.kmc_spelling.specs.Record.{codes_in}
-use Rattle.kmc_spelling.specs.Lemmas.Codes.{length_codes, byte_codes}
+use Rattle.kmc_base.specs.Record.{codes_in}
+use Rattle.kmc_base.specs.Lemmas.Codes.{length_codes, byte_codes}
 
 one_more : (out want : List ℕ) (i m v : ℕ) → m ≡ i + 1 → i < length out → i < length want → v ≡ get_or want i 0 → take i out ≡ take i want
     → take m (set out i v) ≡ take m want

@@ -2,8 +2,8 @@
 use Rattle.std.proofs.Common.{◌≡◌, ℕ, ◌+◌, ◌-◌, ◌<◌, ◌≤◌, List, [], ◌∷◌, ◌++◌, length, get_or, refl, sym, subst, arith, length-append, ◌⊎◌, inl, inr}
 use Rattle.std.proofs.lemmas.List.{get_or_append_left, get_or-append_right}
 use Rattle.kmc_judging.specs.Bodies.{AreRecordsOfBin, IsFirstError}
-use Rattle.kmc_parts.specs.Parts.{IsPart}
-use Rattle.kmc_parts.specs.Shapes.{Sizes}
+use Rattle.kmc_store.specs.Parts.{IsPart}
+use Rattle.kmc_store.specs.Shapes.{Sizes}
 use Rattle.kmc_judging.specs.declared.fault.PartError.{PartError}
 use Rattle.kmc_store.specs.Bins.{body_at}
 use Rattle.kmc_judging.specs.Outside.{AreCounted, IsFaultIn}

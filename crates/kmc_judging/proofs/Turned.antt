@@ -9,7 +9,7 @@ use Rattle.kmc_base.specs.Lemmas.Windows.{length_window, length_windows}
 use Rattle.kmc_split.specs.Signature.{signature_of}
 use Rattle.kmc_base.specs.Lemmas.Mirrored.{window_back}
 use Rattle.kmc_split.specs.Lemmas.BothStrands.{strands_share}
-use Rattle.kmc_parts.specs.Shapes.{Sizes}
+use Rattle.kmc_store.specs.Shapes.{Sizes}
 use Rattle.kmc_judging.specs.Bodies.{Belong}
 
 -- the reverse complement of a record of the bin is one too

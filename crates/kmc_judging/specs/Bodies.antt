@@ -3,10 +3,10 @@ use Rattle.std.specs.Prelude.{◌≡◌, ℕ, ◌%◌, ◌<◌, ◌++◌, List, 
 use Rattle.std.specs.List.{All}
 use Rattle.kmc_base.specs.Words.{windows}
 use Rattle.kmc_split.specs.Signature.{signature_of}
-use Rattle.kmc_spelling.specs.Record.{spelling, IsSpelled, IsBodyOf}
+use Rattle.kmc_base.specs.Record.{spelling, IsSpelled, IsBodyOf}
 use Rattle.kmc_record.specs.Faults.{HasFault}
-use Rattle.kmc_parts.specs.Shapes.{Sizes}
-use Rattle.kmc_parts.specs.Parts.{all_windows}
+use Rattle.kmc_store.specs.Shapes.{Sizes}
+use Rattle.kmc_store.specs.Parts.{all_windows}
 use Rattle.kmc_record.specs.RecordKeys.{codes_of}
 use Rattle.kmc_judging.specs.declared.fault.PartError.{PartError}
 use Rattle.kmc_judging.specs.declared.fault.PartError.TheVariants.{Damaged, WrongBin, Memory}

@@ -2,8 +2,8 @@
 use Rattle.std.specs.Prelude.{◌≡◌, ℕ, ◌+◌, ◌<◌, ◌≤◌, List, length, map, slice_index, Result, IfOk, IfErr, Vec}
 use Rattle.std.specs.Global.{Global}
 use Rattle.kmc_judging.specs.Bodies.{AreRecordsOfBin, IsFirstError}
-use Rattle.kmc_parts.specs.Parts.{IsPart}
-use Rattle.kmc_parts.specs.Shapes.{Sizes}
+use Rattle.kmc_store.specs.Parts.{IsPart}
+use Rattle.kmc_store.specs.Shapes.{Sizes}
 use Rattle.kmc_judging.specs.declared.fault.PartError.TheVariants.{Memory}
 use Rattle.kmc_store.specs.Bins.{body_at}
 use Rattle.kmc_judging.specs.declared.judging.BinFault.{BinFault}

@@ -1,8 +1,8 @@
 //! Which bodies belong to a bin.
 ghost use Rattle.std.specs.Prelude.{◌≡◌, ℕ, ◌+◌, ◌*◌, ◌<◌, ◌≤◌, ◌↔◌, length, take, true, IfOk, IfErr, IsTrue, slice_index};
 ghost use Rattle.kmc_base.specs.Words.{windows};
-ghost use Rattle.kmc_spelling.specs.Record.{codes_in, size_of};
-ghost use Rattle.kmc_parts.specs.Parts.{IsPart};
+ghost use Rattle.kmc_base.specs.Record.{codes_in, size_of};
+ghost use Rattle.kmc_store.specs.Parts.{IsPart};
 ghost use Rattle.kmc_record.specs.RecordKeys.{codes_of};
 ghost use Rattle.kmc_judging.specs.Bodies.{AreKnown, Belong, IsFirstError};
 ghost use Rattle.kmc_record.specs.declared.record_keys.TheConstants.{MOST_KEY_SYMBOLS};
@@ -10,8 +10,8 @@ ghost use Rattle.kmc_record.specs.declared.record_keys.TheConstants.{MOST_KEY_SY
 use crate::fault::PartError;
 use crate::words::words_in_bin;
 use kmc_base::{MAX_K, Strands};
-use kmc_parts::{Part, Shape};
 use kmc_record::{MOST_KEY_SYMBOLS, first_symbols, record_key};
+use kmc_store::{Part, Shape};
 
 /// The most codes that the bytes of a record have, with those behind its last symbol.
 const MOST_CODES: usize = (MAX_K + 258) / 4 * 4;

@@ -6,8 +6,7 @@ ghost use Rattle.kmc_judging.specs.Outside.{AreCounted, IsBinFault, IsFaultIn, I
 use crate::belong::count_words;
 use crate::fault::PartError;
 use crate::sharing::share;
-use kmc_parts::Shape;
-use kmc_store::Bins;
+use kmc_store::{Bins, Shape};
 use std::alloc::{AllocError, Global};
 use std::thread::{Threads, join_mut};
 

@@ -4,3 +4,5 @@ pub mod CommandLine
 pub mod Options
 pub mod Parsed
 pub mod Messages
+pub mod Errors
+pub mod Status

@@ -14,4 +14,7 @@ pub mod Reached
 pub mod PartPlaces
 pub mod Told
 pub mod Laws
+pub mod Causes
+pub mod SameSeats
+pub mod Taken
 pub mod Lemmas

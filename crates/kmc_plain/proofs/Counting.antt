@@ -5,7 +5,7 @@ use Rattle.kmc_base.specs.declared.strands.Strands.{Strands}
 use Rattle.kmc_base.specs.Packed.{unpack}
 use Rattle.kmc_base.specs.Lemmas.Keys.{AreWords, words_append, keys_are_words}
 use Rattle.kmc_base.specs.Strands.{keys}
-use Rattle.kmc_spelling.specs.Record.{IsSpelled}
+use Rattle.kmc_base.specs.Record.{IsSpelled}
 use Rattle.kmc_record.specs.RecordWords.{record_keys}
 use Rattle.kmc_count.specs.declared.limits.Limits.{Limits}
 use Rattle.kmc_count.specs.Occurrences.{occurrences}

@@ -4,7 +4,7 @@ use Rattle.std.specs.List.Sorted.{IsPermutation, IsSorted}
 use Rattle.std.specs.Ordering.{nat_cmp}
 use Rattle.kmc_base.specs.Packed.{pack}
 use Rattle.kmc_base.specs.declared.strands.Strands.{Strands}
-use Rattle.kmc_spelling.specs.Record.{IsBodyOf}
+use Rattle.kmc_base.specs.Record.{IsBodyOf}
 use Rattle.kmc_record.specs.RecordWords.{record_keys}
 
 -- the body is whole records, and the numbers are the packed keys of their words, rising

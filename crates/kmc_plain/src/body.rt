@@ -1,7 +1,7 @@
 //! The words of a body.
 ghost use Rattle.std.specs.Prelude.{◌≡◌, ℕ, ◌<◌, ◌≤◌, ◌++◌, List, map, OnOk, IsErrOf};
 ghost use Rattle.kmc_base.specs.Packed.{pack};
-ghost use Rattle.kmc_spelling.specs.Record.{IsBodyOf};
+ghost use Rattle.kmc_base.specs.Record.{IsBodyOf};
 ghost use Rattle.kmc_record.specs.RecordWords.{record_keys};
 ghost use Rattle.kmc_record.specs.Faults.{IsFirstFault};
 ghost use Rattle.kmc_record.specs.Refusals.{StopsAtRecord};

@@ -1,8 +1,8 @@
 //! The parts of a chunk.
 ghost use Rattle.std.specs.Prelude.{map, IfOk};
-ghost use Rattle.kmc_parts.specs.Parts.{ArePartsOf};
+ghost use Rattle.kmc_store.specs.Parts.{ArePartsOf};
 
-use kmc_parts::{Part, Shape, parts_of_reads};
+use kmc_store::{Part, Shape, parts_of_reads};
 use std::alloc::{AllocError, Global};
 
 /// Some reads of an input, and which chunk of it they are.

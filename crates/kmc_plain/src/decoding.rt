@@ -1,6 +1,6 @@
 //! How a record is read.
 ghost use Rattle.std.specs.Prelude.{◌≡◌, ◌+◌, ◌*◌, ◌≤◌, ◌++◌, length, take, IfOk, IfErr};
-ghost use Rattle.kmc_spelling.specs.Record.{spelling, IsSpelled, codes_in};
+ghost use Rattle.kmc_base.specs.Record.{spelling, IsSpelled, codes_in};
 ghost use Rattle.kmc_plain.specs.Refusals.{IsRefused};
 
 use kmc_base::MAX_K;

@@ -1,9 +1,8 @@
 //! How the records of super-k-mers are written.
 ghost use Rattle.std.specs.Prelude.{◌≡◌, ◌≤◌, ◌++◌, OnOk, OnErr};
-ghost use Rattle.kmc_spelling.specs.Record.{spelling, IsSpelled};
+ghost use Rattle.kmc_base.specs.Record.{spelling, IsSpelled};
 
-use kmc_base::MAX_K;
-use kmc_spelling::push_packed;
+use kmc_base::{MAX_K, push_packed};
 use kmc_super_kmers::SuperKmer;
 use std::alloc::AllocError;
 

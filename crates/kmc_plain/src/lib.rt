@@ -1,6 +1,6 @@
 //! What `kmc` does, in plain form: the code of a base, the segments of a read, super-k-mers, their records, written and read, and
 //! parts as values, the direct count of reads, the count of a bin, the one list of several bins, and their dump. It stands on the
-//! definitions of kmc_base, kmc_split, kmc_spelling, kmc_record, kmc_parts, kmc_device and kmc_count, and has its super-k-mers
+//! definitions of kmc_base, kmc_split, kmc_record, kmc_store, kmc_device and kmc_count, and has its super-k-mers
 //! from kmc_super_kmers. `kmc` calls none of this: it cuts, counts and writes in packed form. Tests compare the two, and a
 //! program that wants a list of k-mers takes it from here.
 #![tactic(auto)]

@@ -3,10 +3,10 @@ use Rattle.std.proofs.Common.{◌≡◌, ℕ, ◌*◌, ◌-◌, ◌<◌, ◌≤�
 use Rattle.std.proofs.Common.{length-append, length-drop}
 use Rattle.std.proofs.lemmas.List.{take-append-drop, get_or_append_left, get_or-append_right}
 use Rattle.std.specs.List.{flat_map, AllByRecursion}
-use Rattle.kmc_spelling.specs.Record.{packed_codes, spelling, IsSpelled, IsBodyOf, codes_in, size_of}
-use Rattle.kmc_spelling.specs.Lemmas.Codes.{codes_join, length_codes}
-use Rattle.kmc_spelling.specs.Lemmas.Spelled.{codes_packed, length_packed, zeros_to_byte, zero_behind}
-use Rattle.kmc_spelling.specs.Lemmas.Unique.{one_spelling}
+use Rattle.kmc_base.specs.Record.{packed_codes, spelling, IsSpelled, IsBodyOf, codes_in, size_of}
+use Rattle.kmc_base.specs.Lemmas.Codes.{codes_join, length_codes}
+use Rattle.kmc_base.specs.Lemmas.Spelled.{codes_packed, length_packed, zeros_to_byte, zero_behind}
+use Rattle.kmc_base.specs.Lemmas.Unique.{one_spelling}
 use Rattle.kmc_record.specs.Faults.{HasFault, IsFirstFault}
 use Rattle.kmc_record.specs.declared.fault.RecordFault.{RecordFault}
 use Rattle.kmc_record.specs.declared.fault.RecordFault.TheVariants.{Short, Padding}

@@ -13,8 +13,8 @@ use Rattle.kmc_base.specs.Words.{complement, rev_comp}
 use Rattle.kmc_base.specs.Lemmas.Packs.{AreCodes, pack_after_is, pack_fits, pack_canonical, length_rev_comp, codes_rev_comp}
 use Rattle.kmc_base.specs.Lemmas.Powers.{pow_quad, pow_some, pow_up}
 use Rattle.kmc_base.specs.Lemmas.Rolling.{codes_drop, codes_front}
-use Rattle.kmc_spelling.specs.Record.{quarters, codes_in}
-use Rattle.kmc_spelling.specs.Lemmas.Codes.{are_codes, length_codes, codes_join}
+use Rattle.kmc_base.specs.Record.{quarters, codes_in}
+use Rattle.kmc_base.specs.Lemmas.Codes.{are_codes, length_codes, codes_join}
 
 pack_join : (p : ℕ) (xs ys : List ℕ) → pack_after p (xs ++ ys) ≡ pack_after (pack_after p xs) ys
 pack_join p [] ys = refl

@@ -8,9 +8,9 @@ use Rattle.kmc_base.specs.Strands.{key, keys}
 use Rattle.kmc_base.specs.Words.{window}
 use Rattle.kmc_base.specs.Lemmas.Rolling.{codes_front}
 use Rattle.kmc_base.specs.Lemmas.Places.{places_append, places_moved}
-use Rattle.kmc_spelling.specs.Record.{codes_in}
+use Rattle.kmc_base.specs.Record.{codes_in}
 use Rattle.kmc_record.specs.RecordKeys.{key_words, GainsWords, IsRecordKey}
-use Rattle.kmc_spelling.specs.Lemmas.Codes.{length_codes, are_codes, take_codes, drop_codes}
+use Rattle.kmc_base.specs.Lemmas.Codes.{length_codes, are_codes, take_codes, drop_codes}
 use Rattle.kmc_record.specs.Lemmas.Taken.{IsRecord}
 
 -- ---- windows

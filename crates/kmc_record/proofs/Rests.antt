@@ -8,8 +8,8 @@ use Rattle.kmc_record.specs.declared.fault.BodyError.{BodyError}
 use Rattle.kmc_record.specs.declared.fault.BodyError.TheVariants.{Memory, Damaged}
 use Rattle.kmc_record.specs.declared.fault.RecordFault.{RecordFault}
 use Rattle.kmc_record.specs.Faults.{HasFault, IsFirstFault}
-use Rattle.kmc_spelling.specs.Record.{codes_in, size_of, IsBodyOf}
-use Rattle.kmc_spelling.specs.Lemmas.Whole.{length_first, rest_at, spelled_there}
+use Rattle.kmc_base.specs.Record.{codes_in, size_of, IsBodyOf}
+use Rattle.kmc_base.specs.Lemmas.Whole.{length_first, rest_at, spelled_there}
 
 rest_long : (offset : ℕ) (body : List ℕ) → length (rest_at offset body) ≡ length body - offset
 rest_long offset body = length-take-le (length body - offset) (drop offset body) (omega (arith, length-drop offset body))

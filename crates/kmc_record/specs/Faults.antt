@@ -1,6 +1,6 @@
 -- What is wrong with bytes that should be records.
 use Rattle.std.specs.Prelude.{◌≢◌, ℕ, ◌+◌, ◌*◌, ◌<◌, ◌≤◌, List, length, take, drop, slice_index}
-use Rattle.kmc_spelling.specs.Record.{codes_in, size_of, IsBodyOf}
+use Rattle.kmc_base.specs.Record.{codes_in, size_of, IsBodyOf}
 use Rattle.kmc_record.specs.declared.fault.RecordFault.{RecordFault}
 use Rattle.kmc_record.specs.declared.fault.RecordFault.TheVariants.{Short, Padding}
 

@@ -1,6 +1,6 @@
 -- Laws of records and their faults.
 use Rattle.std.specs.Prelude.{ℕ, List, ◌++◌}
-use Rattle.kmc_spelling.specs.Record.{spelling, IsSpelled, IsBodyOf}
+use Rattle.kmc_base.specs.Record.{spelling, IsSpelled, IsBodyOf}
 use Rattle.kmc_record.specs.Faults.{HasFault, IsFirstFault}
 use Rattle.kmc_record.specs.declared.fault.RecordFault.{RecordFault}
 

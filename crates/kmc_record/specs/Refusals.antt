@@ -1,6 +1,6 @@
 -- Where a record begins, and where a walk over records stops.
 use Rattle.std.specs.Prelude.{◌≡◌, ℕ, ◌<◌, List, ◌++◌, length, take, drop}
-use Rattle.kmc_spelling.specs.Record.{spelling, IsBodyOf, IsSpelled}
+use Rattle.kmc_base.specs.Record.{spelling, IsBodyOf, IsSpelled}
 
 -- the bytes are the record of a super-k-mer and a rest
 pub record BeginsRecord (k : ℕ) (bytes : List ℕ) : Type 0 where

@@ -1,5 +1,5 @@
 //! Records of super-k-mers, as they are read: the codes of a record, the numbers by which equal records are known, and the
-//! words of a body. It stands on kmc_base for words, keys and weights, and on kmc_spelling for what a record is. The layer
+//! words of a body. It stands on kmc_base for words, keys, weights and what a record is. The layer
 //! above reads single records with [`first_symbols`] and [`code_at`], takes in the words of bodies with [`take_words`] and
 //! [`take_body`], and turns rows of equal records into items with [`push_rows`]; and it learns from `laws` that a body of
 //! whole records has no fault.

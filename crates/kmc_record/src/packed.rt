@@ -2,7 +2,7 @@
 ghost use Rattle.std.specs.Prelude.{◌≡◌, ◌*◌, ◌<◌, ◌≤◌, length, take};
 ghost use Rattle.kmc_base.specs.Packed.{pack};
 ghost use Rattle.kmc_base.specs.Strands.{key};
-ghost use Rattle.kmc_spelling.specs.Record.{codes_in};
+ghost use Rattle.kmc_base.specs.Record.{codes_in};
 
 use kmc_base::{Strands, packed_key, turned};
 

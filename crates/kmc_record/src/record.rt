@@ -3,7 +3,7 @@ ghost use Rattle.std.specs.Prelude.{◌≡◌, ◌≢◌, ℕ, ◌+◌, ◌-◌,
 ghost use Rattle.kmc_base.specs.Packed.{pack};
 ghost use Rattle.kmc_base.specs.Strands.{keys, packed_key};
 ghost use Rattle.kmc_base.specs.Weights.{weighted};
-ghost use Rattle.kmc_spelling.specs.Record.{codes_in, size_of};
+ghost use Rattle.kmc_base.specs.Record.{codes_in, size_of};
 ghost use Rattle.kmc_base.specs.Lemmas.Rolling.{ahead, ahead_quarters, behind, behind_quarters};
 ghost use Rattle.kmc_record.specs.Faults.{HasFault};
 

@@ -1,7 +1,7 @@
 //! Short records as numbers of 128 bits, which can be sorted.
 ghost use Rattle.std.specs.Prelude.{◌≡◌, ◌*◌, ◌≤◌, length, take};
 ghost use Rattle.kmc_base.specs.Strands.{key};
-ghost use Rattle.kmc_spelling.specs.Record.{codes_in};
+ghost use Rattle.kmc_base.specs.Record.{codes_in};
 ghost use Rattle.kmc_record.specs.RecordKeys.{codes_of, symbols_of};
 
 use crate::packed::packed_record;

@@ -1,6 +1,6 @@
 //! A body's records, taken in to be counted: as numbers, the long ones as those of their pieces; or their words as items.
 ghost use Rattle.std.specs.Prelude.{◌≡◌, ℕ, ◌+◌, ◌*◌, ◌<◌, ◌≤◌, ◌++◌, ◌∷◌, [], List, length, map, take, OnOk, IfOk, IsErrOf};
-ghost use Rattle.kmc_spelling.specs.Record.{codes_in, size_of, IsBodyOf};
+ghost use Rattle.kmc_base.specs.Record.{codes_in, size_of, IsBodyOf};
 ghost use Rattle.kmc_record.specs.RecordKeys.{GainsWords, IsTaken};
 ghost use Rattle.kmc_record.specs.Faults.{IsFirstFault};
 ghost use Rattle.kmc_record.specs.Refusals.{StopsAtRecord};

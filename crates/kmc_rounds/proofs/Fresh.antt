@@ -1,7 +1,7 @@
 -- The seats of a new queue have put and got nothing.
 use Rattle.std.proofs.Common.{◌≡◌, ◌<◌, List, [], ◌∷◌, map, refl, sym, subst, arith}
 use Rattle.atomic_table.specs.Seated.{TableId}
-use Rattle.kmc_parts.specs.Parts.{Parcel}
+use Rattle.kmc_store.specs.Parts.{Parcel}
 use Rattle.kmc_partcore.specs.declared.shape.QueueShape.{QueueShape}
 use Rattle.kmc_partqueue.specs.Counts.{Each}
 use Rattle.kmc_partqueue.specs.Dealing.{row_from}

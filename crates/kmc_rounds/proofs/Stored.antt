@@ -1,8 +1,8 @@
 -- From the seats that the workers hand back to bins that hold the reads.
 use Rattle.std.proofs.Common.{◌≡◌, ℕ, zero, suc, ◌*◌, ◌<◌, ◌≤◌, List, [], ◌∷◌, ◌++◌, length, map, get_or, ap, sym, subst, ◌∙◌, arith}
 use Rattle.std.specs.List.{AllZip, sum_by, range_with_len}
-use Rattle.kmc_parts.specs.Shapes.{Sizes}
-use Rattle.kmc_parts.specs.Parts.{Parcel}
+use Rattle.kmc_store.specs.Shapes.{Sizes}
+use Rattle.kmc_store.specs.Parts.{Parcel}
 use Rattle.atomic_table.specs.Seated.{TableId}
 use Rattle.kmc_partcore.specs.declared.shape.QueueShape.{QueueShape}
 use Rattle.kmc_partcore.specs.declared.event.Received.{Received}
@@ -16,11 +16,11 @@ use Rattle.kmc_partqueue.specs.Lemmas.Numbered.{each_from}
 use Rattle.kmc_store.specs.Bins.{BinList, empty_bins}
 use Rattle.kmc_store.specs.Bodies.{AreAdded}
 use Rattle.kmc_store.specs.Holds.{HoldsReads}
-use Rattle.kmc_parts.specs.Deals.{AreDealt, AreGathered}
+use Rattle.kmc_store.specs.Deals.{AreDealt, AreGathered}
 use Rattle.kmc_store.specs.Laws.{GatheredPartsHoldReads}
 use Rattle.kmc_store.specs.Lemmas.Sums.{sum_same, sum_map, sum_flat_map}
 use Rattle.kmc_storers.specs.declared.shard.Shard.{Shard}
-use Rattle.kmc_way.specs.Seats.{items_of}
+use Rattle.kmc_partqueue.specs.SameSeats.{items_of}
 use Rattle.kmc_splitters.specs.Splitters.{chunks_of, IsDone}
 use Rattle.kmc_storers.specs.Shards.{IsShard, AreGrown, all_got, begun}
 use Rattle.kmc_rounds.proofs.Returned.{its_writer, all_writers, writers_of, writers_once}

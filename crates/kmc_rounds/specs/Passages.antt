@@ -1,8 +1,8 @@
 -- How parts came from reads to bins.
 use Rattle.std.specs.Prelude.{◌≡◌, ℕ, ◌<◌, List, Some, length, slice_get}
 use Rattle.std.specs.List.{flat_map}
-use Rattle.kmc_parts.specs.Shapes.{Sizes}
-use Rattle.kmc_parts.specs.Parts.{Parcel}
+use Rattle.kmc_store.specs.Shapes.{Sizes}
+use Rattle.kmc_store.specs.Parts.{Parcel}
 use Rattle.kmc_partcore.specs.History.{History}
 use Rattle.kmc_partcore.specs.declared.shape.QueueShape.{QueueShape}
 use Rattle.kmc_partqueue.specs.Counts.{Each, total_of, same}
@@ -10,8 +10,8 @@ use Rattle.kmc_partqueue.specs.Seats.{WriterState, ReaderState}
 use Rattle.kmc_partqueue.specs.Gathered.{IsGathered}
 use Rattle.kmc_partqueue.specs.Told.{IsHistoryOf}
 use Rattle.kmc_store.specs.Bodies.{AreAdded}
-use Rattle.kmc_parts.specs.Deals.{AreDealt}
-use Rattle.kmc_way.specs.Seats.{items_of}
+use Rattle.kmc_store.specs.Deals.{AreDealt}
+use Rattle.kmc_partqueue.specs.SameSeats.{items_of}
 use Rattle.kmc_splitters.specs.Splitters.{chunks_of}
 
 -- a legal history of the queue tells how the parts came to the bins: each writer put the parts of its chunks, which all

@@ -8,7 +8,7 @@ use Rattle.kmc_reads.specs.Cuts.{AreCut}
 use Rattle.kmc_reads.specs.Reads.{reads_of}
 use Rattle.kmc_reads.specs.Stages.{fault}
 use Rattle.kmc_base.specs.Pieces.{pieces}
-use Rattle.kmc_parts.specs.Shapes.{Sizes}
+use Rattle.kmc_store.specs.Shapes.{Sizes}
 use Rattle.kmc_store.specs.Bins.{BinList}
 use Rattle.kmc_store.specs.Holds.{HoldsReads}
 use Rattle.kmc_input.specs.declared.input_error.InputError.{InputError}

@@ -6,14 +6,12 @@ ghost use Rattle.kmc_splitters.specs.Causes.{IsCause};
 
 use crate::passing::pass_parts;
 use kmc_partcore::{QueueShape, Totals};
-use kmc_partqueue::Gate;
 use kmc_partqueue::laws::gathered;
-use kmc_parts::Part;
+use kmc_partqueue::{Gate, Refusal};
 use kmc_splitters::Plan;
-use kmc_store::Bins;
 use kmc_store::laws::gathered_parts_hold_reads;
+use kmc_store::{Bins, Part};
 use kmc_storers::merge_shards;
-use kmc_way::Refusal;
 use std::alloc::{AllocError, Global};
 use std::sync::Wait;
 use std::thread::Threads;

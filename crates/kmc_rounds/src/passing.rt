@@ -10,12 +10,10 @@ ghost use Rattle.kmc_storers.specs.Shards.{IsShard, IsFreshShard, begun};
 
 use crate::workers::{Seats, store_all};
 use kmc_partcore::QueueShape;
-use kmc_partqueue::{DoneSeat, Gate, Lanes};
-use kmc_parts::Part;
+use kmc_partqueue::{DoneSeat, Gate, GivenUp, Lanes, Refusal, Way};
 use kmc_splitters::Plan;
-use kmc_store::Bins;
+use kmc_store::{Bins, Part};
 use kmc_storers::{Shard, with_bins};
-use kmc_way::{GivenUp, Refusal, Way};
 use std::alloc::{AllocError, Global};
 use std::sync::Wait;
 use std::thread;

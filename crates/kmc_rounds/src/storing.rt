@@ -4,13 +4,12 @@ ghost use Rattle.kmc_store.specs.Holds.{HoldsReads};
 ghost use Rattle.kmc_settings.specs.Shape.{shape_of};
 
 use crate::filling::fill_bins;
-use kmc_partqueue::Gate;
+use kmc_partqueue::{Gate, Refusal};
 use kmc_settings::Params;
 use kmc_splitters::Plan;
 use kmc_splitters::laws::few_chunks_spend_no_numbers;
 use kmc_store::Bins;
 use kmc_store::laws::empty_bins_hold_no_reads;
-use kmc_way::Refusal;
 use std::alloc::{AllocError, Global};
 use std::sync::Wait;
 use std::thread::Threads;

@@ -6,11 +6,10 @@ ghost use Rattle.kmc_splitters.specs.Splitters.{IsDone, IsFreshWriter};
 ghost use Rattle.kmc_splitters.specs.Causes.{IsWorkersCause};
 ghost use Rattle.kmc_storers.specs.Shards.{IsShard, IsFreshShard};
 
-use kmc_partqueue::{DoneSeat, Gate, WriterSeat};
-use kmc_parts::Part;
+use kmc_partqueue::{DoneSeat, Gate, GivenUp, Way, WriterSeat, both, with_one};
 use kmc_splitters::{Plan, split_all};
+use kmc_store::Part;
 use kmc_storers::{Shard, start_storer};
-use kmc_way::{GivenUp, Way, both, with_one};
 use std::sync::Wait;
 use std::thread::{Scope, Threads};
 

@@ -1,7 +1,7 @@
 -- How settings cut reads into parts.
 use Rattle.std.specs.Prelude.{ℕ, ◌+◌, ◌-◌, ◌*◌, min}
 use Rattle.kmc_split.specs.declared.signatures.TheConstants.{MAX_M}
-use Rattle.kmc_parts.specs.Shapes.{Sizes}
+use Rattle.kmc_store.specs.Shapes.{Sizes}
 use Rattle.kmc_settings.specs.declared.params.Params.{Params}
 
 -- the most symbols of a signature of words of k symbols: one up to 10 symbols, 5 from 11 to 14, and one more for each symbol above, up to 8

@@ -7,9 +7,9 @@ use crate::setting::Setting;
 use kmc_base::Strands;
 use kmc_count::Limits;
 use kmc_partcore::{MAX_PER_WRITER, MAX_READERS, QueueShape};
-use kmc_parts::Shape;
 use kmc_reads::Format;
 use kmc_split::MAX_M;
+use kmc_store::Shape;
 
 /// Most reads of a round for each splitter.
 pub const MAX_BATCH: usize = 65536;

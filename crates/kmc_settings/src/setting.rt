@@ -5,7 +5,7 @@ use crate::digits::number;
 use kmc_base::MAX_K;
 use kmc_count::GREATEST_COUNT;
 use kmc_partcore::MAX_WRITERS;
-use kmc_parts::MOST_BINS;
+use kmc_store::MOST_BINS;
 
 /// A range of numbers, both ends included, with the number that stands where none is given.
 #[derive(Clone, Copy)]

@@ -10,7 +10,7 @@ use Rattle.std.proofs.lemmas.List.{append-nil, length-take-le, get_or-set_same, 
 use Rattle.std.proofs.Math.Seq.{take-add, map-set_same}
 use Rattle.kmc_device.specs.Device.{Watched, AppendsFront, RisesByOne}
 use Rattle.kmc_device.specs.Lemmas.Devices.{front_after, front_of}
-use Rattle.kmc_parts.specs.Parts.{capped}
+use Rattle.kmc_store.specs.Parts.{capped}
 use Rattle.kmc_store.specs.Bins.{body_at}
 use Rattle.kmc_slice_files.specs.Frames.{Frame, frame, AreFrames, frame_bytes, frames_bytes, body_of}
 use Rattle.kmc_slice_files.specs.Lemmas.Rounds.{frames_more, body_more}

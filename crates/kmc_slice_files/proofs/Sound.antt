@@ -7,7 +7,7 @@ use Rattle.std.specs.Io.KnownBytes.{Consumes, IsAtEnd}
 use Rattle.std.proofs.lemmas.Bool.{cases_eq, eq-eqb, ne_eqb}
 use Rattle.std.proofs.lemmas.List.{append-nil}
 use Rattle.std.proofs.lemmas.Nat.{from_le_bytes-to_le_bytes_8}
-use Rattle.kmc_parts.specs.Shapes.{Sizes}
+use Rattle.kmc_store.specs.Shapes.{Sizes}
 use Rattle.kmc_store.specs.Bins.{body_at}
 use Rattle.kmc_slice_files.specs.Check.{hashed}
 use Rattle.kmc_slice_files.specs.Frames.{Frame, AreFrames, frame_bytes, frames_bytes, end_bytes, check_of, body_of, NO_BIN}

@@ -7,8 +7,8 @@ ghost use Rattle.kmc_slice_files.specs.Headers.{IsTold, IsOutOfRange, IsSlicingO
 
 use crate::check::check_word;
 use kmc_device::{Counted, WriteFault, write_text};
-use kmc_parts::Shape;
 use kmc_rooms::{ReadFault, fill_behind};
+use kmc_store::Shape;
 use std::io::{Read, Write};
 
 /// The bytes of a header.

@@ -6,9 +6,9 @@ use Rattle.std.specs.List.{AllByRecursion, AllZip, filter, flat_map}
 use Rattle.std.proofs.lemmas.Bool.{cases_eq, eq-eqb, ne_eqb}
 use Rattle.kmc_base.specs.declared.strands.Strands.{Strands}
 use Rattle.kmc_base.specs.Pieces.{pieces}
-use Rattle.kmc_spelling.specs.Laws.{BodyHasOneList}
-use Rattle.kmc_parts.specs.Parts.{capped}
-use Rattle.kmc_parts.specs.Shapes.{Sizes}
+use Rattle.kmc_base.specs.SpellingLaws.{BodyHasOneList}
+use Rattle.kmc_store.specs.Parts.{capped}
+use Rattle.kmc_store.specs.Shapes.{Sizes}
 use Rattle.kmc_store.specs.Bins.{body_at}
 use Rattle.kmc_store.specs.Laws.{MergedBinsHoldBoth, EmptyBinsHoldNoReads}
 use Rattle.kmc_count.specs.Laws.{PiecesAreCountedAsReads}

@@ -8,7 +8,7 @@ use Rattle.kmc_base.specs.Pieces.{pieces}
 use Rattle.kmc_device.specs.Device.{AppendsFront}
 use Rattle.kmc_device.specs.Lemmas.Devices.{front_after, front_of, front_all}
 use Rattle.kmc_reads.specs.declared.format.Format.{Format}
-use Rattle.kmc_parts.specs.Shapes.{Sizes, IsShape}
+use Rattle.kmc_store.specs.Shapes.{Sizes, IsShape}
 use Rattle.kmc_settings.specs.Shape.{most_symbols}
 use Rattle.kmc_settings.specs.declared.params.Params.{Params}
 use Rattle.kmc_store.specs.Bins.{AreBins, body_at}

@@ -11,7 +11,7 @@ use Rattle.kmc_slice_files.specs.Writes.{AreOpen, held_at}
 use Rattle.kmc_slices.specs.Slices.{Part, IsCutTo, all_reads, whole_bodies}
 use Rattle.kmc_reads.specs.declared.format.Format.{Format}
 use Rattle.kmc_reads.specs.Standing.{FeederState}
-use Rattle.kmc_parts.specs.Shapes.{Sizes}
+use Rattle.kmc_store.specs.Shapes.{Sizes}
 use Rattle.kmc_input.specs.declared.input_error.InputError.{InputError}
 use Rattle.kmc_input.specs.Fed.{IsFed, IsFedBy}
 use Rattle.kmc_rounds.specs.Rounds.{HoldsPieces}

@@ -1,10 +1,10 @@
 //! Laws of slices, each the contract of a function that does nothing but call other laws.
 ghost use Rattle.kmc_slices.specs.Laws.{FileTellsSlice, FilesAreWhole, OneSliceIsWhole, SlicesAreWhole, UnendedIsNoFile, WrittenSlicesAreCut, GatheredFilesAreRead};
 
+use kmc_base::laws::body_has_one_list;
 use kmc_bin_lists::laws::{bins_share_no_key, cut_reads_are_counted, held_reads_are_counted};
 use kmc_count::laws::pieces_are_counted_as_reads;
 use kmc_slice_files::laws::files_are_one;
-use kmc_spelling::laws::body_has_one_list;
 use kmc_store::laws::{empty_bins_hold_no_reads, merged_bins_hold_both};
 use kmc_sum::laws::counts_add;
 

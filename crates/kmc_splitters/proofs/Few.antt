@@ -7,10 +7,10 @@ use Rattle.std.proofs.lemmas.Nat.{div-add-mod'}
 use Rattle.std.proofs.lemmas.Bool.Decides.{nat_tests}
 use Rattle.std.proofs.lemmas.List.FromFn.{length-map-range_with_len}
 use Rattle.std.proofs.lemmas.List.Sums.{length-filter, count_by-le-length}
-use Rattle.kmc_parts.specs.Shapes.{Sizes}
-use Rattle.kmc_parts.specs.Parts.{Parcel, ArePartsOf, grown, bin_super_kmers, all_segments, empty_part}
+use Rattle.kmc_store.specs.Shapes.{Sizes}
+use Rattle.kmc_store.specs.Parts.{Parcel, ArePartsOf, grown, bin_super_kmers, all_segments, empty_part}
 use Rattle.kmc_partcore.specs.declared.shape.TheConstants.{MAX_ITEMS}
-use Rattle.kmc_parts.specs.Deals.{chunk_at, AreSent, AreDealt}
+use Rattle.kmc_store.specs.Deals.{chunk_at, AreSent, AreDealt}
 use Rattle.kmc_splitters.specs.Splitters.{chunks_of}
 use Rattle.kmc_splitters.specs.Causes.{AreTooMany}
 use Rattle.kmc_splitters.specs.Laws.{FewChunksSpendNoNumbers}

@@ -1,13 +1,13 @@
 -- What a splitter has sent, chunk after chunk.
 use Rattle.std.proofs.Common.{◌≡◌, ◌≢◌, ℕ, suc, ◌+◌, ◌%◌, ◌<◌, ◌≤◌, List, [], ◌++◌, length, refl, sym, ◌∙◌, subst, append-nil, arith}
-use Rattle.kmc_parts.specs.Shapes.{Sizes}
-use Rattle.kmc_parts.specs.Parts.{Parcel, ArePartsOf}
+use Rattle.kmc_store.specs.Shapes.{Sizes}
+use Rattle.kmc_store.specs.Parts.{Parcel, ArePartsOf}
 use Rattle.kmc_partcore.specs.declared.shape.TheConstants.{MAX_ITEMS}
-use Rattle.kmc_parts.specs.Deals.{chunk_at, AreSent, AreDealt}
+use Rattle.kmc_store.specs.Deals.{chunk_at, AreSent, AreDealt}
 use Rattle.kmc_splitters.specs.Splitters.{chunks_of}
 use Rattle.kmc_splitters.specs.Causes.{AreTooMany, IsWorkersCause}
-use Rattle.kmc_way.specs.declared.refusal.GivenUp.{GivenUp}
-use Rattle.kmc_way.specs.declared.refusal.GivenUp.TheVariants.{Memory, NumbersSpent, Stopped}
+use Rattle.kmc_partqueue.specs.declared.refusal.GivenUp.{GivenUp}
+use Rattle.kmc_partqueue.specs.declared.refusal.GivenUp.TheVariants.{Memory, NumbersSpent, Stopped}
 
 module _ (shape : Sizes) (batch : ℕ) (reads : List (List ℕ)) (sp w : ℕ) where
   next_dealt : (c : ℕ) (sent own new : List Parcel) → AreDealt shape batch reads sp w c sent → AreSent shape (chunk_at batch reads c) sp w c own

@@ -1,14 +1,14 @@
 -- When workers end without their result.
 use Rattle.std.specs.Prelude.{ℕ, ◌<◌, ◌≤◌, List, length}
-use Rattle.kmc_parts.specs.Shapes.{Sizes}
-use Rattle.kmc_parts.specs.Parts.{Parcel}
+use Rattle.kmc_store.specs.Shapes.{Sizes}
+use Rattle.kmc_store.specs.Parts.{Parcel}
 use Rattle.kmc_partcore.specs.declared.shape.TheConstants.{MAX_ITEMS}
-use Rattle.kmc_parts.specs.Deals.{AreDealt}
+use Rattle.kmc_store.specs.Deals.{AreDealt}
 use Rattle.kmc_splitters.specs.Splitters.{chunks_of}
-use Rattle.kmc_way.specs.declared.refusal.GivenUp.{GivenUp}
-use Rattle.kmc_way.specs.declared.refusal.GivenUp.TheVariants.{Memory, NumbersSpent, Stopped}
-use Rattle.kmc_way.specs.declared.refusal.Refusal.{Refusal}
-use Rattle.kmc_way.specs.declared.refusal.Refusal.TheVariants as refusal
+use Rattle.kmc_partqueue.specs.declared.refusal.GivenUp.{GivenUp}
+use Rattle.kmc_partqueue.specs.declared.refusal.GivenUp.TheVariants.{Memory, NumbersSpent, Stopped}
+use Rattle.kmc_partqueue.specs.declared.refusal.Refusal.{Refusal}
+use Rattle.kmc_partqueue.specs.declared.refusal.Refusal.TheVariants as refusal
 
 -- the chunks dealt to a writer give more parts than have numbers: those below some number do
 pub record AreTooMany (shape : Sizes) (batch : ℕ) (reads : List (List ℕ)) (sp chunks w : ℕ) : Type 0 where

@@ -1,9 +1,9 @@
 -- Laws of dealing.
 use Rattle.std.specs.Prelude.{ℕ, ◌*◌, ◌<◌, ◌≤◌, List, length}
-use Rattle.kmc_parts.specs.Shapes.{Sizes}
+use Rattle.kmc_store.specs.Shapes.{Sizes}
 use Rattle.kmc_partcore.specs.declared.shape.TheConstants.{MAX_ITEMS}
 use Rattle.kmc_splitters.specs.Causes.{IsCause}
-use Rattle.kmc_way.specs.declared.refusal.Refusal.TheVariants.{NumbersSpent}
+use Rattle.kmc_partqueue.specs.declared.refusal.Refusal.TheVariants.{NumbersSpent}
 
 -- where no writer has more than so many chunks, it puts at most a part for each bin and chunk, and no numbers are spent
 abbrev pub FewChunksSpendNoNumbers : Type 0

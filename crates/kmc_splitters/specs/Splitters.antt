@@ -1,12 +1,12 @@
 -- What a splitter is given, and what it hands back.
 use Rattle.std.specs.Prelude.{◌≡◌, ℕ, ◌+◌, ◌-◌, ◌/◌, List, [], length}
-use Rattle.kmc_parts.specs.Shapes.{Sizes}
-use Rattle.kmc_parts.specs.Parts.{Parcel}
+use Rattle.kmc_store.specs.Shapes.{Sizes}
+use Rattle.kmc_store.specs.Parts.{Parcel}
 use Rattle.kmc_partcore.specs.declared.shape.QueueShape.{QueueShape}
 use Rattle.atomic_table.specs.Seated.{TableId}
 use Rattle.kmc_partqueue.specs.Seats.{WriterState, IsWriterOf}
-use Rattle.kmc_way.specs.Seats.{IsSameWriter}
-use Rattle.kmc_parts.specs.Deals.{AreDealt}
+use Rattle.kmc_partqueue.specs.SameSeats.{IsSameWriter}
+use Rattle.kmc_store.specs.Deals.{AreDealt}
 
 -- into how many chunks so many reads are cut
 abbrev pub chunks_of : ℕ → ℕ → ℕ

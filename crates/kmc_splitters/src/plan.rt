@@ -1,7 +1,7 @@
 //! How reads are cut into the parts that workers pass.
 ghost use Rattle.std.specs.Prelude.{◌<◌, ◌≤◌};
 
-use kmc_parts::Shape;
+use kmc_store::Shape;
 
 /// How reads are cut into chunks, and chunks into parts.
 #[derive(Clone, Copy)]

@@ -1,13 +1,12 @@
 //! What a splitter does: it cuts the chunks that are dealt to it, and puts their parts.
 ghost use Rattle.std.specs.Prelude.{◌≡◌, ◌+◌, ◌*◌, ◌<◌, ◌≤◌, length, map, IfOk, IfErr};
-ghost use Rattle.kmc_parts.specs.Deals.{chunk_at};
+ghost use Rattle.kmc_store.specs.Deals.{chunk_at};
 ghost use Rattle.kmc_splitters.specs.Splitters.{chunks_of, IsFreshWriter, IsDone};
 ghost use Rattle.kmc_splitters.specs.Causes.{IsWorkersCause};
 
 use crate::plan::Plan;
-use kmc_partqueue::{DoneSeat, Gate, WriterSeat};
-use kmc_parts::{Part, parts_of_reads};
-use kmc_way::{GivenUp, Way, put_all};
+use kmc_partqueue::{DoneSeat, Gate, GivenUp, Way, WriterSeat, put_all};
+use kmc_store::{Part, parts_of_reads};
 use std::sync::Wait;
 
 /// Into how many chunks so many reads are cut.

@@ -4,13 +4,12 @@ ghost use Rattle.std.specs.List.{AllZip};
 ghost use Rattle.kmc_partqueue.specs.Counts.{Each};
 ghost use Rattle.kmc_splitters.specs.Splitters.{IsDone, IsFreshWriter};
 ghost use Rattle.kmc_splitters.specs.Causes.{IsWorkersCause};
-ghost use Rattle.kmc_way.specs.declared.refusal.GivenUp.TheVariants.{Memory};
+ghost use Rattle.kmc_partqueue.specs.declared.refusal.GivenUp.TheVariants.{Memory};
 
 use crate::plan::Plan;
 use crate::splitter::split;
-use kmc_partqueue::{DoneSeat, Gate, WriterSeat};
-use kmc_parts::{Part, Shape};
-use kmc_way::{GivenUp, Way, both, with_one};
+use kmc_partqueue::{DoneSeat, Gate, GivenUp, Way, WriterSeat, both, with_one};
+use kmc_store::{Part, Shape};
 use std::snapshot::Snapshot;
 use std::sync::Wait;
 use std::thread::{Promise, PromisedHandle, Scope, Threads};

@@ -9,9 +9,9 @@ use Rattle.std.specs.List.{sum_by, filter, range_with_len}
 use Rattle.kmc_base.specs.Stretches.{Stretch}
 use Rattle.kmc_split.specs.declared.runs.Run.{Run}
 use Rattle.kmc_split.specs.Laws.{CutExists, CutIsUnique}
-use Rattle.kmc_parts.specs.Shapes.{Sizes}
-use Rattle.kmc_parts.specs.Parts.{Parcel, grown, empty_part, bin_super_kmers, all_segments, ArePartsOf}
-use Rattle.kmc_parts.specs.Deals.{chunk_at, AreSent, AreDealt, AreGathered}
+use Rattle.kmc_store.specs.Shapes.{Sizes}
+use Rattle.kmc_store.specs.Parts.{Parcel, grown, empty_part, bin_super_kmers, all_segments, ArePartsOf}
+use Rattle.kmc_store.specs.Deals.{chunk_at, AreSent, AreDealt, AreGathered}
 use Rattle.kmc_store.specs.Lemmas.Sums.{sum_none, sum_add}
 use Rattle.kmc_store.proofs.Ranges.{ne_of, eq_of, range_same, only, range_one, sum_below}
 use Rattle.kmc_store.proofs.Cuts.{one_cuts, cut_of, are_cuts}

@@ -8,12 +8,12 @@ use Rattle.std.proofs.lemmas.List.Concat.{flat_map-append}
 use Rattle.std.specs.Prelude.{bytes_eq}
 use Rattle.std.specs.List.{sum_by, flat_map, range_with_len, AllByRecursion}
 use Rattle.kmc_split.specs.Laws.{CutExists, CutIsUnique, CutHasRuns}
-use Rattle.kmc_spelling.specs.Record.{spelling, IsSpelled, IsBodyOf}
-use Rattle.kmc_parts.specs.Shapes.{Sizes}
-use Rattle.kmc_parts.specs.Parts.{Parcel}
+use Rattle.kmc_base.specs.Record.{spelling, IsSpelled, IsBodyOf}
+use Rattle.kmc_store.specs.Shapes.{Sizes}
+use Rattle.kmc_store.specs.Parts.{Parcel}
 use Rattle.kmc_store.specs.Bins.{body_at}
 use Rattle.kmc_store.specs.Bodies.{parts_in, AreAdded}
-use Rattle.kmc_parts.specs.Deals.{chunk_at, AreDealt, AreGathered}
+use Rattle.kmc_store.specs.Deals.{chunk_at, AreDealt, AreGathered}
 use Rattle.kmc_store.specs.Holds.{HoldsReads}
 use Rattle.kmc_store.specs.Lemmas.Sums.{sum_same, sum_none, sum_filter, sum_map, sum_flat_map}
 use Rattle.kmc_store.proofs.Ranges.{eq_of, is_eq, only, range_one, below_same, below_none}

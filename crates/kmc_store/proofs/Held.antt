@@ -6,10 +6,10 @@ use Rattle.std.specs.Prelude.{bytes_eq}
 use Rattle.std.specs.List.{sum_by, count_by}
 use Rattle.kmc_split.specs.declared.runs.Run.{Run}
 use Rattle.kmc_split.specs.Laws.{CutExists, CutIsUnique}
-use Rattle.kmc_spelling.specs.Record.{spelling, IsBodyOf}
-use Rattle.kmc_parts.specs.Shapes.{Sizes}
-use Rattle.kmc_parts.specs.Parts.{AreCuts, bin_super_kmers, all_segments}
-use Rattle.kmc_spelling.specs.Laws.{BodyHasOneList}
+use Rattle.kmc_base.specs.Record.{spelling, IsBodyOf}
+use Rattle.kmc_store.specs.Shapes.{Sizes}
+use Rattle.kmc_store.specs.Parts.{AreCuts, bin_super_kmers, all_segments}
+use Rattle.kmc_base.specs.SpellingLaws.{BodyHasOneList}
 use Rattle.kmc_store.specs.Bins.{BinList, body_at, empty_bins, Merged}
 use Rattle.kmc_store.specs.Holds.{HoldsReads}
 use Rattle.kmc_store.specs.Lemmas.Sums.{sum_map}

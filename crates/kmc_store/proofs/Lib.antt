@@ -4,3 +4,5 @@ pub mod Spelled
 pub mod Dealt
 pub mod Held
 pub mod Gathered
+pub mod Parcels
+pub mod Chunks

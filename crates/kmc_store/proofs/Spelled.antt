@@ -11,8 +11,8 @@ use Rattle.kmc_base.specs.Stretches.{Stretch, with_place, stretches_from, segmen
 use Rattle.kmc_split.specs.declared.runs.Run.{Run}
 use Rattle.kmc_split.specs.Cut.{run_codes, IsRunOf}
 use Rattle.kmc_split.specs.Laws.{CutExists, CutHasRuns}
-use Rattle.kmc_spelling.specs.Record.{IsSpelled}
-use Rattle.kmc_parts.specs.Parts.{bin_runs, all_segments}
+use Rattle.kmc_base.specs.Record.{IsSpelled}
+use Rattle.kmc_store.specs.Parts.{bin_runs, all_segments}
 use Rattle.kmc_store.specs.Lemmas.Filling.{all_joined}
 use Rattle.kmc_store.proofs.Cuts.{runs_of, read_records}
 

@@ -2,13 +2,13 @@
 use Rattle.std.specs.Prelude.{◌≡◌, ℕ, ◌*◌, ◌<◌, ◌≤◌, List, [], ◌∷◌, ◌++◌, length, map, bytes_eq}
 use Rattle.std.specs.List.{count_by}
 use Rattle.kmc_split.specs.declared.runs.Run.{Run}
-use Rattle.kmc_spelling.specs.Record.{spelling, IsBodyOf}
-use Rattle.kmc_parts.specs.Shapes.{Sizes}
-use Rattle.kmc_parts.specs.Parts.{Parcel, AreCuts, bin_super_kmers, all_segments}
+use Rattle.kmc_base.specs.Record.{spelling, IsBodyOf}
+use Rattle.kmc_store.specs.Shapes.{Sizes}
+use Rattle.kmc_store.specs.Parts.{Parcel, AreCuts, bin_super_kmers, all_segments}
 use Rattle.kmc_store.specs.Bins.{BinList, body_at, empty_bins, Absorbed, Merged}
 use Rattle.kmc_store.specs.Bodies.{AreAdded}
 use Rattle.kmc_store.specs.Holds.{HoldsReads}
-use Rattle.kmc_parts.specs.Deals.{AreDealt, AreGathered}
+use Rattle.kmc_store.specs.Deals.{AreDealt, AreGathered}
 
 -- bins that hold reads, merged with bins that hold more, hold both
 abbrev pub MergedBinsHoldBoth : Type 0

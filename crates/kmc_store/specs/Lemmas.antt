@@ -3,3 +3,4 @@ pub mod Sums
 pub mod SumPlaces
 pub mod Places
 pub mod Filling
+pub mod Grown

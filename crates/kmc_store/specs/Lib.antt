@@ -3,4 +3,8 @@ pub mod Bodies
 pub mod Holds
 pub mod Growing
 pub mod Laws
+pub mod Shapes
+pub mod Parts
+pub mod GrowingParts
+pub mod Deals
 pub mod Lemmas

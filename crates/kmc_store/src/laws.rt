@@ -1,7 +1,7 @@
 //! Laws over the definitions alone. Each call does nothing: its contract is the law, for the proofs of its callers.
 ghost use Rattle.kmc_store.specs.Laws.{MergedBinsHoldBoth, EmptyBinsHoldNoReads, GatheredPartsHoldReads, NoPartsAreAdded, AbsorbedPartIsAdded, MergedPartsAreAdded, HeldRecordsAreTheRuns};
 
-use kmc_spelling::laws::body_has_one_list;
+use kmc_base::laws::body_has_one_list;
 use kmc_split::laws::{cut_exists, cut_has_runs, cut_is_unique};
 
 /// Bins that hold reads, merged with bins that hold more, hold both.

@@ -2,12 +2,12 @@
 use Rattle.std.proofs.Common.{◌≡◌, ◌<◌, List, [], ◌∷◌, ◌++◌, length, map, refl, sym, ap, subst, ◌∙◌, append-nil, arith}
 use Rattle.std.specs.List.{flat_map}
 use Rattle.std.proofs.lemmas.List.{map-append, flat_map_more, get_or-replicate}
-use Rattle.kmc_parts.specs.Parts.{Parcel}
+use Rattle.kmc_store.specs.Parts.{Parcel}
 use Rattle.kmc_partqueue.specs.Seats.{ReaderState}
 use Rattle.kmc_store.specs.Bins.{BinList, body_at, empty_bins, Merged}
 use Rattle.kmc_store.specs.Bodies.{parts_in, AreAdded}
 use Rattle.kmc_store.specs.Laws.{MergedPartsAreAdded}
-use Rattle.kmc_way.specs.Seats.{items_of}
+use Rattle.kmc_partqueue.specs.SameSeats.{items_of}
 use Rattle.kmc_storers.specs.Shards.{all_got, begun, AreGrown}
 use Rattle.kmc_storers.specs.declared.shard.Shard.{Shard}
 

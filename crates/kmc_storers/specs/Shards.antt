@@ -1,14 +1,14 @@
 -- What storers are given, and what they hand back.
 use Rattle.std.specs.Prelude.{◌≡◌, List, [], ◌∷◌, map}
 use Rattle.std.specs.List.{flat_map}
-use Rattle.kmc_parts.specs.Shapes.{Sizes}
-use Rattle.kmc_parts.specs.Parts.{Parcel}
+use Rattle.kmc_store.specs.Shapes.{Sizes}
+use Rattle.kmc_store.specs.Parts.{Parcel}
 use Rattle.atomic_table.specs.Seated.{TableId}
 use Rattle.kmc_partcore.specs.declared.shape.QueueShape.{QueueShape}
 use Rattle.kmc_partqueue.specs.Seats.{ReaderState, AllEnded, IsReaderOf}
 use Rattle.kmc_store.specs.Bins.{BinList, empty_bins}
 use Rattle.kmc_store.specs.Bodies.{AreAdded}
-use Rattle.kmc_way.specs.Seats.{items_of, IsSameReader}
+use Rattle.kmc_partqueue.specs.SameSeats.{items_of, IsSameReader}
 use Rattle.kmc_storers.specs.declared.shard.Shard.{Shard}
 
 -- a seat of the queue that has got nothing

@@ -4,8 +4,7 @@ ghost use Rattle.kmc_storers.specs.Shards.{begun};
 
 use crate::shard::Shard;
 use kmc_partqueue::ReaderSeat;
-use kmc_parts::Part;
-use kmc_store::Bins;
+use kmc_store::{Bins, Part};
 use std::alloc::{AllocError, Global};
 use std::mem::replace;
 

@@ -5,13 +5,12 @@ ghost use Rattle.kmc_partqueue.specs.Counts.{Each};
 ghost use Rattle.kmc_store.specs.Bins.{BinList};
 ghost use Rattle.kmc_store.specs.Bodies.{AreAdded};
 ghost use Rattle.kmc_storers.specs.Shards.{AreGrown};
-ghost use Rattle.kmc_way.specs.Seats.{items_of};
+ghost use Rattle.kmc_partqueue.specs.SameSeats.{items_of};
 
 use crate::shard::Shard;
 use kmc_partqueue::ReaderSeat;
-use kmc_parts::{Part, Shape};
-use kmc_store::Bins;
 use kmc_store::laws::{merged_parts_are_added, no_parts_are_added};
+use kmc_store::{Bins, Part, Shape};
 use std::alloc::{AllocError, Global};
 
 /// The bins of the shards merged into one, and the seats in the order of the shards. The first shard's records are taken

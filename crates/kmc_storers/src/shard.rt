@@ -1,7 +1,6 @@
 //! What a storer is given, and what it hands back.
 use kmc_partqueue::ReaderSeat;
-use kmc_parts::Part;
-use kmc_store::Bins;
+use kmc_store::{Bins, Part};
 
 /// The seat of a reader, and the bins that take in what it gets.
 #[derive(Drop)]

@@ -2,13 +2,12 @@
 ghost use Rattle.std.specs.Prelude.{◌≡◌, MatchResult, IfOk, IfErr};
 ghost use Rattle.kmc_storers.specs.Causes.{IsStorersCause};
 ghost use Rattle.kmc_storers.specs.Shards.{IsFreshReader, IsShard};
-ghost use Rattle.kmc_way.specs.declared.refusal.GivenUp.TheVariants.{Memory};
+ghost use Rattle.kmc_partqueue.specs.declared.refusal.GivenUp.TheVariants.{Memory};
 
 use crate::shard::Shard;
 use crate::storer::store;
-use kmc_partqueue::Gate;
-use kmc_parts::Part;
-use kmc_way::{GivenUp, Way};
+use kmc_partqueue::{Gate, GivenUp, Way};
+use kmc_store::Part;
 use std::snapshot::Snapshot;
 use std::sync::Wait;
 use std::thread::{Promise, PromisedHandle, Scope, Threads};

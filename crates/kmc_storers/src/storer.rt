@@ -6,11 +6,9 @@ ghost use Rattle.kmc_storers.specs.Causes.{IsStorersCause};
 ghost use Rattle.kmc_storers.specs.Shards.{IsShard};
 
 use crate::shard::Shard;
-use kmc_partqueue::Gate;
-use kmc_parts::Part;
-use kmc_store::Bins;
+use kmc_partqueue::{Gate, GivenUp, Way, take_part};
 use kmc_store::laws::{absorbed_part_is_added, no_parts_are_added};
-use kmc_way::{GivenUp, Way, take_part};
+use kmc_store::{Bins, Part};
 use std::sync::Wait;
 
 /// Absorbs a part that was taken. One of another shape, which no splitter sends, is refused.

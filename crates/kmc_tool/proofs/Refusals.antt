@@ -4,13 +4,14 @@ use Rattle.std.specs.Prelude.{Ok, Err, IsErrOf}
 use Rattle.kmc_reads.specs.declared.error.ReadsError.{ReadsError}
 use Rattle.kmc_dump.specs.declared.write.DumpError.{DumpError}
 use Rattle.kmc_dump.specs.declared.write.DumpError.TheVariants as dump
-use Rattle.kmc_tool.specs.Errors.{run_error, write_error}
+use Rattle.kmc_tool.specs.Errors.{write_error}
+use Rattle.kmc_options.specs.Errors.{run_error}
 use Rattle.kmc_input.specs.declared.input_error.InputError.{InputError}
 use Rattle.kmc_input.specs.declared.input_error.InputError.TheVariants.{Memory, Read, Faulty, TooLong}
-use Rattle.kmc_tool.specs.declared.error.RunError.{RunError}
-use Rattle.kmc_tool.specs.declared.fault.Fault.TheVariants.{Options, Run}
+use Rattle.kmc_options.specs.declared.run_error.RunError.{RunError}
+use Rattle.kmc_options.specs.declared.fault.Fault.TheVariants.{Options, Run}
 use Rattle.kmc_options.specs.declared.error.ParamsError.{ParamsError}
-use Rattle.kmc_tool.specs.declared.error.RunError.TheVariants as run
+use Rattle.kmc_options.specs.declared.run_error.RunError.TheVariants as run
 
 abbrev back : RunError → InputError
 back run.Memory = Memory
@@ -61,6 +62,10 @@ is_memory dump.Write other = absurd (other refl)
 -- an answer is no refusal
 pub no_refusal : {E : Type 0} {lines : ℕ} {e : E} → IsErrOf {T = ℕ} (Ok lines) e → ⊥
 no_refusal is = absurd (cc)
+
+-- a refusal is told as it is
+pub of_told : {e told : RunError} → IsErrOf {T = ℕ} (Err e) told → e ≡ told
+of_told is = cc
 
 -- a refusal that is told as one of a run is that of the run
 pub of_run : {e told : RunError} → IsErrOf {T = ℕ} (Err (Run e)) (Run told) → IsErrOf {T = ℕ} (Err e) told

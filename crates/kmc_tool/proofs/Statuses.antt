@@ -1,12 +1,12 @@
 -- What an exit status says of an answer.
 use Rattle.std.proofs.Common.{◌≡◌, ◌≢◌, ◌≤◌, ◌⊎◌, ℕ, inl, inr, refl, arith}
 use Rattle.std.specs.Prelude.{Result, Ok, Err, IfErr, IfOk, IsErrOf}
-use Rattle.kmc_tool.specs.Status.{status_of_answer}
-use Rattle.kmc_tool.specs.declared.fault.Fault.{Fault}
-use Rattle.kmc_tool.specs.declared.fault.Fault.TheVariants.{Options, Run}
+use Rattle.kmc_options.specs.Status.{status_of_answer}
+use Rattle.kmc_options.specs.declared.fault.Fault.{Fault}
+use Rattle.kmc_options.specs.declared.fault.Fault.TheVariants.{Options, Run}
 use Rattle.kmc_options.specs.declared.error.ParamsError.{ParamsError}
 use Rattle.kmc_options.specs.declared.error.ParamsError.TheVariants.{Memory, OutOfRange, Usage}
-use Rattle.kmc_tool.specs.declared.error.RunError.TheVariants as run
+use Rattle.kmc_options.specs.declared.run_error.RunError.TheVariants as run
 
 -- status 2 comes of the command line alone
 pub only_misuse : (r : Result ℕ Fault) → status_of_answer r ≡ 2 → (e : ParamsError) × (r ≡ Err (Options e))

@@ -5,10 +5,10 @@ use Rattle.kmc_device.specs.Device.{AppendsFront, GaveAll, Watched}
 use Rattle.kmc_reads.specs.Stages.{fault}
 use Rattle.kmc_reads.specs.declared.error.ReadsError.{ReadsError}
 use Rattle.kmc_input.specs.Fed.{IsRefused}
-use Rattle.kmc_tool.specs.declared.error.RunError.{RunError}
-use Rattle.kmc_tool.specs.declared.error.RunError.TheVariants.{Read, Write, Input, TooLong}
-use Rattle.kmc_tool.specs.declared.fault.Fault.{Fault}
-use Rattle.kmc_tool.specs.declared.fault.Fault.TheVariants.{Options, Run}
+use Rattle.kmc_options.specs.declared.run_error.RunError.{RunError}
+use Rattle.kmc_options.specs.declared.run_error.RunError.TheVariants.{Read, Write, Input, TooLong}
+use Rattle.kmc_options.specs.declared.fault.Fault.{Fault}
+use Rattle.kmc_options.specs.declared.fault.Fault.TheVariants.{Options, Run}
 use Rattle.kmc_tool.specs.Run.{IsDumpOf}
 use Rattle.kmc_settings.specs.declared.params.Params.{Params}
 use Rattle.kmc_settings.specs.Words.{Word}

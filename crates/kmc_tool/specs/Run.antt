@@ -10,18 +10,18 @@ use Rattle.kmc_count.specs.declared.limits.Limits.{Limits}
 use Rattle.kmc_count.specs.Occurrences.{count_of}
 use Rattle.kmc_count.specs.Dump.{IsDump}
 use Rattle.kmc_device.specs.Line.{text_of}
-use Rattle.kmc_lists.specs.declared.bin_lists.BinLists.{BinLists}
-use Rattle.kmc_lists.specs.Listed.{spelled}
-use Rattle.kmc_lists.specs.Lists.{lists_of}
-use Rattle.kmc_lists.specs.Ordered.{CanBeMerged, whole}
+use Rattle.kmc_device.specs.declared.bin_lists.BinLists.{BinLists}
+use Rattle.kmc_device.specs.Listed.{spelled}
+use Rattle.kmc_device.specs.Lists.{lists_of}
+use Rattle.kmc_device.specs.Ordered.{CanBeMerged, whole}
 use Rattle.kmc_reads.specs.declared.error.ReadsError.{ReadsError}
 use Rattle.kmc_reads.specs.declared.error.ReadsError.TheVariants.{Memory as NoMemory}
 use Rattle.kmc_settings.specs.declared.params.Params.{Params}
 use Rattle.kmc_input.specs.Fed.{AreCountsOf, IsRefused}
 use Rattle.kmc_rounds.specs.Rounds.{IsInputError}
 use Rattle.kmc_input.specs.declared.input_error.InputError.{InputError}
-use Rattle.kmc_tool.specs.declared.error.RunError.{RunError}
-use Rattle.kmc_tool.specs.declared.error.RunError.TheVariants.{Read, Write, Input, TooLong}
+use Rattle.kmc_options.specs.declared.run_error.RunError.{RunError}
+use Rattle.kmc_options.specs.declared.run_error.RunError.TheVariants.{Read, Write, Input, TooLong}
 
 -- the pairs are the dump of the direct count of the reads of all that a reader gave
 pub record IsDumpOfInput (format : Format) (strands : Strands) (k : ℕ) (limits : Limits) (old new : Option (List ℕ)) (pairs : List (List ℕ × ℕ)) : Type 0 where

@@ -6,11 +6,9 @@ ghost use Rattle.kmc_options.specs.Glued.{long_forms};
 ghost use Rattle.kmc_options.specs.Options.{Explains};
 ghost use Rattle.kmc_tool.specs.Program.{IsCount, IsDone, LeavesFront};
 
-use crate::ending::ended;
-use crate::fault::Fault;
 use crate::running::run;
 use kmc_device::Counted;
-use kmc_options::{ParamsError, settings};
+use kmc_options::{Fault, ParamsError, ended, settings};
 use kmc_settings::arguments;
 use std::alloc::{AllocError, Global};
 use std::io::{Read, Write};

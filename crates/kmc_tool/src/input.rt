@@ -2,12 +2,11 @@
 ghost use Rattle.std.specs.Prelude.{◌+◌, ◌-◌, ◌^◌, ◌<◌, ◌≤◌};
 ghost use Rattle.kmc_tool.specs.Run.{IsCountedInput};
 
-use crate::listing::stage_two;
 use kmc_bin_lists::laws::{cut_reads_are_counted, held_reads_are_counted};
+use kmc_bin_lists::stage_two;
 use kmc_count::laws::pieces_are_counted_as_reads;
-use kmc_device::Counted;
+use kmc_device::{BinLists, Counted};
 use kmc_input::InputError;
-use kmc_lists::BinLists;
 use kmc_partqueue::{Gate, NoGate};
 use kmc_rounds::bins_of_input;
 use kmc_settings::Params;

@@ -1,11 +1,12 @@
 //! A run: from the bytes of a reader to the dump on a writer.
-ghost use Rattle.std.specs.Prelude.{◌+◌, ◌-◌, ◌^◌, ◌<◌};
+ghost use Rattle.std.specs.Prelude.{◌≡◌, ◌+◌, ◌-◌, ◌^◌, ◌<◌};
+ghost use Rattle.kmc_tool.specs.Errors.{write_error};
 ghost use Rattle.kmc_tool.specs.Run.{IsRun};
 
-use crate::error::RunError;
 use crate::input::{MOST_READS, count_input_with};
 use kmc_device::Counted;
-use kmc_dump::write_bins;
+use kmc_dump::{DumpError, write_bins};
+use kmc_options::RunError;
 use kmc_partqueue::{Gate, NoGate};
 use kmc_reads::laws::memory_is_no_fault;
 use kmc_settings::Params;
@@ -13,6 +14,16 @@ use std::alloc::Global;
 use std::io::{Read, Write};
 use std::sync::Wait;
 use std::thread::Threads;
+
+/// Why a run gave up whose dump was not written.
+fn told(error: DumpError) -> RunError
+    ensures { result ≡ write_error error }
+{
+    match error {
+        DumpError::Memory => RunError::Memory,
+        DumpError::Write => RunError::Write,
+    }
+}
 
 /// Reads all that the reader gives, and writes the dump of its direct count and nothing else. Nothing is
 /// written before all was read and counted, so after every refusal but `Write` nothing was written; a faulty text is
@@ -48,6 +59,8 @@ pub fn run_with_gate<T: Threads + Wait + Sync, R: Read, W: Write, G: Gate + Sync
 {
     memory_is_no_fault();
     let lists = count_input_with(rt, alloc, reader, params, gate, MOST_READS)?;
-    let lines = write_bins(rt, alloc, writer, &lists, params.k, params.sr)?;
-    Ok(lines)
+    match write_bins(rt, alloc, writer, &lists, params.k, params.sr) {
+        Ok(lines) => Ok(lines),
+        Err(error) => Err(told(error)),
+    }
 }

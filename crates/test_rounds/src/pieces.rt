@@ -3,6 +3,7 @@ ghost use Rattle.std.specs.Prelude.{◌≡◌, IfOk};
 ghost use Rattle.kmc_settings.specs.Shape.{shape_of};
 
 use crate::given::settings;
+use kmc_bin_lists::stage_two;
 use kmc_device::Counted;
 use kmc_dump::write_bins;
 use kmc_input::InputError;
@@ -12,7 +13,6 @@ use kmc_reads::Format;
 use kmc_rounds::bins_of_input;
 use kmc_settings::Params;
 use kmc_store::Bins;
-use kmc_tool::stage_two;
 use kmc_whole_reads::read_all;
 use std::alloc::{AllocError, Global};
 use std::process::Abort;

@@ -1,7 +1,6 @@
 //! Bodies from outside, judged by several threads.
 use kmc_judging::{BinFault, PartError, judged_bins};
-use kmc_parts::Shape;
-use kmc_store::Bins;
+use kmc_store::{Bins, Shape};
 use std::alloc::{AllocError, Global};
 use std::process::Abort;
 use std::test::Fail;

@@ -1,9 +1,8 @@
 //! Bins: `absorb` and `merge`.
 use crate::records::print_bytes;
 use crate::tell;
-use kmc_parts::{Part, Shape};
 use kmc_plain::{Chunk, parts_of};
-use kmc_store::Bins;
+use kmc_store::{Bins, Part, Shape};
 use std::alloc::{AllocError, Global};
 
 const READS: [&[u8]; 3] = [

@@ -1,8 +1,8 @@
 //! Records: `encode` and `part_of_body`.
 use crate::tell;
 use kmc_judging::{PartError, part_of_body};
-use kmc_parts::{Part, Shape};
 use kmc_plain::encode;
+use kmc_store::{Part, Shape};
 use kmc_super_kmers::SuperKmer;
 use std::alloc::{AllocError, Global};
 

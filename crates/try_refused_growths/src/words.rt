@@ -3,7 +3,7 @@ ghost use Rattle.std.specs.Prelude.{◌≡◌};
 
 use crate::tell;
 use kmc_base::Kmer;
-use kmc_lists::Counts;
+use kmc_device::Counts;
 use std::alloc::{AllocError, Global};
 
 /// Writes the word of these codes behind the others.

@@ -9,7 +9,7 @@ use Rattle.kmc_count.specs.declared.limits.Limits.{Limits}
 use Rattle.kmc_count.specs.Bodies.{IsDumpOfBody, AreDumpsOfBodies, IsWhole, IsFirstDamaged}
 use Rattle.kmc_body_lists.specs.Lemmas.ManyBodies.{texts, second_damaged}
 use Rattle.kmc_count.specs.Lemmas.Zips.{zip_append}
-use Rattle.kmc_lists.specs.Listed.{Listed, pairs_of, IsListOf}
+use Rattle.kmc_device.specs.Listed.{Listed, pairs_of, IsListOf}
 use Rattle.kmc_body_lists.specs.Bodies.{AreListsOfBodies}
 
 module _ (strands : Strands) (k : ℕ) (l : Limits) where

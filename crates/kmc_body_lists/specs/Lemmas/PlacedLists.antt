@@ -5,7 +5,7 @@ use Rattle.std.proofs.lemmas.List.Elements.{All-nil, All-cons}
 use Rattle.kmc_base.specs.declared.strands.Strands.{Strands}
 use Rattle.kmc_count.specs.declared.limits.Limits.{Limits}
 use Rattle.kmc_count.specs.Bodies.{IsDumpOfBody}
-use Rattle.kmc_lists.specs.Listed.{Listed, pairs_of, IsListOf}
+use Rattle.kmc_device.specs.Listed.{Listed, pairs_of, IsListOf}
 use Rattle.kmc_body_lists.specs.Bodies.{AreListsOfBodies, IsListAt}
 use Rattle.kmc_body_lists.specs.Lemmas.ListedBodies.{both_listed}
 use Rattle.kmc_body_lists.specs.Lemmas.ManyBodies.{texts}

@@ -15,8 +15,8 @@ use Rattle.kmc_count.specs.Dump.{IsDump, words_of}
 use Rattle.kmc_count.specs.Laws.{DumpsCanBeMerged, MergedDumpsAreOne}
 use Rattle.kmc_count.specs.Merge.{AreApart, AreDumps, EachRises, joined as words_joined}
 use Rattle.kmc_count.specs.Lemmas.PackedRuns.{cmp_packed}
-use Rattle.kmc_lists.specs.Listed.{Listed, spelled, pairs_of, IsListOf}
-use Rattle.kmc_lists.specs.Ordered.{Rises, joined, Apart, packs, CanBeMerged, whole}
+use Rattle.kmc_device.specs.Listed.{Listed, spelled, pairs_of, IsListOf}
+use Rattle.kmc_device.specs.Ordered.{Rises, joined, Apart, packs, CanBeMerged, whole}
 use Rattle.kmc_base.specs.Lemmas.Members.{Has}
 use Rattle.kmc_giants.specs.Lemmas.Whole.{whole_merged}
 

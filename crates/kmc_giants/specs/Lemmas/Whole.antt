@@ -13,9 +13,9 @@ use Rattle.kmc_base.specs.Packed.{unpack}
 use Rattle.kmc_count.specs.Dump.{words_of}
 use Rattle.kmc_count.specs.Merge.{IsMerged, joined as spelled_joined}
 use Rattle.kmc_count.specs.Lemmas.PackedRuns.{cmp_packed}
-use Rattle.kmc_lists.specs.Listed.{Listed, spell, spelled}
-use Rattle.kmc_lists.specs.Ordered.{Rises, joined, packs, CanBeMerged, in_order, whole}
-use Rattle.kmc_lists.specs.Lemmas.Order.{once, strictly, times, in_order_moves, in_order_climbs}
+use Rattle.kmc_device.specs.Listed.{Listed, spell, spelled}
+use Rattle.kmc_device.specs.Ordered.{Rises, joined, packs, CanBeMerged, in_order, whole}
+use Rattle.kmc_device.specs.Lemmas.Order.{once, strictly, times, in_order_moves, in_order_climbs}
 
 module _ (k : ℕ) where
   joined_spelled : (lists : List Listed) → spelled k (joined (packs lists)) ≡ spelled_joined (map (λ c. spelled k c.packed) lists)

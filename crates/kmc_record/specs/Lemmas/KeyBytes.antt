@@ -10,9 +10,9 @@ use Rattle.std.specs.Int.{byte_at, bytes_high_first}
 use Rattle.kmc_base.specs.Packed.{unpack}
 use Rattle.kmc_base.specs.Lemmas.Packing.{length_unpack, unpack_low, unpack_split}
 use Rattle.kmc_base.specs.Lemmas.Packs.{AreCodes, codes_unpack}
-use Rattle.kmc_spelling.specs.Record.{quarters, codes_in}
+use Rattle.kmc_base.specs.Record.{quarters, codes_in}
 use Rattle.kmc_record.specs.RecordKeys.{codes_of, symbols_of, packed_symbols}
-use Rattle.kmc_spelling.specs.Lemmas.Codes.{codes_join}
+use Rattle.kmc_base.specs.Lemmas.Codes.{codes_join}
 
 -- ---- the symbols of a number
 

@@ -1,7 +1,7 @@
 -- Where a walk over whole records stops.
 use Rattle.std.proofs.Common.{◌≡◌, ℕ, ◌+◌, ◌<◌, ◌≤◌, List, length, get_or, take, drop, All}
-use Rattle.kmc_spelling.specs.Record.{IsBodyOf, codes_in, size_of}
-use Rattle.kmc_spelling.specs.Lemmas.Whole.{begins_there, first_codes, rest_at, spelled_there}
+use Rattle.kmc_base.specs.Record.{IsBodyOf, codes_in, size_of}
+use Rattle.kmc_base.specs.Lemmas.Whole.{begins_there, first_codes, rest_at, spelled_there}
 use Rattle.kmc_record.specs.Refusals.{StopsAtRecord}
 
 -- a record of n symbols was found at a place of a body

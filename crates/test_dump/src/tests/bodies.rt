@@ -5,7 +5,7 @@ use crate::tests::listed::limits_up_to;
 use kmc_base::{Kmer, Strands, Word};
 use kmc_bin_lists::list_bins;
 use kmc_count::Limits;
-use kmc_lists::{BinLists, Counts, Shown, SizedLists};
+use kmc_device::{BinLists, Counts, Shown, SizedLists};
 use kmc_plain::count_bin;
 use std::alloc::{AllocError, Global};
 use std::process::Abort;

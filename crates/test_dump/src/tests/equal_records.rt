@@ -4,7 +4,7 @@ use crate::tests::bodies::{are_plain, has_pairs};
 use kmc_base::{Kmer, Strands};
 use kmc_bin_lists::list_bins;
 use kmc_count::Limits;
-use kmc_lists::{BinLists, SizedLists};
+use kmc_device::{BinLists, SizedLists};
 use kmc_plain::count_bin;
 use std::alloc::{AllocError, Global};
 use std::process::Abort;

@@ -1,18 +1,17 @@
 //! Reads, the lists that both stages make of them, and their plain dump.
 ghost use Rattle.std.specs.Prelude.{IfSome};
-ghost use Rattle.kmc_lists.specs.Lists.{lists_of};
-ghost use Rattle.kmc_lists.specs.Ordered.{CanBeMerged};
+ghost use Rattle.kmc_device.specs.Lists.{lists_of};
+ghost use Rattle.kmc_device.specs.Ordered.{CanBeMerged};
 
+use kmc_bin_lists::stage_two;
 use kmc_count::Limits;
-use kmc_device::Counted;
+use kmc_device::{BinLists, Counted};
 use kmc_dump::write_bins;
-use kmc_lists::BinLists;
 use kmc_partqueue::NoGate;
 use kmc_plain::{count_direct, write_dump};
 use kmc_reads::Format;
 use kmc_rounds::stage_one;
 use kmc_settings::Params;
-use kmc_tool::stage_two;
 use kmc_whole_reads::slices_of;
 use std::alloc::{AllocError, Global};
 use std::process::Abort;

@@ -5,15 +5,14 @@ mod random_texts;
 mod refused;
 mod small_texts;
 
+use kmc_bin_lists::stage_two;
 use kmc_device::Counted;
 use kmc_dump::write_bins;
 use kmc_partqueue::NoGate;
-use kmc_parts::{Part, Shape};
 use kmc_plain::{Chunk, parts_of};
 use kmc_rounds::stage_one;
 use kmc_settings::Params;
-use kmc_store::Bins;
-use kmc_tool::stage_two;
+use kmc_store::{Bins, Part, Shape};
 use kmc_whole_reads::slices_of;
 use std::alloc::{AllocError, Global};
 use std::process::Abort;

@@ -1,7 +1,7 @@
 //! What the tests are given: segments, words, records and chunks of reads, written as texts; and what they compare.
 use kmc_base::{Kmer, Segment};
-use kmc_parts::Shape;
 use kmc_plain::{Chunk, encode, segments};
+use kmc_store::Shape;
 use kmc_super_kmers::SuperKmer;
 use std::alloc::{AllocError, Global};
 use std::process::Abort;

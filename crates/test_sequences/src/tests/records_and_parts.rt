@@ -7,12 +7,12 @@ use crate::tests::given::{
     append_record, assert_bytes, assert_number, assert_text, chunk_of, field, mixed_reads, number,
     push_bin, record_of, same_bytes, shape_of,
 };
+use kmc_base::laws::{body_has_one_list, no_spelling_begins_another};
 use kmc_judging::{PartError, part_of_body};
-use kmc_parts::{Part, Shape};
 use kmc_plain::{RecordError, decode, parts_of};
 use kmc_record::RecordFault;
 use kmc_record::laws::{spelling_has_no_fault, whole_body_has_no_fault};
-use kmc_spelling::laws::{body_has_one_list, no_spelling_begins_another};
+use kmc_store::{Part, Shape};
 use plain::plain_text;
 use rows::rows;
 use std::alloc::{AllocError, Global};

@@ -3,7 +3,7 @@ use Rattle.std.proofs.lemmas.List.{map-append, take-append-drop}
 use Rattle.kmc_count.specs.Lemmas.PassedOn.{passed_on}
 use Rattle.kmc_count.specs.Bodies.{IsFirstDamaged}
 use Rattle.kmc_body_lists.specs.Lemmas.ManyBodies.{texts, first_damaged, second_damaged}
-use Rattle.kmc_lists.specs.Listed.{pairs_of}
+use Rattle.kmc_device.specs.Listed.{pairs_of}
 use Rattle.kmc_body_lists.specs.Bodies.{AreListsOfBodies}
 use Rattle.kmc_body_lists.specs.Lemmas.ListedBodies.{both_listed}
 use Rattle.kmc_bin_lists.proofs.bins.+list_bodies.Goals as goal

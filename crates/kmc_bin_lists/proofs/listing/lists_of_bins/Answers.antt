@@ -1,7 +1,7 @@
 use Rattle.std.proofs.Common.{◌≡◌, ℕ, List, sym, ap, subst, ◌∙◌, Err}
-use Rattle.kmc_parts.specs.Shapes.{Sizes, IsShape}
+use Rattle.kmc_store.specs.Shapes.{Sizes, IsShape}
 use Rattle.kmc_body_lists.specs.Bodies.{AreListsOfBodies}
-use Rattle.kmc_lists.specs.Lists.{lists_of}
+use Rattle.kmc_device.specs.Lists.{lists_of}
 use Rattle.kmc_bin_lists.proofs.BinsDump.{no_damage, listed}
 use Rattle.kmc_bin_lists.proofs.listing.lists_of_bins.Goals as goal
 

@@ -2,7 +2,7 @@ use Rattle.std.proofs.Common.{ap, refl, subst, sym}
 use Rattle.std.proofs.lemmas.List.Elements.{All-nil}
 use Rattle.kmc_count.specs.Lemmas.PassedOn.{passed_on}
 use Rattle.kmc_count.specs.Bodies.{IsDumpOfBody}
-use Rattle.kmc_lists.specs.Listed.{Listed, pairs_of, IsListOf}
+use Rattle.kmc_device.specs.Listed.{Listed, pairs_of, IsListOf}
 use Rattle.kmc_body_lists.proofs.body.list_body.Goals as goal
 
 pub count_into-requires-clause-takes : goal.count_into-requires-clause-takes

@@ -5,7 +5,7 @@ use Rattle.std.proofs.lemmas.List.Sorted.{All-permutation}
 use Rattle.std.specs.Vec.Iter.{into_iter_items}
 use Rattle.kmc_base.specs.declared.strands.Strands.{Strands}
 use Rattle.kmc_count.specs.declared.limits.Limits.{Limits}
-use Rattle.kmc_lists.specs.Listed.{Listed, IsListOf}
+use Rattle.kmc_device.specs.Listed.{Listed, IsListOf}
 use Rattle.kmc_body_lists.specs.Bodies.{AreListsOfBodies, IsListAt}
 use Rattle.kmc_body_lists.specs.Lemmas.PlacedLists.{next_placed}
 use Rattle.kmc_body_lists.proofs.placed.in_order.Goals as goal

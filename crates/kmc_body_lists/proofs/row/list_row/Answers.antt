@@ -11,7 +11,7 @@ use Rattle.kmc_record.specs.declared.fault.BodyError.TheVariants.{Damaged, Memor
 use Rattle.kmc_count.specs.declared.limits.Limits.{Limits}
 use Rattle.kmc_count.specs.Bodies.{IsDumpOfBody, IsFirstDamaged}
 use Rattle.kmc_count.specs.Lemmas.PassedOn.{passed_on}
-use Rattle.kmc_lists.specs.Listed.{Listed, pairs_of, IsListOf}
+use Rattle.kmc_device.specs.Listed.{Listed, pairs_of, IsListOf}
 use Rattle.kmc_body_lists.specs.Bodies.{AreListsOfBodies}
 use Rattle.kmc_body_lists.specs.Lemmas.ManyBodies.{texts}
 use Rattle.kmc_body_lists.specs.Lemmas.ListedBodies.{one_listed, next_damaged}

@@ -1,6 +1,6 @@
 use Rattle.std.proofs.Common.{ℕ, ◌≤◌, inl, inr, List, [], length, map, take, take_all, refl, subst, sym, arith}
 use Rattle.kmc_record.specs.Lemmas.Taken.{none_taken}
-use Rattle.kmc_spelling.specs.Record.{IsBodyOf}
+use Rattle.kmc_base.specs.Record.{IsBodyOf}
 use Rattle.kmc_record.specs.RecordKeys.{IsTaken}
 use Rattle.kmc_count.specs.Lemmas.PassedOn.{passed_on}
 use Rattle.kmc_count.proofs.Counted.{much_taken, items_of_all}

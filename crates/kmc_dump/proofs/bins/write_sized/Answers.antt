@@ -1,9 +1,9 @@
 use Rattle.std.proofs.Common.{List, length, sym, ap, subst, ◌∙◌}
 use Rattle.kmc_device.specs.Line.{text_of}
-use Rattle.kmc_lists.specs.Listed.{Listed, spelled}
-use Rattle.kmc_lists.specs.Lists.{lists_of}
-use Rattle.kmc_lists.specs.Ordered.{CanBeMerged, whole}
-use Rattle.kmc_lists.specs.declared.bin_lists.BinLists.TheVariants.{Narrow, Wide}
+use Rattle.kmc_device.specs.Listed.{Listed, spelled}
+use Rattle.kmc_device.specs.Lists.{lists_of}
+use Rattle.kmc_device.specs.Ordered.{CanBeMerged, whole}
+use Rattle.kmc_device.specs.declared.bin_lists.BinLists.TheVariants.{Narrow, Wide}
 use Rattle.kmc_dump.specs.Written.{IsDumped}
 use Rattle.kmc_dump.proofs.bins.write_sized.Goals as goal
 

@@ -3,7 +3,7 @@ use Rattle.std.proofs.Common.{vec_len, vec_capacity, length-drop}
 use Rattle.std.proofs.lemmas.Nat.{pow_pos}
 use Rattle.std.proofs.lemmas.List.{length-map, map-append, length-append, length-take-le, get_or-drop}
 use Rattle.kmc_dump.specs.Keys.{key_pair, key_pairs}
-use Rattle.kmc_lists.specs.Ordered.{within}
+use Rattle.kmc_device.specs.Ordered.{within}
 use Rattle.kmc_dump.proofs.Cuts.{cut_within, ok_if, one_more}
 use Rattle.kmc_dump.proofs.RangeKeys.{between, has_key}
 use Rattle.kmc_dump.proofs.keys.gather_keys.Goals as goal

@@ -1,7 +1,7 @@
 use Rattle.std.proofs.Common.{◌≡◌, ◌*◌, ◌≤◌, take}
 use Rattle.kmc_device.specs.Line.{line_room, text_of}
 use Rattle.kmc_dump.specs.Keys.{key_pairs}
-use Rattle.kmc_lists.specs.Listed.{spelled}
+use Rattle.kmc_device.specs.Listed.{spelled}
 use Rattle.kmc_dump.proofs.keys.put_key_lines.Given as goal
 
 -- the lines so far

@@ -5,10 +5,10 @@ use Rattle.std.proofs.lemmas.List.Sorted.{All-permutation, IsPermutation-map, le
 use Rattle.std.specs.List.{filter}
 use Rattle.kmc_device.specs.Line.{line_room, text_of}
 use Rattle.kmc_dump.specs.Keys.{key_pair}
-use Rattle.kmc_lists.specs.Listed.{spelled}
-use Rattle.kmc_lists.specs.Ordered.{is_within, joined, packs}
+use Rattle.kmc_device.specs.Listed.{spelled}
+use Rattle.kmc_device.specs.Ordered.{is_within, joined, packs}
 use Rattle.kmc_dump.proofs.RangeKeys.{keys_climb}
-use Rattle.kmc_lists.specs.Lemmas.Order.{part_is}
+use Rattle.kmc_device.specs.Lemmas.Order.{part_is}
 use Rattle.kmc_dump.proofs.Gathered.{climbs_there, room_left, range_more, gathered_moved, gathered_long}
 use Rattle.kmc_dump.proofs.keys.put_keys.Goals as goal
 

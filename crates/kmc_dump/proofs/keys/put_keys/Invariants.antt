@@ -1,6 +1,6 @@
 use Rattle.std.proofs.Common.{◌≡◌, ◌≤◌, ◌^◌, take, vec_capacity}
 use Rattle.kmc_dump.specs.Keys.{key_pairs}
-use Rattle.kmc_lists.specs.Ordered.{within, joined, packs}
+use Rattle.kmc_device.specs.Ordered.{within, joined, packs}
 use Rattle.kmc_dump.proofs.keys.put_keys.Given as goal
 
 -- the keys of those pairs of the lists so far that lie in the range

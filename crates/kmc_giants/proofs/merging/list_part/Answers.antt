@@ -6,7 +6,7 @@ use Rattle.kmc_base.specs.Weights.{items, AreItems}
 use Rattle.kmc_count.specs.Dump.{IsDump}
 use Rattle.kmc_count.specs.Merge.{joined}
 use Rattle.kmc_count.specs.Occurrences.{weight_of}
-use Rattle.kmc_lists.specs.Listed.{pairs_of}
+use Rattle.kmc_device.specs.Listed.{pairs_of}
 use Rattle.kmc_giants.specs.Shares.{has_word_from}
 use Rattle.kmc_giants.proofs.ShareDumps.{part_dump}
 use Rattle.kmc_giants.proofs.merging.list_part.Goals as goal

@@ -1,7 +1,7 @@
 use Rattle.std.proofs.Common.{◌≡◌, ℕ, ◌+◌, ◌-◌, ◌*◌, ◌≤◌, ◌^◌, map, ap, sym, subst, arith}
 use Rattle.kmc_base.specs.Lemmas.Powers.{all_slots, pow_quad}
 use Rattle.kmc_count.specs.Bodies.{IsDumpOfBody}
-use Rattle.kmc_lists.specs.Listed.{Listed, pairs_of}
+use Rattle.kmc_device.specs.Listed.{Listed, pairs_of}
 use Rattle.kmc_giants.specs.Shares.{IsDumpOfShare}
 use Rattle.kmc_giants.proofs.ShareDumps.{all_words}
 use Rattle.kmc_giants.proofs.shared.list_by_threads.Goals as goal

@@ -4,9 +4,9 @@ use Rattle.std.proofs.lemmas.List.Elements.{All-from_recursion}
 use Rattle.kmc_base.specs.Words.{windows}
 use Rattle.kmc_base.specs.Lemmas.Rolling.{codes_front}
 use Rattle.kmc_split.specs.Signature.{signature_of}
-use Rattle.kmc_spelling.specs.Record.{codes_in}
-use Rattle.kmc_parts.specs.Shapes.{Sizes}
-use Rattle.kmc_spelling.specs.Lemmas.Codes.{are_codes}
+use Rattle.kmc_base.specs.Record.{codes_in}
+use Rattle.kmc_store.specs.Shapes.{Sizes}
+use Rattle.kmc_base.specs.Lemmas.Codes.{are_codes}
 use Rattle.kmc_judging.proofs.belong.belongs.Goals as goal
 
 pub words_in_bin-requires-clause-codes : goal.words_in_bin-requires-clause-codes

@@ -2,10 +2,10 @@ use Rattle.std.proofs.Common.{rules, ◌≡◌, IsTrue, refl, List, length, take
 use Rattle.kmc_base.specs.Words.{windows}
 use Rattle.kmc_base.specs.Lemmas.Packs.{AreCodes}
 use Rattle.kmc_base.specs.Lemmas.Rolling.{codes_front}
-use Rattle.kmc_spelling.specs.Record.{codes_in}
+use Rattle.kmc_base.specs.Record.{codes_in}
 use Rattle.kmc_record.specs.RecordKeys.{codes_of}
 use Rattle.kmc_judging.specs.Bodies.{Belong}
-use Rattle.kmc_spelling.specs.Lemmas.Codes.{are_codes, length_codes}
+use Rattle.kmc_base.specs.Lemmas.Codes.{are_codes, length_codes}
 use Rattle.kmc_judging.proofs.Turned.{belong_canonical, belong_of_canonical}
 use Rattle.kmc_judging.proofs.belong.belongs_again.Goals as goal
 

@@ -1,10 +1,10 @@
 use Rattle.std.proofs.Common.{rules, ◌≡◌, ◌<◌, ℕ, IsTrue, ◌+◌, ◌-◌, List, get_or, length, take, drop, sym, subst, arith, length-drop}
 use Rattle.kmc_base.specs.Words.{windows}
 use Rattle.kmc_base.specs.Lemmas.Windows.{length_windows}
-use Rattle.kmc_spelling.specs.Record.{size_of}
+use Rattle.kmc_base.specs.Record.{size_of}
 use Rattle.kmc_judging.specs.Bodies.{Belong}
 use Rattle.kmc_judging.proofs.Belonging.{records_of_part, other_there, part_more}
-use Rattle.kmc_spelling.specs.Lemmas.Whole.{begins_there, first_codes, length_first, next_inside, rest_at, rest_long, same_codes, spelled_there}
+use Rattle.kmc_base.specs.Lemmas.Whole.{begins_there, first_codes, length_first, next_inside, rest_at, rest_long, same_codes, spelled_there}
 use Rattle.kmc_judging.proofs.belong.count_known.Goals as goal
 
 pub returns-then-not-is_of_bin-clause-first : goal.returns-then-not-is_of_bin-clause-first

@@ -1,5 +1,5 @@
 use Rattle.std.proofs.Common.{◌≤◌, ◌-◌, length, take}
-use Rattle.kmc_parts.specs.Parts.{IsPart}
+use Rattle.kmc_store.specs.Parts.{IsPart}
 use Rattle.kmc_judging.specs.Bodies.{AreKnown}
 use Rattle.kmc_judging.proofs.belong.count_known.Given as goal
 

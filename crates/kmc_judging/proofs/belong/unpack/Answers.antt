@@ -1,7 +1,7 @@
 use Rattle.std.proofs.Common.{◌≡◌, ◌/◌, ◌%◌, ◌*◌, ◌+◌, slice_index, set, length-set, sym, ◌∙◌, refl, arith}
 use Rattle.std.proofs.lemmas.List.{take_all}
-use Rattle.kmc_spelling.specs.Record.{codes_in}
-use Rattle.kmc_spelling.specs.Lemmas.Codes.{length_codes}
+use Rattle.kmc_base.specs.Record.{codes_in}
+use Rattle.kmc_base.specs.Lemmas.Codes.{length_codes}
 use Rattle.kmc_judging.proofs.Quarters.{four_more}
 use Rattle.kmc_judging.proofs.belong.unpack.Goals as goal
 

@@ -1,7 +1,7 @@
 use Rattle.std.proofs.Common.{◌≡◌, ◌+◌, List, ℕ, map, Vec, Global, sym, subst, arith}
 use Rattle.std.proofs.lemmas.Grind.{common_steps}
 use Rattle.kmc_judging.specs.Bodies.{IsFirstError}
-use Rattle.kmc_parts.specs.Parts.{IsPart}
+use Rattle.kmc_store.specs.Parts.{IsPart}
 use Rattle.kmc_store.specs.Bins.{body_at}
 use Rattle.kmc_judging.specs.Outside.{AreCounted}
 use Rattle.kmc_judging.proofs.Sides.{fault_here, one_counted}

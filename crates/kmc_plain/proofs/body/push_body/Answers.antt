@@ -5,9 +5,9 @@ use Rattle.kmc_base.specs.declared.strands.Strands.{Strands}
 use Rattle.kmc_base.specs.Packed.{pack}
 use Rattle.kmc_base.specs.Strands.{keys}
 use Rattle.kmc_base.specs.Weights.{weighted}
-use Rattle.kmc_spelling.specs.Record.{size_of}
+use Rattle.kmc_base.specs.Record.{size_of}
 use Rattle.kmc_record.specs.RecordWords.{record_keys}
-use Rattle.kmc_spelling.specs.Lemmas.Whole.{first_codes, flat_push, next_body, next_inside, rest_at, same_codes}
+use Rattle.kmc_base.specs.Lemmas.Whole.{first_codes, flat_push, next_body, next_inside, rest_at, same_codes}
 use Rattle.kmc_record.specs.Lemmas.Whole.{stops_there}
 use Rattle.kmc_plain.proofs.body.push_body.Goals as goal
 

@@ -3,12 +3,12 @@ use Rattle.std.proofs.lemmas.List.{take_rest}
 use Rattle.std.proofs.lemmas.List.Elements.{All-from_recursion}
 use Rattle.kmc_base.specs.declared.kmer.TheConstants.{MAX_K}
 use Rattle.kmc_super_kmers.specs.SuperKmer.{IsSuperKmer}
-use Rattle.kmc_spelling.specs.Record.{spelling, IsSpelled, size_of}
+use Rattle.kmc_base.specs.Record.{spelling, IsSpelled, size_of}
 use Rattle.std.specs.Prelude.{Result, Ok, Err, IfErr}
 use Rattle.std.specs.Result.{IsErrAnd}
 use Rattle.kmc_record.specs.Refusals.{BeginsRecord}
-use Rattle.kmc_spelling.specs.Lemmas.Spelled.{bytes_each}
-use Rattle.kmc_spelling.specs.Lemmas.Whole.{first_codes, first_spelled, first_read, same_codes}
+use Rattle.kmc_base.specs.Lemmas.Spelled.{bytes_each}
+use Rattle.kmc_base.specs.Lemmas.Whole.{first_codes, first_spelled, first_read, same_codes}
 use Rattle.kmc_plain.specs.Refusals.{IsRefused}
 use Rattle.kmc_plain.specs.declared.decoding.RecordError.{RecordError}
 use Rattle.kmc_plain.specs.declared.decoding.RecordError.TheVariants.{Memory}

@@ -1,7 +1,7 @@
 use Rattle.std.proofs.Common.{◌++◌, ◌∷◌, [], arith, sym, ◌∙◌}
 use Rattle.std.proofs.lemmas.List.{take_more}
-use Rattle.kmc_spelling.specs.Record.{codes_in}
-use Rattle.kmc_spelling.specs.Lemmas.Codes.{length_codes}
+use Rattle.kmc_base.specs.Record.{codes_in}
+use Rattle.kmc_base.specs.Lemmas.Codes.{length_codes}
 use Rattle.kmc_plain.proofs.decoding.unpacked.Goals as goal
 
 pub loop-i-preserved : goal.loop-i-preserved

@@ -1,5 +1,5 @@
 use Rattle.std.proofs.Common.{◌≡◌, take}
-use Rattle.kmc_spelling.specs.Record.{codes_in}
+use Rattle.kmc_base.specs.Record.{codes_in}
 use Rattle.kmc_plain.proofs.decoding.unpacked.Given as goal
 
 abbrev pub invariant-loop-i : goal.invariant-loop-i

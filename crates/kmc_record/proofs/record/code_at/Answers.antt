@@ -1,4 +1,4 @@
-use Rattle.kmc_spelling.specs.Lemmas.Codes.{code_is}
+use Rattle.kmc_base.specs.Lemmas.Codes.{code_is}
 use Rattle.kmc_record.proofs.record.code_at.Goals as goal
 
 pub returns-clause-is : goal.returns-clause-is

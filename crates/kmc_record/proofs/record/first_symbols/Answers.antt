@@ -1,5 +1,5 @@
 use Rattle.std.proofs.Common.{◌≡◌, ◌+◌, ◌*◌, ◌-◌, ◌/◌, ◌<◌, ◌≤◌, length, take, drop, get_or, ◌∙◌, arith, length-take, rules}
-use Rattle.kmc_spelling.specs.Lemmas.Codes.{code_in_front}
+use Rattle.kmc_base.specs.Lemmas.Codes.{code_in_front}
 use Rattle.kmc_record.proofs.record.first_symbols.Goals as goal
 
 pub returns-then-not-rest_is_zero-clause-fault : goal.returns-then-not-rest_is_zero-clause-fault

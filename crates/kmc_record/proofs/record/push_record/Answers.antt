@@ -5,8 +5,8 @@ use Rattle.std.proofs.lemmas.Result.{IfOk-from_err}
 use borrow.Author.Count.{falls}
 use Rattle.kmc_base.specs.Lemmas.Packs.{AreCodes}
 use Rattle.kmc_base.specs.Lemmas.Rolling.{IsRolling, ahead_quarters, behind_quarters, codes_front, roll_start, step_at, byte_step, fits_at}
-use Rattle.kmc_spelling.specs.Record.{codes_in}
-use Rattle.kmc_spelling.specs.Lemmas.Codes.{are_codes, length_codes, byte_codes, at}
+use Rattle.kmc_base.specs.Record.{codes_in}
+use Rattle.kmc_base.specs.Lemmas.Codes.{are_codes, length_codes, byte_codes, at}
 use Rattle.kmc_record.proofs.Filling.{fits, top_room, held_first, held_more, held_all, behind_bytes}
 use Rattle.kmc_record.proofs.record.push_record.Goals as goal
 

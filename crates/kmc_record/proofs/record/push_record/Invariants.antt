@@ -1,7 +1,7 @@
 use Rattle.std.proofs.Common.{◌+◌, ◌*◌, min, take, map, vec_len, vec_capacity}
 use Rattle.kmc_base.specs.Lemmas.Rolling.{IsRolling}
 use Rattle.kmc_record.proofs.Filling.{Holds}
-use Rattle.kmc_spelling.specs.Record.{codes_in}
+use Rattle.kmc_base.specs.Record.{codes_in}
 use Rattle.kmc_record.proofs.record.push_record.Given as goal
 
 -- the window behind the first bytes

@@ -1,8 +1,8 @@
 use Rattle.std.proofs.Common.{◌≡◌, ℕ, ◌+◌, ◌*◌, ◌-◌, ◌%◌, ◌^◌, ◌<◌, ◌∙◌, nat_eq, true, ap, sym, arith, length, drop, get_or, length-drop}
 use Rattle.std.proofs.lemmas.Bool.Decides.{nat_tests}
 use Rattle.std.proofs.lemmas.List.{get_or-drop, get_or_default}
-use Rattle.kmc_spelling.specs.Record.{codes_in}
-use Rattle.kmc_spelling.specs.Lemmas.Codes.{length_codes, at, low_mask, lowest_zero, lowest_some}
+use Rattle.kmc_base.specs.Record.{codes_in}
+use Rattle.kmc_base.specs.Lemmas.Codes.{length_codes, at, low_mask, lowest_zero, lowest_some}
 use Rattle.kmc_record.proofs.record.rest_is_zero.Goals as goal
 
 is_zero : (x y : ℕ) → x ≡ y → nat_eq x 0 ≡ true → y ≡ 0

@@ -1,6 +1,6 @@
 use Rattle.std.proofs.Common.{◌≡◌, ℕ, ◌/◌, ◌%◌, ◌^◌, List, ◌++◌, length, take, refl, ap, ◌∙◌}
 use Rattle.std.specs.Int.{bytes_high_first}
-use Rattle.kmc_spelling.specs.Record.{codes_in}
+use Rattle.kmc_base.specs.Record.{codes_in}
 use Rattle.kmc_record.specs.RecordKeys.{symbols_of}
 use Rattle.kmc_record.specs.Lemmas.KeyBytes.{codes_of_halves, halves_joined}
 use Rattle.kmc_record.proofs.record_keys.key_bytes.Goals as goal

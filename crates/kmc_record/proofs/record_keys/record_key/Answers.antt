@@ -5,9 +5,9 @@ use Rattle.kmc_base.specs.Packed.{pack}
 use Rattle.kmc_base.specs.Strands.{key}
 use Rattle.kmc_base.specs.Lemmas.Packs.{AreCodes}
 use Rattle.kmc_base.specs.Lemmas.Rolling.{codes_front}
-use Rattle.kmc_spelling.specs.Record.{codes_in}
+use Rattle.kmc_base.specs.Record.{codes_in}
 use Rattle.kmc_record.specs.RecordKeys.{codes_of, symbols_of}
-use Rattle.kmc_spelling.specs.Lemmas.Codes.{are_codes, length_codes}
+use Rattle.kmc_base.specs.Lemmas.Codes.{are_codes, length_codes}
 use Rattle.kmc_record.proofs.Laying.{laid, symbols_laid, laid_fits, laid_shifted, key_fits, codes_key}
 use Rattle.kmc_record.proofs.record_keys.record_key.Goals as goal
 

@@ -1,9 +1,9 @@
 use Rattle.std.proofs.Common.{◌≡◌, ℕ, ◌+◌, ◌/◌, List, length, take, sym, ap, subst, ◌∙◌, arith}
 use Rattle.std.proofs.lemmas.List.{length-take-le}
 use Rattle.kmc_base.specs.Strands.{key}
-use Rattle.kmc_spelling.specs.Record.{codes_in}
+use Rattle.kmc_base.specs.Record.{codes_in}
 use Rattle.kmc_record.specs.RecordKeys.{GainsWords}
-use Rattle.kmc_spelling.specs.Lemmas.Codes.{length_codes}
+use Rattle.kmc_base.specs.Lemmas.Codes.{length_codes}
 use Rattle.kmc_record.specs.Lemmas.Taken.{gains_key}
 use Rattle.kmc_record.proofs.Pieces.{first_of_bytes, front_is_record}
 use Rattle.kmc_record.proofs.taking.push_piece.Goals as goal

@@ -1,9 +1,9 @@
 use Rattle.std.proofs.Common.{ℕ, ◌+◌, ◌++◌, List, [], ◌∷◌, length, map, refl, subst, sym, take_all, arith}
 use Rattle.std.proofs.lemmas.Result.{IfOk-from_err}
-use Rattle.kmc_spelling.specs.Record.{size_of, IsBodyOf}
+use Rattle.kmc_base.specs.Record.{size_of, IsBodyOf}
 use Rattle.kmc_record.specs.RecordKeys.{IsTaken}
 use Rattle.kmc_record.specs.Lemmas.Taken.{none_taken}
-use Rattle.kmc_spelling.specs.Lemmas.Whole.{first_codes, next_body, next_inside, rest_at, same_codes}
+use Rattle.kmc_base.specs.Lemmas.Whole.{first_codes, next_body, next_inside, rest_at, same_codes}
 use Rattle.kmc_record.specs.Lemmas.Whole.{stops_there}
 use Rattle.kmc_record.proofs.Rests.{some_left, enough, record_long, few_symbols, symbols_fit, size_fits, some_size, all_of, few_bytes, less_left, found_fault}
 use Rattle.kmc_record.proofs.Rests.{no_error, no_memory, no_damage}

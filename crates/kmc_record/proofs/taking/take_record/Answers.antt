@@ -1,6 +1,6 @@
 use Rattle.std.proofs.Common.{◌≡◌, ℕ, ◌+◌, ◌*◌, ◌/◌, ◌≤◌, List, length, map, take, arith}
 use Rattle.kmc_base.specs.Lemmas.Weights.{pow_two_some}
-use Rattle.kmc_spelling.specs.Record.{codes_in}
+use Rattle.kmc_base.specs.Record.{codes_in}
 use Rattle.kmc_record.specs.Lemmas.Taken.{pieces_taken, words_taken}
 use Rattle.kmc_record.proofs.Pieces.{front_is_record}
 use Rattle.kmc_record.proofs.taking.take_record.Goals as goal

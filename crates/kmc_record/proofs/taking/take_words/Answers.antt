@@ -5,7 +5,7 @@ use Rattle.kmc_base.specs.Strands.{keys}
 use Rattle.kmc_base.specs.Weights.{weighted}
 use Rattle.kmc_base.specs.Lemmas.Weights.{pow_two_some}
 use Rattle.kmc_record.specs.Lemmas.Taken.{words_taken}
-use Rattle.kmc_spelling.specs.Lemmas.Whole.{first_codes, next_body, next_inside, rest_at, same_codes, spelled_there}
+use Rattle.kmc_base.specs.Lemmas.Whole.{first_codes, next_body, next_inside, rest_at, same_codes, spelled_there}
 use Rattle.kmc_record.specs.Lemmas.Whole.{stops_there}
 use Rattle.kmc_record.proofs.Rests.{some_left, enough, inside_record, few_symbols, symbols_fit, size_fits, some_size, all_of, less_is_most, few_bytes, behind_it}
 use Rattle.kmc_record.proofs.Rests.{found_fault, no_error, no_memory, no_damage}

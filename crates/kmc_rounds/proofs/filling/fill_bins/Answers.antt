@@ -1,6 +1,6 @@
 use Rattle.std.proofs.Common.{◌≡◌, ◌<◌, ℕ, Bor, List, map, sym, subst, arith}
 use Rattle.kmc_partcore.specs.declared.shape.QueueShape.{QueueShape}
-use Rattle.kmc_parts.specs.Shapes.{Sizes}
+use Rattle.kmc_store.specs.Shapes.{Sizes}
 use Rattle.kmc_partqueue.specs.Counts.{Each}
 use Rattle.kmc_partqueue.specs.Told.{IsHistoryOf}
 use Rattle.kmc_storers.specs.declared.shard.Shard.{Shard}

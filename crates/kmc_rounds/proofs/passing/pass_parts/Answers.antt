@@ -2,8 +2,8 @@ use Rattle.std.proofs.Common.{rules, ◌≡◌, ℕ, List, map, sym, subst, ap, 
 use Rattle.std.specs.Prelude.{Result, Ok, IfOk, IfErr}
 use Rattle.std.specs.List.{AllZip}
 use Rattle.atomic_table.specs.Seated.{TableId}
-use Rattle.kmc_parts.specs.Shapes.{Sizes}
-use Rattle.kmc_parts.specs.Parts.{Parcel}
+use Rattle.kmc_store.specs.Shapes.{Sizes}
+use Rattle.kmc_store.specs.Parts.{Parcel}
 use Rattle.kmc_partcore.specs.declared.shape.QueueShape.{QueueShape}
 use Rattle.kmc_partqueue.specs.Dealing.{row_from}
 use Rattle.kmc_partqueue.specs.Seats.{WriterState, new_writer, new_reader}
@@ -13,9 +13,9 @@ use Rattle.kmc_storers.specs.declared.shard.Shard.{Shard}
 use Rattle.kmc_base.specs.Lemmas.PassedOn.{no_answer, of_err, passed_on}
 use Rattle.kmc_splitters.specs.Splitters.{IsDone}
 use Rattle.kmc_splitters.specs.Causes.{IsCause, IsWorkersCause}
-use Rattle.kmc_way.specs.Refusals.{told}
-use Rattle.kmc_way.specs.declared.refusal.GivenUp.{GivenUp}
-use Rattle.kmc_way.specs.declared.refusal.GivenUp.TheVariants.{Memory, NumbersSpent, Stopped}
+use Rattle.kmc_partqueue.specs.Causes.{told}
+use Rattle.kmc_partqueue.specs.declared.refusal.GivenUp.{GivenUp}
+use Rattle.kmc_partqueue.specs.declared.refusal.GivenUp.TheVariants.{Memory, NumbersSpent, Stopped}
 use Rattle.kmc_rounds.proofs.passing.pass_parts.Goals as goal
 
 -- what is known of a result holds of its answer

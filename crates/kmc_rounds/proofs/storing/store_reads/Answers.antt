@@ -1,9 +1,9 @@
 use Rattle.std.proofs.Common.{ℕ, ◌*◌, ◌≤◌, List, map, Bor, sym, subst, arith}
 use Rattle.std.proofs.lemmas.List.{length-map}
 use Rattle.kmc_partcore.specs.declared.shape.TheConstants.{MAX_ITEMS}
-use Rattle.kmc_parts.specs.Shapes.{Sizes}
+use Rattle.kmc_store.specs.Shapes.{Sizes}
 use Rattle.kmc_splitters.specs.Causes.{IsCause}
-use Rattle.kmc_way.specs.declared.refusal.Refusal.TheVariants.{NumbersSpent}
+use Rattle.kmc_partqueue.specs.declared.refusal.Refusal.TheVariants.{NumbersSpent}
 use Rattle.kmc_rounds.specs.declared.storing.TheConstants.{CHUNKS_OF_A_SPLITTER}
 use Rattle.kmc_rounds.proofs.storing.store_reads.Goals as goal
 

@@ -1,4 +1,4 @@
-use Rattle.kmc_parts.specs.Shapes.{Sizes}
+use Rattle.kmc_store.specs.Shapes.{Sizes}
 use Rattle.std.proofs.Common.{ℕ, List, [], ◌∷◌, ◌++◌, map, sym, subst, arith}
 use Rattle.std.proofs.lemmas.Grind.{common_steps, elements}
 use Rattle.std.specs.Prelude.{IfOk}
@@ -8,10 +8,10 @@ use Rattle.kmc_base.specs.Lemmas.PassedOn.{no_answer, passed_on}
 use Rattle.kmc_splitters.specs.Splitters.{IsDone}
 use Rattle.kmc_splitters.specs.Causes.{IsWorkersCause}
 use Rattle.kmc_storers.specs.Causes.{IsStorersCause}
-use Rattle.kmc_way.specs.declared.refusal.GivenUp.{GivenUp}
-use Rattle.kmc_way.specs.declared.refusal.GivenUp.TheVariants.{Memory, NumbersSpent, Stopped}
-use Rattle.kmc_way.specs.Lemmas.Both.{both_gave, both_failed, of_ok, of_cause}
-use Rattle.kmc_way.specs.Lemmas.Zips.{zip_more}
+use Rattle.kmc_partqueue.specs.declared.refusal.GivenUp.{GivenUp}
+use Rattle.kmc_partqueue.specs.declared.refusal.GivenUp.TheVariants.{Memory, NumbersSpent, Stopped}
+use Rattle.kmc_partqueue.specs.Lemmas.Both.{both_gave, both_failed, of_ok, of_cause}
+use Rattle.kmc_partqueue.specs.Lemmas.Zips.{zip_more}
 use Rattle.kmc_rounds.proofs.workers.+store_all.Goals as goal
 
 -- what makes a storer end makes the workers end

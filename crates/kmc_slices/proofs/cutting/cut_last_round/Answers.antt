@@ -1,7 +1,7 @@
 use Rattle.std.proofs.Common.{◌≡◌, [], ◌++◌, length, map, sym, ap, subst, ◌∙◌}
 use Rattle.kmc_device.specs.Device.{Watched}
 use Rattle.kmc_device.specs.Lemmas.Devices.{on_err}
-use Rattle.kmc_parts.specs.Shapes.{Sizes}
+use Rattle.kmc_store.specs.Shapes.{Sizes}
 use Rattle.kmc_settings.specs.Shape.{shape_of}
 use Rattle.kmc_store.specs.Bins.{BinList, empty_bins}
 use Rattle.kmc_store.specs.Holds.{HoldsReads}

@@ -1,7 +1,7 @@
 use Rattle.std.proofs.Common.{◌≡◌, ◌<◌, ◌^◌, ◌+◌, ◌-◌, ℕ, List, [], ◌++◌, Ok, OnErr, length, map, slice_index, refl, sym, ap, subst, ◌∙◌, arith}
 use Rattle.kmc_device.specs.Device.{Watched}
 use Rattle.kmc_device.specs.Lemmas.Devices.{on_ok, on_ok_then}
-use Rattle.kmc_parts.specs.Shapes.{Sizes}
+use Rattle.kmc_store.specs.Shapes.{Sizes}
 use Rattle.kmc_settings.specs.Shape.{shape_of}
 use Rattle.kmc_input.specs.Fed.{AreCountsOf}
 use Rattle.kmc_rounds.specs.Rounds.{HoldsPieces}

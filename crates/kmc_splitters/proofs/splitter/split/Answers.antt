@@ -6,12 +6,12 @@ use Rattle.std.proofs.lemmas.Result.{IfOk-from_err}
 use borrow.Author.Count.{falls}
 use Rattle.std.proofs.lemmas.Grind.{common_steps}
 use Rattle.kmc_base.specs.Lemmas.PassedOn.{passed_on}
-use Rattle.kmc_parts.specs.Parts.{ArePartsOf}
+use Rattle.kmc_store.specs.Parts.{ArePartsOf}
 use Rattle.kmc_splitters.specs.Causes.{IsWorkersCause}
-use Rattle.kmc_way.specs.Seats.{IsSameWriter}
+use Rattle.kmc_partqueue.specs.SameSeats.{IsSameWriter}
 use Rattle.kmc_splitters.specs.Splitters.{chunks_of}
 use Rattle.kmc_splitters.proofs.Sent.{next_own, next_other, too_many, cause_of}
-use Rattle.kmc_way.specs.Lemmas.SameSeats.{same_seat}
+use Rattle.kmc_partqueue.specs.Lemmas.SameSeats.{same_seat}
 use Rattle.kmc_splitters.proofs.splitter.split.Goals.{then-c-way+in_ok-parts+in_ok-put_all, else-c-way}
 use Rattle.kmc_splitters.proofs.splitter.split.Goals as goal
 

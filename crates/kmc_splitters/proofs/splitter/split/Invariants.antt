@@ -1,6 +1,6 @@
 use Rattle.std.proofs.Common.{map}
-use Rattle.kmc_parts.specs.Deals.{AreDealt}
-use Rattle.kmc_way.specs.Seats.{IsSameWriter}
+use Rattle.kmc_store.specs.Deals.{AreDealt}
+use Rattle.kmc_partqueue.specs.SameSeats.{IsSameWriter}
 use Rattle.kmc_splitters.proofs.splitter.split.Given as goal
 
 abbrev pub invariant-loop-c : goal.invariant-loop-c

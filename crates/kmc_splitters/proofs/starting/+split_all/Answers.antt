@@ -2,16 +2,16 @@ use Rattle.std.proofs.Common.{◌≡◌, ℕ, List, [], ◌∷◌, ◌++◌, map
 use Rattle.std.proofs.lemmas.Grind.{elements}
 use Rattle.std.specs.Prelude.{Result, Ok, Err, MatchResult, IsErrAnd}
 use Rattle.std.specs.List.{AllZip}
-use Rattle.kmc_parts.specs.Shapes.{Sizes}
-use Rattle.kmc_parts.specs.Parts.{Parcel}
+use Rattle.kmc_store.specs.Shapes.{Sizes}
+use Rattle.kmc_store.specs.Parts.{Parcel}
 use Rattle.kmc_partqueue.specs.Counts.{Each}
 use Rattle.kmc_partqueue.specs.Seats.{WriterState}
 use Rattle.kmc_splitters.specs.Causes.{IsWorkersCause}
 use Rattle.kmc_splitters.specs.Splitters.{IsDone, IsFreshWriter}
-use Rattle.kmc_way.specs.Lemmas.Both.{both_gave, both_failed, of_ok, of_cause}
-use Rattle.kmc_way.specs.Lemmas.Zips.{zip_more}
-use Rattle.kmc_way.specs.declared.refusal.GivenUp.{GivenUp}
-use Rattle.kmc_way.specs.declared.refusal.GivenUp.TheVariants.{Memory}
+use Rattle.kmc_partqueue.specs.Lemmas.Both.{both_gave, both_failed, of_ok, of_cause}
+use Rattle.kmc_partqueue.specs.Lemmas.Zips.{zip_more}
+use Rattle.kmc_partqueue.specs.declared.refusal.GivenUp.{GivenUp}
+use Rattle.kmc_partqueue.specs.declared.refusal.GivenUp.TheVariants.{Memory}
 use Rattle.kmc_splitters.proofs.starting.+split_all.Goals as goal
 
 each_front : {A : Type 0} (P : A → Type 0) (xs : List A) (x : A) → Each P (xs ++ x ∷ []) → Each P xs

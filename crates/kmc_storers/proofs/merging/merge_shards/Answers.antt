@@ -2,13 +2,13 @@ use Rattle.std.proofs.Common.{◌≡◌, List, [], ◌∷◌, ◌++◌, map, sym
 use Rattle.std.proofs.lemmas.List.{map-append}
 use Rattle.std.proofs.lemmas.Grind.{common_steps}
 use Rattle.std.specs.Vec.Iter.{into_iter_items}
-use Rattle.kmc_parts.specs.Parts.{Parcel}
+use Rattle.kmc_store.specs.Parts.{Parcel}
 use Rattle.kmc_partqueue.specs.Counts.{Each}
 use Rattle.kmc_partqueue.specs.Seats.{ReaderState}
 use Rattle.kmc_store.specs.Bins.{BinList}
 use Rattle.kmc_store.specs.Bodies.{AreAdded}
 use Rattle.kmc_storers.specs.declared.shard.Shard.{Shard}
-use Rattle.kmc_way.specs.Seats.{items_of}
+use Rattle.kmc_partqueue.specs.SameSeats.{items_of}
 use Rattle.kmc_storers.specs.Shards.{AreGrown, all_got}
 use Rattle.kmc_storers.proofs.Merges.{all_before, next_shape, grown_rest, one_more, before_next}
 use Rattle.kmc_storers.proofs.merging.merge_shards.Goals as goal

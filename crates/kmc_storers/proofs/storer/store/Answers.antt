@@ -1,7 +1,7 @@
 use Rattle.std.proofs.Common.{sym, ap, subst, ◌∙◌}
-use Rattle.kmc_way.specs.Seats.{items_of}
-use Rattle.kmc_way.specs.Taken.{IsNext}
-use Rattle.kmc_way.specs.Lemmas.SameSeats.{same_reader}
+use Rattle.kmc_partqueue.specs.SameSeats.{items_of}
+use Rattle.kmc_partqueue.specs.Taken.{IsNext}
+use Rattle.kmc_partqueue.specs.Lemmas.SameSeats.{same_reader}
 use Rattle.kmc_store.specs.Bodies.{AreAdded}
 use Rattle.kmc_storers.proofs.storer.store.Goals as goal
 

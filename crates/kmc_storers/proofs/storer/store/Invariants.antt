@@ -1,6 +1,6 @@
 use Rattle.std.proofs.Common.{◌≡◌}
 use Rattle.kmc_store.specs.Bodies.{AreAdded}
-use Rattle.kmc_way.specs.Seats.{items_of, IsSameReader}
+use Rattle.kmc_partqueue.specs.SameSeats.{items_of, IsSameReader}
 use Rattle.kmc_storers.proofs.storer.store.Given as goal
 
 abbrev pub invariant-loop : goal.invariant-loop

@@ -1,7 +1,7 @@
 use Rattle.std.proofs.Common.{ap, map, refl, subst}
 use Rattle.std.specs.Prelude.{string_bytes}
 use Rattle.kmc_tool.proofs.Refusals.{no_options, no_refusal, no_run, of_options, of_run}
-use Rattle.kmc_tool.specs.declared.fault.Fault.TheVariants.{Run}
+use Rattle.kmc_options.specs.declared.fault.Fault.TheVariants.{Run}
 use Rattle.kmc_options.specs.Glued.{long_forms}
 use Rattle.kmc_options.specs.Options.{Explains}
 use Rattle.kmc_tool.proofs.arguments.count.Goals as goal

@@ -1,5 +1,5 @@
-use Rattle.std.proofs.Common.{◌≡◌, inl, inr, map, sym, ◌∙◌, subst, arith}
-use Rattle.std.specs.Prelude.{◌≤◌, string_bytes}
+use Rattle.std.proofs.Common.{inl, inr, map}
+use Rattle.std.specs.Prelude.{string_bytes}
 use Rattle.kmc_options.specs.Glued.{long_forms}
 use Rattle.kmc_tool.proofs.arguments.program.Goals as goal
 

@@ -3,17 +3,17 @@ use Rattle.std.proofs.lemmas.List.{length-map}
 use Rattle.kmc_reads.specs.declared.error.ReadsError.TheVariants as reads
 use Rattle.kmc_reads.specs.Reads.{reads_of}
 use Rattle.kmc_device.specs.Line.{text_of}
-use Rattle.kmc_lists.specs.Listed.{spell, spelled}
-use Rattle.kmc_lists.specs.Lists.{lists_of}
-use Rattle.kmc_lists.specs.Ordered.{whole}
-use Rattle.kmc_tool.specs.Errors.{run_error, write_error}
+use Rattle.kmc_device.specs.Listed.{spell, spelled}
+use Rattle.kmc_device.specs.Lists.{lists_of}
+use Rattle.kmc_device.specs.Ordered.{whole}
+use Rattle.kmc_options.specs.Errors.{run_error}
 use Rattle.kmc_input.specs.Fed.{AreCountsOf}
 use Rattle.kmc_rounds.specs.Rounds.{IsInputError}
 use Rattle.kmc_input.specs.declared.input_error.InputError.TheVariants as input
-use Rattle.kmc_tool.specs.declared.error.RunError.TheVariants as run
+use Rattle.kmc_options.specs.declared.run_error.RunError.TheVariants as run
 use Rattle.kmc_input.specs.Lemmas.Causes.{kept_by, most_by}
 use Rattle.kmc_base.specs.Lemmas.PassedOn.{cause_of, no_answer, not_ok, of_err, passed_on}
-use Rattle.kmc_tool.proofs.Refusals.{no_refusal, same_input, no_write, no_read, no_input, no_length, is_write, is_memory}
+use Rattle.kmc_tool.proofs.Refusals.{no_refusal, of_told, same_input, no_write, no_read, no_input, no_length, is_write, is_memory}
 use Rattle.kmc_tool.proofs.Written.{is_dump_of}
 use Rattle.kmc_tool.proofs.running.run_with_gate.Goals as goal
 
@@ -48,47 +48,45 @@ returns-in_err-lists g c =
       reads_most = most_by _ _ _ _ _ e told.counts;
     }
 
-pub returns-in_err-lines : goal.returns-in_err-lines
-returns-in_err-lines g c =
+pub returns : goal.returns
+returns g c =
     let k = c.args.params.now.k in
-    let listed = whole (lists_of c.in_ok-lists.lists) in
-    let pairs = spelled k listed in
+    let pairs = spelled k (whole (lists_of c.in_ok-lists.lists)) in
     let input = c.in_ok-lists.ensures.dump in
     let sound = c.in_ok-lists.ensures.sound in
-    let told = c.in_err-lines.ensures in
-    let e = c.in_err-lines.field-0.0 in
-    let r = c.from_residual-in_err-lines.result in
-    let same = c.from_residual-in_err-lines.ensures.1 in
+    let refused = c.in-Err.ensures in
+    let e = c.in-Err.error in
+    let same = sym c.told.ensures in
     record {
-      ok = no_answer _ _ r same;
-      sound = not_ok _ _ r same;
-      read_failed = λ is. absurd (no_read e (cause_of r (write_error e) run.Read same is));
+      ok = tt;
+      sound = tt;
+      read_failed = λ is. absurd (no_read e (same ∙ of_told is));
       write_failed = λ is.
-          let at = is_write e (cause_of r (write_error e) run.Write same is) in (
-            (told.failed (ap Err at)).0 c.requires.writer,
+          let at = is_write e (same ∙ of_told is) in (
+            (refused.failed (ap Err at)).0 c.requires.writer,
             input.bytes,
             text_of pairs,
             length pairs,
             input.given,
             is_dump_of input refl,
-            told.front (ap Err at),
+            refused.front (ap Err at),
           );
-      input = λ fault is. absurd (no_input e fault (cause_of r (write_error e) (run.Input fault) same is));
-      faulty = passed_on (λ x. x ≢ run.Input reads.Memory) r (write_error e) same (no_input e reads.Memory);
-      long = λ is. absurd (no_length e (cause_of r (write_error e) run.TooLong same is));
-      silent = passed_on _ r (write_error e) same (λ other. told.silent (ap Err (is_memory e other)));
-      reader_kept = passed_on _ r (write_error e) same (λ _. sound.0);
+      input = λ fault is. absurd (no_input e fault (same ∙ of_told is));
+      faulty = λ is. no_input e reads.Memory (same ∙ is);
+      long = λ is. absurd (no_length e (same ∙ of_told is));
+      silent = λ other. refused.silent (ap Err (is_memory e (λ is. other (c.told.ensures ∙ is))));
+      reader_kept = λ _. sound.0;
       reads_most = omega (arith, sound.2);
     }
 
-pub returns : goal.returns
-returns g c =
+pub returns-in-Ok : goal.returns-in-Ok
+returns-in-Ok g c =
     let k = c.args.params.now.k in
     let listed = whole (lists_of c.in_ok-lists.lists) in
     let pairs = spelled k listed in
     let input = c.in_ok-lists.ensures.dump in
     let sound = c.in_ok-lists.ensures.sound in
-    let written = c.in_ok-lines.ensures in
+    let written = c.in-Ok.ensures in
     record {
       ok = (
         input.bytes,

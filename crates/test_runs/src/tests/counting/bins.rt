@@ -5,7 +5,7 @@ use crate::tests::texts::{assert_bytes, line_of_a, text_of, vectors_of};
 use kmc_base::{Kmer, Strands};
 use kmc_bin_lists::list_bins;
 use kmc_count::Limits;
-use kmc_lists::{BinLists, Counts, SizedLists};
+use kmc_device::{BinLists, Counts, SizedLists};
 use kmc_plain::{count_bin, merge_bins};
 use kmc_record::{BodyError, RecordFault};
 use std::alloc::{AllocError, Global};

@@ -5,7 +5,7 @@ ghost use Rattle.kmc_partqueue.specs.Seats.{IsReaderOf, IsWriterOf, new_writer, 
 
 use kmc_partcore::QueueShape;
 use kmc_partqueue::{Gate, Lanes, Point, ReaderSeat, TryTaken, WriterSeat};
-use kmc_parts::{Part, Shape, parts_of_reads};
+use kmc_store::{Part, Shape, parts_of_reads};
 use kmc_whole_reads::slices_of;
 use std::alloc::Global;
 use std::process::Abort;

@@ -2,9 +2,8 @@
 use super::outcome::Outcome;
 use super::records::records_of;
 use kmc_partcore::{MAX_WRITERS, QueueShape};
-use kmc_parts::{Part, parts_of_reads};
 use kmc_splitters::Plan;
-use kmc_store::Bins;
+use kmc_store::{Bins, Part, parts_of_reads};
 use kmc_whole_reads::slices_of;
 use std::alloc::Global;
 use std::process::Abort;

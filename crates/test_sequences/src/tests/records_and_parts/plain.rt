@@ -1,8 +1,8 @@
 //! The parts of reads by a plain body.
 use crate::tests::given::{chunk_of, push_bin};
 use kmc_base::Segment;
-use kmc_parts::Shape;
 use kmc_plain::{encode, segments, super_kmers};
+use kmc_store::Shape;
 use kmc_super_kmers::{SuperKmer, signature};
 use std::alloc::{AllocError, Global};
 use std::process::Abort;

@@ -1,4 +1,4 @@
-use Rattle.kmc_way.specs.Seats.{IsSameReader}
+use Rattle.kmc_partqueue.specs.SameSeats.{IsSameReader}
 use Rattle.test_runs.proofs.tests.workers.in_turn.take_parts.Given as goal
 
 abbrev pub invariant-tries : goal.invariant-tries

@@ -1,0 +1,72 @@
+//! Records that are copied out of packed codes, in which they begin at any place.
+ghost use Rattle.std.specs.Prelude.{◌≡◌, ◌+◌, ◌-◌, ◌*◌, ◌<◌, ◌≤◌, ◌++◌, [], ◌∷◌, length, take, drop, slice_index, OnOk, OnErr};
+ghost use Rattle.kmc_base.specs.Words.{window};
+ghost use Rattle.kmc_base.specs.Record.{packed_codes, spelling, codes_in};
+
+use std::alloc::AllocError;
+
+/// The byte at a place, and 0 behind the last.
+fn byte_or_zero(bytes: &[u8], i: usize) -> u8
+    ensures { result ≡ slice_index bytes.now i }
+{
+    if i < bytes.len() { bytes[i] } else { 0 }
+}
+
+/// The byte of the four codes of two bytes that begin behind so many codes of the first one.
+fn four_codes(left: u8, right: u8, skipped: usize) -> u8
+    requires { skipped < 4 }
+    ensures { packed_codes (take 4 (drop skipped (codes_in (left ∷ right ∷ [])))) ≡ result ∷ [] }
+{
+    let pair = u16::from(left) * 256 + u16::from(right);
+    ((pair >> (8 - 2 * skipped)) % 256) as u8
+}
+
+/// The byte of the four codes that begin behind so many codes of a byte which is not the last one.
+fn byte_from(packed: &[u8], i: usize, skipped: usize) -> u8
+    requires inside { i + 1 < length packed.now }
+    requires skipped { skipped < 4 }
+    ensures { packed_codes (window 4 (codes_in packed.now) (4 * i + skipped)) ≡ result ∷ [] }
+{
+    four_codes(packed[i], packed[i + 1], skipped)
+}
+
+/// The byte of one to four codes that begin behind so many codes of a byte, with zeros behind them.
+fn last_byte_from(packed: &[u8], i: usize, skipped: usize, kept: usize) -> u8
+    requires inside { 4 * i + skipped + kept ≤ 4 * length packed.now }
+    requires skipped { skipped < 4 }
+    requires some { 1 ≤ kept }
+    requires most { kept ≤ 4 }
+    ensures { packed_codes (window kept (codes_in packed.now) (4 * i + skipped)) ≡ result ∷ [] }
+{
+    let byte = four_codes(packed[i], byte_or_zero(packed, i + 1), skipped);
+    byte - byte % (1 << (8 - 2 * kept))
+}
+
+/// Appends the record of a super-k-mer of so many symbols, whose codes begin at a place of packed codes; `out` stays as it was
+/// where its growth is refused.
+pub fn push_record_from(
+    packed: &[u8],
+    start: usize,
+    symbols: usize,
+    k: usize,
+    out: &mut Vec<u8>,
+) -> Result<(), AllocError>
+    requires some { 1 ≤ symbols }
+    requires least { k ≤ symbols }
+    requires most { symbols ≤ k + 255 }
+    requires inside { start + symbols ≤ 4 * length packed.now }
+    ensures ok { OnOk result (out.new.items
+        ≡ out.old.items ++ spelling k (window symbols (codes_in packed.now) start)) }
+    ensures err { OnErr result (out.new.items ≡ out.old.items) }
+{
+    let first = start / 4;
+    let skipped = start % 4;
+    let last = (symbols - 1) / 4;
+    out.reserve(2 + last)?;
+    out.push_reserved((symbols - k) as u8);
+    for j in 0..last {
+        out.push_reserved(byte_from(packed, first + j, skipped));
+    }
+    out.push_reserved(last_byte_from(packed, first + last, skipped, symbols - 4 * last));
+    Ok(())
+}

@@ -1,4 +1,0 @@
-pub mod Listed
-pub mod Lists
-pub mod Ordered
-pub mod Lemmas

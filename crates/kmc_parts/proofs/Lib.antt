@@ -1,2 +1,0 @@
-pub mod Parcels
-pub mod Chunks

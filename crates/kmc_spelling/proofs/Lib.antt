@@ -1,3 +1,0 @@
-pub mod LaidOut
-pub mod Written
-pub mod Copied

@@ -1,5 +1,0 @@
-use Rattle.kmc_spelling.specs.Lemmas.Unique.{one_list}
-use Rattle.kmc_spelling.proofs.laws.body_has_one_list.Goals as goal
-
-pub returns : goal.returns
-returns c = λ k ss ts body h g. one_list k ss ts body h g

@@ -1,6 +1,0 @@
-use Rattle.std.proofs.Common.{◌≡◌}
-use Rattle.kmc_way.specs.Seats.{IsSameWriter}
-use Rattle.kmc_way.proofs.putting.put_part.Given as goal
-
-abbrev pub invariant-loop : goal.invariant-loop
-invariant-loop g l = IsSameWriter l.initial.s l.s × (l.s.sent ≡ l.initial.s.sent) × (l.part ≡ l.initial.part)

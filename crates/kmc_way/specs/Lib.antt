@@ -1,4 +1,0 @@
-pub mod Refusals
-pub mod Seats
-pub mod Taken
-pub mod Lemmas
