@@ -1,6 +1,6 @@
 //! Lists that know the places of their bodies, from one thread or several, until all of them are there.
-ghost use Rattle.std.specs.Prelude.{◌≡◌, ℕ, List, length, IfOk, IfSome};
-ghost use Rattle.std.specs.List.{All};
+ghost use Rattle.std.specs.Prelude.{◌≡◌, ℕ, List, length, nat_eq, IfOk, IfSome};
+ghost use Rattle.std.specs.List.{All, position};
 ghost use Rattle.kmc_base.specs.declared.strands.Strands.{Strands};
 ghost use Rattle.kmc_count.specs.declared.limits.Limits.{Limits};
 ghost use Rattle.kmc_body_lists.specs.Bodies.{AreListsOfBodies, IsListAt};
@@ -36,8 +36,15 @@ pub(crate) fn all_made<W: Word + Drop, C: Shown + Drop>(
     Ok(lists)
 }
 
-/// The lists in the order of their places, where there is one for each of so many places. None where a place is missing or stands
-/// twice, and where memory is refused.
+/// Where the list of a place stands.
+fn list_at<W: Word, C: Shown>(placed: &[Placed<W, C>], place: usize) -> Option<usize>
+    ensures { result ≡ position (λ p. nat_eq p.place place) placed.now }
+{
+    placed.iter().position(|one| one.place == place)
+}
+
+/// The lists in the order of their places, one for each of so many places. None where a place is missing, and where memory is
+/// refused. Each place is looked for in turn, as a group of bodies has few.
 pub fn in_order<W: Word + Drop, C: Shown + Drop>(
     alloc: Global,
     placed: Vec<Placed<W, C>>,
@@ -48,21 +55,15 @@ pub fn in_order<W: Word + Drop, C: Shown + Drop>(
         → All (λ p. IsListAt strands k l bodies p.place p.list) placed.items
         → IfSome result (λ lists. AreListsOfBodies strands k l bodies lists.items) }
 {
-    let mut placed = placed;
-    placed.sort_unstable_by_key(|p| p.place);
+    let mut left = placed;
     let mut lists = Vec::new(alloc);
-    for one in placed {
-        if one.place != lists.len() {
-            return None;
-        }
+    for place in 0..count {
+        let at = list_at(&left, place)?;
+        let one = left.swap_remove(at);
         match lists.push(one.list) {
             Ok(()) => {}
             Err(_) => return None,
         }
     }
-    if lists.len() == count {
-        Some(lists)
-    } else {
-        None
-    }
+    Some(lists)
 }
