@@ -4,9 +4,9 @@
 usage: build/program.py PROGRAM, at the top of the repository. The program is left as crates/PROGRAM/out/PROGRAM.
 
 It asks the kit's compiler for each library as `rt ci` does: from nothing, and what stands above a library reads its statements
-and not its proofs. A library is begun once those that it names are done, of several the one that stands first in crates.txt. Each gets
-one process, since several for one check take up to twice the processor seconds; where processors are free, a library gets two, with which
-it ends soonest, and the program all.
+and not its proofs. A library is begun once those that it names are done, of several the one that stands first in crates.txt, and no more of
+them at once than there are processors. Each gets one process, since several for one check take up to twice the processor seconds. Where
+processors are free a library gets two, with which it ends soonest, and so does the last one, beside which others end; the program gets all.
 What was built before from the same files is kept. `rt` in a crate's folder makes libraries of its own, in the place of these, and
 neither takes the other's.
 """
@@ -22,8 +22,9 @@ from concurrent.futures import FIRST_COMPLETED, ThreadPoolExecutor, wait
 
 PARTS = ("src", "specs", "proofs")
 TARGET = "x86_64-unknown-linux-gnu"
-# more processes than so many for a library take more time than they spare
+# more processes than so many for a library take more time than they spare, and so many take the time of so many processors
 PROCESSES_OF_A_LIBRARY = 2
+PROCESSORS_OF_A_LIBRARY = 1.5
 # a check takes up to so many bytes of memory
 MEMORY_OF_A_CHECK = 4 << 30
 # the compiler's allocator keeps what is freed, in place of giving it back to the system and asking for it again
@@ -160,6 +161,14 @@ def free_memory():
         return next(1024 * int(it.split()[1]) for it in lines if it.startswith("MemAvailable:"))
 
 
+def processes_of(crates, name, left, spare, at_once):
+    """How many processes a crate gets, where so many processors are spare and these crates are still to be begun."""
+    if is_program(name):
+        return at_once
+    is_last = at_once > 1 and all(name in below(crates, it) for it in left)
+    return PROCESSES_OF_A_LIBRARY if is_last or spare >= PROCESSORS_OF_A_LIBRARY else 1
+
+
 def build_all(crates, order):
     """Builds the crates side by side, each after those that it names."""
     cores, room = len(os.sched_getaffinity(0)), free_memory() // MEMORY_OF_A_CHECK
@@ -168,13 +177,11 @@ def build_all(crates, order):
     with ThreadPoolExecutor(at_once) as pool:
         while left or running:
             ready = [it for it in left if all(other in done for other in crates[it] if other in crates)]
-            for place, name in enumerate(ready, 1):
-                free = at_once - sum(jobs for _, jobs in running.values())
-                most = at_once if is_program(name) else PROCESSES_OF_A_LIBRARY
-                jobs = min(most, max(1, free - (len(ready) - place)))
-                if jobs <= free:
-                    left.remove(name)
-                    running[pool.submit(build, crates, name, jobs)] = name, jobs
+            for place, name in enumerate(ready[:at_once - len(running)], 1):
+                left.remove(name)
+                busy = sum(PROCESSORS_OF_A_LIBRARY if jobs > 1 else 1 for _, jobs in running.values())
+                jobs = processes_of(crates, name, left, at_once - busy - (len(ready) - place), at_once)
+                running[pool.submit(build, crates, name, jobs)] = name, jobs
             for it in wait(running, return_when=FIRST_COMPLETED).done:
                 it.result()
                 done.add(running.pop(it)[0])

@@ -56,14 +56,13 @@ pub fn in_order<W: Word + Drop, C: Shown + Drop>(
         → IfSome result (λ lists. AreListsOfBodies strands k l bodies lists.items) }
 {
     let mut left = placed;
-    let mut lists = Vec::new(alloc);
+    let Ok(mut lists) = Vec::with_capacity(alloc, count) else {
+        return None;
+    };
     for place in 0..count {
         let at = list_at(&left, place)?;
         let one = left.swap_remove(at);
-        match lists.push(one.list) {
-            Ok(()) => {}
-            Err(_) => return None,
-        }
+        lists.push_reserved(one.list);
     }
     Some(lists)
 }

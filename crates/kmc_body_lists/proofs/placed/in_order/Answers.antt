@@ -46,11 +46,19 @@ module _ (strands : Strands) (k : ℕ) (l : Limits) (bodies : List (List ℕ)) w
   all_there n lists full are = subst (λ (t : List (List ℕ)). AreListsOfBodies strands k l t lists) (ap (λ (m : ℕ). take m bodies) full ∙ take-length bodies) are
 
 pub loop-place-init : goal.loop-place-init
-loop-place-init g c = λ strands k m bodies are. (are, none_yet strands k m bodies c.new-lists.result.items c.new-lists.ensures.items)
+loop-place-init g c =
+    let made = c.in-Ok.ensures in
+    (made.len, made.capacity, λ strands k m bodies are. (are, none_yet strands k m bodies c.in-Ok.lists.items made.items))
+
+pub push_reserved-requires : goal.push_reserved-requires
+push_reserved-requires g c = omega (arith, c.loop-place.invariant.0, c.loop-place.invariant.1, c.loop-place-test.true)
 
 pub loop-place-preserved : goal.loop-place-preserved
-loop-place-preserved g c = λ strands k m bodies are.
-    let h = c.loop-place.invariant strands k m bodies are in
+loop-place-preserved g c =
+    let room = c.loop-place.invariant in
+    let pushed = c.push_reserved.ensures in
+    (pushed.len ∙ ap (λ n. n + 1) room.0, omega (arith, pushed.capacity, room.1), λ strands k m bodies are.
+    let h = room.2 strands k m bodies are in
     let xs = c.loop-place.left.items in
     let n = c.loop-place.place in
     let at = c.in_ok-at.at in
@@ -58,10 +66,10 @@ loop-place-preserved g c = λ strands k m bodies are.
     let here = c.swap_remove-one.ensures.value in
     let is_at = found (λ p. p.place) xs n at one
         (subst (λ ys. position (λ p. nat_eq p.place n) ys ≡ Some at) c.deref.ensures.value (sym c.list_at.ensures ∙ c.in_ok-at.was)) here in
-    one_more strands k m bodies (λ p. p.place) (λ p. p.list) one c.swap_remove-one.new.self.items xs n at c.loop-place.lists.items c.push.new.self.items
-    is_at.0 here c.swap_remove-one.ensures.items is_at.1 c.in-Ok.ensures.items h.0 h.1
+    one_more strands k m bodies (λ p. p.place) (λ p. p.list) one c.swap_remove-one.new.self.items xs n at c.loop-place.lists.items
+    c.push_reserved.new.self.items is_at.0 here c.swap_remove-one.ensures.items is_at.1 pushed.items h.0 h.1)
 
 pub returns : goal.returns
 returns g c = λ strands k l bodies many are.
     all_there strands k l bodies c.loop-place.place c.loop-place.lists.items (omega (arith, c.loop-place-test.false, c.loop-place.auto.place-end, many))
-    (c.loop-place.invariant strands k l bodies are).1
+    (c.loop-place.invariant.2 strands k l bodies are).1
