@@ -56,18 +56,21 @@ push_reserved-requires g c = omega (arith, c.loop-place.invariant.0, c.loop-plac
 pub loop-place-preserved : goal.loop-place-preserved
 loop-place-preserved g c =
     let room = c.loop-place.invariant in
-    let pushed = c.push_reserved.ensures in
-    (pushed.len ∙ ap (λ n. n + 1) room.0, omega (arith, pushed.capacity, room.1), λ strands k m bodies are.
-    let h = room.2 strands k m bodies are in
-    let xs = c.loop-place.left.items in
-    let n = c.loop-place.place in
-    let at = c.in_ok-at.at in
-    let one = c.swap_remove-one.result in
-    let here = c.swap_remove-one.ensures.value in
-    let is_at = found (λ p. p.place) xs n at one
-        (subst (λ ys. position (λ p. nat_eq p.place n) ys ≡ Some at) c.deref.ensures.value (sym c.list_at.ensures ∙ c.in_ok-at.was)) here in
-    one_more strands k m bodies (λ p. p.place) (λ p. p.list) one c.swap_remove-one.new.self.items xs n at c.loop-place.lists.items
-    c.push_reserved.new.self.items is_at.0 here c.swap_remove-one.ensures.items is_at.1 pushed.items h.0 h.1)
+    let pushed = c.push_reserved.ensures in (
+      pushed.len ∙ ap (λ n. n + 1) room.0,
+      omega (arith, pushed.capacity, room.1),
+      λ strands k m bodies are.
+          let h = room.2 strands k m bodies are in
+          let xs = c.loop-place.left.items in
+          let n = c.loop-place.place in
+          let at = c.in_ok-at.at in
+          let one = c.swap_remove-one.result in
+          let here = c.swap_remove-one.ensures.value in
+          let is_at = found (λ p. p.place) xs n at one
+          (subst (λ ys. position (λ p. nat_eq p.place n) ys ≡ Some at) c.deref.ensures.value (sym c.list_at.ensures ∙ c.in_ok-at.was)) here in
+          one_more strands k m bodies (λ p. p.place) (λ p. p.list) one c.swap_remove-one.new.self.items xs n at c.loop-place.lists.items
+          c.push_reserved.new.self.items is_at.0 here c.swap_remove-one.ensures.items is_at.1 pushed.items h.0 h.1,
+    )
 
 pub returns : goal.returns
 returns g c = λ strands k l bodies many are.
