@@ -22,8 +22,9 @@ from concurrent.futures import FIRST_COMPLETED, ThreadPoolExecutor, wait
 
 PARTS = ("src", "specs", "proofs")
 TARGET = "x86_64-unknown-linux-gnu"
-# more processes than so many for a library take more time than they spare, and so many take the time of so many processors
+# more processes than so many for a library take more time than they spare
 PROCESSES_OF_A_LIBRARY = 2
+# so many processors these keep busy: they take three quarters of the time of one process, and a tenth more processor seconds
 PROCESSORS_OF_A_LIBRARY = 1.5
 # a check takes up to so many bytes of memory
 MEMORY_OF_A_CHECK = 4 << 30
