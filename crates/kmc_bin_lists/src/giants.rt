@@ -46,16 +46,14 @@ pub(crate) fn take_giants<R: Threads + Sync, W: Word + Drop + Send + Sync, C: Sh
     ensures { IfOk result (λ lists. All (λ p. IsListAt rule.strands rule.k limits.now
         (map (λ b. b.items) bodies.now) p.place p.list) lists.items) }
 {
-    let mut lists = Vec::new(alloc);
-    for _ in 0..count_giants(bodies, threads) {
+    let giants = count_giants(bodies, threads);
+    let mut lists = Vec::with_capacity(alloc, giants)?;
+    for _taken in 0..giants {
         let Some(place) = order.take(bodies.len()) else {
             break;
         };
         let list = list_by_threads(rt, alloc, &bodies[place], rule, limits, threads)?;
-        match lists.push(Placed { place, list }) {
-            Ok(()) => {}
-            Err(_) => return Err(BodyError::Memory),
-        }
+        lists.push_reserved(Placed { place, list });
     }
     Ok(lists)
 }

@@ -4,10 +4,11 @@ ghost use Rattle.std.specs.Prelude.{◌<◌, IfSome};
 use std::alloc::{AllocError, Global};
 use std::sync::atomic::{AtomicUsize, Ordering};
 
-/// The sizes of bodies with their places, the largest last, and how many of them are taken. Threads share it.
+/// The sizes of bodies with their places, the largest last, and how many of them are taken. Threads share it. A size and its place
+/// are the halves of one number, so that they are sorted as plain numbers.
 #[derive(Drop)]
 pub struct LargestFirst {
-    sizes: Vec<(usize, usize)>,
+    sizes: Vec<u128>,
     taken: AtomicUsize,
 }
 
@@ -16,7 +17,7 @@ impl LargestFirst {
     pub fn new(alloc: Global, bodies: &[Vec<u8>]) -> Result<LargestFirst, AllocError> {
         let mut sizes = Vec::with_capacity(alloc, bodies.len())?;
         for (place, body) in bodies.iter().enumerate() {
-            sizes.push((body.len(), place))?;
+            sizes.push(((body.len() as u128) << 64) | place as u128)?;
         }
         sizes.sort_unstable();
         Ok(LargestFirst {
@@ -32,7 +33,7 @@ impl LargestFirst {
     {
         let turn = self.taken.fetch_add(1, Ordering::SeqCst);
         let left = self.sizes.len().checked_sub(turn)?;
-        let place = self.sizes.get(left.checked_sub(1)?)?.1;
+        let place = (self.sizes.get(left.checked_sub(1)?)? % (1 << 64)) as usize;
         if place < count { Some(place) } else { None }
     }
 }

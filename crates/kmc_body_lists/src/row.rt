@@ -28,13 +28,10 @@ pub fn list_row<W: Word + Drop, C: Shown + Drop>(
         → IsFirstDamaged rule.k fault offset (map (λ b. b.items) bodies.now) }
 {
     let mut room: CountingRoom<W> = CountingRoom::new(alloc);
-    let mut lists = Vec::new(alloc);
+    let mut lists = Vec::with_capacity(alloc, bodies.len())?;
     for body in bodies {
         let list = list_body(&mut room, alloc, body, rule, limits)?;
-        match lists.push(list) {
-            Ok(()) => {}
-            Err(_) => return Err(BodyError::Memory),
-        }
+        lists.push_reserved(list);
     }
     Ok(lists)
 }

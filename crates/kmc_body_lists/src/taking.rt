@@ -28,16 +28,13 @@ fn take_bodies<W: Word + Drop, C: Shown + Drop>(
         (map (λ b. b.items) bodies.now) p.place p.list) lists.items) }
 {
     let mut room: CountingRoom<W> = CountingRoom::new(alloc);
-    let mut lists = Vec::new(alloc);
-    for _ in 0..bodies.len() {
+    let mut lists = Vec::with_capacity(alloc, bodies.len())?;
+    for _taken in 0..bodies.len() {
         let Some(place) = order.take(bodies.len()) else {
             break;
         };
         let list = list_body(&mut room, alloc, &bodies[place], rule, limits)?;
-        match lists.push(Placed { place, list }) {
-            Ok(()) => {}
-            Err(_) => return Err(BodyError::Memory),
-        }
+        lists.push_reserved(Placed { place, list });
     }
     Ok(lists)
 }

@@ -1,5 +1,5 @@
 -- The pairs of lists by ranges of their words.
-use Rattle.std.specs.Prelude.{◌≡◌, ℕ, ◌+◌, ◌-◌, ◌/◌, ◌^◌, ◌<◌, ◌≤◌, List, length, map, slice_index_or}
+use Rattle.std.specs.Prelude.{◌≡◌, ℕ, ◌+◌, ◌-◌, ◌/◌, ◌^◌, ◌<◌, ◌≤◌, List, length, map, slice_index_or, decimal}
 use Rattle.std.specs.List.{All}
 use Rattle.kmc_base.specs.declared.kmer.TheConstants.{MAX_K}
 use Rattle.kmc_device.specs.Line.{text_of}
@@ -11,9 +11,13 @@ use Rattle.kmc_dump.specs.declared.ranges.Ranges.{Ranges}
 abbrev pub count_within : ℕ → ℕ → ℕ → List Listed → ℕ
 count_within weight from to lists = length (within weight from to (joined (packs lists)))
 
--- pairs of a word and a count as pairs of their numbers
-abbrev pub numbers : {A B : Type 0} → (A → ℕ) → (B → ℕ) → List (A × B) → List (ℕ × ℕ)
-numbers f g ps = map (λ p. (f p.0, g p.1)) ps
+-- pairs of a word and a number as pairs of numbers
+abbrev pub numbers : {A : Type 0} → (A → ℕ) → List (A × ℕ) → List (ℕ × ℕ)
+numbers f ps = map (λ p. (f p.0, p.1)) ps
+
+-- the counts of pairs have at most so many digits
+abbrev pub AreShort : ℕ → List (ℕ × ℕ) → Type 0
+AreShort digits ps = All (λ p. length (decimal p.1) ≤ digits) ps
 
 -- the text of the words of a range
 abbrev pub range_text : ℕ → ℕ → ℕ → ℕ → List Listed → List ℕ

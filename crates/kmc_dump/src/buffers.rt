@@ -1,26 +1,24 @@
 //! Room for ranges, had before the first byte of a dump goes out.
 ghost use Rattle.std.specs.Prelude.{◌≡◌, ℕ, ◌+◌, ◌*◌, All, vec_len, IfOk, OnOk};
-ghost use Rattle.kmc_device.specs.Line.{line_room};
 ghost use Rattle.kmc_dump.specs.Rooms.{HasRoom};
 
-use crate::word_size::WordSize;
 use kmc_base::Word;
-use kmc_device::{Shown, line_room};
 use std::alloc::{AllocError, Global};
 
 /// Room for the pairs of one range, also as keys, and for its text, whose first `filled` bytes are the range's. The thread that
-/// fills it first puts zeros there.
+/// fills it first puts zeros there. A pair has its count in 64 bits however narrow the lists keep it: beside a word it takes no
+/// more memory so, and pairs are sorted by one function for all widths of counts.
 #[derive(Drop)]
-pub struct Buffer<W, C> {
-    pub pairs: Vec<(W, C)>,
+pub struct Buffer<W> {
+    pub pairs: Vec<(W, u64)>,
     pub keys: Vec<u64>,
     pub text: Vec<u8>,
     pub filled: usize,
 }
 
 /// Puts a buffer with room for so many pairs and bytes behind the others.
-fn add_buffer<W: Word + Drop, C: Shown + Drop>(
-    buffers: &mut Vec<Buffer<W, C>>,
+fn add_buffer<W: Word + Drop>(
+    buffers: &mut Vec<Buffer<W>>,
     alloc: Global,
     widest: usize,
     bytes: usize,
@@ -41,18 +39,17 @@ fn add_buffer<W: Word + Drop, C: Shown + Drop>(
     Ok(())
 }
 
-/// So many buffers, each with room for `widest` pairs of words of this size, and for their lines.
-pub fn make_buffers<W: Word + Drop, C: Shown + Drop>(
+/// So many buffers, each with room for `widest` pairs, and for as many lines of at most `line` bytes.
+pub fn make_buffers<W: Word + Drop>(
     alloc: Global,
     count: usize,
     widest: usize,
-    size: WordSize,
-) -> Result<Vec<Buffer<W, C>>, AllocError>
+    line: usize,
+) -> Result<Vec<Buffer<W>>, AllocError>
     ensures count { IfOk result (λ v. vec_len v ≡ count) }
-    ensures room { IfOk result (λ v. All
-        (HasRoom widest (line_room size.k C.most_digits)) v.items) }
+    ensures room { IfOk result (λ v. All (HasRoom widest line) v.items) }
 {
-    let Some(bytes) = widest.checked_mul(line_room(size.k, C::digits())) else {
+    let Some(bytes) = widest.checked_mul(line) else {
         return Err(AllocError);
     };
     let mut buffers = Vec::with_capacity(alloc, count)?;

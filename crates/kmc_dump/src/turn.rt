@@ -13,9 +13,9 @@ use std::io::Write;
 use std::thread::{Threads, join_mut};
 
 /// Writes what is filled of each buffer, one after the other.
-pub fn write_buffers<D: Write, W: Word + Drop, C: Shown + Drop>(
+pub fn write_buffers<D: Write, W: Word + Drop>(
     writer: &mut Counted<D>,
-    buffers: &[Buffer<W, C>],
+    buffers: &[Buffer<W>],
 ) -> Result<(), WriteFault>
     requires failures { writer.old.failures < 2 ^ 64 - 1 }
     requires within { All (λ b. b.filled ≤ length b.text.items) buffers.now }
@@ -40,7 +40,7 @@ pub struct Filling<'a, R, W: Word, C: Shown> {
 fn fill_row<R: Threads + Sync, W: Word + Drop + Send + Sync, C: Shown + Drop + Send + Sync>(
     filling: &Filling<'_, R, W, C>,
     first: usize,
-    buffers: &mut [Buffer<W, C>],
+    buffers: &mut [Buffer<W>],
 )
     requires some { 1 ≤ length buffers.old }
     requires room { CanBeFilled filling.now.ranges.now filling.now.lists.now C.most_digits first
@@ -59,10 +59,10 @@ fn write_beside<
     C: Shown + Drop + Send + Sync,
 >(
     writer: &mut Counted<D>,
-    full: &[Buffer<W, C>],
+    full: &[Buffer<W>],
     filling: &Filling<'_, R, W, C>,
     first: usize,
-    empty: &mut [Buffer<W, C>],
+    empty: &mut [Buffer<W>],
 ) -> Result<(), WriteFault>
     requires failures { writer.old.failures < 2 ^ 64 - 1 }
     requires within { All (λ b. b.filled ≤ length b.text.items) full.now }
@@ -96,10 +96,10 @@ pub fn write_and_fill<
     C: Shown + Drop + Send + Sync,
 >(
     writer: &mut Counted<D>,
-    full: &[Buffer<W, C>],
+    full: &[Buffer<W>],
     filling: &Filling<'_, R, W, C>,
     first: usize,
-    empty: &mut [Buffer<W, C>],
+    empty: &mut [Buffer<W>],
 ) -> Result<(), WriteFault>
     requires failures { writer.old.failures < 2 ^ 64 - 1 }
     requires within { All (λ b. b.filled ≤ length b.text.items) full.now }

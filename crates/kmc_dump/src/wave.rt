@@ -37,7 +37,7 @@ fn put_text<W: Word + Drop, C: Shown + Drop>(
     ranges: &Ranges,
     from: u128,
     to: u128,
-    buffer: &mut Buffer<W, C>,
+    buffer: &mut Buffer<W>,
 ) -> usize
     requires ranges { AreRanges ranges.now lists.now }
     requires range { from ≤ to }
@@ -64,7 +64,7 @@ fn fill<W: Word + Drop, C: Shown + Drop>(
     lists: &[Counts<W, C>],
     ranges: &Ranges,
     range: usize,
-    buffer: &mut Buffer<W, C>,
+    buffer: &mut Buffer<W>,
 )
     requires ranges { AreRanges ranges.now lists.now }
     requires inside { range + 1 < length ranges.now.bounds.items }
@@ -88,7 +88,7 @@ pub fn fill_wave<R: Threads + Sync, W: Word + Drop + Send + Sync, C: Shown + Dro
     lists: &[Counts<W, C>],
     ranges: &Ranges,
     first: usize,
-    buffers: &mut [Buffer<W, C>],
+    buffers: &mut [Buffer<W>],
 )
     requires ranges { AreRanges ranges.now lists.now }
     requires some { 1 ≤ length buffers.old }

@@ -17,9 +17,9 @@ use std::io::Write;
 use std::thread::Threads;
 
 /// Writes what is filled of each buffer, and flushes.
-fn write_last<D: Write, W: Word + Drop, C: Shown + Drop>(
+fn write_last<D: Write, W: Word + Drop>(
     writer: &mut Counted<D>,
-    buffers: &[Buffer<W, C>],
+    buffers: &[Buffer<W>],
 ) -> Result<(), WriteFault>
     requires failures { writer.old.failures < 2 ^ 64 - 1 }
     requires within { All (λ b. b.filled ≤ length b.text.items) buffers.now }
@@ -43,8 +43,8 @@ fn write_rows<
 >(
     writer: &mut Counted<D>,
     filling: &Filling<'_, R, W, C>,
-    front: &mut [Buffer<W, C>],
-    back: &mut [Buffer<W, C>],
+    front: &mut [Buffer<W>],
+    back: &mut [Buffer<W>],
 ) -> Result<(), WriteFault>
     requires ranges { AreRanges filling.now.ranges.now filling.now.lists.now }
     requires some { 1 ≤ length back.old }
@@ -87,7 +87,7 @@ pub fn write_ranges<
     writer: &mut Counted<D>,
     lists: &[Counts<W, C>],
     ranges: &Ranges,
-    buffers: &mut [Buffer<W, C>],
+    buffers: &mut [Buffer<W>],
 ) -> Result<(), WriteFault>
     requires ranges { AreRanges ranges.now lists.now }
     requires buffers { 1 ≤ length buffers.old }

@@ -11,7 +11,7 @@ use crate::parting::part_words;
 use crate::waves::write_ranges;
 use crate::word_size::WordSize;
 use kmc_base::Word;
-use kmc_device::{Counted, Counts, Shown};
+use kmc_device::{Counted, Counts, Shown, line_room};
 use std::alloc::{AllocError, Global};
 use std::io::Write;
 use std::thread::Threads;
@@ -79,7 +79,8 @@ pub(crate) fn write_lists<
     let wanted = (total / ranges.widest.max(1)).saturating_add(1);
     let rows = if threads == 1 { 1 } else { 2 };
     let count = threads.saturating_mul(rows).min(wanted);
-    let mut buffers = make_buffers(alloc, count, ranges.widest, size)?;
+    let line = line_room(size.k, C::digits());
+    let mut buffers = make_buffers(alloc, count, ranges.widest, line)?;
     match write_ranges(rt, writer, lists, &ranges, &mut buffers) {
         Ok(()) => Ok(total as u64),
         Err(_) => Err(DumpError::Write),

@@ -1,5 +1,5 @@
-use Rattle.std.proofs.Common.{◌≡◌, ℕ, ◌+◌, ◌<◌, List, [], ◌∷◌, ◌++◌, length, get_or, take, drop, sym, ap, subst, ◌∙◌, take_all, Vec, Global}
-use Rattle.std.specs.Prelude.{Ok, Err, IsErrOf}
+use Rattle.std.proofs.Common.{◌≡◌, ℕ, ◌+◌, ◌<◌, List, [], ◌∷◌, ◌++◌, length, get_or, take, drop, sym, ap, subst, ◌∙◌, take_all, Vec, Global, arith}
+use Rattle.std.specs.Prelude.{Ok, IsErrOf}
 use Rattle.std.proofs.lemmas.List.{drop_more, take-append-drop, take_more}
 use Rattle.std.proofs.lemmas.List.Elements.{All-nil}
 use Rattle.std.proofs.lemmas.Result.{IfOk-from_err}
@@ -7,7 +7,7 @@ use borrow.Author.Count.{falls}
 use Rattle.kmc_base.specs.declared.strands.Strands.{Strands}
 use Rattle.kmc_record.specs.Faults.{IsFirstFault}
 use Rattle.kmc_record.specs.declared.fault.RecordFault.{RecordFault}
-use Rattle.kmc_record.specs.declared.fault.BodyError.TheVariants.{Damaged, Memory}
+use Rattle.kmc_record.specs.declared.fault.BodyError.TheVariants.{Damaged}
 use Rattle.kmc_count.specs.declared.limits.Limits.{Limits}
 use Rattle.kmc_count.specs.Bodies.{IsDumpOfBody, IsFirstDamaged}
 use Rattle.kmc_count.specs.Lemmas.PassedOn.{passed_on}
@@ -38,16 +38,21 @@ module _ (strands : Strands) (k : ℕ) (l : Limits) (xs : List (Vec ℕ Global))
       ∙ ap (λ (v : Vec ℕ Global). v ∷ drop (i + 1) xs) (sym is)) in
       next_damaged strands k l xs (take i xs) (drop (i + 1) xs) b body lists fault offset split bytes are first
 
--- neither a list nor a want of memory is damage
+-- a list is no damage
 ok_undamaged : {T : Type 0} (v : T) (fault : RecordFault) (offset : ℕ) → IsErrOf (Ok v) (Damaged fault offset) → ⊥
 ok_undamaged v fault offset is = cc
 
-memory_undamaged : {T : Type 0} (fault : RecordFault) (offset : ℕ) → IsErrOf {T = T} (Err Memory) (Damaged fault offset) → ⊥
-memory_undamaged fault offset is = cc
-
 pub loop-body-init : goal.loop-body-init
-loop-body-init g c = subst (AreListsOfBodies c.args.rule.strands c.args.rule.k c.args.limits.now []) (sym c.new-lists.ensures.items)
-    record { each = All-nil (IsListOf c.args.rule.k); dumps = tt }
+loop-body-init g c =
+    let made = c.in_ok-lists.ensures in (
+      made.len,
+      made.capacity,
+      subst (AreListsOfBodies c.args.rule.strands c.args.rule.k c.args.limits.now []) (sym made.items)
+          record { each = All-nil (IsListOf c.args.rule.k); dumps = tt },
+    )
+
+pub push_reserved-requires : goal.push_reserved-requires
+push_reserved-requires g c = omega (arith, c.loop-body.invariant.0, c.loop-body.invariant.1, c.loop-body-test.true)
 
 pub bounds-bodies-body-index : goal.bounds-bodies-body-index
 bounds-bodies-body-index g c = c.loop-body-test.true
@@ -59,33 +64,32 @@ pub list_body-requires-clause-wide : goal.list_body-requires-clause-wide
 list_body-requires-clause-wide g c = c.requires.wide
 
 pub returns-in_err-list-clause-ok : goal.returns-in_err-list-clause-ok
-returns-in_err-list-clause-ok g c = IfOk-from_err _ _ c.from_residual.ensures.0
+returns-in_err-list-clause-ok g c = IfOk-from_err _ _ c.from_residual-in_err-list.ensures.0
 
 pub returns-in_err-list-clause-damaged : goal.returns-in_err-list-clause-damaged
 returns-in_err-list-clause-damaged g c = λ fault offset h.
     damaged_here c.args.rule.strands c.args.rule.k c.args.limits.now c.args.bodies.now c.loop-body.body-index c.body-item.result c.deref.result.now
-    c.loop-body.lists.items fault offset c.loop-body-test.true c.body-item.is c.deref.ensures.value c.loop-body.invariant
-    (c.list_body.ensures.damaged fault offset (passed_on c.list_body.result c.from_residual.result _ _ c.in_err-list.was c.from_residual.ensures.1 h))
-
-pub returns-in-Err-clause-ok : goal.returns-in-Err-clause-ok
-returns-in-Err-clause-ok g c = tt
-
-pub returns-in-Err-clause-damaged : goal.returns-in-Err-clause-damaged
-returns-in-Err-clause-damaged g c = λ fault offset h. absurd (memory_undamaged fault offset h)
+    c.loop-body.lists.items fault offset c.loop-body-test.true c.body-item.is c.deref.ensures.value c.loop-body.invariant.2
+    (c.list_body.ensures.damaged fault offset (passed_on c.list_body.result c.from_residual-in_err-list.result _ _ c.in_err-list.was c.from_residual-in_err-list.ensures.1 h))
 
 pub loop-body-smaller : goal.loop-body-smaller
 loop-body-smaller g c = falls (length c.args.bodies.now) c.loop-body.body-index c.loop-body-test.true
 
 pub loop-body-preserved : goal.loop-body-preserved
 loop-body-preserved g c =
-    next_listed c.args.rule.strands c.args.rule.k c.args.limits.now c.args.bodies.now c.loop-body.body-index c.body-item.result c.deref.result.now
-    c.loop-body.lists.items c.in_ok-list.list c.push.new.self.items c.loop-body-test.true c.body-item.is c.deref.ensures.value c.loop-body.invariant
-    c.in-Ok.ensures.items c.in_ok-list.ensures.list c.in_ok-list.ensures.ok
+    let room = c.loop-body.invariant in
+    let pushed = c.push_reserved.ensures in (
+      pushed.len ∙ ap (λ n. n + 1) room.0,
+      omega (arith, pushed.capacity, room.1),
+      next_listed c.args.rule.strands c.args.rule.k c.args.limits.now c.args.bodies.now c.loop-body.body-index c.body-item.result c.deref.result.now
+          c.loop-body.lists.items c.in_ok-list.list c.push_reserved.new.self.items c.loop-body-test.true c.body-item.is c.deref.ensures.value room.2
+          pushed.items c.in_ok-list.ensures.list c.in_ok-list.ensures.ok,
+    )
 
 pub returns-clause-ok : goal.returns-clause-ok
 returns-clause-ok g c =
     subst (λ (t : List (Vec ℕ Global)). AreListsOfBodies c.args.rule.strands c.args.rule.k c.args.limits.now (texts t) c.loop-body.lists.items)
-    (take_all c.loop-body.body-index c.args.bodies.now c.loop-body-test.false) c.loop-body.invariant
+    (take_all c.loop-body.body-index c.args.bodies.now c.loop-body-test.false) c.loop-body.invariant.2
 
 pub returns-clause-damaged : goal.returns-clause-damaged
 returns-clause-damaged g c = λ fault offset h. absurd (ok_undamaged c.loop-body.lists fault offset h)

@@ -6,7 +6,7 @@ use Rattle.kmc_dump.proofs.buffers.add_buffer.Goals as goal
 
 pub returns : goal.returns
 returns g c = λ line is all.
-    let P = HasRoom {W = g.row.W.Denot} {C = g.row.C.Denot} c.args.widest line in
+    let P = HasRoom {W = g.row.W.Denot} c.args.widest line in
     let pairs = c.in_ok-pairs.pairs in
     let text = c.in_ok-text.text in (
       c.in_ok-push.ensures.len,

@@ -1,12 +1,9 @@
-use Rattle.std.proofs.Common.{◌≡◌, ◌*◌, arith}
-use Rattle.kmc_device.specs.Line.{line_room}
+use Rattle.std.proofs.Common.{arith}
 use Rattle.kmc_dump.proofs.buffers.make_buffers.Goals as goal
 
 pub loop-made-preserved : goal.loop-made-preserved
 loop-made-preserved g c =
-    let line = line_room c.args.size.k g.C.Shown.most_digits in
-    let is : c.in-Some.bytes ≡ c.args.widest * line = cc (c.in-Some.ensures.1, c.line_room.ensures.is, c.digits.ensures.is) in
-    let more = c.in_ok-add_buffer.ensures line is c.loop-made.invariant.room in
+    let more = c.in_ok-add_buffer.ensures c.args.line c.in-Some.ensures.1 c.loop-made.invariant.room in
     record { count = omega (arith, more.0, c.loop-made.invariant.count); room = more.1 }
 
 pub returns-clause-count : goal.returns-clause-count

@@ -1,5 +1,4 @@
 use Rattle.std.proofs.Common.{◌≡◌, All, vec_len}
-use Rattle.kmc_device.specs.Line.{line_room}
 use Rattle.kmc_dump.specs.Rooms.{HasRoom}
 use Rattle.kmc_dump.proofs.buffers.make_buffers.Given as goal
 
@@ -7,5 +6,5 @@ use Rattle.kmc_dump.proofs.buffers.make_buffers.Given as goal
 abbrev pub invariant-loop-made : goal.invariant-loop-made
 invariant-loop-made g l = record {
   count : vec_len l.buffers ≡ l._made;
-  room : All (HasRoom l.widest (line_room l.fn.size.k g.C.Shown.most_digits)) l.buffers.items;
+  room : All (HasRoom l.widest l.line) l.buffers.items;
 }

@@ -136,7 +136,7 @@ loop-next-preserved g c =
     let done = c.in-Ok.ensures in
     let done_then = c.in-Ok-write_and_fill.ensures in
     let row_then = front_row full then (drop full c.loop-next.front) long_then in
-    let room = HasRoom {W = g.row.W.Denot} {C = g.row.C.Denot} r.widest (line_room r.k g.C.Shown.most_digits) in
+    let room = HasRoom {W = g.row.W.Denot} r.widest (line_room r.k g.C.Shown.most_digits) in
     let out = turn_done bytes r lists c.requires.ranges c.args.writer.now c.loop-next.writer c.write_and_fill.new.writer next (next + wave) _ _ _
     (omega arith) (omega (arith, c.min-wave.ensures, c.loop-next-test.true, c.requires.ranges.ends)) inv.out done.written
     (ap (flat_map (λ b. take b.filled b.text.items)) (front_row wave now (drop wave c.loop-next.back) long) ∙ done.filled.texts
