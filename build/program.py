@@ -6,8 +6,7 @@ usage: build/program.py PROGRAM, at the top of the repository. The program is le
 It asks the kit's compiler for each library as `rt ci` does: from nothing, and what stands above a library reads its statements
 and not its proofs. A library is begun once those that it names are done, of several the one that stands first in crates.txt, and no more of
 them at once than there are processors. Each gets one process, since several for one check take up to twice the processor seconds. Where
-processors are free a library gets two, with which it ends soonest, and so do the last ones, where fewer are left to be begun than there
-are processors; the program gets all.
+processors are free a library gets two, with which it ends soonest, and so does the last one, beside which others end; the program gets all.
 What was built before from the same files is kept. `rt` in a crate's folder makes libraries of its own, in the place of these, and
 neither takes the other's.
 """
@@ -163,12 +162,12 @@ def free_memory():
         return next(1024 * int(it.split()[1]) for it in lines if it.startswith("MemAvailable:"))
 
 
-def processes_of(name, left, spare, at_once):
+def processes_of(crates, name, left, spare, at_once):
     """How many processes a crate gets, where so many processors are spare and these crates are still to be begun."""
     if is_program(name):
         return at_once
-    few_left = len(left) < at_once
-    return PROCESSES_OF_A_LIBRARY if few_left or spare >= PROCESSORS_OF_A_LIBRARY else 1
+    is_last = at_once > 1 and all(name in below(crates, it) for it in left)
+    return PROCESSES_OF_A_LIBRARY if is_last or spare >= PROCESSORS_OF_A_LIBRARY else 1
 
 
 def build_all(crates, order):
@@ -182,7 +181,7 @@ def build_all(crates, order):
             for place, name in enumerate(ready[:at_once - len(running)], 1):
                 left.remove(name)
                 busy = sum(PROCESSORS_OF_A_LIBRARY if jobs > 1 else 1 for _, jobs in running.values())
-                jobs = processes_of(name, left, at_once - busy - (len(ready) - place), at_once)
+                jobs = processes_of(crates, name, left, at_once - busy - (len(ready) - place), at_once)
                 running[pool.submit(build, crates, name, jobs)] = name, jobs
             for it in wait(running, return_when=FIRST_COMPLETED).done:
                 it.result()
