@@ -24,8 +24,8 @@ PARTS = ("src", "specs", "proofs")
 TARGET = "x86_64-unknown-linux-gnu"
 # more processes than so many for a library take more time than they spare
 PROCESSES_OF_A_LIBRARY = 2
-# so many processors these keep busy: they take three quarters of the time of one process, and a tenth more processor seconds
-PROCESSORS_OF_A_LIBRARY = 1.5
+# so many processors these keep busy: they take seven tenths of the time of one process, and a quarter more processor seconds
+PROCESSORS_OF_A_LIBRARY = 1.9
 # a check takes up to so many bytes of memory
 MEMORY_OF_A_CHECK = 4 << 30
 # the compiler's allocator keeps what is freed, in place of giving it back to the system and asking for it again
