@@ -3,10 +3,9 @@ use Rattle.std.proofs.Common.{◌≡◌, ℕ, zero, suc, ◌+◌, ◌-◌, ◌*�
 use Rattle.std.proofs.lemmas.List.{take-take, drop-drop, drop-take, take_all, length-take-le}
 use Rattle.std.proofs.Math.Seq.{take-add, drop-cons}
 use Rattle.kmc_base.specs.Words.{window}
-use Rattle.kmc_base.specs.Lemmas.Windows.{length_window}
+use Rattle.kmc_base.specs.Lemmas.Windows.{length_window, window_front}
 use Rattle.kmc_base.specs.Record.{packed_codes, spelling, codes_in}
 use Rattle.kmc_base.specs.Lemmas.Codes.{length_codes, codes_join, drop_codes}
-use Rattle.kmc_base.specs.Lemmas.Windows.{window_front}
 
 -- ---- windows
 

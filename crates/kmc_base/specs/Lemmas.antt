@@ -1,22 +1,21 @@
--- Lemmas on the definitions beside this file, and the words that they are stated in: proofs cite them, here and in the
--- crates above, and no promise needs them to be read.
+-- Lemmas on the definitions beside this file: proofs cite them, here and in the crates above, and no promise needs them to be read.
+pub mod Codes
+pub mod Counted
+pub mod Keys
+pub mod Members
+pub mod Mirrored
+pub mod Orders
 pub mod Packing
 pub mod Packs
-pub mod Powers
-pub mod Rolling
-pub mod Keys
-pub mod Stretching
-pub mod Counted
-pub mod Ranges
-pub mod Orders
-pub mod Windows
-pub mod Weights
 pub mod PassedOn
-pub mod Members
-pub mod WrittenBack
 pub mod Places
-pub mod Mirrored
-pub mod Codes
+pub mod Powers
+pub mod Ranges
+pub mod Rolling
 pub mod Spelled
-pub mod Whole
+pub mod Stretching
 pub mod Unique
+pub mod Weights
+pub mod Whole
+pub mod Windows
+pub mod WrittenBack

@@ -9,8 +9,8 @@ ghost use Rattle.kmc_base.specs.Strands.{key};
 ghost use Rattle.kmc_base.specs.Packed.{unpack};
 
 use crate::letters::write_four;
+use crate::packed_kmer::PackedKmer;
 use crate::strands::Strands;
-use crate::word::Word;
 use std::alloc::AllocError;
 use std::cmp::Ordering;
 use std::marker::Model;

@@ -1,6 +1,5 @@
 -- What the counters of a table come to.
-use Rattle.std.proofs.Common.{◌≡◌, ℕ, zero, suc, ◌+◌, ◌*◌, ◌/◌, ◌^◌, ◌<◌, ◌≤◌, List, [], ◌∷◌, ◌++◌, length, take, drop, set, get_or, replicate, refl, sym, ap}
-use Rattle.std.proofs.Common.{subst, ◌∙◌, arith, zero-add, add-zero, drop_of_length-le}
+use Rattle.std.proofs.Common.{◌≡◌, ℕ, zero, suc, ◌+◌, ◌*◌, ◌/◌, ◌^◌, ◌<◌, ◌≤◌, List, [], ◌∷◌, ◌++◌, length, take, drop, set, get_or, replicate, refl, sym, ap, subst, ◌∙◌, arith, zero-add, add-zero, drop_of_length-le}
 use Rattle.std.proofs.lemmas.List.{length-replicate, length-set, take_more}
 use Rattle.std.proofs.lemmas.List.Elements.{All-append, All-from_recursion, All-replicate, All-set}
 use Rattle.std.proofs.lemmas.List.Sums.{sum_by-cons}

@@ -7,8 +7,9 @@ ghost use Rattle.kmc_count.specs.Bodies.{AreItemsOfBody, WantsMemory};
 ghost use Rattle.kmc_count.specs.Tables.{table_worth, ComeToAsMuch, IsTable, TakesIn};
 
 use crate::room::CountingRoom;
-use kmc_base::{KeyRule, MOST_WEIGHT_BITS, Weight, Word};
-use kmc_record::{BodyError, take_words};
+use crate::taking::take_words;
+use kmc_base::{KeyRule, MOST_WEIGHT_BITS, PackedKmer, Weight};
+use kmc_record::BodyError;
 use std::alloc::AllocError;
 
 /// The most symbols of a word that has a counter: the counters of all words of 12 symbols take 64 MiB.
@@ -25,7 +26,7 @@ pub(crate) fn takes_table(k: usize, bytes: usize) -> bool
 }
 
 /// Adds an item to the counter of its word. Where that is full, what it counted becomes an item, and it begins anew.
-fn add_item<W: Word + Drop>(
+fn add_item<W: PackedKmer + Drop>(
     table: &mut [u32],
     over: &mut Vec<W>,
     item: W,
@@ -43,7 +44,7 @@ fn add_item<W: Word + Drop>(
 {
     let word = item.without_weight(bits);
     let times = item.times(bits) as u32;
-    let place = word.widen() as usize;
+    let place = word.to_u128() as usize;
     let count = table[place];
     if count + times > 1 << bits {
         let times_before = u64::from(count);
@@ -59,7 +60,7 @@ fn add_item<W: Word + Drop>(
 }
 
 /// Adds all items to the counters of their words.
-fn add_items<W: Word + Drop>(
+fn add_items<W: PackedKmer + Drop>(
     table: &mut [u32],
     over: &mut Vec<W>,
     added: &[W],
@@ -82,7 +83,7 @@ fn add_items<W: Word + Drop>(
 }
 
 /// Appends an item for each word whose counter is not 0.
-fn push_counters<W: Word + Drop>(
+fn push_counters<W: PackedKmer + Drop>(
     out: &mut Vec<W>,
     table: &[u32],
     k: usize,
@@ -124,7 +125,7 @@ fn make_table(table: &mut Vec<u32>, k: usize) -> Result<(), AllocError>
 
 /// Adds up the items of equal words, in counters that are made anew in the room `table`; `over` has room for items of full
 /// counters.
-pub(crate) fn add_up<W: Word + Drop>(
+pub(crate) fn add_up<W: PackedKmer + Drop>(
     items: &mut Vec<W>,
     table: &mut Vec<u32>,
     over: &mut Vec<W>,
@@ -162,7 +163,7 @@ fn most_items(k: usize) -> usize
 
 /// Takes in the words of a body as items, and adds up those of equal words each time that there are many, so that items do not
 /// grow with the body.
-pub(crate) fn take_and_add<W: Word + Drop>(
+pub(crate) fn take_and_add<W: PackedKmer + Drop>(
     room: &mut CountingRoom<W>,
     body: &[u8],
     rule: KeyRule,

@@ -10,9 +10,12 @@ ghost use Rattle.kmc_count.specs.Bodies.{AreItemsOfBody, IsDumpOfBody, WantsMemo
 use crate::adding::{take_and_add, takes_table};
 use crate::limits::Limits;
 use crate::room::CountingRoom;
+use crate::rows::push_rows;
+use crate::taking::take_body;
 use crate::tallying::tally;
-use kmc_base::{KeyRule, MOST_WEIGHT_BITS, PairList, Word};
-use kmc_record::{BodyError, push_rows, take_body};
+use kmc_base::{KeyRule, MOST_WEIGHT_BITS, PackedKmer};
+use kmc_lists::PairList;
+use kmc_record::BodyError;
 use std::alloc::{AllocError, Global};
 
 /// Sorts the numbers of records, by the faster way for their width where there is memory for that.
@@ -26,7 +29,7 @@ fn sort_numbers(numbers: &mut Vec<u128>)
 
 /// The words of a body as items. Where equal records are looked for, they are sorted first, each as the lesser of it and its
 /// reverse complement, so that those that are equal stand side by side and their words are unpacked once.
-fn take_and_sort<W: Word + Drop>(
+fn take_and_sort<W: PackedKmer + Drop>(
     room: &mut CountingRoom<W>,
     body: &[u8],
     rule: KeyRule,
@@ -53,7 +56,7 @@ fn take_and_sort<W: Word + Drop>(
 }
 
 /// The words of a body as items. Many short words are added up in a table.
-fn take_items<W: Word + Drop>(
+fn take_items<W: PackedKmer + Drop>(
     room: &mut CountingRoom<W>,
     body: &[u8],
     rule: KeyRule,
@@ -78,7 +81,7 @@ fn take_items<W: Word + Drop>(
 
 /// The words of a body as items, which rise, so that those of one word are neighbours. How often a word comes is the sum of the
 /// weights of its items.
-pub fn items_of_body<W: Word + Drop>(
+pub fn items_of_body<W: PackedKmer + Drop>(
     alloc: Global,
     body: &[u8],
     rule: KeyRule,
@@ -106,7 +109,7 @@ pub fn items_of_body<W: Word + Drop>(
 }
 
 /// Puts the dump of items into an empty list of pairs, and sorts the items for that.
-fn dump_items<W: Word + Drop, L: PairList<W>>(
+fn dump_items<W: PackedKmer + Drop, L: PairList<W>>(
     items: &mut Vec<W>,
     pairs: &mut L,
     rule: KeyRule,
@@ -128,7 +131,7 @@ fn dump_items<W: Word + Drop, L: PairList<W>>(
 }
 
 /// Puts the dump of a body into an empty list of pairs. The room may be used again for the next body.
-pub fn count_into<W: Word + Drop, L: PairList<W>>(
+pub fn count_into<W: PackedKmer + Drop, L: PairList<W>>(
     room: &mut CountingRoom<W>,
     pairs: &mut L,
     body: &[u8],

@@ -9,11 +9,12 @@ ghost use Rattle.kmc_count.specs.Occurrences.{weight_of};
 ghost use Rattle.kmc_count.specs.Dump.{IsDump, keep_pair};
 
 use crate::limits::Limits;
-use kmc_base::{KeyRule, MOST_WEIGHT_BITS, PairList, Word};
+use kmc_base::{KeyRule, MOST_WEIGHT_BITS, PackedKmer};
+use kmc_lists::PairList;
 use std::alloc::AllocError;
 
 /// Appends a packed word with what is shown of its count, where the limits list it.
-fn push_kept<W: Word + Drop, L: PairList<W>>(
+fn push_kept<W: PackedKmer + Drop, L: PairList<W>>(
     pairs: &mut L,
     word: W,
     count: u64,
@@ -37,7 +38,7 @@ fn push_kept<W: Word + Drop, L: PairList<W>>(
 /// Puts the dump of a sorted list of items into an empty list of pairs, in one pass. The lowest bits of an item have how often
 /// its word is counted, less one; with no such bits an item is a packed word that is counted once. The sum of a word's weights
 /// stops at 2^64 - 1, which is above all limits.
-pub fn tally<W: Word + Drop, L: PairList<W>>(
+pub fn tally<W: PackedKmer + Drop, L: PairList<W>>(
     pairs: &mut L,
     words: &[W],
     rule: KeyRule,

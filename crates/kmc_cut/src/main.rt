@@ -3,7 +3,7 @@
 #![tactic(auto)]
 
 use kmc_device::Counted;
-use kmc_slice_programs::cut_program;
+use kmc_slices::cut_program;
 use std::io;
 use std::process::ExitCode;
 

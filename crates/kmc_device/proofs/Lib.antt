@@ -1,2 +1,1 @@
-pub mod Beside
-pub mod Cuts
+mod Rooms

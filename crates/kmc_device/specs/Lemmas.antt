@@ -1,5 +1,3 @@
 -- Lemmas on the definitions beside this file: proofs cite them, here and in the crates above, and no promise needs them to be read.
 pub mod Devices
 pub mod Lines
-pub mod Order
-pub mod Filters

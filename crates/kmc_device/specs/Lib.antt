@@ -1,6 +1,3 @@
 pub mod Device
-pub mod Line
-pub mod Listed
-pub mod Lists
-pub mod Ordered
 pub mod Lemmas
+pub mod Room

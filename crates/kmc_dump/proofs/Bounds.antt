@@ -1,7 +1,7 @@
 -- A range between two bounds as they are read.
 use Rattle.std.proofs.Common.{◌≡◌, ℕ, ◌+◌, ◌^◌, ◌<◌, ◌≤◌, List, length, get_or, sym, subst, ◌∙◌, arith}
 use Rattle.std.proofs.lemmas.List.{get_or_default}
-use Rattle.kmc_device.specs.Listed.{Listed}
+use Rattle.kmc_lists.specs.Listed.{Listed}
 use Rattle.kmc_dump.specs.Ranges.{count_within, range_text, AreRanges}
 use Rattle.kmc_dump.specs.declared.ranges.Ranges.{Ranges}
 

@@ -1,13 +1,12 @@
 -- How many pairs lie in each slot, pair by pair and list by list.
-use Rattle.std.proofs.Common.{◌≡◌, ℕ, ◌+◌, ◌-◌, ◌*◌, ◌/◌, ◌^◌, ◌<◌, ◌≤◌, ◌⊎◌, inl, inr, Bool, true, false, cond, List, [], ◌∷◌, ◌++◌, length, get_or, take}
-use Rattle.std.proofs.Common.{set, sym, ap, subst, ◌∙◌, arith}
+use Rattle.std.proofs.Common.{◌≡◌, ℕ, ◌+◌, ◌-◌, ◌*◌, ◌/◌, ◌^◌, ◌<◌, ◌≤◌, ◌⊎◌, inl, inr, Bool, true, false, cond, List, [], ◌∷◌, ◌++◌, length, get_or, take, set, sym, ap, subst, ◌∙◌, arith}
 use Rattle.std.proofs.lemmas.Bool.Decides.{nat_tests}
 use Rattle.std.proofs.lemmas.Nat.{shr_below}
 use Rattle.kmc_base.specs.Lemmas.Powers.{pow_quad}
 use Rattle.std.proofs.lemmas.List.{take_more, length-append, length-set, get_or-set_same, get_or-set_other}
 use Rattle.std.proofs.lemmas.List.Elements.{filter-append}
-use Rattle.kmc_device.specs.Ordered.{is_within, within}
-use Rattle.kmc_device.specs.Lemmas.Order.{same_or_other}
+use Rattle.kmc_lists.specs.Ordered.{is_within, within}
+use Rattle.kmc_lists.specs.Lemmas.Order.{same_or_other}
 
 single : (t : ℕ × ℕ → Bool) (p : ℕ × ℕ) (b : Bool) → t p ≡ b → length (cond (t p) (p ∷ []) []) ≡ cond b 1 0
 single t p true e = ap (λ (b : Bool). length (cond b (p ∷ []) [])) e

@@ -7,7 +7,7 @@ use Rattle.std.proofs.Math.Seq.{take-append_seam}
 use Rattle.std.proofs.lemmas.Grind.{flat_map-append}
 use Rattle.kmc_device.specs.Device.{AppendsFront, WritesOut}
 use Rattle.kmc_device.specs.Lemmas.Devices.{front_after, front_of, gathered_out}
-use Rattle.kmc_device.specs.Listed.{Listed}
+use Rattle.kmc_lists.specs.Listed.{Listed}
 use Rattle.kmc_dump.specs.Ranges.{range_text}
 use Rattle.kmc_dump.proofs.Texts.{texts_join, climb}
 

@@ -1,6 +1,5 @@
 -- Pairs of a range as keys.
-use Rattle.std.proofs.Common.{◌≡◌, ℕ, ◌+◌, ◌-◌, ◌*◌, ◌/◌, ◌%◌, ◌^◌, ◌<◌, ◌≤◌, List, [], ◌∷◌, ◌++◌, bit_and, All, length, get_or, map, take, drop, ap, sym}
-use Rattle.std.proofs.Common.{subst, ◌∙◌, arith, le_refl, mod-eq_of_lt, le-div_iff_mul-le, length-drop, append-nil}
+use Rattle.std.proofs.Common.{◌≡◌, ℕ, ◌+◌, ◌-◌, ◌*◌, ◌/◌, ◌%◌, ◌^◌, ◌<◌, ◌≤◌, List, [], ◌∷◌, ◌++◌, bit_and, All, length, get_or, map, take, drop, ap, sym, subst, ◌∙◌, arith, le_refl, mod-eq_of_lt, le-div_iff_mul-le, length-drop, append-nil}
 use Rattle.std.specs.List.Sorted.{IsSorted, IsNonDecreasingBy}
 use Rattle.std.specs.Ordering.{nat_cmp}
 use Rattle.std.proofs.Math.Nat.{add-mul}
@@ -9,11 +8,11 @@ use Rattle.std.proofs.lemmas.List.{get_or-drop, get_or-take, length-take-le, len
 use Rattle.std.proofs.lemmas.Grind.{flat_map-append}
 use Rattle.std.proofs.lemmas.List.Sorted.{IsNonDecreasingBy-from_sort}
 use Rattle.kmc_base.specs.Packed.{unpack}
-use Rattle.kmc_device.specs.Line.{line_of, text_of}
+use Rattle.kmc_lists.specs.Line.{line_of, text_of}
 use Rattle.kmc_dump.specs.Keys.{key_pair, key_pairs}
-use Rattle.kmc_device.specs.Listed.{spell, spelled}
-use Rattle.kmc_device.specs.Ordered.{Climbs, IsCut}
-use Rattle.kmc_device.specs.Lemmas.Order.{climbs_from, slot_up}
+use Rattle.kmc_lists.specs.Listed.{spell, spelled}
+use Rattle.kmc_lists.specs.Ordered.{Climbs, IsCut}
+use Rattle.kmc_lists.specs.Lemmas.Order.{climbs_from, slot_up}
 
 -- a key holds its pair
 pub key_holds : (word count least bits : ℕ) → least ≤ word → count < 2 ^ bits → key_pair least bits ((word - least) * 2 ^ bits + count) ≡ (word, count)

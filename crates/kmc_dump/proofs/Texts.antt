@@ -6,13 +6,13 @@ use Rattle.std.proofs.lemmas.List.{map-append}
 use Rattle.std.proofs.lemmas.Grind.{flat_map-append}
 use Rattle.std.proofs.lemmas.List.Elements.{recursion_from_All}
 use Rattle.std.proofs.lemmas.List.Sorted.{All-permutation}
-use Rattle.kmc_device.specs.Line.{line_of, text_of}
-use Rattle.kmc_device.specs.Listed.{Listed, spell, spelled}
-use Rattle.kmc_device.specs.Ordered.{is_within, within, whole, joined, packs}
+use Rattle.kmc_lists.specs.Line.{line_of, text_of}
+use Rattle.kmc_lists.specs.Listed.{Listed, spell, spelled}
+use Rattle.kmc_lists.specs.Ordered.{is_within, within, whole, joined, packs}
 use Rattle.kmc_dump.specs.Ranges.{range_text, AreRanges}
 use Rattle.kmc_dump.specs.declared.ranges.Ranges.{Ranges}
-use Rattle.kmc_device.specs.Lemmas.Order.{in_order_climbs, in_order_moves, ranges_join}
-use Rattle.kmc_device.specs.Lemmas.Filters.{filter_every, filter_none}
+use Rattle.kmc_lists.specs.Lemmas.Order.{in_order_climbs, in_order_moves, ranges_join}
+use Rattle.kmc_lists.specs.Lemmas.Filters.{filter_every, filter_none}
 
 pub texts_join : (k w a b c : ℕ) (lists : List Listed) → 0 < w → a ≤ b → b ≤ c → range_text k w a b lists ++ range_text k w b c lists ≡ range_text k w a c lists
 texts_join k w a b c lists pos low high =

@@ -7,9 +7,9 @@ use Rattle.std.proofs.KnownBytes.{Appends-nil}
 use Rattle.std.proofs.lemmas.Nat.{pow_pos}
 use Rattle.kmc_device.specs.Device.{AppendsFront, RisesByOne, Watched, WritesOut}
 use Rattle.kmc_device.specs.Lemmas.Devices.{gathered_out}
-use Rattle.kmc_device.specs.Line.{text_of}
-use Rattle.kmc_device.specs.Listed.{Listed, spelled}
-use Rattle.kmc_device.specs.Ordered.{whole}
+use Rattle.kmc_lists.specs.Line.{text_of}
+use Rattle.kmc_lists.specs.Listed.{Listed, spelled}
+use Rattle.kmc_lists.specs.Ordered.{whole}
 use Rattle.kmc_dump.specs.Ranges.{range_text, AreRanges}
 use Rattle.kmc_dump.specs.Written.{IsWritten, IsDumped}
 use Rattle.kmc_dump.specs.declared.write.DumpError.{DumpError}

@@ -1,8 +1,8 @@
 -- Buffers that hold the texts of ranges.
 use Rattle.std.specs.Prelude.{◌≡◌, ℕ, ◌+◌, ◌^◌, ◌<◌, ◌≤◌, List, length, take, All, slice_index}
 use Rattle.std.specs.List.{flat_map}
-use Rattle.kmc_device.specs.Line.{line_room}
-use Rattle.kmc_device.specs.Listed.{Listed}
+use Rattle.kmc_lists.specs.Line.{line_room}
+use Rattle.kmc_lists.specs.Listed.{Listed}
 use Rattle.kmc_dump.specs.Ranges.{range_text, AreRanges}
 use Rattle.kmc_dump.specs.Rooms.{HasRoom}
 use Rattle.kmc_dump.specs.declared.buffers.Buffer.{Buffer}

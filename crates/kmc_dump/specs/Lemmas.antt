@@ -1,3 +1,3 @@
 -- Lemmas on the definitions beside this file: proofs cite them, here and in the crates above, and no promise needs them to be read.
-pub mod Parted
 pub mod Finer
+pub mod Parted

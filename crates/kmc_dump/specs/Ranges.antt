@@ -2,9 +2,9 @@
 use Rattle.std.specs.Prelude.{◌≡◌, ℕ, ◌+◌, ◌-◌, ◌/◌, ◌^◌, ◌<◌, ◌≤◌, List, length, map, slice_index_or, decimal}
 use Rattle.std.specs.List.{All}
 use Rattle.kmc_base.specs.declared.kmer.TheConstants.{MAX_K}
-use Rattle.kmc_device.specs.Line.{text_of}
-use Rattle.kmc_device.specs.Listed.{Listed, spelled}
-use Rattle.kmc_device.specs.Ordered.{joined, packs, CanBeMerged, whole, within}
+use Rattle.kmc_lists.specs.Line.{text_of}
+use Rattle.kmc_lists.specs.Listed.{Listed, spelled}
+use Rattle.kmc_lists.specs.Ordered.{joined, packs, CanBeMerged, whole, within}
 use Rattle.kmc_dump.specs.declared.ranges.Ranges.{Ranges}
 
 -- how many pairs of the lists lie in a range

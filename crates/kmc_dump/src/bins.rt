@@ -2,16 +2,17 @@
 ghost use Rattle.std.specs.Prelude.{◌≡◌, ◌-◌, ◌^◌, ◌<◌, ◌≤◌, length, OnOk, IfOk, IsErrOf};
 ghost use Rattle.std.specs.Io.KnownBytes.{Appends};
 ghost use Rattle.kmc_device.specs.Device.{AppendsFront, RisesByOne};
-ghost use Rattle.kmc_device.specs.Line.{text_of};
+ghost use Rattle.kmc_lists.specs.Line.{text_of};
 ghost use Rattle.kmc_dump.specs.Written.{IsDumped};
-ghost use Rattle.kmc_device.specs.Listed.{spelled};
-ghost use Rattle.kmc_device.specs.Lists.{lists_of};
-ghost use Rattle.kmc_device.specs.Ordered.{CanBeMerged, whole};
+ghost use Rattle.kmc_lists.specs.Listed.{spelled};
+ghost use Rattle.kmc_lists.specs.Lists.{lists_of};
+ghost use Rattle.kmc_lists.specs.Ordered.{CanBeMerged, whole};
 
 use crate::word_size::WordSize;
 use crate::write::{DumpError, write_lists};
 use kmc_base::MAX_K;
-use kmc_device::{BinLists, Counted, SizedLists};
+use kmc_device::Counted;
+use kmc_lists::{BinLists, SizedLists};
 use std::alloc::Global;
 use std::io::Write;
 use std::thread::Threads;
@@ -32,22 +33,22 @@ fn write_sized<R: Threads + Sync, D: Write>(
         (length (whole (lists_of lists.now))) writer.old writer.new result }
 {
     match lists {
-        BinLists::Narrow(SizedLists::Byte(lists)) => write_lists(
+        BinLists::Narrow(SizedLists::U8(lists)) => write_lists(
             rt, alloc, writer, lists, size, threads,
         ),
-        BinLists::Narrow(SizedLists::Half(lists)) => write_lists(
+        BinLists::Narrow(SizedLists::U32(lists)) => write_lists(
             rt, alloc, writer, lists, size, threads,
         ),
-        BinLists::Narrow(SizedLists::Full(lists)) => write_lists(
+        BinLists::Narrow(SizedLists::U64(lists)) => write_lists(
             rt, alloc, writer, lists, size, threads,
         ),
-        BinLists::Wide(SizedLists::Byte(lists)) => write_lists(
+        BinLists::Wide(SizedLists::U8(lists)) => write_lists(
             rt, alloc, writer, lists, size, threads,
         ),
-        BinLists::Wide(SizedLists::Half(lists)) => write_lists(
+        BinLists::Wide(SizedLists::U32(lists)) => write_lists(
             rt, alloc, writer, lists, size, threads,
         ),
-        BinLists::Wide(SizedLists::Full(lists)) => write_lists(
+        BinLists::Wide(SizedLists::U64(lists)) => write_lists(
             rt, alloc, writer, lists, size, threads,
         ),
     }

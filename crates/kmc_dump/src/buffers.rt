@@ -2,7 +2,7 @@
 ghost use Rattle.std.specs.Prelude.{◌≡◌, ℕ, ◌+◌, ◌*◌, All, vec_len, IfOk, OnOk};
 ghost use Rattle.kmc_dump.specs.Rooms.{HasRoom};
 
-use kmc_base::Word;
+use kmc_base::PackedKmer;
 use std::alloc::{AllocError, Global};
 
 /// Room for the pairs of one range, also as keys, and for its text, whose first `filled` bytes are the range's. The thread that
@@ -17,7 +17,7 @@ pub struct Buffer<W> {
 }
 
 /// Puts a buffer with room for so many pairs and bytes behind the others.
-fn add_buffer<W: Word + Drop>(
+fn add_buffer<W: PackedKmer + Drop>(
     buffers: &mut Vec<Buffer<W>>,
     alloc: Global,
     widest: usize,
@@ -40,7 +40,7 @@ fn add_buffer<W: Word + Drop>(
 }
 
 /// So many buffers, each with room for `widest` pairs, and for as many lines of at most `line` bytes.
-pub fn make_buffers<W: Word + Drop>(
+pub fn make_buffers<W: PackedKmer + Drop>(
     alloc: Global,
     count: usize,
     widest: usize,

@@ -1,17 +1,17 @@
 //! One range of the dump by keys: each pair in one number, so that the pairs are sorted as plain numbers.
 ghost use Rattle.std.specs.Prelude.{◌≡◌, ℕ, ◌+◌, ◌-◌, ◌*◌, ◌^◌, ◌<◌, ◌≤◌, List, [], ◌∷◌, ◌++◌, length, take, map, All, IsTrue, vec_len, vec_capacity};
-ghost use Rattle.kmc_device.specs.Line.{line_room, text_of};
+ghost use Rattle.kmc_lists.specs.Line.{line_room, text_of};
 ghost use Rattle.kmc_dump.specs.Keys.{key_pair, key_pairs};
-ghost use Rattle.kmc_device.specs.Listed.{spelled};
-ghost use Rattle.kmc_device.specs.Ordered.{Climbs, within, whole, CanBeMerged};
+ghost use Rattle.kmc_lists.specs.Listed.{spelled};
+ghost use Rattle.kmc_lists.specs.Ordered.{Climbs, within, whole, CanBeMerged};
 ghost use Rattle.kmc_dump.specs.Ranges.{count_within};
 
 use crate::word_size::WordSize;
-use kmc_base::{Kmer, Word};
-use kmc_device::{Counts, Shown, put_line};
+use kmc_base::{Kmer, PackedKmer};
+use kmc_lists::{CountWidth, KmerList, put_line};
 
 /// Whether a word of the range and a count, side by side, always fit 64 bits.
-pub fn fit_keys<C: Shown>(shift: u32, from: u128, to: u128) -> bool
+pub fn fit_keys<C: CountWidth>(shift: u32, from: u128, to: u128) -> bool
     ensures small { IsTrue result → C.bits < 64 }
     ensures least { IsTrue result → from * 2 ^ shift < 2 ^ 128 }
     ensures room { IsTrue result → (to - from) * 2 ^ shift * 2 ^ C.bits ≤ 2 ^ 64 }
@@ -35,8 +35,8 @@ fn key_of(word: u128, count: u64, least: u128, bits: u32) -> u64
 }
 
 /// Appends the keys of those pairs of a list whose slots are in a range. There is room for them, so that no push is refused.
-fn gather_keys<W: Word + Drop, C: Shown + Drop>(
-    list: &Counts<W, C>,
+fn gather_keys<W: PackedKmer + Drop, C: CountWidth + Drop>(
+    list: &KmerList<W, C>,
     shift: u32,
     from: u128,
     to: u128,
@@ -60,12 +60,12 @@ fn gather_keys<W: Word + Drop, C: Shown + Drop>(
     let end = list.below(shift, to);
     for i in begin..end {
         let (word, count) = list.get(i);
-        let _ = keys.push(key_of(word.widen(), count.widen(), least, bits));
+        let _ = keys.push(key_of(word.to_u128(), count.to_u128(), least, bits));
     }
 }
 
 /// Puts the lines of keys into a text, from its first byte on, and says where they end.
-fn put_key_lines<C: Shown + Drop>(
+fn put_key_lines<C: CountWidth + Drop>(
     keys: &[u64],
     size: WordSize,
     least: u128,
@@ -88,10 +88,10 @@ fn put_key_lines<C: Shown + Drop>(
     end
 }
 
-/// Puts the lines of a range into a text, as [`put_range`](crate::put_range) does, where its pairs fit keys. The vector for
+/// Puts the lines of a range into a text, as [`put_range`](crate::range::put_range) does, where its pairs fit keys. The vector for
 /// the keys is used again; both have room for the range before, so that nothing is allocated.
-pub fn put_keys<W: Word + Drop, C: Shown + Drop>(
-    lists: &[Counts<W, C>],
+pub fn put_keys<W: PackedKmer + Drop, C: CountWidth + Drop>(
+    lists: &[KmerList<W, C>],
     size: WordSize,
     shift: u32,
     from: u128,

@@ -1,15 +1,15 @@
 //! The choice of ranges.
 ghost use Rattle.std.specs.Prelude.{◌≡◌, ℕ, ◌+◌, ◌-◌, ◌*◌, ◌/◌, ◌^◌, ◌<◌, ◌≤◌, List, length, All, IfOk, OnOk, slice_index_or};
 ghost use Rattle.std.specs.List.{AllByRecursion};
-ghost use Rattle.kmc_device.specs.Listed.{Listed};
-ghost use Rattle.kmc_device.specs.Ordered.{Rises, CanBeMerged, joined, packs};
+ghost use Rattle.kmc_lists.specs.Listed.{Listed};
+ghost use Rattle.kmc_lists.specs.Ordered.{Rises, CanBeMerged, joined, packs};
 ghost use Rattle.kmc_dump.specs.Ranges.{count_within, ArePartedTo, AreRanges};
 
 use crate::ranges::Ranges;
 use crate::slots::slot_sizes;
 use crate::word_size::WordSize;
-use kmc_base::Word;
-use kmc_device::{Counts, Shown};
+use kmc_base::PackedKmer;
+use kmc_lists::{CountWidth, KmerList};
 use std::alloc::{AllocError, Global};
 
 /// Slots that follow one another are one range while they have no more pairs than this: so many that the threads which fill
@@ -31,8 +31,8 @@ const WIDE: usize = 2 * USUAL;
 const FINEST: u32 = 2;
 
 /// How many pairs of the lists lie in a range. It fails only where there are more than a number tells, which no memory could hold.
-fn count_range<W: Word + Drop, C: Shown + Drop>(
-    lists: &[Counts<W, C>],
+fn count_range<W: PackedKmer + Drop, C: CountWidth + Drop>(
+    lists: &[KmerList<W, C>],
     shift: u32,
     from: u128,
     to: u128,
@@ -57,9 +57,9 @@ fn count_range<W: Word + Drop, C: Shown + Drop>(
 /// Puts bounds behind those of the ranges before, the last of them at the end of a range of so many pairs: it is halved, and so are
 /// its halves, until few pairs or one slot are left. The answer is the most pairs of a range.
 #[cycle(halves)]
-fn part_range<W: Word + Drop, C: Shown + Drop>(
+fn part_range<W: PackedKmer + Drop, C: CountWidth + Drop>(
     bounds: &mut Vec<u128>,
-    lists: &[Counts<W, C>],
+    lists: &[KmerList<W, C>],
     shift: u32,
     from: u128,
     to: u128,
@@ -116,9 +116,9 @@ fn close_range(joined: &mut Joined, to: u128) -> Result<(), AllocError>
 }
 
 /// Puts a slot with so many pairs to the ranges; one with very many is parted.
-fn add_slot<W: Word + Drop, C: Shown + Drop>(
+fn add_slot<W: PackedKmer + Drop, C: CountWidth + Drop>(
     joined: &mut Joined,
-    lists: &[Counts<W, C>],
+    lists: &[KmerList<W, C>],
     shift: u32,
     from: u128,
     to: u128,
@@ -145,9 +145,9 @@ fn add_slot<W: Word + Drop, C: Shown + Drop>(
 }
 
 /// Ranges of neighbouring slots.
-fn join_slots<W: Word + Drop, C: Shown + Drop>(
+fn join_slots<W: PackedKmer + Drop, C: CountWidth + Drop>(
     alloc: Global,
-    lists: &[Counts<W, C>],
+    lists: &[KmerList<W, C>],
     size: WordSize,
     shift: u32,
     slots: usize,
@@ -200,9 +200,9 @@ fn leading(total: usize, size: WordSize) -> usize
 
 /// Ranges of about 128 Ki pairs for lists that have so many pairs in all. The leading symbols of a word tell its slot. It takes
 /// memory for a number for each slot, 8 MiB at the most, and fails only where that is refused.
-pub fn part_words<W: Word + Drop, C: Shown + Drop>(
+pub fn part_words<W: PackedKmer + Drop, C: CountWidth + Drop>(
     alloc: Global,
-    lists: &[Counts<W, C>],
+    lists: &[KmerList<W, C>],
     size: WordSize,
     total: usize,
 ) -> Result<Ranges, AllocError>

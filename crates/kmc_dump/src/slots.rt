@@ -1,17 +1,17 @@
 //! How many pairs lie in each slot.
 ghost use Rattle.std.specs.Prelude.{◌≡◌, ℕ, ◌+◌, ◌/◌, ◌^◌, ◌<◌, length, All, slice_index, OnOk, IfOk, vec_len};
-ghost use Rattle.kmc_device.specs.Ordered.{within, joined, packs};
+ghost use Rattle.kmc_lists.specs.Ordered.{within, joined, packs};
 ghost use Rattle.kmc_dump.specs.Ranges.{AreSizes};
 
-use kmc_base::Word;
-use kmc_device::{Counts, Shown};
+use kmc_base::PackedKmer;
+use kmc_lists::{CountWidth, KmerList};
 use std::alloc::{AllocError, Global};
 
 /// Adds the pairs of a list to the numbers of pairs of their slots. It fails where a number is too large, for which no
 /// memory could hold the pairs.
-fn add_list<W: Word + Drop, C: Shown + Drop>(
+fn add_list<W: PackedKmer + Drop, C: CountWidth + Drop>(
     sizes: &mut [usize],
-    list: &Counts<W, C>,
+    list: &KmerList<W, C>,
     shift: u32,
 ) -> Result<(), AllocError>
     requires shift { shift < 128 }
@@ -22,7 +22,7 @@ fn add_list<W: Word + Drop, C: Shown + Drop>(
 {
     for i in 0..list.len() {
         let (word, _) = list.get(i);
-        let slot = (word.widen() >> shift) as usize;
+        let slot = (word.to_u128() >> shift) as usize;
         let Some(size) = sizes[slot].checked_add(1) else {
             return Err(AllocError);
         };
@@ -32,9 +32,9 @@ fn add_list<W: Word + Drop, C: Shown + Drop>(
 }
 
 /// The number of pairs in each slot below `slots`, where all lie.
-pub fn slot_sizes<W: Word + Drop, C: Shown + Drop>(
+pub fn slot_sizes<W: PackedKmer + Drop, C: CountWidth + Drop>(
     alloc: Global,
-    lists: &[Counts<W, C>],
+    lists: &[KmerList<W, C>],
     shift: u32,
     slots: usize,
 ) -> Result<Vec<usize>, AllocError>

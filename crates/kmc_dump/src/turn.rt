@@ -7,13 +7,14 @@ ghost use Rattle.kmc_dump.specs.Written.{IsWritten};
 use crate::buffers::Buffer;
 use crate::ranges::Ranges;
 use crate::wave::fill_wave;
-use kmc_base::Word;
-use kmc_device::{Counted, Counts, Shown, WriteFault, write_text};
+use kmc_base::PackedKmer;
+use kmc_device::{Counted, WriteFault, write_text};
+use kmc_lists::{CountWidth, KmerList};
 use std::io::Write;
 use std::thread::{Threads, join_mut};
 
 /// Writes what is filled of each buffer, one after the other.
-pub fn write_buffers<D: Write, W: Word + Drop>(
+pub fn write_buffers<D: Write, W: PackedKmer + Drop>(
     writer: &mut Counted<D>,
     buffers: &[Buffer<W>],
 ) -> Result<(), WriteFault>
@@ -30,18 +31,18 @@ pub fn write_buffers<D: Write, W: Word + Drop>(
 
 /// The lists whose ranges are put into buffers, and what threads for it come from.
 #[derive(Drop)]
-pub struct Filling<'a, R, W: Word, C: Shown> {
+pub struct Filling<'a, R, W: PackedKmer, C: CountWidth> {
     pub rt: &'a R,
-    pub lists: &'a [Counts<W, C>],
+    pub lists: &'a [KmerList<W, C>],
     pub ranges: &'a Ranges,
 }
 
-/// Fills buffers with the texts of as many ranges, as [`fill_wave`](crate::fill_wave) does.
-fn fill_row<R: Threads + Sync, W: Word + Drop + Send + Sync, C: Shown + Drop + Send + Sync>(
-    filling: &Filling<'_, R, W, C>,
-    first: usize,
-    buffers: &mut [Buffer<W>],
-)
+/// Fills buffers with the texts of as many ranges, as [`fill_wave`](crate::wave::fill_wave) does.
+fn fill_row<
+    R: Threads + Sync,
+    W: PackedKmer + Drop + Send + Sync,
+    C: CountWidth + Drop + Send + Sync,
+>(filling: &Filling<'_, R, W, C>, first: usize, buffers: &mut [Buffer<W>])
     requires some { 1 ≤ length buffers.old }
     requires room { CanBeFilled filling.now.ranges.now filling.now.lists.now C.most_digits first
         buffers.old }
@@ -55,8 +56,8 @@ fn fill_row<R: Threads + Sync, W: Word + Drop + Send + Sync, C: Shown + Drop + S
 fn write_beside<
     R: Threads + Sync,
     D: Write,
-    W: Word + Drop + Send + Sync,
-    C: Shown + Drop + Send + Sync,
+    W: PackedKmer + Drop + Send + Sync,
+    C: CountWidth + Drop + Send + Sync,
 >(
     writer: &mut Counted<D>,
     full: &[Buffer<W>],
@@ -92,8 +93,8 @@ fn write_beside<
 pub fn write_and_fill<
     R: Threads + Sync,
     D: Write,
-    W: Word + Drop + Send + Sync,
-    C: Shown + Drop + Send + Sync,
+    W: PackedKmer + Drop + Send + Sync,
+    C: CountWidth + Drop + Send + Sync,
 >(
     writer: &mut Counted<D>,
     full: &[Buffer<W>],

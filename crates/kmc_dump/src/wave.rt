@@ -1,6 +1,6 @@
 //! A wave: ranges that follow one another, each put into a buffer by a thread of its own.
 ghost use Rattle.std.specs.Prelude.{◌≡◌, ℕ, ◌+◌, ◌-◌, ◌*◌, ◌^◌, ◌<◌, ◌≤◌, List, length, take, All, IsTrue, vec_len, vec_capacity, slice_index_or, slice_index};
-ghost use Rattle.kmc_device.specs.Line.{line_room};
+ghost use Rattle.kmc_lists.specs.Line.{line_room};
 ghost use Rattle.kmc_dump.specs.Rooms.{HasRoom};
 ghost use Rattle.kmc_dump.specs.Ranges.{range_text, count_within, AreRanges};
 
@@ -9,13 +9,13 @@ use crate::keys::{fit_keys, put_keys};
 use crate::range::put_range;
 use crate::ranges::Ranges;
 use crate::word_size::WordSize;
-use kmc_base::Word;
-use kmc_device::{Counts, Shown};
+use kmc_base::PackedKmer;
+use kmc_lists::{CountWidth, KmerList};
 use std::thread;
 use std::thread::Threads;
 
 /// Whether the pairs of a range fit keys, and there is room for those of the widest.
-fn has_room_for_keys<C: Shown>(
+fn has_room_for_keys<C: CountWidth>(
     keys: &Vec<u64>,
     widest: usize,
     shift: u32,
@@ -32,8 +32,8 @@ fn has_room_for_keys<C: Shown>(
 
 /// Puts the text of a range that has at most as many pairs as the widest into a buffer, from the first byte on, and says where it
 /// ends. The room for the text is zeroed where it was not yet, so that its pages come to be in the thread that fills them.
-fn put_text<W: Word + Drop, C: Shown + Drop>(
-    lists: &[Counts<W, C>],
+fn put_text<W: PackedKmer + Drop, C: CountWidth + Drop>(
+    lists: &[KmerList<W, C>],
     ranges: &Ranges,
     from: u128,
     to: u128,
@@ -60,8 +60,8 @@ fn put_text<W: Word + Drop, C: Shown + Drop>(
 }
 
 /// Puts the text of one of the ranges into a buffer.
-fn fill<W: Word + Drop, C: Shown + Drop>(
-    lists: &[Counts<W, C>],
+fn fill<W: PackedKmer + Drop, C: CountWidth + Drop>(
+    lists: &[KmerList<W, C>],
     ranges: &Ranges,
     range: usize,
     buffer: &mut Buffer<W>,
@@ -83,13 +83,11 @@ fn fill<W: Word + Drop, C: Shown + Drop>(
 
 /// Puts the texts of as many ranges as there are buffers into them, from the range `first` on. Each buffer has a thread;
 /// where none can be had, the calling thread does its work.
-pub fn fill_wave<R: Threads + Sync, W: Word + Drop + Send + Sync, C: Shown + Drop + Send + Sync>(
-    rt: &R,
-    lists: &[Counts<W, C>],
-    ranges: &Ranges,
-    first: usize,
-    buffers: &mut [Buffer<W>],
-)
+pub fn fill_wave<
+    R: Threads + Sync,
+    W: PackedKmer + Drop + Send + Sync,
+    C: CountWidth + Drop + Send + Sync,
+>(rt: &R, lists: &[KmerList<W, C>], ranges: &Ranges, first: usize, buffers: &mut [Buffer<W>])
     requires ranges { AreRanges ranges.now lists.now }
     requires some { 1 ≤ length buffers.old }
     requires inside { first + length buffers.old < length ranges.now.bounds.items }

@@ -1,23 +1,24 @@
 //! The text of all ranges on a device, a wave at a time.
 ghost use Rattle.std.specs.Prelude.{◌-◌, ◌^◌, ◌<◌, ◌≤◌, length, take, All};
 ghost use Rattle.std.specs.List.{flat_map};
-ghost use Rattle.kmc_device.specs.Line.{line_room, text_of};
+ghost use Rattle.kmc_lists.specs.Line.{line_room, text_of};
 ghost use Rattle.kmc_dump.specs.Ranges.{AreRanges};
 ghost use Rattle.kmc_dump.specs.Rooms.{HasRoom};
 ghost use Rattle.kmc_dump.specs.Written.{IsWritten};
-ghost use Rattle.kmc_device.specs.Listed.{spelled};
-ghost use Rattle.kmc_device.specs.Ordered.{whole};
+ghost use Rattle.kmc_lists.specs.Listed.{spelled};
+ghost use Rattle.kmc_lists.specs.Ordered.{whole};
 
 use crate::buffers::Buffer;
 use crate::ranges::Ranges;
 use crate::turn::{Filling, write_and_fill, write_buffers};
-use kmc_base::Word;
-use kmc_device::{Counted, Counts, Shown, WriteFault};
+use kmc_base::PackedKmer;
+use kmc_device::{Counted, WriteFault};
+use kmc_lists::{CountWidth, KmerList};
 use std::io::Write;
 use std::thread::Threads;
 
 /// Writes what is filled of each buffer, and flushes.
-fn write_last<D: Write, W: Word + Drop>(
+fn write_last<D: Write, W: PackedKmer + Drop>(
     writer: &mut Counted<D>,
     buffers: &[Buffer<W>],
 ) -> Result<(), WriteFault>
@@ -38,8 +39,8 @@ fn write_last<D: Write, W: Word + Drop>(
 fn write_rows<
     R: Threads + Sync,
     D: Write,
-    W: Word + Drop + Send + Sync,
-    C: Shown + Drop + Send + Sync,
+    W: PackedKmer + Drop + Send + Sync,
+    C: CountWidth + Drop + Send + Sync,
 >(
     writer: &mut Counted<D>,
     filling: &Filling<'_, R, W, C>,
@@ -80,12 +81,12 @@ fn write_rows<
 pub fn write_ranges<
     R: Threads + Sync,
     D: Write,
-    W: Word + Drop + Send + Sync,
-    C: Shown + Drop + Send + Sync,
+    W: PackedKmer + Drop + Send + Sync,
+    C: CountWidth + Drop + Send + Sync,
 >(
     rt: &R,
     writer: &mut Counted<D>,
-    lists: &[Counts<W, C>],
+    lists: &[KmerList<W, C>],
     ranges: &Ranges,
     buffers: &mut [Buffer<W>],
 ) -> Result<(), WriteFault>

@@ -1,8 +1,8 @@
 //! The dump of lists that share no word, on a device.
 ghost use Rattle.std.specs.Prelude.{◌≡◌, ◌-◌, ◌^◌, ◌<◌, ◌≤◌, length, OnErr, IfOk};
-ghost use Rattle.kmc_device.specs.Line.{text_of};
-ghost use Rattle.kmc_device.specs.Listed.{spelled};
-ghost use Rattle.kmc_device.specs.Ordered.{CanBeMerged, joined, packs, whole};
+ghost use Rattle.kmc_lists.specs.Line.{text_of};
+ghost use Rattle.kmc_lists.specs.Listed.{spelled};
+ghost use Rattle.kmc_lists.specs.Ordered.{CanBeMerged, joined, packs, whole};
 ghost use Rattle.kmc_dump.specs.Written.{IsDumped};
 ghost use Rattle.kmc_dump.specs.declared.write.DumpError.TheVariants.{Memory};
 
@@ -10,8 +10,9 @@ use crate::buffers::make_buffers;
 use crate::parting::part_words;
 use crate::waves::write_ranges;
 use crate::word_size::WordSize;
-use kmc_base::Word;
-use kmc_device::{Counted, Counts, Shown, line_room};
+use kmc_base::PackedKmer;
+use kmc_device::Counted;
+use kmc_lists::{CountWidth, KmerList, line_room};
 use std::alloc::{AllocError, Global};
 use std::io::Write;
 use std::thread::Threads;
@@ -35,7 +36,9 @@ impl From<AllocError> for DumpError {
 }
 
 /// How many pairs the lists have. It fails only where there are more than a number tells, which no memory could hold.
-fn count_pairs<W: Word + Drop, C: Shown + Drop>(lists: &[Counts<W, C>]) -> Result<usize, AllocError>
+fn count_pairs<W: PackedKmer + Drop, C: CountWidth + Drop>(
+    lists: &[KmerList<W, C>],
+) -> Result<usize, AllocError>
     ensures total { IfOk result (λ total. total ≡ length (joined (packs lists.now))) }
     ensures most { OnErr result (2 ^ 64 ≤ length (joined (packs lists.now))) }
 {
@@ -57,13 +60,13 @@ fn count_pairs<W: Word + Drop, C: Shown + Drop>(lists: &[Counts<W, C>]) -> Resul
 pub(crate) fn write_lists<
     R: Threads + Sync,
     D: Write,
-    W: Word + Drop + Send + Sync,
-    C: Shown + Drop + Send + Sync,
+    W: PackedKmer + Drop + Send + Sync,
+    C: CountWidth + Drop + Send + Sync,
 >(
     rt: &R,
     alloc: Global,
     writer: &mut Counted<D>,
-    lists: &[Counts<W, C>],
+    lists: &[KmerList<W, C>],
     size: WordSize,
     threads: usize,
 ) -> Result<u64, DumpError>

@@ -3,7 +3,7 @@
 #![tactic(auto)]
 
 use kmc_device::Counted;
-use kmc_slice_programs::list_program;
+use kmc_slices::list_program;
 use std::io;
 use std::process::ExitCode;
 

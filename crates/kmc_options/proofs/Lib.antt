@@ -1,3 +1,6 @@
-pub mod Building
-pub mod Judging
-pub mod Searching
+mod Asked
+mod Building
+mod Found
+mod Joined
+mod Judging
+mod Searching

@@ -1,7 +1,6 @@
 -- What a command line in long form says: the command that reads it, and what stands for each
 -- option.
-use Rattle.std.specs.Prelude.{◌++◌, ◌==◌, ℕ, Bool, true, false, List, [], Option, Some, None, map, length}
-use Rattle.std.specs.Prelude.{if◌then◌else◌, codes}
+use Rattle.std.specs.Prelude.{◌++◌, ◌==◌, ℕ, Bool, true, false, List, [], Option, Some, None, map, length, if◌then◌else◌, codes}
 use Rattle.std.specs.Option.{option_map_or}
 use Rattle.std.specs.Str.{bytes_eq}
 use Rattle.clap.specs.Faults.{fault_of}
@@ -13,12 +12,12 @@ use Rattle.kmc_base.specs.declared.strands.Strands.{Strands}
 use Rattle.kmc_base.specs.declared.strands.Strands.TheVariants.{Apart, Joined}
 use Rattle.kmc_reads.specs.declared.format.Format.{Format}
 use Rattle.kmc_reads.specs.declared.format.Format.TheVariants.{Fasta, Fastq}
-use Rattle.kmc_settings.specs.Words.{Word}
+use Rattle.kmc_options.specs.Words.{PackedKmer}
 use Rattle.kmc_options.specs.Names.{flag_name, flags, name_of, settings}
-use Rattle.kmc_settings.specs.Settings.{bounds_of, chosen}
+use Rattle.kmc_options.specs.Settings.{bounds_of, chosen}
 use Rattle.kmc_options.specs.declared.named.Flag.{Flag}
 use Rattle.kmc_options.specs.declared.named.Flag.TheVariants.{B, Fa, Fm, Fq}
-use Rattle.kmc_settings.specs.declared.setting.Setting.{Setting}
+use Rattle.kmc_options.specs.declared.setting.Setting.{Setting}
 
 -- ---- the command
 
@@ -59,11 +58,11 @@ command = record {
 }
 
 -- `clap` finds no fault with the words
-unfoldable pub is_accepted : List Word → Bool
+unfoldable pub is_accepted : List PackedKmer → Bool
 is_accepted words = length (fault_of command words) == 0
 
 -- what `clap` finds in words that it accepts
-unfoldable pub found : List Word → List Row
+unfoldable pub found : List PackedKmer → List Row
 found words = matches_of command words
 
 -- ---- what stands for a flag and an option
@@ -72,7 +71,7 @@ found words = matches_of command words
 abbrev pub is_set : List Row → Flag → Bool
 is_set rows f = option_map_or (bytes_eq (codes "true")) (first_of (flag_name f) rows) false
 
-abbrev pub given_text : List Row → Setting → Option Word
+abbrev pub given_text : List Row → Setting → Option PackedKmer
 given_text rows s = first_of (name_of s) rows
 
 -- the number of an option; none where what is given for it is out of range

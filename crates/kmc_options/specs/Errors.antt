@@ -1,6 +1,6 @@
 -- How a run tells why its input was not read.
-use Rattle.kmc_input.specs.declared.input_error.InputError.{InputError}
-use Rattle.kmc_input.specs.declared.input_error.InputError.TheVariants.{Memory, Read, Faulty, TooLong}
+use Rattle.kmc_reads.specs.declared.input_error.InputError.{InputError}
+use Rattle.kmc_reads.specs.declared.input_error.InputError.TheVariants.{Memory, Read, Faulty, TooLong}
 use Rattle.kmc_options.specs.declared.run_error.RunError.{RunError}
 use Rattle.kmc_options.specs.declared.run_error.RunError.TheVariants as run
 

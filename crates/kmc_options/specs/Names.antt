@@ -2,8 +2,8 @@
 use Rattle.std.specs.Prelude.{ℕ, List, [], ◌∷◌, codes}
 use Rattle.kmc_options.specs.declared.named.Flag.{Flag}
 use Rattle.kmc_options.specs.declared.named.Flag.TheVariants.{Fa, Fq, Fm, B}
-use Rattle.kmc_settings.specs.declared.setting.Setting.{Setting}
-use Rattle.kmc_settings.specs.declared.setting.Setting.TheVariants.{K, P, N, Ci, Cx, Cs, Sp, Sr}
+use Rattle.kmc_options.specs.declared.setting.Setting.{Setting}
+use Rattle.kmc_options.specs.declared.setting.Setting.TheVariants.{K, P, N, Ci, Cx, Cs, Sp, Sr}
 
 -- the options in the order in which their values are judged
 abbrev pub settings : List Setting

@@ -3,14 +3,14 @@ ghost use Rattle.std.specs.Prelude.{◌≡◌, IfErr, IfOk, MatchResult, None, m
 ghost use Rattle.kmc_options.specs.CommandLine.{found};
 ghost use Rattle.kmc_options.specs.Glued.{long_forms};
 ghost use Rattle.kmc_options.specs.Options.{AreGiven, Explains, HasProgramQueue, first_out_of_range, is_taken};
-ghost use Rattle.kmc_settings.specs.Kept.{HasUsualQueue};
+ghost use Rattle.kmc_options.specs.Kept.{HasUsualQueue};
 ghost use Rattle.kmc_options.specs.declared.error.ParamsError.TheVariants.{Memory};
 
 use crate::command::parse;
 use crate::error::ParamsError;
 use crate::given::given;
 use crate::glued::long_form;
-use kmc_settings::Params;
+use crate::run_params::Params;
 use std::alloc::{AllocError, Global};
 
 /// The command line in long form, word by word: KMC's `-k31` becomes `--k=31`, its `-fa` becomes

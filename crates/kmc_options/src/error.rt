@@ -4,7 +4,7 @@ ghost use Rattle.kmc_options.specs.Messages.{text_of_params_error};
 ghost use Rattle.kmc_options.specs.declared.error.ParamsError.TheVariants.{Memory};
 
 use crate::named::Named;
-use kmc_settings::Setting;
+use crate::setting::Setting;
 use std::alloc::AllocError;
 use std::error::Error;
 use std::fmt;

@@ -3,17 +3,18 @@ ghost use Rattle.std.specs.Prelude.{◌≡◌, IfSome, MatchResult, Some, None, 
 ghost use Rattle.clap.specs.Words.{first_of, found_of, rows_of};
 ghost use Rattle.kmc_options.specs.CommandLine.{format_of, is_set, strands_of, value_of};
 ghost use Rattle.kmc_options.specs.Options.{AreGiven, Faults, first_out_of_range};
-ghost use Rattle.kmc_settings.specs.Kept.{HasUsualQueue};
-ghost use Rattle.kmc_settings.specs.Settings.{IsFor};
+ghost use Rattle.kmc_options.specs.Kept.{HasUsualQueue};
+ghost use Rattle.kmc_options.specs.Settings.{IsFor};
 ghost use Rattle.kmc_options.specs.declared.error.ParamsError.TheVariants.{Usage};
 
 use crate::error::ParamsError;
 use crate::named::{Flag, Named, OPTIONS};
+use crate::run_params::Params;
+use crate::setting::Setting;
 use clap::ArgMatches;
 use kmc_base::Strands;
 use kmc_count::Limits;
 use kmc_reads::Format;
-use kmc_settings::{Params, Setting};
 
 /// The settings, or the first fault in the order of [`OPTIONS`](crate::named::OPTIONS) after the format's.
 pub fn given(matches: &ArgMatches<'_>) -> Result<Params, ParamsError>

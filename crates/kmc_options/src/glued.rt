@@ -4,7 +4,8 @@ ghost use Rattle.std.specs.Option.{option_map_or};
 ghost use Rattle.kmc_options.specs.Glued.{is_flag, long_form, option_in, value_in, with_value};
 
 use crate::named::{Named, OPTIONS};
-use kmc_settings::{Setting, rest_after};
+use crate::prefix::rest_after;
+use crate::setting::Setting;
 use std::alloc::{AllocError, Global};
 
 /// The word with its option or flag in long form, as `--k=31` for `-k31` and `--fa` for `-fa`;

@@ -1,22 +1,36 @@
-//! What a program is told and tells. The options of the command line: KMC's words put into long form, their parse by `clap`, and
-//! the settings that they give. Why a program ends without its dump: the line for its user, and the exit status. It stands on
-//! `kmc_settings` for what the settings may be and on `kmc_input` for why an input was not read. The layer above calls [`settings`],
-//! and ends by [`ended`].
+//! What programs are told: the words of a command line, the settings that they give, and how a program ends that was told wrong or
+//! gave up: its line and its status. It stands on `clap`, and on the crates whose sizes bound the settings. The layers above take
+//! [`Params`] from words, and from a fault the line and the status.
 #![tactic(auto)]
 
 mod command;
 mod command_line;
+mod digits;
 mod ending;
 mod error;
 mod fault;
 mod given;
 mod glued;
 mod named;
+mod prefix;
+mod process;
 mod run_error;
+mod run_params;
+mod setting;
+mod slices;
 
 pub use command_line::{params, settings, words};
+pub use digits::number;
 pub use ending::ended;
 pub use error::ParamsError;
 pub use fault::Fault;
 pub use named::Named;
+pub use prefix::{is_file_name, rest_after};
+pub use process::{arguments, name_at};
 pub use run_error::RunError;
+pub use run_params::{MAX_BATCH, Params};
+pub use setting::{Bounds, Setting};
+pub use slices::{
+    CutRequest, CutRequestError, ListRequest, ListRequestError, MOST_FILES, MOST_SLICES,
+    cut_request, list_request,
+};

@@ -4,8 +4,8 @@ ghost use Rattle.clap.specs.declared.builder.action.ArgAction.{ArgAction};
 ghost use Rattle.clap.specs.declared.builder.action.ArgAction.TheVariants.{Set, SetTrue};
 ghost use Rattle.kmc_options.specs.Names.{flag_name, name_of};
 
+use crate::setting::Setting;
 use clap::ArgAction;
-use kmc_settings::Setting;
 
 /// What stands behind two hyphens.
 pub trait Named: Copy {

@@ -3,8 +3,7 @@ ghost use Rattle.std.specs.Prelude.{◌≡◌, Some};
 ghost use Rattle.kmc_options.specs.Errors.{run_error};
 ghost use Rattle.kmc_options.specs.Messages.{text_of_run_error};
 
-use kmc_input::InputError;
-use kmc_reads::ReadsError;
+use kmc_reads::{InputError, ReadsError};
 use std::error::Error;
 use std::fmt;
 

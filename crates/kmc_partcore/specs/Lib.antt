@@ -1,4 +1,6 @@
-pub mod Limits
+pub mod CoreState
 pub mod History
-pub mod State
+pub mod Laws
 pub mod Legal
+pub mod Limits
+pub mod State

@@ -1,6 +1,5 @@
 -- What a call's step asks of the table is a step of the relation that the laws speak of.
-use Rattle.std.proofs.Common.{◌≡◌, ℕ, suc, ◌+◌, ◌*◌, ◌/◌, ◌%◌, ◌<◌, ◌≤◌, ◌≢◌, eqb, true, false, List, [], ◌∷◌, ◌++◌, length, get_or, set, refl, sym, ap, ◌∙◌}
-use Rattle.std.proofs.Common.{subst, arith}
+use Rattle.std.proofs.Common.{◌≡◌, ℕ, suc, ◌+◌, ◌*◌, ◌/◌, ◌%◌, ◌<◌, ◌≤◌, ◌≢◌, eqb, true, false, List, [], ◌∷◌, ◌++◌, length, get_or, set, refl, sym, ap, ◌∙◌, subst, arith}
 use mathlib.Core.Option.{none, some}
 use mathlib.Core.Logic.{dite}
 use native.Mathlib.Decide.{ℕ_discrete}
@@ -17,8 +16,7 @@ use Rattle.kmc_partqueue.specs.declared.views.View.{View}
 use Rattle.kmc_partqueue.specs.Ends.{SawAllEnds}
 use Rattle.kmc_partqueue.specs.Rule.{end_at, head_at, mark_at}
 use Rattle.kmc_partqueue.specs.Reached.{IsReached}
-use Rattle.kmc_partqueue.specs.Plays.{Seated, next_slot_of, seen_slot_of, holding, sending, completed, looking, seeing, taking, freeing, ending}
-use Rattle.kmc_partqueue.specs.Plays.{claimed_free_slot, published_part, closed_lane, read_head, saw_published_part, claimed_part, released_slot, read_end}
+use Rattle.kmc_partqueue.specs.Plays.{Seated, next_slot_of, seen_slot_of, holding, sending, completed, looking, seeing, taking, freeing, ending, claimed_free_slot, published_part, closed_lane, read_head, saw_published_part, claimed_part, released_slot, read_end}
 use Rattle.kmc_partqueue.specs.Dealing.{one_of_writers, one_of_readers, no_writer, its_writer, no_reader, its_reader, both, spent}
 use Rattle.kmc_partqueue.specs.Steps as step
 use Rattle.kmc_partqueue.proofs.Frame.{St}

@@ -1,6 +1,5 @@
 -- How the rule starts, and how seats are cut and joined.
-use Rattle.std.proofs.Common.{◌≡◌, ℕ, zero, suc, ◌+◌, ◌*◌, ◌/◌, ◌<◌, ◌≤◌, true, false, List, [], ◌∷◌, ◌++◌, map, length, get_or, set, replicate, refl, sym}
-use Rattle.std.proofs.Common.{ap, ◌∙◌, subst, ⊎_elim, mod-eq_of_lt, zero-le, zero-mul, arith}
+use Rattle.std.proofs.Common.{◌≡◌, ℕ, zero, suc, ◌+◌, ◌*◌, ◌/◌, ◌<◌, ◌≤◌, true, false, List, [], ◌∷◌, ◌++◌, map, length, get_or, set, replicate, refl, sym, ap, ◌∙◌, subst, ⊎_elim, mod-eq_of_lt, zero-le, zero-mul, arith}
 use mathlib.Core.Option.{none, some}
 use mathlib.Core.Option as maybe
 use lib.ListN.{get_elem?, length-map, length-replicate}
@@ -15,8 +14,7 @@ use Rattle.kmc_partcore.specs.declared.shape.QueueShape.{QueueShape}
 use Rattle.kmc_partqueue.specs.Counts.{Each, total_of, same, once_below}
 use Rattle.kmc_partqueue.specs.Lane.{free, Lane}
 use Rattle.kmc_partqueue.specs.Rule.{head_at, end_at, slot_at, mark_at, got_once, entries, writers_of, readers_of, WriterOk, ReaderOk, ViewOk, LanesRule}
-use Rattle.kmc_partqueue.specs.Dealing.{row_from, fresh_writer, fresh_reader, all_seats, first_of, rest_of, no_writer, its_writer, no_reader, its_reader}
-use Rattle.kmc_partqueue.specs.Dealing.{both, spent}
+use Rattle.kmc_partqueue.specs.Dealing.{row_from, fresh_writer, fresh_reader, all_seats, first_of, rest_of, no_writer, its_writer, no_reader, its_reader, both, spent}
 use Rattle.kmc_partqueue.specs.Lemmas.Sums.{total_set, total_append, each_append, views_stay, below_none}
 use Rattle.kmc_partqueue.specs.Lemmas.Numbered.{each_row, row_length, row_at, once_from}
 use Rattle.kmc_partqueue.proofs.Turns.{lane_within}

@@ -1,24 +1,24 @@
-pub mod Members
-pub mod Turns
-pub mod OneLane
-pub mod Frame
-pub mod Places
-pub mod WriterSteps
-pub mod ReaderSteps
-pub mod Dealing
-pub mod Ends
-pub mod Kept
-pub mod Allowed
-pub mod WriterCalls
-pub mod DealCalls
-pub mod ReaderCalls
-pub mod Counted
-pub mod Final
-pub mod Joining
-pub mod Moving
-pub mod DoubleSums
-pub mod SentAndGot
-pub mod Finishes
-pub mod Told
-pub mod GivenBack
-pub mod PartPlaces
+mod Allowed
+mod Counted
+mod DealCalls
+mod Dealing
+mod DoubleSums
+mod Ends
+mod Final
+mod Finishes
+mod Frame
+mod GivenBack
+mod Joining
+mod Kept
+mod Members
+mod Moving
+mod OneLane
+mod PartPlaces
+mod Places
+mod ReaderCalls
+mod ReaderSteps
+mod SentAndGot
+mod Told
+mod Turns
+mod WriterCalls
+mod WriterSteps

@@ -1,7 +1,5 @@
 -- Each step moves the state of the queue that the lanes show by its entry, as a legal history may, or not at all.
-use Rattle.std.proofs.Common.{◌≡◌, ℕ, zero, suc, ◌+◌, ◌*◌, ◌/◌, ◌%◌, ◌<◌, ◌≤◌, ◌≢◌, eqb, cond, ◌||◌, true, false, List, [], ◌∷◌, ◌++◌, length, drop, get_or}
-use Rattle.std.proofs.Common.{set, refl, sym, ap, ◌∙◌, subst, eq-eqb, ne_eqb, length-append, le_refl, mod-lt, lt_of_not-le, arith, get_or-set_same, ⊎_elim}
-use Rattle.std.proofs.Common.{append_assoc}
+use Rattle.std.proofs.Common.{◌≡◌, ℕ, zero, suc, ◌+◌, ◌*◌, ◌/◌, ◌%◌, ◌<◌, ◌≤◌, ◌≢◌, eqb, cond, ◌||◌, true, false, List, [], ◌∷◌, ◌++◌, length, drop, get_or, set, refl, sym, ap, ◌∙◌, subst, eq-eqb, ne_eqb, length-append, le_refl, mod-lt, lt_of_not-le, arith, get_or-set_same, ⊎_elim, append_assoc}
 use mathlib.Core.Option.{none, some}
 use mathlib.Core.Option as maybe
 use mathlib.Core.Logic.{dite}
@@ -20,8 +18,7 @@ use Rattle.kmc_partqueue.specs.declared.views.View.{View}
 use Rattle.kmc_partqueue.specs.Counts.{Each, Among, total_of, same}
 use Rattle.kmc_partqueue.specs.Ends.{AreSeenTotals}
 use Rattle.kmc_partqueue.specs.Rule.{mark_at, end_at, head_at, writers_of, WriterOk, EndOk, LanesRule}
-use Rattle.kmc_partqueue.specs.Dealing.{one_of_writers, one_of_readers, all_seats, fresh_writer, fresh_reader, no_writer, its_writer, no_reader, its_reader}
-use Rattle.kmc_partqueue.specs.Dealing.{both, spent}
+use Rattle.kmc_partqueue.specs.Dealing.{one_of_writers, one_of_readers, all_seats, fresh_writer, fresh_reader, no_writer, its_writer, no_reader, its_reader, both, spent}
 use Rattle.kmc_partqueue.specs.Plays.{next_slot_of, seen_slot_of, received, holding, sending, completed, looking, seeing, taking, freeing, ending}
 use Rattle.kmc_partqueue.specs.Shown.{WriterShows, ReaderShows, IsShown}
 use Rattle.kmc_partqueue.specs.Laws.{registrations, StepLaw, StepsLaw}

@@ -14,8 +14,7 @@ use Rattle.kmc_partqueue.specs.Lane.{writing, reading, Cell, CellOk}
 use Rattle.kmc_partqueue.specs.Rule.{head_at, end_at, mark_at, slot_at, is_entry, got_once, entries, WriterOk, ReaderOk, GotOk, LanesRule}
 use Rattle.kmc_partqueue.specs.Plays.{next_slot_of, seen_slot_of}
 use Rattle.kmc_partqueue.specs.Reached.{IsReached}
-use Rattle.kmc_partqueue.specs.PartPlaces.{HasWriter, HasReader, IsInSlot, IsInHand, IsGivenBack, in_its_slot, in_a_hand, given_back, IsSomewhere}
-use Rattle.kmc_partqueue.specs.PartPlaces.{IsInOnePlace, IsHeldAlone}
+use Rattle.kmc_partqueue.specs.PartPlaces.{HasWriter, HasReader, IsInSlot, IsInHand, IsGivenBack, in_its_slot, in_a_hand, given_back, IsSomewhere, IsInOnePlace, IsHeldAlone}
 use Rattle.kmc_partqueue.specs.Laws.{PartPlaceLaw, HeldSlotLaw}
 use Rattle.kmc_partqueue.specs.Lemmas.Sums.{same_ne, below_one, below_none}
 use Rattle.kmc_partqueue.proofs.Members.{some_member, member_at, within, among_last}

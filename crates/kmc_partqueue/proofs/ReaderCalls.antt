@@ -1,6 +1,5 @@
 -- What a reader's calls owe and learn.
-use Rattle.std.proofs.Common.{◌≡◌, ℕ, zero, suc, ◌+◌, ◌*◌, ◌/◌, ◌%◌, ◌<◌, ◌≤◌, ◌≢◌, eqb, true, false, List, [], ◌∷◌, ◌++◌, length, set, refl, sym, ap, ◌∙◌}
-use Rattle.std.proofs.Common.{subst, arith}
+use Rattle.std.proofs.Common.{◌≡◌, ℕ, zero, suc, ◌+◌, ◌*◌, ◌/◌, ◌%◌, ◌<◌, ◌≤◌, ◌≢◌, eqb, true, false, List, [], ◌∷◌, ◌++◌, length, set, refl, sym, ap, ◌∙◌, subst, arith}
 use mathlib.Core.Option.{none}
 use mathlib.Core.Logic.{dite}
 use native.Mathlib.Decide.{ℕ_discrete}
@@ -15,8 +14,7 @@ use Rattle.kmc_partqueue.specs.Reached.{IsReached}
 use Rattle.kmc_partqueue.specs.Ends.{SawAllEnds}
 use Rattle.kmc_partqueue.specs.Rule.{head_at, end_at, mark_at}
 use Rattle.kmc_partqueue.specs.Dealing.{one_of_readers}
-use Rattle.kmc_partqueue.specs.Plays.{Seated, seen_slot_of, looking, seeing, taking, freeing, ending, read_head, saw_published_part, claimed_part}
-use Rattle.kmc_partqueue.specs.Plays.{released_slot, read_end}
+use Rattle.kmc_partqueue.specs.Plays.{Seated, seen_slot_of, looking, seeing, taking, freeing, ending, read_head, saw_published_part, claimed_part, released_slot, read_end}
 use Rattle.kmc_partqueue.specs.Seats.{Between, Noted}
 use Rattle.kmc_partqueue.specs.Lemmas.Sums.{each_append}
 use Rattle.kmc_partqueue.proofs.Members.{among_left, among_last}

@@ -1,6 +1,5 @@
 -- The steps of a reader keep the rule.
-use Rattle.std.proofs.Common.{◌≡◌, ℕ, suc, ◌+◌, ◌*◌, ◌/◌, ◌%◌, ◌<◌, ◌≤◌, ◌≢◌, Bool, true, false, List, [], ◌∷◌, ◌++◌, length, get_or, set, refl, sym, ap, ◌∙◌}
-use Rattle.std.proofs.Common.{subst, le_refl, mod-lt, arith, length-set, get_or-set_other, get_or-set_same}
+use Rattle.std.proofs.Common.{◌≡◌, ℕ, suc, ◌+◌, ◌*◌, ◌/◌, ◌%◌, ◌<◌, ◌≤◌, ◌≢◌, Bool, true, false, List, [], ◌∷◌, ◌++◌, length, get_or, set, refl, sym, ap, ◌∙◌, subst, le_refl, mod-lt, arith, length-set, get_or-set_other, get_or-set_same}
 use mathlib.Core.Option.{none, some}
 use mathlib.Core.Option as maybe
 use mathlib.Core.Logic.{dite}
@@ -16,12 +15,10 @@ use Rattle.kmc_partqueue.specs.declared.views.View.{View}
 use Rattle.kmc_partcore.specs.declared.shape.QueueShape.{QueueShape}
 use Rattle.kmc_partqueue.specs.Counts.{Each, total_of, same, once_below}
 use Rattle.kmc_partqueue.specs.Lane.{free, full, reading, Cell, Lane, LaneOk, end_word}
-use Rattle.kmc_partqueue.specs.Rule.{head_at, end_at, slot_at, mark_at, is_entry, got_once, entries, readers_of, Rises, GotOk, EndOk, WriterOk, ReaderOk}
-use Rattle.kmc_partqueue.specs.Rule.{LanesRule}
+use Rattle.kmc_partqueue.specs.Rule.{head_at, end_at, slot_at, mark_at, is_entry, got_once, entries, readers_of, Rises, GotOk, EndOk, WriterOk, ReaderOk, LanesRule}
 use Rattle.kmc_partqueue.specs.Dealing.{one_of_readers}
 use Rattle.kmc_partqueue.specs.Plays.{seen_slot_of, looking, seeing, taking, freeing, ending}
-use Rattle.kmc_partqueue.specs.Lemmas.Sums.{put, at_put, put_here, one_of_itself, same_refl, same_ne, total_set, total_append, each_map, each_absent}
-use Rattle.kmc_partqueue.specs.Lemmas.Sums.{each_append, once_next}
+use Rattle.kmc_partqueue.specs.Lemmas.Sums.{put, at_put, put_here, one_of_itself, same_refl, same_ne, total_set, total_append, each_map, each_absent, each_append, once_next}
 use Rattle.kmc_partqueue.proofs.OneLane.{holder, lane_of, ready_found, full_found, lane_stays, lane_takes, lane_frees}
 use Rattle.kmc_partqueue.proofs.Frame.{St, heads_of, Grows, Hands, alone_with, reader_stays, hands_put, rule_moves, reviewed}
 use Rattle.kmc_partqueue.proofs.Places.{slot_within, mark_within, mark_head, mark_end, mark_mark, head_head, head_end, head_mark, home_else}

@@ -1,6 +1,5 @@
 -- Numbers of parts, the slots that they use, and the uses.
-use Rattle.std.proofs.Common.{◌≡◌, ℕ, suc, ◌+◌, ◌*◌, ◌/◌, ◌%◌, ◌<◌, ◌≤◌, ◌≢◌, sym, ap, ap₂, ◌∙◌, mod-lt, suc-mul, mul-le-mul_right, div-add-mod'}
-use Rattle.std.proofs.Common.{lt_of_not-le, arith}
+use Rattle.std.proofs.Common.{◌≡◌, ℕ, suc, ◌+◌, ◌*◌, ◌/◌, ◌%◌, ◌<◌, ◌≤◌, ◌≢◌, sym, ap, ap₂, ◌∙◌, mod-lt, suc-mul, mul-le-mul_right, div-add-mod', lt_of_not-le, arith}
 use mathlib.Core.Logic.{dite}
 use native.Mathlib.Decide.{dec_le}
 use native.Mathlib.Nat.{add-mod_right}

@@ -1,6 +1,6 @@
 -- Lemmas on the definitions beside this file: proofs cite them, here and in the crates above, and no promise needs them to be read.
-pub mod Sums
+pub mod Both
 pub mod Numbered
 pub mod SameSeats
-pub mod Both
+pub mod Sums
 pub mod Zips

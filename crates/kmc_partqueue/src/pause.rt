@@ -1,6 +1,6 @@
 //! How a worker waits that finds nothing to do: it yields some times, and then sleeps shortly each time, so that it takes no
 //! processor from those that have work.
-use crate::way::Way;
+use crate::shared_queue::SharedQueue;
 use std::sync::Wait;
 use std::thread;
 
@@ -20,7 +20,7 @@ impl Pause {
     }
 
     /// Waits once more: a yield, or a sleep that a stop ends.
-    pub(crate) fn wait<T: Drop, R: Wait>(&mut self, rt: &R, way: &Way<T>) {
+    pub(crate) fn wait<T: Drop, R: Wait>(&mut self, rt: &R, way: &SharedQueue<T>) {
         if self.waits < YIELDS {
             self.waits += 1;
             thread::yield_now();

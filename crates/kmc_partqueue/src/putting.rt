@@ -7,7 +7,7 @@ ghost use Rattle.kmc_partqueue.specs.SameSeats.{IsSameWriter};
 use crate::gate::{Gate, Point};
 use crate::pause::Pause;
 use crate::refusal::GivenUp;
-use crate::way::Way;
+use crate::shared_queue::SharedQueue;
 use crate::writer::{TryPutError, WriterSeat};
 use std::sync::Wait;
 
@@ -15,7 +15,7 @@ use std::sync::Wait;
 /// was full, before the next try.
 fn put_part<T: Drop, R: Wait, G: Gate>(
     rt: &R,
-    way: &Way<T>,
+    way: &SharedQueue<T>,
     s: &mut WriterSeat<T>,
     part: T,
     gate: &G,
@@ -48,7 +48,7 @@ fn put_part<T: Drop, R: Wait, G: Gate>(
 /// Puts parts in their order, each once its lane has room. A refusal leaves those before it in the queue.
 pub fn put_all<T: Drop, R: Wait, G: Gate>(
     rt: &R,
-    way: &Way<T>,
+    way: &SharedQueue<T>,
     s: &mut WriterSeat<T>,
     parts: Vec<T>,
     gate: &G,

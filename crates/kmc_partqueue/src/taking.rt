@@ -9,14 +9,14 @@ use crate::gate::{Gate, Point};
 use crate::pause::Pause;
 use crate::reader::{ReaderSeat, TryTaken};
 use crate::refusal::GivenUp;
-use crate::way::Way;
+use crate::shared_queue::SharedQueue;
 use std::sync::Wait;
 
 /// Takes the next part, and waits while there is none. It is none once the queue is finished. The stop word is read before each
 /// try, and where the workers are told to stop nothing was taken.
 pub fn take_part<T: Drop, R: Wait, G: Gate>(
     rt: &R,
-    way: &Way<T>,
+    way: &SharedQueue<T>,
     s: &mut ReaderSeat<T>,
     gate: &G,
 ) -> Result<Option<T>, GivenUp>

@@ -1,9 +1,8 @@
 -- The reads of a text, line by line.
-use Rattle.std.proofs.Common.{◌≡◌, ℕ, ◌+◌, Bool, true, false, cond, ◌==◌, nat_eq, List, [], ◌∷◌, ◌++◌, length, map, refl, sym, ap, ◌∙◌, arith, append_assoc}
-use Rattle.std.proofs.Common.{append-nil, Ok, Err, Some, None}
+use Rattle.std.proofs.Common.{◌≡◌, ℕ, ◌+◌, Bool, true, false, cond, ◌==◌, nat_eq, List, [], ◌∷◌, ◌++◌, length, map, refl, sym, ap, ◌∙◌, arith, append_assoc, append-nil, Ok, Err, Some, None}
 use Rattle.std.specs.Io.BufRead.{strip_last}
 use Rattle.kmc_reads.specs.declared.error.ReadsError.TheVariants.{BadHeader, BadPlus, QualityLength, Truncated}
-use Rattle.kmc_reads.specs.declared.stage.Stage.TheVariants.{Header, Plus, FirstHeader, Body}
+use Rattle.kmc_reads.specs.declared.line_kind.LineKind.TheVariants.{Header, Plus, FirstHeader, Body}
 use Rattle.kmc_reads.specs.declared.format.Format.{Format}
 use Rattle.kmc_reads.specs.declared.format.Format.TheVariants.{Fasta, Fastq}
 use Rattle.kmc_reads.specs.Answer.{Answer, with_reads}

@@ -1,13 +1,12 @@
 -- Lines of which more may come, and where a scan stands.
-use Rattle.std.proofs.Common.{◌≡◌, ℕ, suc, ◌+◌, ◌-◌, ◌<◌, Bool, true, false, cond, ◌==◌, nat_lt, List, [], ◌∷◌, ◌++◌, length, take, get_or, refl, sym, ap}
-use Rattle.std.proofs.Common.{◌∙◌, arith, length-append, append-nil, subst, ◌&&◌}
+use Rattle.std.proofs.Common.{◌≡◌, ℕ, suc, ◌+◌, ◌-◌, ◌<◌, Bool, true, false, cond, ◌==◌, nat_lt, List, [], ◌∷◌, ◌++◌, length, take, get_or, refl, sym, ap, ◌∙◌, arith, length-append, append-nil, subst, ◌&&◌}
 use Rattle.std.proofs.lemmas.Bool.{lt-ltb, eqb-true}
 use Rattle.std.proofs.lemmas.List.{get_or-append-add}
 use Rattle.std.specs.List.{concat}
 use Rattle.std.specs.Io.BufRead.{strip_last, ends_with_byte}
 use Rattle.kmc_reads.specs.declared.scan.Scan.{Scan}
-use Rattle.kmc_reads.specs.declared.stage.Stage.{Stage}
-use Rattle.kmc_reads.specs.declared.stage.Stage.TheVariants.{Header, Sequence, Plus, Quality, FirstHeader, Body, Name, Rest}
+use Rattle.kmc_reads.specs.declared.line_kind.LineKind.{LineKind}
+use Rattle.kmc_reads.specs.declared.line_kind.LineKind.TheVariants.{Header, Sequence, Plus, Quality, FirstHeader, Body, Name, Rest}
 use Rattle.kmc_reads.specs.Fasta.{is_header}
 use Rattle.kmc_reads.specs.OpenLines.{last_line}
 use Rattle.kmc_reads.specs.Rows.{ends_from}
@@ -100,7 +99,7 @@ header_stripped (x ∷ []) = go (x == 13) refl
         let e : x ≡ 13 = eqb-true x 13 is in
         ap (λ n. n == 62) (sym e)
 
-pub settled_stripped : (stage : Stage) (read front : List ℕ) → begun_by stage read front ≡ [] → begun_by stage read (strip_last 13 front) ≡ []
+pub settled_stripped : (stage : LineKind) (read front : List ℕ) → begun_by stage read front ≡ [] → begun_by stage read (strip_last 13 front) ≡ []
 settled_stripped Header read front h = refl
 settled_stripped Sequence read front h = refl
 settled_stripped Plus read front h = refl
@@ -111,7 +110,7 @@ settled_stripped Rest read front h = refl
 settled_stripped Body read front h = ap (λ t. cond t (read ∷ []) []) (header_stripped front) ∙ h
 
 -- only a quality line gives a read then
-pub none_given : (stage : Stage) (read line : List ℕ) → (stage ≡ Quality → ⊥) → begun_by stage read line ≡ [] → given_by stage read line ≡ []
+pub none_given : (stage : LineKind) (read line : List ℕ) → (stage ≡ Quality → ⊥) → begun_by stage read line ≡ [] → given_by stage read line ≡ []
 none_given Quality read line other h = absurd (other refl)
 none_given Header read line other h = refl
 none_given Sequence read line other h = refl
@@ -122,7 +121,7 @@ none_given Name read line other h = refl
 none_given Rest read line other h = refl
 
 module _ (rows : List (List ℕ)) (n : ℕ) (read line : List ℕ) (w : Scan) where
-  pub given : (st : Stage) → st ≡ Quality → At (rows ++ read ∷ []) (past (record { number = n; stage = st; read = [] }) line) [] w → At
+  pub given : (st : LineKind) → st ≡ Quality → At (rows ++ read ∷ []) (past (record { number = n; stage = st; read = [] }) line) [] w → At
       (rows ++ given_by st read line) (past (record { number = n; stage = st; read = read }) line) [] w
   given Quality q h = h
   given Header q h = cc
@@ -133,7 +132,7 @@ module _ (rows : List (List ℕ)) (n : ℕ) (read line : List ℕ) (w : Scan) wh
   given Name q h = cc
   given Rest q h = cc
 
-  pub not_given : (st : Stage) → (st ≡ Quality → ⊥) → begun_by st read line ≡ [] → At rows
+  pub not_given : (st : LineKind) → (st ≡ Quality → ⊥) → begun_by st read line ≡ [] → At rows
       (past (record { number = n; stage = st; read = read }) line) [] w → At (rows ++ given_by st read line)
       (past (record { number = n; stage = st; read = read }) line) [] w
   not_given st other none h = subst (λ t. At t (past (record { number = n; stage = st; read = read }) line) [] w)

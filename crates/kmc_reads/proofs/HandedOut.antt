@@ -3,8 +3,8 @@ use Rattle.std.proofs.Common.{◌≡◌, ◌≢◌, ℕ, ◌+◌, ◌≤◌, tru
 use Rattle.std.specs.List.{concat}
 use Rattle.std.specs.Io.BufRead.{strip_last}
 use Rattle.kmc_reads.specs.declared.scan.Scan.{Scan}
-use Rattle.kmc_reads.specs.declared.stage.Stage.{Stage}
-use Rattle.kmc_reads.specs.declared.stage.Stage.TheVariants.{Header, Sequence, Plus, Quality, FirstHeader, Body, Name, Rest}
+use Rattle.kmc_reads.specs.declared.line_kind.LineKind.{LineKind}
+use Rattle.kmc_reads.specs.declared.line_kind.LineKind.TheVariants.{Header, Sequence, Plus, Quality, FirstHeader, Body, Name, Rest}
 use Rattle.kmc_reads.specs.Rows.{ends_from}
 use Rattle.kmc_reads.specs.Stages.{Spot}
 use Rattle.kmc_reads.specs.Standing.{At, IsHandedOut, kept, open_symbols}
@@ -13,7 +13,7 @@ no_rows : (rows : List (List ℕ)) → ends_from 0 rows ≡ [] → rows ≡ []
 no_rows [] h = refl
 no_rows (r ∷ rs) h = absurd (cc)
 
-at_most : (st : Stage) (read content : List ℕ) → length (open_symbols st read content) ≤ length (read ++ kept st content)
+at_most : (st : LineKind) (read content : List ℕ) → length (open_symbols st read content) ≤ length (read ++ kept st content)
 at_most Header read content = omega (arith)
 at_most Sequence read content = omega (arith)
 at_most Plus read content = omega (arith)
@@ -23,7 +23,7 @@ at_most Body read content = omega (arith)
 at_most Name read content = omega (arith)
 at_most Rest read content = omega (arith)
 
-none_open : (st : Stage) (read content : List ℕ) → st ≢ Body → st ≢ Rest → open_symbols st read content ≡ []
+none_open : (st : LineKind) (read content : List ℕ) → st ≢ Body → st ≢ Rest → open_symbols st read content ≡ []
 none_open Header read content b r = refl
 none_open Sequence read content b r = refl
 none_open Plus read content b r = refl

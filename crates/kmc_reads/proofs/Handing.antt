@@ -1,13 +1,12 @@
 -- A scan that hands out symbols of its open read.
-use Rattle.std.proofs.Common.{◌≡◌, ◌⊎◌, inl, inr, ℕ, ◌+◌, ◌-◌, ◌<◌, ◌≤◌, ◌==◌, Bool, true, false, cond, List, [], ◌∷◌, ◌++◌, length, take, drop, refl, sym}
-use Rattle.std.proofs.Common.{ap, subst, ◌∙◌, append-nil, length-append, length-drop, take_all, arith}
+use Rattle.std.proofs.Common.{◌≡◌, ◌⊎◌, inl, inr, ℕ, ◌+◌, ◌-◌, ◌<◌, ◌≤◌, ◌==◌, Bool, true, false, cond, List, [], ◌∷◌, ◌++◌, length, take, drop, refl, sym, ap, subst, ◌∙◌, append-nil, length-append, length-drop, take_all, arith}
 use Rattle.std.specs.List.{concat}
 use Rattle.std.specs.Io.BufRead.{strip_last, ends_with_byte}
 use Rattle.std.proofs.Math.Seq.{drop-append-add}
 use Rattle.std.proofs.lemmas.List.{take-append-drop}
 use Rattle.kmc_reads.specs.declared.scan.Scan.{Scan}
-use Rattle.kmc_reads.specs.declared.stage.Stage.{Stage}
-use Rattle.kmc_reads.specs.declared.stage.Stage.TheVariants.{Body, Rest}
+use Rattle.kmc_reads.specs.declared.line_kind.LineKind.{LineKind}
+use Rattle.kmc_reads.specs.declared.line_kind.LineKind.TheVariants.{Body, Rest}
 use Rattle.kmc_reads.specs.Rows.{rows_from, ends_from, AreEnds}
 use Rattle.kmc_reads.specs.Stages.{Spot, begun_by}
 use Rattle.kmc_reads.specs.Standing.{At, Hands, LeadsCut, kept}
@@ -84,7 +83,7 @@ module _ (overlap n : ℕ) (rows : List (List ℕ)) (old new : Scan) (reads : Li
     given : reads ≡ rows ++ (a ++ b) ∷ []
     given = cut.reads_are ∙ rows_and_open rows open_read old.ends.items old.bytes.items ends bytes ∙ ap (λ (t : List ℕ). rows ++ t ∷ []) parts
 
-    stands : (st : Stage) → old.place.number ≡ n → new.place.stage ≡ st → kept st [] ≡ [] → begun_by st b [] ≡ [] → At [] (spot n st b) [] new
+    stands : (st : LineKind) → old.place.number ≡ n → new.place.stage ≡ st → kept st [] ≡ [] → begun_by st b [] ≡ [] → At [] (spot n st b) [] new
     stands st number is none settled = record {
       keeps = record {
         stage = is;
@@ -100,7 +99,7 @@ module _ (overlap n : ℕ) (rows : List (List ℕ)) (old new : Scan) (reads : Li
     }
 
   -- what is handed out at a stage of an open read, where no line is open
-  between_lines : (stage : Stage) → kept stage [] ≡ [] → ((own : List ℕ) → begun_by stage own [] ≡ [])
+  between_lines : (stage : LineKind) → kept stage [] ≡ [] → ((own : List ℕ) → begun_by stage own [] ≡ [])
       → ((own rest : List ℕ) → length rest ≡ overlap → LeadsCut overlap (spot n stage (own ++ rest)) [] [] ((own ++ rest) ∷ []) (spot n stage rest) [])
       → (read : List ℕ) → At rows (spot n stage read) [] old → Hands overlap rows (spot n stage read) [] reads new
   between_lines stage none settled lead read at =
@@ -119,7 +118,7 @@ module _ (overlap n : ℕ) (rows : List (List ℕ)) (old new : Scan) (reads : Li
       }
 
   -- and where one is, which goes on behind the cut
-  within_line : (stage : Stage) (read front : List ℕ) → 0 < length front → kept stage (strip_last 13 front) ≡ strip_last 13 front
+  within_line : (stage : LineKind) (read front : List ℕ) → 0 < length front → kept stage (strip_last 13 front) ≡ strip_last 13 front
       → ((own rest : List ℕ) → length rest ≡ overlap → read ++ front ≡ own ++ rest → ends_with_byte 13 front ≡ false → LeadsCut overlap
       (spot n stage read) front [] ((own ++ rest) ∷ []) (spot n Rest rest) [])
       → At rows (spot n stage read) front old → Hands overlap rows (spot n stage read) front reads new

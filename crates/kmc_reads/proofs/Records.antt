@@ -1,13 +1,12 @@
 -- Whole lines of a FASTQ record.
-use Rattle.std.proofs.Common.{◌≡◌, ◌-◌, ℕ, cond, List, [], ◌∷◌, ◌++◌, length, refl, sym, ap, subst, ◌∙◌, arith, append_assoc, append-nil, length-append}
-use Rattle.std.proofs.Common.{eq-eqb, Some, None}
+use Rattle.std.proofs.Common.{◌≡◌, ◌-◌, ℕ, cond, List, [], ◌∷◌, ◌++◌, length, refl, sym, ap, subst, ◌∙◌, arith, append_assoc, append-nil, length-append, eq-eqb, Some, None}
 use Rattle.std.specs.List.{concat}
 use Rattle.std.specs.Io.BufRead.{strip_last}
 use Rattle.kmc_reads.specs.declared.scan.Scan.{Scan}
 use Rattle.kmc_reads.specs.declared.error.ReadsError.{ReadsError}
 use Rattle.kmc_reads.specs.declared.error.ReadsError.TheVariants.{QualityLength}
-use Rattle.kmc_reads.specs.declared.stage.Stage.{Stage}
-use Rattle.kmc_reads.specs.declared.stage.Stage.TheVariants.{Header, Sequence, Plus, Quality, FirstHeader, Body, Name, Rest}
+use Rattle.kmc_reads.specs.declared.line_kind.LineKind.{LineKind}
+use Rattle.kmc_reads.specs.declared.line_kind.LineKind.TheVariants.{Header, Sequence, Plus, Quality, FirstHeader, Body, Name, Rest}
 use Rattle.kmc_reads.specs.Lines.{line_past}
 use Rattle.kmc_reads.specs.Stages.{Spot, past, given_by, fault_of}
 use Rattle.kmc_reads.specs.Standing.{At, Goes, Leads, HasFault, HasNoFeed, kept}
@@ -15,7 +14,7 @@ use Rattle.kmc_reads.specs.Records.{TookLine}
 use Rattle.kmc_reads.proofs.Walking.{open_leads, feed_leads, then_leads, feed_faults, then_faults}
 
 -- of an empty line nothing is kept
-pub none_kept : (st : Stage) → kept st [] ≡ []
+pub none_kept : (st : LineKind) → kept st [] ≡ []
 none_kept Header = refl
 none_kept Sequence = refl
 none_kept Plus = refl
@@ -39,7 +38,7 @@ open_length rows read rest bytes start none is from =
 
 module _ (rows : List (List ℕ)) (s : Spot) (v : Scan) where
   -- the same spot, by its stage
-  at_stage : (st : Stage) (line : List ℕ) → s.stage ≡ st → TookLine rows (record { number = s.number; stage = st; read = s.read }) line v
+  at_stage : (st : LineKind) (line : List ℕ) → s.stage ≡ st → TookLine rows (record { number = s.number; stage = st; read = s.read }) line v
       → TookLine rows s line v
   at_stage st line is h = subst (λ t. TookLine rows (record { number = s.number; stage = t; read = s.read }) line v) (sym is) h
 

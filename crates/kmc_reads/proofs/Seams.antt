@@ -1,10 +1,9 @@
 -- An open FASTA read in two pieces.
-use Rattle.std.proofs.Common.{◌≡◌, ℕ, ◌+◌, ◌==◌, ◌<◌, Bool, true, false, cond, List, [], ◌∷◌, ◌++◌, length, None, Ok, refl, sym, ap, subst, ◌∙◌, append_assoc}
-use Rattle.std.proofs.Common.{append-nil, length-append, arith}
+use Rattle.std.proofs.Common.{◌≡◌, ℕ, ◌+◌, ◌==◌, ◌<◌, Bool, true, false, cond, List, [], ◌∷◌, ◌++◌, length, None, Ok, refl, sym, ap, subst, ◌∙◌, append_assoc, append-nil, length-append, arith}
 use Rattle.std.specs.Io.BufRead.{strip_last, ends_with_byte}
 use Rattle.std.proofs.lemmas.List.Sums.{sum_by-cons}
-use Rattle.kmc_reads.specs.declared.stage.Stage.{Stage}
-use Rattle.kmc_reads.specs.declared.stage.Stage.TheVariants.{Body, Rest}
+use Rattle.kmc_reads.specs.declared.line_kind.LineKind.{LineKind}
+use Rattle.kmc_reads.specs.declared.line_kind.LineKind.TheVariants.{Body, Rest}
 use Rattle.kmc_reads.specs.Answer.{Answer, with_reads}
 use Rattle.kmc_reads.specs.Cuts.{AreCut, IsCutAnswer}
 use Rattle.kmc_reads.specs.Fasta.{is_header, onto_read, reads_after}
@@ -17,7 +16,7 @@ use Rattle.kmc_reads.proofs.Bodies.{onto_onto}
 use Rattle.kmc_reads.proofs.Ending.{bodies_same}
 use Rattle.kmc_reads.proofs.Feeding.{strip_more, no_return}
 
-abbrev pub spot : ℕ → Stage → List ℕ → Spot
+abbrev pub spot : ℕ → LineKind → List ℕ → Spot
 spot n st read = record { number = n; stage = st; read = read }
 
 -- ---- no line is at fault inside a read
@@ -51,7 +50,7 @@ rest_is n read left (x ∷ rest) = go (x == 10) (rest_is n read (left ++ x ∷ [
   go false more = more
 
 -- the same where this much of the line has come, which is no header
-module _ (st : Stage) (u : List ℕ) (some : 0 < length u)
+module _ (st : LineKind) (u : List ℕ) (some : 0 < length u)
     (onto : (n : ℕ) (read w : List ℕ) (ls : List (List ℕ)) → reads_from (spot n st read) ((u ++ w) ∷ ls) ≡ reads_from
     (spot (line_past n 1) Body (read ++ (u ++ w))) ls)
     (whole : (w : List ℕ) → strip_last 13 (u ++ w) ≡ u ++ strip_last 13 w) where
@@ -137,7 +136,7 @@ module _ (overlap n : ℕ) (a b : List ℕ) (long : length b ≡ overlap) where
   }
 
   module _ (read u : List ℕ) (parts : read ++ u ≡ a ++ b) (some : 0 < length u) (none : ends_with_byte 13 u ≡ false) where
-    of_front : (st : Stage) → ((m : ℕ) (r w : List ℕ) (ls : List (List ℕ)) → reads_from (spot m st r) ((u ++ w) ∷ ls) ≡ reads_from
+    of_front : (st : LineKind) → ((m : ℕ) (r w : List ℕ) (ls : List (List ℕ)) → reads_from (spot m st r) ((u ++ w) ∷ ls) ≡ reads_from
         (spot (line_past m 1) Body (r ++ (u ++ w))) ls)
         → (rest : List ℕ) → reads_from (spot n st read) (lines_from u rest) ≡ Ok (onto_read (a ++ b) (rest_after [] rest))
     of_front st onto rest =

@@ -3,8 +3,8 @@ use Rattle.std.proofs.Common.{◌≡◌, ℕ, Bool, true, false, cond, ◌==◌,
 use Rattle.std.proofs.lemmas.Bool.{eqb-true}
 use Rattle.std.specs.Io.BufRead.{strip_last}
 use Rattle.kmc_reads.specs.declared.error.ReadsError.{ReadsError}
-use Rattle.kmc_reads.specs.declared.stage.Stage.{Stage}
-use Rattle.kmc_reads.specs.declared.stage.Stage.TheVariants.{Header, Sequence, Plus, Quality, FirstHeader, Body, Name, Rest}
+use Rattle.kmc_reads.specs.declared.line_kind.LineKind.{LineKind}
+use Rattle.kmc_reads.specs.declared.line_kind.LineKind.TheVariants.{Header, Sequence, Plus, Quality, FirstHeader, Body, Name, Rest}
 use Rattle.kmc_reads.specs.Answer.{Answer, with_reads}
 use Rattle.kmc_reads.specs.Laws.{FaultStays, EndedStay}
 use Rattle.kmc_reads.specs.OpenLines.{whole_from, open_from, lines_from}
@@ -34,7 +34,7 @@ fault_on s front (b ∷ bs) rest e h =
     go false h next more = more h
 
 -- the open line has ended a read
-opened : (n : ℕ) (stage : Stage) (read front rest : List ℕ)
+opened : (n : ℕ) (stage : LineKind) (read front rest : List ℕ)
     → (more : Answer) × (reads_from (record { number = n; stage = stage; read = read }) (lines_from front rest) ≡ with_reads (begun_by stage read front) more)
 opened n Header read front rest = (_, sym (with_none _))
 opened n Sequence read front rest = (_, sym (with_none _))

@@ -1,11 +1,10 @@
 -- A scan goes over a block line by line.
-use Rattle.std.proofs.Common.{◌≡◌, ℕ, suc, Bool, true, false, cond, ◌==◌, List, [], ◌∷◌, ◌++◌, length, take, drop, get_or, refl, sym, ap, subst, ◌∙◌, arith}
-use Rattle.std.proofs.Common.{append_assoc, append-nil, take_all, Some, None}
+use Rattle.std.proofs.Common.{◌≡◌, ℕ, suc, Bool, true, false, cond, ◌==◌, List, [], ◌∷◌, ◌++◌, length, take, drop, get_or, refl, sym, ap, subst, ◌∙◌, arith, append_assoc, append-nil, take_all, Some, None}
 use Rattle.std.proofs.lemmas.Bool.{ne_eqb}
 use Rattle.std.specs.Io.BufRead.{strip_last}
 use Rattle.kmc_reads.specs.declared.scan.Scan.{Scan}
 use Rattle.kmc_reads.specs.declared.error.ReadsError.{ReadsError}
-use Rattle.kmc_reads.specs.declared.stage.Stage.TheVariants.{Body, Name}
+use Rattle.kmc_reads.specs.declared.line_kind.LineKind.TheVariants.{Body, Name}
 use Rattle.kmc_reads.specs.Answer.{with_reads}
 use Rattle.kmc_reads.specs.Fasta.{is_header}
 use Rattle.kmc_reads.specs.Lines.{line_past}

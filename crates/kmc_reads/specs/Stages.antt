@@ -4,8 +4,8 @@ use Rattle.kmc_reads.specs.declared.error.ReadsError.{ReadsError}
 use Rattle.kmc_reads.specs.declared.error.ReadsError.TheVariants.{BadHeader, BadPlus, QualityLength, Truncated}
 use Rattle.kmc_reads.specs.declared.format.Format.{Format}
 use Rattle.kmc_reads.specs.declared.format.Format.TheVariants.{Fasta, Fastq}
-use Rattle.kmc_reads.specs.declared.stage.Stage.{Stage}
-use Rattle.kmc_reads.specs.declared.stage.Stage.TheVariants.{Header, Sequence, Plus, Quality, FirstHeader, Body, Name, Rest}
+use Rattle.kmc_reads.specs.declared.line_kind.LineKind.{LineKind}
+use Rattle.kmc_reads.specs.declared.line_kind.LineKind.TheVariants.{Header, Sequence, Plus, Quality, FirstHeader, Body, Name, Rest}
 use Rattle.kmc_reads.specs.Fastq.{at_sign, plus_sign}
 use Rattle.kmc_reads.specs.Fasta.{is_header}
 use Rattle.kmc_reads.specs.Answer.{Answer, with_reads}
@@ -15,10 +15,10 @@ use Rattle.kmc_reads.specs.OpenLines.{whole_lines, open_line}
 -- the number of the next line, what it may be, and the symbols of the open read so far
 pub record Spot : Type 0 where
   pub number : ℕ
-  pub stage : Stage
+  pub stage : LineKind
   pub read : List ℕ
 
-abbrev pub first_stage : Format → Stage
+abbrev pub first_stage : Format → LineKind
 first_stage Fasta = FirstHeader
 first_stage Fastq = Header
 
@@ -26,7 +26,7 @@ abbrev pub first_spot : Format → Spot
 first_spot format = record { number = 1; stage = first_stage format; read = [] }
 
 -- the fault of a line
-abbrev pub fault_of : ℕ → Stage → List ℕ → List ℕ → Option ReadsError
+abbrev pub fault_of : ℕ → LineKind → List ℕ → List ℕ → Option ReadsError
 fault_of n Header read [] = None
 fault_of n Header read (c ∷ line) = if c == at_sign then None else Some (BadHeader n)
 fault_of n Sequence read line = None
@@ -40,7 +40,7 @@ fault_of n Name read line = None
 fault_of n Rest read line = None
 
 -- what comes after a line: blank ones may stand where a header may
-abbrev pub stage_past : Stage → List ℕ → Stage
+abbrev pub stage_past : LineKind → List ℕ → LineKind
 stage_past Header [] = Header
 stage_past Header (c ∷ line) = Sequence
 stage_past Sequence line = Plus
@@ -53,7 +53,7 @@ stage_past Name line = Body
 stage_past Rest line = Body
 
 -- the open read after a line
-abbrev pub read_past : Stage → List ℕ → List ℕ → List ℕ
+abbrev pub read_past : LineKind → List ℕ → List ℕ → List ℕ
 read_past Header read line = read
 read_past Sequence read line = read ++ line
 read_past Plus read line = read
@@ -67,7 +67,7 @@ abbrev pub past : Spot → List ℕ → Spot
 past s line = record { number = line_past s.number 1; stage = stage_past s.stage line; read = read_past s.stage s.read line }
 
 -- the open line ends the read as soon as it is seen to be the next header
-abbrev pub begun_by : Stage → List ℕ → List ℕ → List (List ℕ)
+abbrev pub begun_by : LineKind → List ℕ → List ℕ → List (List ℕ)
 begun_by Header read front = []
 begun_by Sequence read front = []
 begun_by Plus read front = []
@@ -78,7 +78,7 @@ begun_by Name read front = []
 begun_by Rest read front = []
 
 -- a whole line ends it where it is the next header, or the quality line
-abbrev pub given_by : Stage → List ℕ → List ℕ → List (List ℕ)
+abbrev pub given_by : LineKind → List ℕ → List ℕ → List (List ℕ)
 given_by Header read line = []
 given_by Sequence read line = []
 given_by Plus read line = []
@@ -116,7 +116,7 @@ abbrev pub ended : Format → List ℕ → List (List ℕ)
 ended format text = ended_from (first_spot format) (whole_lines text) (open_line text)
 
 -- no line is left
-abbrev pub answer_at_end : ℕ → Stage → List ℕ → Answer
+abbrev pub answer_at_end : ℕ → LineKind → List ℕ → Answer
 answer_at_end n Header read = Ok []
 answer_at_end n Sequence read = Err (Truncated n)
 answer_at_end n Plus read = Err (Truncated n)

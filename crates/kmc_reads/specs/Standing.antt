@@ -6,8 +6,8 @@ use Rattle.std.specs.Io.Iter.{u64_saturate}
 use Rattle.kmc_reads.specs.declared.error.ReadsError.{ReadsError}
 use Rattle.kmc_reads.specs.declared.format.Format.{Format}
 use Rattle.kmc_reads.specs.declared.scan.Scan.{Scan}
-use Rattle.kmc_reads.specs.declared.stage.Stage.{Stage}
-use Rattle.kmc_reads.specs.declared.stage.Stage.TheVariants.{Header, Sequence, Plus, Quality, FirstHeader, Body, Name, Rest}
+use Rattle.kmc_reads.specs.declared.line_kind.LineKind.{LineKind}
+use Rattle.kmc_reads.specs.declared.line_kind.LineKind.TheVariants.{Header, Sequence, Plus, Quality, FirstHeader, Body, Name, Rest}
 use Rattle.kmc_reads.specs.Lines.{line_feed, carriage_return}
 use Rattle.kmc_reads.specs.Answer.{with_reads}
 use Rattle.kmc_reads.specs.Cuts.{IsCutAnswer}
@@ -17,7 +17,7 @@ use Rattle.kmc_reads.specs.Rows.{ends_from}
 use Rattle.kmc_reads.specs.Stages.{Spot, first_spot, begun_by, fault_from, ended_from, reads_from, answer_at_end}
 
 -- the bytes of a line are kept where they are symbols of a read
-abbrev pub kept : Stage → List ℕ → List ℕ
+abbrev pub kept : LineKind → List ℕ → List ℕ
 kept Header line = []
 kept Sequence line = line
 kept Plus line = []
@@ -49,7 +49,7 @@ pub record At (rows : List (List ℕ)) (spot : Spot) (front : List ℕ) (v : Sca
   pub settled : begun_by spot.stage spot.read front ≡ []
 
 -- the symbols of the open read that can be handed out before it ends: those of a FASTA read
-abbrev pub open_symbols : Stage → List ℕ → List ℕ → List ℕ
+abbrev pub open_symbols : LineKind → List ℕ → List ℕ → List ℕ
 open_symbols Header read content = []
 open_symbols Sequence read content = []
 open_symbols Plus read content = []

@@ -2,7 +2,7 @@
 ghost use Rattle.std.specs.Prelude.{false, ◌≡◌, ◌≢◌, ◌⊎◌, ℕ, ◌+◌, ◌<◌, ◌≤◌, List, [], ◌∷◌, ◌++◌, length, take, IfOk, IfErr, OnOk, OnErr, Err};
 ghost use Rattle.std.specs.Io.BufRead.{strip_last};
 ghost use Rattle.std.specs.List.{concat};
-ghost use Rattle.kmc_reads.specs.declared.stage.Stage.TheVariants.{Body, Rest};
+ghost use Rattle.kmc_reads.specs.declared.line_kind.LineKind.TheVariants.{Body, Rest};
 ghost use Rattle.kmc_reads.specs.OpenLines.{last_line};
 ghost use Rattle.kmc_reads.specs.Stages.{Spot, first_spot, answer_at_end, reads_from};
 ghost use Rattle.kmc_reads.specs.Standing.{Lies, Keeps, At, IsSomewhere, Goes, HasFault, EndsLine, EndsRead, EndsText, Hands, IsAgain, IsHandedOut, Moves, kept, open_symbols};
@@ -13,15 +13,15 @@ mod record;
 use crate::error::ReadsError;
 use crate::format::Format;
 use crate::line::cut_line;
+use crate::line_kind::LineKind;
 use crate::reads::Reads;
-use crate::stage::Stage;
 use std::alloc::{AllocError, Global};
 use std::mem;
 
 /// What is known of the open line, and where the open read begins.
 #[derive(Clone, Copy)]
 struct Place {
-    stage: Stage,
+    stage: LineKind,
     /// The number of the open line.
     number: u64,
     /// The first byte of its content, where there is one.
@@ -54,7 +54,7 @@ fn emptied(place: Place) -> Place
 {
     let mut next = place;
     if place.length > 0 {
-        next.stage = Stage::Rest;
+        next.stage = LineKind::Rest;
         next.length = 0;
     }
     next.start = 0;
@@ -79,7 +79,7 @@ impl Scan {
             bytes: Vec::new(alloc),
             ends: Vec::new(alloc),
             place: Place {
-                stage: Stage::first(format),
+                stage: LineKind::first(format),
                 number: 1,
                 first: 0,
                 length: 0,
@@ -183,13 +183,13 @@ impl Scan {
         ensures ends { take (length self.old.ends.items) self.new.ends.items ≡ self.old.ends.items }
     {
         match self.place.stage {
-            Stage::Header => Ok(()),
-            Stage::FirstHeader => Ok(()),
-            Stage::Body | Stage::Name | Stage::Rest => {
+            LineKind::Header => Ok(()),
+            LineKind::FirstHeader => Ok(()),
+            LineKind::Body | LineKind::Name | LineKind::Rest => {
                 self.close()?;
                 Ok(())
             }
-            Stage::Sequence | Stage::Plus | Stage::Quality => {
+            LineKind::Sequence | LineKind::Plus | LineKind::Quality => {
                 Err(ReadsError::Truncated(self.place.number))
             }
         }
@@ -278,7 +278,7 @@ impl Scan {
         ensures handed { OnOk result (IsHandedOut overlap self.new) }
         ensures again { OnErr result (IsAgain self.old self.new) }
     {
-        let symbols = matches!(self.place.stage, Stage::Body | Stage::Rest);
+        let symbols = matches!(self.place.stage, LineKind::Body | LineKind::Rest);
         if !symbols || self.place.held || self.bytes.len() - self.place.start <= overlap {
             return self.take(alloc);
         }
@@ -293,7 +293,7 @@ impl Scan {
             → result ≡ length (open_symbols spot.stage spot.read (strip_last 13 front)) }
     {
         match self.place.stage {
-            Stage::Body | Stage::Rest => self.bytes.len() - self.place.start,
+            LineKind::Body | LineKind::Rest => self.bytes.len() - self.place.start,
             _ => 0,
         }
     }

@@ -1,6 +1,5 @@
 -- A record has no fault, and a body of whole records has none.
-use Rattle.std.proofs.Common.{◌≡◌, ℕ, ◌*◌, ◌-◌, ◌<◌, ◌≤◌, List, [], ◌∷◌, ◌++◌, length, get_or, drop, refl, sym, ap, subst, ◌∙◌, arith, append_assoc}
-use Rattle.std.proofs.Common.{length-append, length-drop}
+use Rattle.std.proofs.Common.{◌≡◌, ℕ, ◌*◌, ◌-◌, ◌<◌, ◌≤◌, List, [], ◌∷◌, ◌++◌, length, get_or, drop, refl, sym, ap, subst, ◌∙◌, arith, append_assoc, length-append, length-drop}
 use Rattle.std.proofs.lemmas.List.{take-append-drop, get_or_append_left, get_or-append_right}
 use Rattle.std.specs.List.{flat_map, AllByRecursion}
 use Rattle.kmc_base.specs.Record.{packed_codes, spelling, IsSpelled, IsBodyOf, codes_in, size_of}

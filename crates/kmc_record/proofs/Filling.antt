@@ -1,6 +1,5 @@
 -- A record's words while they are appended.
-use Rattle.std.proofs.Common.{◌≡◌, ℕ, zero, suc, min, max, map, append_assoc, Bool, true, false, nat_le, refl, ◌+◌, ◌*◌, ◌-◌, ◌/◌, ◌^◌, ◌<◌, ◌≤◌, ◌++◌, ◌∷◌}
-use Rattle.std.proofs.Common.{[], List, length, take, get_or, ap, sym, ◌∙◌, arith, append-nil}
+use Rattle.std.proofs.Common.{◌≡◌, ℕ, zero, suc, min, max, map, append_assoc, Bool, true, false, nat_le, refl, ◌+◌, ◌*◌, ◌-◌, ◌/◌, ◌^◌, ◌<◌, ◌≤◌, ◌++◌, ◌∷◌, [], List, length, take, get_or, ap, sym, ◌∙◌, arith, append-nil}
 use Rattle.std.proofs.lemmas.List.{length-take-le, get_or-take, map-append}
 use Rattle.std.proofs.lemmas.Nat.{mod_below}
 use Rattle.std.proofs.Math.Nat.{pow-succ'}

@@ -1,6 +1,11 @@
-pub mod Faultless
-pub mod Filling
-pub mod Laying
-pub mod PackedBytes
-pub mod Pieces
-pub mod Rests
+mod Belonging
+mod Bins
+mod Chunks
+mod Faultless
+mod Filling
+mod Laying
+mod PackedBytes
+mod Parcels
+mod Quarters
+mod Sliding
+mod Turned

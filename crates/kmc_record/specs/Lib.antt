@@ -1,6 +1,11 @@
+pub mod Bodies
+pub mod DecodingRefusals
 pub mod Faults
-pub mod RecordWords
-pub mod RecordKeys
-pub mod Refusals
+pub mod GrowingParts
 pub mod Laws
 pub mod Lemmas
+pub mod Parts
+pub mod RecordKeys
+pub mod RecordWords
+pub mod Refusals
+pub mod Shapes

@@ -1,20 +1,30 @@
-//! Records of super-k-mers, as they are read: the codes of a record, the numbers by which equal records are known, and the
-//! words of a body. It stands on kmc_base for words, keys, weights and what a record is. The layer
-//! above reads single records with [`first_symbols`] and [`code_at`], takes in the words of bodies with [`take_words`] and
-//! [`take_body`], and turns rows of equal records into items with [`push_rows`]; and it learns from `laws` that a body of
-//! whole records has no fault.
+//! Records of super-k-mers and parts of chunks: the shape of a run's bins, the parts of reads, whose records are copied out of packed
+//! codes, and records as they are read again: their codes, their numbers, the first that is at fault. It stands on kmc_base for the
+//! spelling and on kmc_split for the cut. The layer above uses that the parts of reads are, for each bin that is not empty, the
+//! records of its runs in the order of reads and places; that a body of whole records has no fault; and that [`part_of_body`] takes
+//! exactly the bodies whose words belong to their bin.
 #![tactic(auto)]
 
+mod belong;
 mod fault;
 pub mod laws;
 mod packed;
+mod part;
+mod part_error;
+mod parts;
+mod plain;
 mod record;
 mod record_keys;
-mod rows;
-mod taking;
+mod shape;
+mod words;
 
+pub use belong::{count_words, part_of_body};
 pub use fault::{BodyError, RecordFault};
+pub use part::Part;
+pub use part_error::PartError;
+pub use parts::parts_of_reads;
+pub use plain::{Chunk, RecordError, decode, encode, parts_of, push_body, push_record_of};
 pub use record::{code_at, first_symbols, push_record};
-pub use record_keys::{MOST_KEY_SYMBOLS, record_key};
-pub use rows::push_rows;
-pub use taking::{take_body, take_words};
+pub use record_keys::{MOST_KEY_SYMBOLS, key_bytes, record_key};
+pub use shape::{MOST_BINS, Shape};
+pub use words::{super_kmer_in_bin, words_in_bin};

@@ -8,7 +8,7 @@ ghost use Rattle.kmc_base.specs.Lemmas.Rolling.{ahead, ahead_quarters, behind, b
 ghost use Rattle.kmc_record.specs.Faults.{HasFault};
 
 use crate::fault::RecordFault;
-use kmc_base::{KeyRule, MAX_K, Strands, Weight, Word, packed_key};
+use kmc_base::{KeyRule, MAX_K, PackedKmer, Strands, Weight, packed_key};
 use std::alloc::AllocError;
 
 /// The code, 0 to 3, at a place of some bytes: each has four, the first in the highest bits.
@@ -58,7 +58,7 @@ pub fn first_symbols(bytes: &[u8], k: usize) -> Result<usize, RecordFault>
 }
 
 /// A window over the codes and its reverse complement, both with the four codes of a byte more.
-fn slide_byte<W: Word + Drop>(forward: W, back: W, byte: u8, top: W) -> (W, W)
+fn slide_byte<W: PackedKmer + Drop>(forward: W, back: W, byte: u8, top: W) -> (W, W)
     requires top { (j : ℕ) × (3 ≤ j) × (j < W.most) × (W.number top ≡ 4 ^ j) }
     requires back { W.number back / 4 < W.number top }
     ensures ahead { W.number result.0 ≡ ahead_quarters (W.number top) (W.number forward) byte }
@@ -68,7 +68,7 @@ fn slide_byte<W: Word + Drop>(forward: W, back: W, byte: u8, top: W) -> (W, W)
 }
 
 /// A window and its reverse complement with one code more, whose key is appended with its weight.
-fn push_code<W: Word + Drop>(
+fn push_code<W: PackedKmer + Drop>(
     words: &mut Vec<W>,
     forward: W,
     back: W,
@@ -101,7 +101,7 @@ fn push_code<W: Word + Drop>(
 /// Appends the packed keys of the words of a record's symbols, each with its weight, in the order of their places. The bytes,
 /// fewer than 1000, have the symbols, at least one word of them, and a key with its weight fits the type. Room for all keys is
 /// had first; the symbols in front of the first word's last one enter the window a byte at a time.
-pub fn push_record<W: Word + Drop>(
+pub fn push_record<W: PackedKmer + Drop>(
     words: &mut Vec<W>,
     rule: KeyRule,
     bytes: &[u8],

@@ -24,7 +24,7 @@ pub fn record_key(bytes: &[u8], symbols: usize, strands: Strands) -> u128
 }
 
 /// The bytes of the number of a record, with its symbols in front.
-pub(crate) fn key_bytes(key: u128) -> [u8; 16]
+pub fn key_bytes(key: u128) -> [u8; 16]
     ensures { take (symbols_of key) (codes_in result) ≡ codes_of key }
 {
     let mut bytes = [0; 16];

@@ -1,13 +1,12 @@
 -- Texts that go to the writers, one after the other.
-use Rattle.std.proofs.Common.{◌≡◌, ℕ, zero, suc, ◌+◌, ◌<◌, ◌≤◌, ◌^◌, ◌⊎◌, inl, inr, List, [], ◌++◌, length, map, get_or, set, Option, None, refl, sym, ap}
-use Rattle.std.proofs.Common.{subst, ◌∙◌, arith}
+use Rattle.std.proofs.Common.{◌≡◌, ℕ, zero, suc, ◌+◌, ◌<◌, ◌≤◌, ◌^◌, ◌⊎◌, inl, inr, List, [], ◌++◌, length, map, get_or, set, Option, None, refl, sym, ap, subst, ◌∙◌, arith}
 use Rattle.std.specs.Io.KnownBytes.{Appends}
 use Rattle.std.proofs.KnownBytes.{Appends-nil}
 use Rattle.std.proofs.lemmas.Bool.{cases_eq, cases_lt}
 use Rattle.std.proofs.lemmas.List.{get_or-set_same, get_or-set_other, get_or-map, map-set, length-map}
 use Rattle.kmc_device.specs.Device.{Watched, AppendsFront}
 use Rattle.kmc_device.specs.Lemmas.Devices.{front_all}
-use Rattle.kmc_store.specs.Shapes.{Sizes, IsShape}
+use Rattle.kmc_record.specs.Shapes.{Sizes, IsShape}
 use Rattle.kmc_store.specs.Bins.{body_at}
 use Rattle.kmc_slice_files.specs.Files.{header_bytes}
 use Rattle.kmc_slice_files.specs.Frames.{end_bytes}

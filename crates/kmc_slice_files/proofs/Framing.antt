@@ -1,6 +1,5 @@
 -- Frames of bins on the writers of their slices.
-use Rattle.std.proofs.Common.{◌≡◌, ◌≢◌, ℕ, ◌+◌, ◌-◌, ◌%◌, ◌<◌, ◌≤◌, ◌^◌, ◌⊎◌, inl, inr, Bool, cond, eqb, ltb, min, List, [], ◌∷◌, ◌++◌, length, take, drop}
-use Rattle.std.proofs.Common.{map, get_or, set, Option, None, refl, sym, ap, subst, ◌∙◌, arith, length-append, length-drop}
+use Rattle.std.proofs.Common.{◌≡◌, ◌≢◌, ℕ, ◌+◌, ◌-◌, ◌%◌, ◌<◌, ◌≤◌, ◌^◌, ◌⊎◌, inl, inr, Bool, cond, eqb, ltb, min, List, [], ◌∷◌, ◌++◌, length, take, drop, map, get_or, set, Option, None, refl, sym, ap, subst, ◌∙◌, arith, length-append, length-drop}
 use Rattle.std.specs.List.{filter, flat_map}
 use Rattle.std.specs.Io.KnownBytes.{Appends}
 use Rattle.std.proofs.KnownBytes.{Appends-trans, Appends-nil}
@@ -10,7 +9,7 @@ use Rattle.std.proofs.lemmas.List.{append-nil, length-take-le, get_or-set_same, 
 use Rattle.std.proofs.Math.Seq.{take-add, map-set_same}
 use Rattle.kmc_device.specs.Device.{Watched, AppendsFront, RisesByOne}
 use Rattle.kmc_device.specs.Lemmas.Devices.{front_after, front_of}
-use Rattle.kmc_store.specs.Parts.{capped}
+use Rattle.kmc_record.specs.Parts.{capped}
 use Rattle.kmc_store.specs.Bins.{body_at}
 use Rattle.kmc_slice_files.specs.Frames.{Frame, frame, AreFrames, frame_bytes, frames_bytes, body_of}
 use Rattle.kmc_slice_files.specs.Lemmas.Rounds.{frames_more, body_more}

@@ -1,11 +1,11 @@
-pub mod Hashing
-pub mod Parsing
-pub mod Framing
-pub mod Reading
-pub mod Heading
-pub mod Taking
-pub mod Faults
-pub mod Each
-pub mod Wholes
-pub mod Sound
-pub mod Changed
+mod Changed
+mod Each
+mod Faults
+mod Framing
+mod Hashing
+mod Heading
+mod Parsing
+mod Reading
+mod Sound
+mod Taking
+mod Wholes

@@ -1,13 +1,12 @@
 -- A file that was written is read as it is.
-use Rattle.std.proofs.Common.{◌≡◌, ℕ, ◌+◌, ◌%◌, ◌<◌, ◌^◌, ◌⊎◌, inl, inr, Bool, cond, eqb, List, [], ◌∷◌, ◌++◌, length, Option, Some, None, refl, sym, ap}
-use Rattle.std.proofs.Common.{subst, ◌∙◌, arith, append_assoc, length-append}
+use Rattle.std.proofs.Common.{◌≡◌, ℕ, ◌+◌, ◌%◌, ◌<◌, ◌^◌, ◌⊎◌, inl, inr, Bool, cond, eqb, List, [], ◌∷◌, ◌++◌, length, Option, Some, None, refl, sym, ap, subst, ◌∙◌, arith, append_assoc, length-append}
 use Rattle.std.specs.Int.{w16, w32, w64, to_le_bytes, from_le_bytes}
 use Rattle.std.specs.List.{filter, flat_map}
 use Rattle.std.specs.Io.KnownBytes.{Consumes, IsAtEnd}
 use Rattle.std.proofs.lemmas.Bool.{cases_eq, eq-eqb, ne_eqb}
 use Rattle.std.proofs.lemmas.List.{append-nil}
 use Rattle.std.proofs.lemmas.Nat.{from_le_bytes-to_le_bytes_8}
-use Rattle.kmc_store.specs.Shapes.{Sizes}
+use Rattle.kmc_record.specs.Shapes.{Sizes}
 use Rattle.kmc_store.specs.Bins.{body_at}
 use Rattle.kmc_slice_files.specs.Check.{hashed}
 use Rattle.kmc_slice_files.specs.Frames.{Frame, AreFrames, frame_bytes, frames_bytes, end_bytes, check_of, body_of, NO_BIN}
@@ -18,8 +17,7 @@ use Rattle.kmc_slice_files.specs.Whole.{GaveFile, IsFileFault, IsFramesFault, Is
 use Rattle.kmc_slice_files.specs.Laws.{IsOfMachine, IsHeaderOfMachine, AreFramesOfMachine}
 use Rattle.kmc_slice_files.specs.declared.header.Told.{Told}
 use Rattle.kmc_slice_files.specs.declared.header.HeaderFault.{HeaderFault}
-use Rattle.kmc_slice_files.specs.declared.header.HeaderFault.TheVariants.{Read as NoHeaderRead, Short as ShortHeader, NoSliceFile, OtherVersion}
-use Rattle.kmc_slice_files.specs.declared.header.HeaderFault.TheVariants.{Damaged as DamagedHeader, OutOfRange}
+use Rattle.kmc_slice_files.specs.declared.header.HeaderFault.TheVariants.{Read as NoHeaderRead, Short as ShortHeader, NoSliceFile, OtherVersion, Damaged as DamagedHeader, OutOfRange}
 use Rattle.kmc_slice_files.specs.declared.read.FrameFault.TheVariants.{Read as NoFrameRead, Memory, Short as ShortFrame, Damaged as DamagedFrame}
 use Rattle.kmc_slice_files.specs.declared.frames.FileFault.{FileFault}
 use Rattle.kmc_slice_files.specs.declared.frames.FramesFault.{FramesFault}

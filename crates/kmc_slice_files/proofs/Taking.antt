@@ -1,10 +1,9 @@
 -- What a head and a body say of the text that begins with them.
-use Rattle.std.proofs.Common.{◌≡◌, ℕ, zero, suc, ◌-◌, ◌%◌, ◌<◌, ◌^◌, List, [], ◌∷◌, ◌++◌, length, take, drop, get_or, set, refl, sym, ap, subst, ◌∙◌, arith}
-use Rattle.std.proofs.Common.{append_assoc, length-append, take_all}
+use Rattle.std.proofs.Common.{◌≡◌, ℕ, zero, suc, ◌-◌, ◌%◌, ◌<◌, ◌^◌, List, [], ◌∷◌, ◌++◌, length, take, drop, get_or, set, refl, sym, ap, subst, ◌∙◌, arith, append_assoc, length-append, take_all}
 use Rattle.std.specs.declared.alloc.Global.{Global}
 use Rattle.std.specs.declared.vec.Vec.{Vec}
 use Rattle.std.proofs.lemmas.List.{drop_at, get_or-set_same}
-use Rattle.kmc_store.specs.Parts.{capped}
+use Rattle.kmc_record.specs.Parts.{capped}
 use Rattle.kmc_slice_files.specs.Frames.{Frame, frame, IsFrame, check_of, spare_head, head_bytes, frame_bytes, end_bytes, NO_BIN}
 use Rattle.kmc_slice_files.specs.Reads.{IsHeadOf, BeginsNothing, SaysFrame, SaysEnd}
 use Rattle.kmc_slice_files.specs.declared.read.Head.{Head}

@@ -1,7 +1,7 @@
 -- The file of a slice: slice s of S is the bins b with b mod S = s.
 use Rattle.std.specs.Prelude.{◌≡◌, ℕ, ◌%◌, ◌^◌, ◌<◌, ◌≤◌, List, [], ◌∷◌, ◌++◌, length}
 use Rattle.std.specs.Int.{w16, w32, w64, to_le_bytes}
-use Rattle.kmc_store.specs.Shapes.{Sizes, IsShape}
+use Rattle.kmc_record.specs.Shapes.{Sizes, IsShape}
 use Rattle.kmc_store.specs.Bins.{body_at}
 use Rattle.kmc_slice_files.specs.Check.{hashed}
 use Rattle.kmc_slice_files.specs.Frames.{Frame, AreFrames, frames_bytes, end_bytes, body_of}

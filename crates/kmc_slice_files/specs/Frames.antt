@@ -2,7 +2,7 @@
 use Rattle.std.specs.Prelude.{◌≡◌, ℕ, ◌%◌, ◌^◌, ◌<◌, ◌≤◌, nat_eq, List, ◌++◌, length}
 use Rattle.std.specs.Int.{w16, w32, w64, to_le_bytes}
 use Rattle.std.specs.List.{AllByRecursion, filter, flat_map}
-use Rattle.kmc_store.specs.Parts.{capped}
+use Rattle.kmc_record.specs.Parts.{capped}
 use Rattle.kmc_slice_files.specs.Check.{hashed}
 
 -- bytes of the records of a bin

@@ -3,7 +3,7 @@ use Rattle.std.specs.Prelude.{◌≡◌, ◌≢◌, ℕ, ◌^◌, ◌<◌, min, 
 use Rattle.std.specs.Int.{w64, to_le_bytes}
 use Rattle.std.specs.Io.KnownBytes.{Consumes, IsAtEnd}
 use Rattle.kmc_device.specs.Device.{RisesByOne}
-use Rattle.kmc_store.specs.Shapes.{Sizes, AreWithinLimits, IsShape}
+use Rattle.kmc_record.specs.Shapes.{Sizes, AreWithinLimits, IsShape}
 use Rattle.kmc_slice_files.specs.Check.{hashed}
 use Rattle.kmc_slice_files.specs.Files.{LETTERS, VERSION, front_bytes}
 use Rattle.kmc_slice_files.specs.declared.header.HeaderFault.{HeaderFault}

@@ -1,7 +1,7 @@
 -- Laws of the files of slices.
 use Rattle.std.specs.Prelude.{◌≡◌, ◌≢◌, ℕ, ◌<◌, ◌%◌, ◌^◌, if◌then◌else◌, nat_eq, List, [], ◌∷◌, ◌++◌, length, slice_index, slice_set, Option, Some}
 use Rattle.std.specs.List.{AllByRecursion}
-use Rattle.kmc_store.specs.Shapes.{Sizes}
+use Rattle.kmc_record.specs.Shapes.{Sizes}
 use Rattle.kmc_slice_files.specs.Check.{hashed}
 use Rattle.kmc_store.specs.Bins.{body_at}
 use Rattle.kmc_slice_files.specs.Frames.{Frame, AreFrames}

@@ -1,4 +1,4 @@
 -- Lemmas on the definitions beside this file: proofs cite them, here and in the crates above, and no promise needs them to be read.
-pub mod Rounds
 pub mod Fresh
 pub mod Heads
+pub mod Rounds

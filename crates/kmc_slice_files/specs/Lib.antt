@@ -1,11 +1,11 @@
 pub mod Check
-pub mod Frames
 pub mod Files
+pub mod Frames
 pub mod Headers
 pub mod Laws
-pub mod Writes
-pub mod Reads
-pub mod Opening
-pub mod Whole
 pub mod Lemmas
 pub mod Messages
+pub mod Opening
+pub mod Reads
+pub mod Whole
+pub mod Writes

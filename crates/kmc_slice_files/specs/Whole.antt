@@ -2,8 +2,8 @@
 use Rattle.std.specs.Prelude.{◌≡◌, ℕ, ◌+◌, ◌-◌, ◌^◌, ◌<◌, ◌≤◌, List, ◌++◌, length, Option}
 use Rattle.std.specs.Io.KnownBytes.{Consumes}
 use Rattle.kmc_device.specs.Device.{GaveAll}
-use Rattle.kmc_store.specs.Parts.{capped}
-use Rattle.kmc_store.specs.Shapes.{Sizes}
+use Rattle.kmc_record.specs.Parts.{capped}
+use Rattle.kmc_record.specs.Shapes.{Sizes}
 use Rattle.kmc_store.specs.Bins.{body_at}
 use Rattle.kmc_slice_files.specs.Frames.{Frame, AreFrames, frames_bytes, end_bytes, body_of}
 use Rattle.kmc_slice_files.specs.Files.{IsSlicing, header_bytes, file_bytes}

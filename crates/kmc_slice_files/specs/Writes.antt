@@ -3,8 +3,8 @@ use Rattle.std.specs.Prelude.{◌≡◌, ℕ, ◌+◌, ◌%◌, ◌<◌, ◌≤�
 use Rattle.std.specs.List.{AllByRecursion, flat_map}
 use Rattle.std.specs.Io.KnownBytes.{Appends}
 use Rattle.kmc_device.specs.Device.{AppendsFront, RisesByOne}
-use Rattle.kmc_store.specs.Parts.{capped}
-use Rattle.kmc_store.specs.Shapes.{Sizes}
+use Rattle.kmc_record.specs.Parts.{capped}
+use Rattle.kmc_record.specs.Shapes.{Sizes}
 use Rattle.kmc_store.specs.Bins.{body_at}
 use Rattle.kmc_slice_files.specs.Frames.{Frame, AreFrames, MOST_BODY, frames_bytes, body_of}
 use Rattle.kmc_slice_files.specs.Files.{header_bytes, HasBodies, IsSliceFile}

@@ -10,7 +10,7 @@ use crate::frame::write_end;
 use crate::header::{Slicing, write_header};
 use crate::round::write_round;
 use kmc_device::{Counted, WriteFault};
-use kmc_store::Shape;
+use kmc_record::Shape;
 use std::io::Write;
 
 /// Writes to each writer the header of the file of its slice, and sets its number of frames to 0. It fails by the number of

@@ -8,8 +8,7 @@ ghost use Rattle.kmc_slice_files.specs.Whole.{TookAll, GaveFrames, IsEndFault, I
 use crate::frame::HEAD;
 use crate::header::{HEADER, Slicing};
 use crate::read::{BLOCK, FrameFault, read_frame};
-use kmc_device::Counted;
-use kmc_rooms::{ReadFault, fill_behind};
+use kmc_device::{Counted, ReadFault, fill_behind};
 use std::io::Read;
 
 /// How many frames stand before a frame, and the byte of the file at which it begins, as far as a `u64` tells.

@@ -6,9 +6,8 @@ ghost use Rattle.kmc_slice_files.specs.Files.{IsSlicing, slicing_bytes, header_b
 ghost use Rattle.kmc_slice_files.specs.Headers.{IsTold, IsOutOfRange, IsSlicingOf, IsRefused, IsHeaderFault, HeaderTells};
 
 use crate::check::check_word;
-use kmc_device::{Counted, WriteFault, write_text};
-use kmc_rooms::{ReadFault, fill_behind};
-use kmc_store::Shape;
+use kmc_device::{Counted, ReadFault, WriteFault, fill_behind, write_text};
+use kmc_record::Shape;
 use std::io::{Read, Write};
 
 /// The bytes of a header.

@@ -1,8 +1,6 @@
-//! The files of slices. Slice s of S is the bins whose number leaves s when it is divided by S; its file has a header that
-//! tells the shape and the slice, the records of its bins in frames, and an end. It stands on the shapes and the bodies of
-//! kmc_store's bins, the devices of kmc_device and the rooms of kmc_rooms. The layer above begins the files of all slices,
-//! writes bins to them round after round and ends them, and reads files into bodies again, or learns the first fault and its
-//! place; it learns from `laws` that a text is one file at most.
+//! The files of slices: bins written in frames with check words, round after round, and files read into bodies again, or the first
+//! fault with its place. It stands on kmc_store for bins and on kmc_device for files. The layer above uses that a file that was
+//! written is read as it was, and that a changed one is refused.
 #![tactic(auto)]
 
 mod check;

@@ -5,8 +5,7 @@ ghost use Rattle.kmc_slice_files.specs.Reads.{IsHeadOf, TookNext, GaveSome, IsSa
 
 use crate::check::frame_check;
 use crate::frame::{HEAD, MOST_BODY, NO_BIN};
-use kmc_device::Counted;
-use kmc_rooms::{ReadFault, fill_behind};
+use kmc_device::{Counted, ReadFault, fill_behind};
 use std::io::Read;
 
 /// Memory for a body is asked for in blocks of so many bytes, as they come.

@@ -5,8 +5,8 @@ use Rattle.std.specs.Prelude.{slice_index}
 use Rattle.std.proofs.lemmas.List.{get_or-replicate}
 use Rattle.std.proofs.lemmas.List.FromFn.{get_or-map-range_with_len, length-map-range_with_len}
 use Rattle.kmc_base.specs.Record.{IsBodyOf}
-use Rattle.kmc_store.specs.Shapes.{Sizes}
-use Rattle.kmc_store.specs.Parts.{IsPart, capped}
+use Rattle.kmc_record.specs.Shapes.{Sizes}
+use Rattle.kmc_record.specs.Parts.{IsPart, capped}
 use Rattle.kmc_store.specs.Bins.{BinList, body_at, AreBins}
 use Rattle.kmc_store.specs.Holds.{HoldsReads}
 use Rattle.kmc_store.specs.Laws.{MergedBinsHoldBoth, EmptyBinsHoldNoReads}

@@ -1,14 +1,13 @@
 -- Files of slices, read back: the bins of all parts.
-use Rattle.std.proofs.Common.{◌≡◌, ℕ, ◌+◌, ◌%◌, ◌<◌, ◌≤◌, ◌⊎◌, inl, inr, Bool, cond, eqb, List, [], ◌∷◌, ◌++◌, length, get_or, Option, Some, refl, sym, ap}
-use Rattle.std.proofs.Common.{subst, ◌∙◌, arith, append_assoc, append-nil, length-append}
+use Rattle.std.proofs.Common.{◌≡◌, ℕ, ◌+◌, ◌%◌, ◌<◌, ◌≤◌, ◌⊎◌, inl, inr, Bool, cond, eqb, List, [], ◌∷◌, ◌++◌, length, get_or, Option, Some, refl, sym, ap, subst, ◌∙◌, arith, append_assoc, append-nil, length-append}
 use Rattle.std.specs.Io.KnownBytes.{Appends}
 use Rattle.std.specs.List.{AllByRecursion, AllZip, filter, flat_map}
 use Rattle.std.proofs.lemmas.Bool.{cases_eq, eq-eqb, ne_eqb}
 use Rattle.kmc_base.specs.declared.strands.Strands.{Strands}
 use Rattle.kmc_base.specs.Pieces.{pieces}
 use Rattle.kmc_base.specs.SpellingLaws.{BodyHasOneList}
-use Rattle.kmc_store.specs.Parts.{capped}
-use Rattle.kmc_store.specs.Shapes.{Sizes}
+use Rattle.kmc_record.specs.Parts.{capped}
+use Rattle.kmc_record.specs.Shapes.{Sizes}
 use Rattle.kmc_store.specs.Bins.{body_at}
 use Rattle.kmc_store.specs.Laws.{MergedBinsHoldBoth, EmptyBinsHoldNoReads}
 use Rattle.kmc_count.specs.Laws.{PiecesAreCountedAsReads}
@@ -16,7 +15,7 @@ use Rattle.kmc_count.specs.Occurrences.{count_of}
 use Rattle.kmc_count.specs.Dump.{IsDump}
 use Rattle.kmc_count.specs.Merge.{joined}
 use Rattle.kmc_sum.specs.Laws.{CountsAdd}
-use Rattle.kmc_bin_lists.specs.Laws.{HeldReadsAreCounted, CutReadsAreCounted, BinsShareNoKey}
+use Rattle.kmc_stage_two.specs.Laws.{HeldReadsAreCounted, CutReadsAreCounted, BinsShareNoKey}
 use Rattle.kmc_slice_files.specs.Files.{IsSlicing, IsSliceFile, file_bytes, header_bytes}
 use Rattle.kmc_slice_files.specs.Frames.{Frame, AreFrames, body_of, end_bytes, frames_bytes}
 use Rattle.kmc_slice_files.specs.Lemmas.Heads.{length_spare}

@@ -4,10 +4,10 @@ use Rattle.std.specs.List.{flat_map}
 use Rattle.std.specs.Io.KnownBytes.{Consumes}
 use Rattle.std.proofs.lemmas.Grind.{flat_map-append}
 use Rattle.std.proofs.lemmas.List.{get_or-replicate}
-use Rattle.kmc_store.specs.Shapes.{Sizes}
+use Rattle.kmc_record.specs.Shapes.{Sizes}
 use Rattle.kmc_store.specs.Bins.{body_at}
 use Rattle.kmc_count.specs.Lemmas.Zips.{zip_append}
-use Rattle.kmc_input.specs.Lemmas.Fed.{consumes_on}
+use Rattle.kmc_stage_one.specs.Lemmas.Fed.{consumes_on}
 use Rattle.kmc_slice_files.specs.Frames.{body_of}
 use Rattle.kmc_slice_files.specs.Files.{header_bytes}
 use Rattle.kmc_slice_files.specs.Whole.{GaveFile, GaveFrames}

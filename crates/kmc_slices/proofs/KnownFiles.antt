@@ -2,7 +2,7 @@
 use Rattle.std.proofs.Common.{◌≡◌, ℕ, List, [], ◌∷◌, ◌++◌, Option, Some, None, ap, subst, ◌∙◌, append-nil}
 use Rattle.std.specs.List.{AllZip}
 use Rattle.kmc_device.specs.Device.{GaveAll}
-use Rattle.kmc_store.specs.Shapes.{Sizes}
+use Rattle.kmc_record.specs.Shapes.{Sizes}
 use Rattle.kmc_slice_files.specs.Frames.{Frame}
 use Rattle.kmc_slice_files.specs.Files.{file_bytes}
 use Rattle.kmc_slices.specs.Files.{IsFileOf}

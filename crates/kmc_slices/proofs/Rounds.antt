@@ -1,6 +1,5 @@
 -- Rounds behind rounds, on the writers of all slices.
-use Rattle.std.proofs.Common.{◌≡◌, inl, ℕ, ◌<◌, ◌^◌, min, List, [], ◌∷◌, ◌++◌, get_or, Option, Result, Err, IfErr, OnErr, refl, sym, ap, subst, ◌∙◌, arith}
-use Rattle.std.proofs.Common.{append_assoc, append-nil}
+use Rattle.std.proofs.Common.{◌≡◌, inl, ℕ, ◌<◌, ◌^◌, min, List, [], ◌∷◌, ◌++◌, get_or, Option, Result, Err, IfErr, OnErr, refl, sym, ap, subst, ◌∙◌, arith, append_assoc, append-nil}
 use Rattle.std.specs.List.{AllByRecursion, flat_map}
 use Rattle.std.proofs.lemmas.List.Concat.{flat_map-append}
 use Rattle.std.proofs.KnownBytes.{Appends-nil}
@@ -8,13 +7,13 @@ use Rattle.kmc_base.specs.Pieces.{pieces}
 use Rattle.kmc_device.specs.Device.{AppendsFront}
 use Rattle.kmc_device.specs.Lemmas.Devices.{front_after, front_of, front_all}
 use Rattle.kmc_reads.specs.declared.format.Format.{Format}
-use Rattle.kmc_store.specs.Shapes.{Sizes, IsShape}
-use Rattle.kmc_settings.specs.Shape.{most_symbols}
-use Rattle.kmc_settings.specs.declared.params.Params.{Params}
+use Rattle.kmc_record.specs.Shapes.{Sizes, IsShape}
+use Rattle.kmc_options.specs.Shape.{most_symbols}
+use Rattle.kmc_options.specs.declared.run_params.Params.{Params}
 use Rattle.kmc_store.specs.Bins.{AreBins, body_at}
 use Rattle.kmc_store.specs.Holds.{HoldsReads}
 use Rattle.kmc_store.specs.Laws.{MergedBinsHoldBoth, EmptyBinsHoldNoReads}
-use Rattle.kmc_rounds.specs.Rounds.{HoldsPieces}
+use Rattle.kmc_stage_one.specs.Rounds.{HoldsPieces}
 use Rattle.kmc_base.specs.Lemmas.PassedOn.{passed_on}
 use Rattle.std.specs.Prelude.{IsErrAnd}
 use Rattle.kmc_slice_files.specs.Files.{header_bytes}

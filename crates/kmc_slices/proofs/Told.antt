@@ -6,13 +6,13 @@ use Rattle.kmc_reads.specs.declared.error.ReadsError.TheVariants as reads
 use Rattle.kmc_reads.specs.declared.format.Format.{Format}
 use Rattle.kmc_reads.specs.Reads.{reads_of}
 use Rattle.kmc_reads.specs.Standing.{FeederState, StandsCut}
-use Rattle.kmc_store.specs.Shapes.{Sizes}
-use Rattle.kmc_input.specs.declared.input_error.InputError.{InputError}
-use Rattle.kmc_input.specs.declared.input_error.InputError.TheVariants as input
-use Rattle.kmc_input.specs.Errors.{input_error}
-use Rattle.kmc_input.specs.Fed.{AreCountsOf, IsFed, IsFedBy}
-use Rattle.kmc_rounds.specs.Rounds.{IsInputError}
-use Rattle.kmc_input.specs.Lemmas.Fed.{consumes_on, refused_on}
+use Rattle.kmc_record.specs.Shapes.{Sizes}
+use Rattle.kmc_reads.specs.declared.input_error.InputError.{InputError}
+use Rattle.kmc_reads.specs.declared.input_error.InputError.TheVariants as input
+use Rattle.kmc_reads.specs.Errors.{input_error}
+use Rattle.kmc_stage_one.specs.Fed.{AreCountsOf, IsFed, IsFedBy}
+use Rattle.kmc_stage_one.specs.Rounds.{IsInputError}
+use Rattle.kmc_stage_one.specs.Lemmas.Fed.{consumes_on, refused_on}
 use Rattle.kmc_slices.specs.declared.error.CutError.{CutError}
 use Rattle.kmc_slices.specs.declared.error.CutError.TheVariants.{Memory, Read, Write, Input, TooLong}
 use Rattle.kmc_slices.specs.Cut.{AreReadCounts, AreWriteCounts, IsCutError, IsLastCutError, IsToldAs}

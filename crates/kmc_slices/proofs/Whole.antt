@@ -1,6 +1,5 @@
 -- The dumps of all slices, summed.
-use Rattle.std.proofs.Common.{◌≡◌, ℕ, zero, suc, ◌+◌, ◌%◌, ◌<◌, ◌≤◌, ◌⊎◌, inl, inr, Bool, true, false, cond, eqb, min, List, [], ◌∷◌, length, map, get_or}
-use Rattle.std.proofs.Common.{refl, sym, ap, subst, ◌∙◌, arith}
+use Rattle.std.proofs.Common.{◌≡◌, ℕ, zero, suc, ◌+◌, ◌%◌, ◌<◌, ◌≤◌, ◌⊎◌, inl, inr, Bool, true, false, cond, eqb, min, List, [], ◌∷◌, length, map, get_or, refl, sym, ap, subst, ◌∙◌, arith}
 use Rattle.std.specs.List.{AllZip, Contains, range_with_len, sum_by}
 use Rattle.std.proofs.lemmas.Bool.{eq-eqb, ne_eqb}
 use Rattle.std.proofs.lemmas.List.{ext_get_or, get_or-map, length-map}
@@ -11,7 +10,7 @@ use Rattle.kmc_base.specs.declared.strands.Strands.{Strands}
 use Rattle.kmc_base.specs.Record.{IsBodyOf}
 use Rattle.kmc_record.specs.RecordWords.{record_keys}
 use Rattle.kmc_base.specs.SpellingLaws.{BodyHasOneList}
-use Rattle.kmc_store.specs.Shapes.{Sizes}
+use Rattle.kmc_record.specs.Shapes.{Sizes}
 use Rattle.kmc_store.specs.Bins.{body_at}
 use Rattle.kmc_store.specs.Holds.{HoldsReads}
 use Rattle.kmc_store.specs.Laws.{MergedBinsHoldBoth, EmptyBinsHoldNoReads}
@@ -22,7 +21,7 @@ use Rattle.kmc_count.specs.Merge.{joined, AreApart}
 use Rattle.kmc_count.specs.Lemmas.Apart.{occurs_contains}
 use Rattle.kmc_count.specs.Lemmas.Zips.{zip_at}
 use Rattle.kmc_sum.specs.Sum.{listed_count, sum_of}
-use Rattle.kmc_bin_lists.specs.Laws.{HeldReadsAreCounted, BinsShareNoKey}
+use Rattle.kmc_stage_two.specs.Laws.{HeldReadsAreCounted, BinsShareNoKey}
 use Rattle.kmc_slices.specs.Laws.{SlicesAreWhole, OneSliceIsWhole}
 use Rattle.kmc_slices.specs.Slices.{Part, AreOfSlice, IsDumpOfSlice, all_reads, whole_body, whole_bodies}
 use Rattle.kmc_slices.proofs.Sums.{of_slice, one_slice, lone_range, one_of}

@@ -6,16 +6,16 @@ use Rattle.kmc_reads.specs.declared.format.Format.{Format}
 use Rattle.kmc_reads.specs.Cuts.{AreCut}
 use Rattle.kmc_reads.specs.Reads.{reads_of}
 use Rattle.kmc_reads.specs.Stages.{fault}
-use Rattle.kmc_store.specs.Shapes.{Sizes}
-use Rattle.kmc_settings.specs.declared.params.Params.{Params}
-use Rattle.kmc_settings.specs.Shape.{shape_of}
+use Rattle.kmc_record.specs.Shapes.{Sizes}
+use Rattle.kmc_options.specs.declared.run_params.Params.{Params}
+use Rattle.kmc_options.specs.Shape.{shape_of}
 use Rattle.kmc_store.specs.Bins.{AreBins}
 use Rattle.kmc_slice_files.specs.Files.{IsSliceFile}
 use Rattle.kmc_slice_files.specs.Writes.{AreFiles, HasFailed, held_at}
-use Rattle.kmc_input.specs.declared.input_error.InputError.{InputError}
-use Rattle.kmc_input.specs.declared.input_error.InputError.TheVariants as input
-use Rattle.kmc_input.specs.Fed.{IsRefused}
-use Rattle.kmc_rounds.specs.Rounds.{HoldsPieces}
+use Rattle.kmc_reads.specs.declared.input_error.InputError.{InputError}
+use Rattle.kmc_reads.specs.declared.input_error.InputError.TheVariants as input
+use Rattle.kmc_stage_one.specs.Fed.{IsRefused}
+use Rattle.kmc_stage_one.specs.Rounds.{HoldsPieces}
 use Rattle.kmc_slices.specs.declared.error.CutError.{CutError}
 use Rattle.kmc_slices.specs.declared.error.CutError.TheVariants.{Memory, Read, Write, Input, TooLong}
 use Rattle.kmc_slices.specs.Rounds.{AreUnended}

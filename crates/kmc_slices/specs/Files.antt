@@ -3,13 +3,13 @@ use Rattle.std.specs.Prelude.{◌≡◌, ℕ, ◌-◌, ◌<◌, List, [], length
 use Rattle.std.specs.List.{AllZip, flat_map}
 use Rattle.kmc_base.specs.declared.strands.Strands.{Strands}
 use Rattle.kmc_reads.specs.Cuts.{AreCut}
-use Rattle.kmc_store.specs.Shapes.{Sizes}
+use Rattle.kmc_record.specs.Shapes.{Sizes}
 use Rattle.kmc_store.specs.Bins.{AreBins, body_at}
 use Rattle.kmc_count.specs.declared.limits.Limits.{Limits}
 use Rattle.kmc_slice_files.specs.Files.{IsSlicing, IsSliceFile, file_bytes}
 use Rattle.kmc_slice_files.specs.Frames.{Frame, AreFrames, body_of}
-use Rattle.kmc_rounds.specs.Rounds.{HoldsPieces}
-use Rattle.kmc_bin_lists.specs.Stages.{IsDumpOfBins}
+use Rattle.kmc_stage_one.specs.Rounds.{HoldsPieces}
+use Rattle.kmc_stage_two.specs.Stages.{IsDumpOfBins}
 
 -- a part of the reads was cut to the files of S slices, each read as its pieces of at most so many symbols
 pub record AreCutTo (shape : Sizes) (limit S : ℕ) (reads files : List (List ℕ)) : Type 0 where

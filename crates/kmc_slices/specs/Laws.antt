@@ -4,7 +4,7 @@ use Rattle.std.specs.List.{AllByRecursion, AllZip}
 use Rattle.kmc_base.specs.declared.strands.Strands.{Strands}
 use Rattle.kmc_reads.specs.declared.format.Format.{Format}
 use Rattle.kmc_reads.specs.Reads.{reads_of}
-use Rattle.kmc_store.specs.Shapes.{Sizes, IsShape}
+use Rattle.kmc_record.specs.Shapes.{Sizes, IsShape}
 use Rattle.kmc_count.specs.declared.limits.Limits.{Limits}
 use Rattle.kmc_count.specs.Occurrences.{count_of}
 use Rattle.kmc_count.specs.Dump.{IsDump}

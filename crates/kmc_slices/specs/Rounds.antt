@@ -11,10 +11,10 @@ use Rattle.kmc_slice_files.specs.Writes.{AreOpen, held_at}
 use Rattle.kmc_slices.specs.Slices.{Part, IsCutTo, all_reads, whole_bodies}
 use Rattle.kmc_reads.specs.declared.format.Format.{Format}
 use Rattle.kmc_reads.specs.Standing.{FeederState}
-use Rattle.kmc_store.specs.Shapes.{Sizes}
-use Rattle.kmc_input.specs.declared.input_error.InputError.{InputError}
-use Rattle.kmc_input.specs.Fed.{IsFed, IsFedBy}
-use Rattle.kmc_rounds.specs.Rounds.{HoldsPieces}
+use Rattle.kmc_record.specs.Shapes.{Sizes}
+use Rattle.kmc_reads.specs.declared.input_error.InputError.{InputError}
+use Rattle.kmc_stage_one.specs.Fed.{IsFed, IsFedBy}
+use Rattle.kmc_stage_one.specs.Rounds.{HoldsPieces}
 
 -- the bins hold the reads of one round, which stand behind those that were taken before, and the feeder took what the reader gave meanwhile
 pub record IsRound (shape : Sizes) (limit : ℕ) (format : Format) (old new : Option (List ℕ)) (before after : ℕ) (text : List ℕ)

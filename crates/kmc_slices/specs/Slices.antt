@@ -2,11 +2,11 @@
 use Rattle.std.specs.Prelude.{◌≡◌, ℕ, ◌%◌, ◌<◌, if◌then◌else◌, nat_eq, List, [], length, map}
 use Rattle.std.specs.List.{flat_map, range_with_len}
 use Rattle.kmc_base.specs.declared.strands.Strands.{Strands}
-use Rattle.kmc_store.specs.Shapes.{Sizes}
+use Rattle.kmc_record.specs.Shapes.{Sizes}
 use Rattle.kmc_count.specs.declared.limits.Limits.{Limits}
 use Rattle.kmc_store.specs.Bins.{AreBins, body_at}
 use Rattle.kmc_store.specs.Holds.{HoldsReads}
-use Rattle.kmc_bin_lists.specs.Stages.{IsDumpOfBins}
+use Rattle.kmc_stage_two.specs.Stages.{IsDumpOfBins}
 
 -- what a part of the reads was cut to: its reads, and for each bin its records and the number of their words
 pub record Part : Type 0 where

@@ -2,7 +2,7 @@
 ghost use Rattle.std.specs.Prelude.{◌≡◌, ℕ, ◌+◌, ◌-◌, ◌^◌, ◌<◌, ◌≤◌, List, [], length, map, slice_index, Option, OnOk, OnErr, IfErr};
 ghost use Rattle.kmc_reads.specs.declared.format.Format.{Format};
 ghost use Rattle.kmc_reads.specs.Standing.{StandsCut};
-ghost use Rattle.kmc_settings.specs.Shape.{shape_of};
+ghost use Rattle.kmc_options.specs.Shape.{shape_of};
 ghost use Rattle.kmc_slices.specs.Cut.{AreReadCounts, AreWriteCounts, IsCutError, IsLastCutError};
 ghost use Rattle.kmc_slices.specs.Rounds.{AreAllRounds, AreLastRounds, AreRounds, AreUnended};
 
@@ -10,10 +10,9 @@ use crate::error::{CutError, told};
 use crate::round::next_bins;
 use crate::writing::write_bins;
 use kmc_device::Counted;
-use kmc_input::{InputError, fill_round};
 use kmc_partqueue::Gate;
-use kmc_reads::Feeder;
-use kmc_rounds::{Dealing, last_round, round_of};
+use kmc_reads::{Feeder, InputError};
+use kmc_stage_one::{Dealing, fill_round, last_round, round_of};
 use kmc_store::Bins;
 use kmc_store::laws::empty_bins_hold_no_reads;
 use std::io::{Read, Write};

@@ -3,8 +3,7 @@ ghost use Rattle.std.specs.Prelude.{◌≡◌};
 ghost use Rattle.kmc_slices.specs.Cut.{IsToldAs};
 ghost use Rattle.kmc_slices.specs.declared.error.CutError.TheVariants.{Memory};
 
-use kmc_input::InputError;
-use kmc_reads::ReadsError;
+use kmc_reads::{InputError, ReadsError};
 use std::alloc::AllocError;
 
 /// Why reads were not cut to the files of slices. Of several causes the one that is met first is answered.

@@ -2,9 +2,9 @@
 ghost use Rattle.kmc_slices.specs.Laws.{FileTellsSlice, FilesAreWhole, OneSliceIsWhole, SlicesAreWhole, UnendedIsNoFile, WrittenSlicesAreCut, GatheredFilesAreRead};
 
 use kmc_base::laws::body_has_one_list;
-use kmc_bin_lists::laws::{bins_share_no_key, cut_reads_are_counted, held_reads_are_counted};
 use kmc_count::laws::pieces_are_counted_as_reads;
 use kmc_slice_files::laws::files_are_one;
+use kmc_stage_two::laws::{bins_share_no_key, cut_reads_are_counted, held_reads_are_counted};
 use kmc_store::laws::{empty_bins_hold_no_reads, merged_bins_hold_both};
 use kmc_sum::laws::counts_add;
 
@@ -59,12 +59,12 @@ pub fn unended_is_no_file()
     files_are_one();
 }
 
-/// What [`cut_slices`](crate::cut_slices) wrote to files that were empty is the cut of the reads, of which `files_are_whole` speaks.
+/// What [`cut_slices`](crate::slicing::cut_slices) wrote to files that were empty is the cut of the reads, of which `files_are_whole` speaks.
 pub fn written_slices_are_cut()
     ensures { WrittenSlicesAreCut }
 {}
 
-/// The records of files whose bytes are known, gathered by [`SliceRecords`](crate::SliceRecords), are what is read of these files,
+/// The records of files whose bytes are known, gathered by [`SliceRecords`](crate::gathering::SliceRecords), are what is read of these files,
 /// of which `files_are_whole` speaks.
 pub fn gathered_files_are_read()
     ensures { GatheredFilesAreRead }

@@ -1,19 +1,27 @@
-//! Slices: parts of a count, of which each is the records of some of the bins, of all parts of the reads. It stands on `kmc_tool`
-//! for rounds of reads in bins and on `kmc_slice_files` for the files. The layer above cuts the reads of a text to files by
-//! [`cut_slices`], which tests call as [`cut_slices_with`], and learns from `laws` that the dumps of what is read of the files of
-//! all slices, merged by `kmc_sum`, are the dump of all the reads.
+//! Slices: parts of a count, of which each is the records of some of the bins, of all parts of the reads. Reads are cut, a round at a
+//! time, to the files of all slices; the files of one slice are gathered, judged by threads and counted. It stands on kmc_stage_one,
+//! kmc_stage_two and kmc_dump for that, on kmc_slice_files for files and on kmc_options for words. The layer above calls the
+//! programs, and learns from `laws` that the dumps of all slices, merged, are the dump of all the reads.
 #![tactic(auto)]
 
 mod cutting;
 mod error;
 mod gathering;
+mod judging;
 pub mod laws;
 mod listing;
+mod programs;
 mod round;
+mod sharing;
 mod slicing;
 mod writing;
 
 pub use error::CutError;
 pub use gathering::{GatherError, SliceRecords};
+pub use judging::{BinFault, judged_bins};
 pub use listing::{ListError, list_records};
+pub use programs::{
+    CutFault, CutMessage, ListFault, ListMessage, cut_program, cut_words, gather_files, list_files,
+    list_program, list_words,
+};
 pub use slicing::{cut_slices, cut_slices_with};

@@ -2,19 +2,19 @@
 ghost use Rattle.std.specs.Prelude.{◌≡◌, ◌≢◌, ℕ, ◌-◌, ◌^◌, ◌<◌, List, length, IfOk, IfErr, IsErrOf};
 ghost use Rattle.std.specs.Io.KnownBytes.{Appends};
 ghost use Rattle.kmc_device.specs.Device.{AppendsFront, RisesByOne};
-ghost use Rattle.kmc_device.specs.Line.{text_of};
+ghost use Rattle.kmc_lists.specs.Line.{text_of};
 ghost use Rattle.kmc_store.specs.Bins.{AreBins};
-ghost use Rattle.kmc_judging.specs.Outside.{IsBinFault};
-ghost use Rattle.kmc_judging.specs.declared.judging.BinFault.{BinFault};
-ghost use Rattle.kmc_bin_lists.specs.Stages.{IsDumpOfBins};
+ghost use Rattle.kmc_slices.specs.Outside.{IsBinFault};
+ghost use Rattle.kmc_slices.specs.declared.judging.BinFault.{BinFault};
+ghost use Rattle.kmc_stage_two.specs.Stages.{IsDumpOfBins};
 ghost use Rattle.kmc_slices.specs.declared.listing.ListError.TheVariants.{Memory, Foreign, Write};
 
 use crate::gathering::SliceRecords;
-use kmc_bin_lists::lists_of_bins;
+use crate::judging::{BinFault, judged_bins};
 use kmc_device::Counted;
 use kmc_dump::{DumpError, write_bins};
-use kmc_judging::{BinFault, judged_bins};
-use kmc_settings::Params;
+use kmc_options::Params;
+use kmc_stage_two::lists_of_bins;
 use std::alloc::{AllocError, Global};
 use std::io;
 use std::thread::Threads;

@@ -3,15 +3,14 @@ ghost use Rattle.std.specs.Prelude.{◌≡◌, ℕ, ◌-◌, ◌^◌, ◌<◌, �
 ghost use Rattle.std.specs.Io.KnownBytes.{IsAtEnd};
 ghost use Rattle.kmc_reads.specs.declared.format.Format.{Format};
 ghost use Rattle.kmc_reads.specs.Standing.{StandsCut};
-ghost use Rattle.kmc_settings.specs.Shape.{shape_of};
-ghost use Rattle.kmc_input.specs.Fed.{AreCounts, AreCountsOf};
+ghost use Rattle.kmc_options.specs.Shape.{shape_of};
+ghost use Rattle.kmc_stage_one.specs.Fed.{AreCounts, AreCountsOf};
 ghost use Rattle.kmc_slices.specs.Rounds.{IsRound, IsRoundError};
 
 use kmc_device::Counted;
-use kmc_input::InputError;
 use kmc_partqueue::Gate;
-use kmc_reads::Feeder;
-use kmc_rounds::{Dealing, feed_round};
+use kmc_reads::{Feeder, InputError};
+use kmc_stage_one::{Dealing, feed_round};
 use kmc_store::Bins;
 use kmc_store::laws::empty_bins_hold_no_reads;
 use std::io::Read;

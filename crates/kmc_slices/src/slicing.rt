@@ -1,16 +1,16 @@
 //! All that a reader gives, to the files of all slices.
 ghost use Rattle.std.specs.Prelude.{◌≡◌, ℕ, ◌+◌, ◌-◌, ◌^◌, ◌<◌, ◌≤◌, length, map, slice_index, IfOk, OnOk, IfErr};
-ghost use Rattle.kmc_settings.specs.Shape.{shape_of};
+ghost use Rattle.kmc_options.specs.Shape.{shape_of};
 ghost use Rattle.kmc_tool.specs.declared.input.TheConstants.{PIECE_SYMBOLS};
 ghost use Rattle.kmc_slices.specs.Cut.{AreReadCounts, AreWriteCounts, IsCutError, IsCutting, IsLeft, WroteSlices};
 
 use crate::cutting::cut_rounds;
 use crate::error::CutError;
 use kmc_device::Counted;
+use kmc_options::Params;
 use kmc_partqueue::{Gate, NoGate};
-use kmc_rounds::Dealing;
-use kmc_settings::Params;
 use kmc_slice_files::{begin_files, end_files};
+use kmc_stage_one::Dealing;
 use kmc_store::laws::{empty_bins_hold_no_reads, merged_bins_hold_both};
 use kmc_tool::{MOST_READS, PIECE_SYMBOLS};
 use std::alloc::{AllocError, Global};

@@ -2,7 +2,7 @@
 ghost use Rattle.std.specs.Prelude.{◌≡◌, ℕ, ◌-◌, ◌^◌, ◌<◌, ◌≤◌, List, ◌++◌, length, map, slice_index, Option, OnOk, OnErr, IfErr};
 ghost use Rattle.kmc_slice_files.specs.Writes.{HasFailed};
 ghost use Rattle.kmc_slices.specs.Rounds.{AreRounds, AreUnended};
-ghost use Rattle.kmc_rounds.specs.Rounds.{HoldsPieces};
+ghost use Rattle.kmc_stage_one.specs.Rounds.{HoldsPieces};
 
 use kmc_device::Counted;
 use kmc_slice_files::write_round;

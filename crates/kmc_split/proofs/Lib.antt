@@ -1,7 +1,7 @@
-pub mod Grouping
-pub mod RowEnds
-pub mod Pairs
-pub mod Rolled
-pub mod Unique
-pub mod Kept
-pub mod Short
+mod Grouping
+mod Kept
+mod Pairs
+mod Rolled
+mod RowEnds
+mod Short
+mod Unique

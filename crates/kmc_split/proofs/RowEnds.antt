@@ -1,6 +1,5 @@
 -- Rows of equal values that grow at their end, and the runs that rows are cut into.
-use Rattle.std.proofs.Common.{◌≡◌, ◌≢◌, ℕ, ◌+◌, ◌-◌, ◌<◌, ◌≤◌, List, [], ◌∷◌, ◌++◌, sym, ap, ◌∙◌, arith, ◌⊎◌, inl, inr, length, take, drop, get_or, set}
-use Rattle.std.proofs.Common.{add-one, subst}
+use Rattle.std.proofs.Common.{◌≡◌, ◌≢◌, ℕ, ◌+◌, ◌-◌, ◌<◌, ◌≤◌, List, [], ◌∷◌, ◌++◌, sym, ap, ◌∙◌, arith, ◌⊎◌, inl, inr, length, take, drop, get_or, set, add-one, subst}
 use Rattle.std.proofs.Math.Seq.{drop-cons}
 use Rattle.std.proofs.lemmas.List.{take-set, take_more_set}
 use Rattle.kmc_split.specs.declared.runs.Run.{Run}

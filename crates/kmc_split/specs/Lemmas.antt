@@ -1,6 +1,6 @@
 -- Lemmas on the definitions beside this file: proofs cite them, here and in the crates above, and no promise needs them to be read.
-pub mod Written
 pub mod Allowed
-pub mod Lowest
-pub mod Least
 pub mod BothStrands
+pub mod Least
+pub mod Lowest
+pub mod Written

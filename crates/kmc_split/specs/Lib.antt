@@ -1,7 +1,10 @@
-pub mod Signature
 pub mod Cut
+pub mod CutSuperKmers
 pub mod Laws
-pub mod Minima
-pub mod Rows
-pub mod Offers
 pub mod Lemmas
+pub mod Minima
+pub mod Offers
+pub mod Rows
+pub mod Signature
+pub mod SuperKmer
+pub mod SuperKmers

@@ -4,8 +4,8 @@ use Rattle.std.specs.List.{sum_by, flat_map}
 use Rattle.kmc_base.specs.Stretches.{Stretch, segments_of}
 use Rattle.kmc_split.specs.declared.runs.Run.{Run}
 use Rattle.kmc_split.specs.Laws.{CutExists, CutIsUnique}
-use Rattle.kmc_store.specs.Parts.{bin_runs, AreCuts, bin_super_kmers, all_segments}
-use Rattle.kmc_store.specs.Lemmas.Sums.{sum_flat_map}
+use Rattle.kmc_record.specs.Parts.{bin_runs, AreCuts, bin_super_kmers, all_segments}
+use Rattle.kmc_record.specs.Lemmas.Sums.{sum_flat_map}
 
 pub one_cuts : CutIsUnique → (k m : ℕ) (ss : List Stretch) (cs ds : List (List Run)) → AreCuts k m ss cs → AreCuts k m ss ds → cs ≡ ds
 one_cuts unique k m [] [] [] h g = refl

@@ -1,6 +1,5 @@
 -- Cutting reads into chunks and dealing these loses nothing.
-use Rattle.std.proofs.Common.{◌≡◌, ℕ, zero, suc, ◌+◌, ◌*◌, ◌%◌, ◌<◌, ◌≤◌, nat_eq, nat_lt, Bool, true, false, cond, List, length, map, drop, refl, sym, ap}
-use Rattle.std.proofs.Common.{◌∙◌, arith, zero-mul}
+use Rattle.std.proofs.Common.{◌≡◌, ℕ, zero, suc, ◌+◌, ◌*◌, ◌%◌, ◌<◌, ◌≤◌, nat_eq, nat_lt, Bool, true, false, cond, List, length, map, drop, refl, sym, ap, ◌∙◌, arith, zero-mul}
 use Rattle.std.proofs.Math.Nat.{mod-lt, suc-mul}
 use Rattle.std.proofs.lemmas.List.{drop_all}
 use Rattle.std.proofs.lemmas.List.Folds.{drop_split}
@@ -9,10 +8,10 @@ use Rattle.std.specs.List.{sum_by, filter, range_with_len}
 use Rattle.kmc_base.specs.Stretches.{Stretch}
 use Rattle.kmc_split.specs.declared.runs.Run.{Run}
 use Rattle.kmc_split.specs.Laws.{CutExists, CutIsUnique}
-use Rattle.kmc_store.specs.Shapes.{Sizes}
-use Rattle.kmc_store.specs.Parts.{Parcel, grown, empty_part, bin_super_kmers, all_segments, ArePartsOf}
+use Rattle.kmc_record.specs.Shapes.{Sizes}
+use Rattle.kmc_record.specs.Parts.{Parcel, grown, empty_part, bin_super_kmers, all_segments, ArePartsOf}
 use Rattle.kmc_store.specs.Deals.{chunk_at, AreSent, AreDealt, AreGathered}
-use Rattle.kmc_store.specs.Lemmas.Sums.{sum_none, sum_add}
+use Rattle.kmc_record.specs.Lemmas.Sums.{sum_none, sum_add}
 use Rattle.kmc_store.proofs.Ranges.{ne_of, eq_of, range_same, only, range_one, sum_below}
 use Rattle.kmc_store.proofs.Cuts.{one_cuts, cut_of, are_cuts}
 

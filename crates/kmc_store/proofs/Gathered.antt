@@ -1,6 +1,5 @@
 -- Bins to which all parts of all chunks are added hold the reads.
-use Rattle.std.proofs.Common.{◌≡◌, ℕ, ◌+◌, ◌*◌, ◌<◌, ◌≤◌, nat_eq, nat_lt, Bool, true, false, cond, List, [], ◌∷◌, ◌++◌, length, map, refl, sym, ap, ap₂}
-use Rattle.std.proofs.Common.{subst, ◌∙◌, arith}
+use Rattle.std.proofs.Common.{◌≡◌, ℕ, ◌+◌, ◌*◌, ◌<◌, ◌≤◌, nat_eq, nat_lt, Bool, true, false, cond, List, [], ◌∷◌, ◌++◌, length, map, refl, sym, ap, ap₂, subst, ◌∙◌, arith}
 use Rattle.std.proofs.lemmas.List.Sums.{sum_by-cons, sum_by-append}
 use Rattle.std.proofs.lemmas.Bool.Decides.{nat_tests}
 use lib.Pointwise.{pointwise_decides}
@@ -9,13 +8,13 @@ use Rattle.std.specs.Prelude.{bytes_eq}
 use Rattle.std.specs.List.{sum_by, flat_map, range_with_len, AllByRecursion}
 use Rattle.kmc_split.specs.Laws.{CutExists, CutIsUnique, CutHasRuns}
 use Rattle.kmc_base.specs.Record.{spelling, IsSpelled, IsBodyOf}
-use Rattle.kmc_store.specs.Shapes.{Sizes}
-use Rattle.kmc_store.specs.Parts.{Parcel}
+use Rattle.kmc_record.specs.Shapes.{Sizes}
+use Rattle.kmc_record.specs.Parts.{Parcel}
 use Rattle.kmc_store.specs.Bins.{body_at}
 use Rattle.kmc_store.specs.Bodies.{parts_in, AreAdded}
 use Rattle.kmc_store.specs.Deals.{chunk_at, AreDealt, AreGathered}
 use Rattle.kmc_store.specs.Holds.{HoldsReads}
-use Rattle.kmc_store.specs.Lemmas.Sums.{sum_same, sum_none, sum_filter, sum_map, sum_flat_map}
+use Rattle.kmc_record.specs.Lemmas.Sums.{sum_same, sum_none, sum_filter, sum_map, sum_flat_map}
 use Rattle.kmc_store.proofs.Ranges.{eq_of, is_eq, only, range_one, below_same, below_none}
 use Rattle.kmc_store.proofs.Cuts.{cut_of, are_cuts, read_records, read_records_are, read_sum, reads_sum}
 use Rattle.kmc_store.proofs.Spelled.{all_flat, all_each, all_filter, records_spelled}

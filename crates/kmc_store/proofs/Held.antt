@@ -7,12 +7,12 @@ use Rattle.std.specs.List.{sum_by, count_by}
 use Rattle.kmc_split.specs.declared.runs.Run.{Run}
 use Rattle.kmc_split.specs.Laws.{CutExists, CutIsUnique}
 use Rattle.kmc_base.specs.Record.{spelling, IsBodyOf}
-use Rattle.kmc_store.specs.Shapes.{Sizes}
-use Rattle.kmc_store.specs.Parts.{AreCuts, bin_super_kmers, all_segments}
+use Rattle.kmc_record.specs.Shapes.{Sizes}
+use Rattle.kmc_record.specs.Parts.{AreCuts, bin_super_kmers, all_segments}
 use Rattle.kmc_base.specs.SpellingLaws.{BodyHasOneList}
 use Rattle.kmc_store.specs.Bins.{BinList, body_at, empty_bins, Merged}
 use Rattle.kmc_store.specs.Holds.{HoldsReads}
-use Rattle.kmc_store.specs.Lemmas.Sums.{sum_map}
+use Rattle.kmc_record.specs.Lemmas.Sums.{sum_map}
 use Rattle.kmc_store.specs.Lemmas.Filling.{body_joined}
 use Rattle.kmc_store.proofs.Cuts.{one_cuts, cut_of, are_cuts, read_records_are, read_sum, reads_sum}
 

@@ -1,8 +1,6 @@
-pub mod Ranges
-pub mod Cuts
-pub mod Spelled
-pub mod Dealt
-pub mod Held
-pub mod Gathered
-pub mod Parcels
-pub mod Chunks
+mod Cuts
+mod Dealt
+mod Gathered
+mod Held
+mod Ranges
+mod Spelled

@@ -1,6 +1,5 @@
 -- The super-k-mers of reads can be spelled.
-use Rattle.std.proofs.Common.{◌≡◌, ℕ, ◌+◌, ◌-◌, ◌%◌, ◌<◌, ◌≤◌, nat_eq, nat_le, Bool, true, false, cond, List, [], ◌∷◌, length, map, drop, refl, arith}
-use Rattle.std.proofs.Common.{length-drop}
+use Rattle.std.proofs.Common.{◌≡◌, ℕ, ◌+◌, ◌-◌, ◌%◌, ◌<◌, ◌≤◌, nat_eq, nat_le, Bool, true, false, cond, List, [], ◌∷◌, length, map, drop, refl, arith, length-drop}
 use Rattle.std.proofs.lemmas.List.{length-take-le}
 use Rattle.std.proofs.lemmas.List.Elements.{recursion_from_All, All-from_recursion, All-take, All-drop}
 use Rattle.std.proofs.lemmas.Bool.Decides.{nat_tests}
@@ -12,7 +11,7 @@ use Rattle.kmc_split.specs.declared.runs.Run.{Run}
 use Rattle.kmc_split.specs.Cut.{run_codes, IsRunOf}
 use Rattle.kmc_split.specs.Laws.{CutExists, CutHasRuns}
 use Rattle.kmc_base.specs.Record.{IsSpelled}
-use Rattle.kmc_store.specs.Parts.{bin_runs, all_segments}
+use Rattle.kmc_record.specs.Parts.{bin_runs, all_segments}
 use Rattle.kmc_store.specs.Lemmas.Filling.{all_joined}
 use Rattle.kmc_store.proofs.Cuts.{runs_of, read_records}
 

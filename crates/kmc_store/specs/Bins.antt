@@ -1,7 +1,7 @@
 -- What bins in memory are, and how they take in more.
 use Rattle.std.specs.Prelude.{◌≡◌, ℕ, ◌+◌, ◌<◌, ◌++◌, List, [], length, replicate, slice_index, slice_index_or, slice_set}
-use Rattle.kmc_store.specs.Shapes.{Sizes}
-use Rattle.kmc_store.specs.Parts.{Parcel, IsPart, capped}
+use Rattle.kmc_record.specs.Shapes.{Sizes}
+use Rattle.kmc_record.specs.Parts.{Parcel, IsPart, capped}
 
 -- for each bin its records, one after the other, and the number of their words, or 2^64 - 1 where there are more
 pub record BinList : Type 0 where

@@ -1,8 +1,8 @@
 -- Bins to which the bodies of parts are added.
 use Rattle.std.specs.Prelude.{◌≡◌, ℕ, ◌<◌, ◌++◌, nat_eq, List, length}
 use Rattle.std.specs.List.{filter, flat_map}
-use Rattle.kmc_store.specs.Shapes.{Sizes}
-use Rattle.kmc_store.specs.Parts.{Parcel}
+use Rattle.kmc_record.specs.Shapes.{Sizes}
+use Rattle.kmc_record.specs.Parts.{Parcel}
 use Rattle.kmc_store.specs.Bins.{body_at}
 
 -- the parts of a bin, in their order

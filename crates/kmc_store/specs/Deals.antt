@@ -1,8 +1,8 @@
 -- How reads are cut into chunks, and chunks are dealt to writers.
 use Rattle.std.specs.Prelude.{◌≡◌, ◌≢◌, ℕ, zero, suc, ◌+◌, ◌*◌, ◌%◌, List, [], ◌++◌, slice_range}
 use Rattle.std.specs.List.{sum_by, range_with_len}
-use Rattle.kmc_store.specs.Shapes.{Sizes}
-use Rattle.kmc_store.specs.Parts.{Parcel, ArePartsOf}
+use Rattle.kmc_record.specs.Shapes.{Sizes}
+use Rattle.kmc_record.specs.Parts.{Parcel, ArePartsOf}
 
 -- the reads of chunk c: so many from c times as many on, or the rest
 abbrev pub chunk_at : ℕ → List (List ℕ) → ℕ → List (List ℕ)

@@ -3,8 +3,8 @@ use Rattle.std.specs.Prelude.{◌≡◌, ℕ, ◌<◌, List, length}
 use Rattle.std.specs.List.{sum_by}
 use Rattle.kmc_split.specs.declared.runs.Run.{Run}
 use Rattle.kmc_base.specs.Record.{IsBodyOf}
-use Rattle.kmc_store.specs.Shapes.{Sizes}
-use Rattle.kmc_store.specs.Parts.{AreCuts, bin_super_kmers, all_segments}
+use Rattle.kmc_record.specs.Shapes.{Sizes}
+use Rattle.kmc_record.specs.Parts.{AreCuts, bin_super_kmers, all_segments}
 use Rattle.kmc_store.specs.Bins.{body_at}
 
 -- the lists have the same members, each as often in the one as in the other: any sum over the one is that over the other

@@ -3,8 +3,8 @@ use Rattle.std.specs.Prelude.{◌≡◌, ℕ, ◌*◌, ◌<◌, ◌≤◌, List,
 use Rattle.std.specs.List.{count_by}
 use Rattle.kmc_split.specs.declared.runs.Run.{Run}
 use Rattle.kmc_base.specs.Record.{spelling, IsBodyOf}
-use Rattle.kmc_store.specs.Shapes.{Sizes}
-use Rattle.kmc_store.specs.Parts.{Parcel, AreCuts, bin_super_kmers, all_segments}
+use Rattle.kmc_record.specs.Shapes.{Sizes}
+use Rattle.kmc_record.specs.Parts.{Parcel, AreCuts, bin_super_kmers, all_segments}
 use Rattle.kmc_store.specs.Bins.{BinList, body_at, empty_bins, Absorbed, Merged}
 use Rattle.kmc_store.specs.Bodies.{AreAdded}
 use Rattle.kmc_store.specs.Holds.{HoldsReads}

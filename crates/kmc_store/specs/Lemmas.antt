@@ -1,6 +1,3 @@
 -- Lemmas on the definitions beside this file: proofs cite them, here and in the crates above, and no promise needs them to be read.
-pub mod Sums
-pub mod SumPlaces
-pub mod Places
 pub mod Filling
-pub mod Grown
+pub mod Places

@@ -1,10 +1,7 @@
 pub mod Bins
 pub mod Bodies
-pub mod Holds
-pub mod Growing
-pub mod Laws
-pub mod Shapes
-pub mod Parts
-pub mod GrowingParts
 pub mod Deals
+pub mod Growing
+pub mod Holds
+pub mod Laws
 pub mod Lemmas

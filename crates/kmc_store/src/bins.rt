@@ -3,8 +3,7 @@ ghost use Rattle.std.specs.Prelude.{◌≡◌, ◌<◌, map, slice_index, OnOk, 
 ghost use Rattle.kmc_store.specs.Bins.{BinList, AreBins, body_at, empty_bins, Absorbed, Merged};
 
 use crate::growth::{add_words, append_bodies, make_room};
-use crate::part::Part;
-use crate::shape::Shape;
+use kmc_record::{Part, Shape};
 use std::alloc::{AllocError, Global};
 use std::marker::Model;
 

@@ -1,6 +1,6 @@
 //! How bodies grow by others.
 ghost use Rattle.std.specs.Prelude.{◌≡◌, ℕ, ◌+◌, ◌<◌, ◌++◌, length, map, OnOk, OnErr, slice_index};
-ghost use Rattle.kmc_store.specs.Parts.{capped};
+ghost use Rattle.kmc_record.specs.Parts.{capped};
 ghost use Rattle.kmc_store.specs.Bins.{body_at};
 ghost use Rattle.kmc_store.specs.Growing.{HasRoom, HaveRoom};
 

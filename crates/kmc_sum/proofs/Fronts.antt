@@ -1,6 +1,5 @@
 -- What stands at the front of bytes.
-use Rattle.std.proofs.Common.{◌≡◌, ℕ, zero, suc, ◌+◌, ◌-◌, ◌<◌, ◌≤◌, ◌^◌, ◌⊎◌, inl, inr, List, [], ◌∷◌, ◌++◌, length, take, drop, get_or, map, decimal, refl}
-use Rattle.std.proofs.Common.{sym, ap, subst, ◌∙◌, arith, append_assoc, length-append}
+use Rattle.std.proofs.Common.{◌≡◌, ℕ, zero, suc, ◌+◌, ◌-◌, ◌<◌, ◌≤◌, ◌^◌, ◌⊎◌, inl, inr, List, [], ◌∷◌, ◌++◌, length, take, drop, get_or, map, decimal, refl, sym, ap, subst, ◌∙◌, arith, append_assoc, length-append}
 use Rattle.std.proofs.Math.Seq.{take-add}
 use Rattle.std.proofs.lemmas.List.{get_or_append_left, get_or-append_right, get_or-take, take_more, take_at, drop_at, take_rest, length-map, length-take-le}
 use Rattle.std.proofs.lemmas.Bool.{cases_order}
@@ -11,7 +10,7 @@ use Rattle.std.specs.Int.{IsInRange}
 use Rattle.kmc_base.specs.Words.{letter}
 use Rattle.kmc_base.specs.Packed.{unpack}
 use Rattle.kmc_base.specs.Lemmas.Packs.{AreCodes}
-use Rattle.kmc_device.specs.Line.{line_of}
+use Rattle.kmc_lists.specs.Line.{line_of}
 use Rattle.kmc_sum.specs.Listed.{IsLength, IsPair}
 use Rattle.kmc_sum.specs.Line.{IsLetter}
 

@@ -5,7 +5,7 @@ use Rattle.std.proofs.lemmas.List.{length-map, get_or-map}
 use Rattle.std.specs.List.{AllZip}
 use Rattle.std.specs.Io.KnownBytes.{Consumes}
 use Rattle.kmc_count.specs.declared.limits.Limits.{Limits}
-use Rattle.kmc_device.specs.Line.{text_of}
+use Rattle.kmc_lists.specs.Line.{text_of}
 use Rattle.kmc_sum.specs.Listed.{IsLength, AreListed, Lists}
 use Rattle.kmc_sum.specs.Faults.{GaveFront}
 use Rattle.kmc_sum.specs.Heads.{head_at}

@@ -1,12 +1,11 @@
 -- The first lines of sources.
-use Rattle.std.proofs.Common.{◌≡◌, ◌≢◌, ℕ, ◌+◌, ◌<◌, ◌≤◌, ◌^◌, ◌⊎◌, inl, inr, true, false, List, [], ◌∷◌, ◌++◌, length, get_or, map, set, drop, Option, None}
-use Rattle.std.proofs.Common.{refl, sym, ap, subst, ◌∙◌, arith, zero-add}
+use Rattle.std.proofs.Common.{◌≡◌, ◌≢◌, ℕ, ◌+◌, ◌<◌, ◌≤◌, ◌^◌, ◌⊎◌, inl, inr, true, false, List, [], ◌∷◌, ◌++◌, length, get_or, map, set, drop, Option, None, refl, sym, ap, subst, ◌∙◌, arith, zero-add}
 use Rattle.std.proofs.lemmas.Bool.{cases_eq, cases_lt}
 use Rattle.std.proofs.lemmas.List.Sums.{sum_by-cons}
 use Rattle.std.proofs.lemmas.List.{length-set, length-map, get_or-set_same, get_or-set_other, get_or-map, map-set}
 use Rattle.std.specs.Io.KnownBytes.{Consumes, IsAtEnd}
 use Rattle.kmc_base.specs.Packed.{unpack}
-use Rattle.kmc_device.specs.Line.{text_of}
+use Rattle.kmc_lists.specs.Line.{text_of}
 use Rattle.kmc_sum.specs.Line.{IsLineOf}
 use Rattle.kmc_sum.specs.Listed.{IsLength}
 use Rattle.kmc_sum.specs.Faults.{GaveFront, IsFaultAt, IsOfOtherLength, IsMalformed, BeginsNoLine}

@@ -1,6 +1,5 @@
 -- The merge goes on by one line, ends, or is given up.
-use Rattle.std.proofs.Common.{◌≡◌, ℕ, ◌+◌, ◌-◌, ◌<◌, ◌≤◌, ◌^◌, Bool, true, false, cond, min, List, [], ◌∷◌, ◌++◌, length, get_or, Option, refl, sym, ap}
-use Rattle.std.proofs.Common.{subst, ◌∙◌, arith, append-nil, length-append}
+use Rattle.std.proofs.Common.{◌≡◌, ℕ, ◌+◌, ◌-◌, ◌<◌, ◌≤◌, ◌^◌, Bool, true, false, cond, min, List, [], ◌∷◌, ◌++◌, length, get_or, Option, refl, sym, ap, subst, ◌∙◌, arith, append-nil, length-append}
 use Rattle.std.proofs.lemmas.Grind.{flat_map-append}
 use Rattle.std.proofs.lemmas.List.Sums.{sum_by-cons, sum_by-append, sum_by-set}
 use Rattle.std.proofs.KnownBytes.{Appends-nil}
@@ -13,7 +12,7 @@ use Rattle.kmc_count.specs.declared.limits.Limits.{Limits}
 use Rattle.kmc_count.specs.Occurrences.{same_word}
 use Rattle.kmc_device.specs.Device.{AppendsFront, WritesOut}
 use Rattle.kmc_count.specs.Dump.{IsDump}
-use Rattle.kmc_device.specs.Line.{line_of, text_of}
+use Rattle.kmc_lists.specs.Line.{line_of, text_of}
 use Rattle.kmc_device.specs.Lemmas.Devices.{front_of}
 use Rattle.kmc_sum.specs.Sum.{listed_count, sum_of}
 use Rattle.kmc_sum.specs.Tally.{kept_pair, Tallied}

@@ -1,6 +1,5 @@
 -- A text lists one list of pairs; so the texts of dumps of parts are merged to that of the dump of all reads.
-use Rattle.std.proofs.Common.{◌≡◌, ℕ, zero, suc, ◌+◌, ◌<◌, ◌≤◌, Bool, true, false, cond, List, [], ◌∷◌, ◌++◌, length, get_or, map, decimal, Some, refl, sym}
-use Rattle.std.proofs.Common.{ap, subst, ◌∙◌, arith, zero-add, length-append}
+use Rattle.std.proofs.Common.{◌≡◌, ℕ, zero, suc, ◌+◌, ◌<◌, ◌≤◌, Bool, true, false, cond, List, [], ◌∷◌, ◌++◌, length, get_or, map, decimal, Some, refl, sym, ap, subst, ◌∙◌, arith, zero-add, length-append}
 use Rattle.std.specs.Cmp.Lexicographic.{same_text}
 use Rattle.std.specs.Int.{IsInRange}
 use Rattle.std.specs.List.{AllByRecursion, AllZip, flat_map}
@@ -17,7 +16,7 @@ use Rattle.kmc_count.specs.declared.limits.Limits.{Limits}
 use Rattle.kmc_count.specs.Dump.{IsListed, shown, IsDump}
 use Rattle.kmc_count.specs.Laws.{KeysOfReadsAreCounted}
 use Rattle.kmc_count.specs.Occurrences.{same_word, occurrences, count_of}
-use Rattle.kmc_device.specs.Line.{line_of, text_of}
+use Rattle.kmc_lists.specs.Line.{line_of, text_of}
 use Rattle.kmc_sum.specs.Line.{IsLetter}
 use Rattle.kmc_sum.specs.Listed.{IsPair, Lists}
 use Rattle.kmc_sum.specs.Laws.{ListsEach, AreDumpTexts, AreDumpsOfParts}

@@ -5,7 +5,7 @@ use Rattle.std.specs.List.{cons_option}
 use Rattle.std.specs.Option.{option_map}
 use Rattle.kmc_count.specs.declared.limits.Limits.{Limits}
 use Rattle.kmc_count.specs.Dump.{kept}
-use Rattle.kmc_device.specs.Line.{line_of, text_of}
+use Rattle.kmc_lists.specs.Line.{line_of, text_of}
 use Rattle.kmc_sum.specs.Tally.{kept_pair}
 use Rattle.kmc_device.specs.Device.{AppendsFront, WritesOut}
 use Rattle.kmc_device.specs.Lemmas.Devices.{front_after}

@@ -3,7 +3,7 @@ use Rattle.std.specs.Prelude.{◌≡◌, ◌≢◌, ℕ, ◌+◌, ◌-◌, ◌^�
 use Rattle.std.specs.Io.KnownBytes.{Consumes}
 use Rattle.std.specs.declared.cmp.Ordering.TheVariants.{Less}
 use Rattle.kmc_base.specs.Words.{kmer_cmp}
-use Rattle.kmc_device.specs.Line.{line_of, text_of}
+use Rattle.kmc_lists.specs.Line.{line_of, text_of}
 use Rattle.kmc_sum.specs.declared.error.LineFault.{LineFault}
 use Rattle.kmc_sum.specs.declared.error.LineFault.TheVariants.{Malformed, OtherLength, NotRising}
 use Rattle.kmc_sum.specs.Source.{IsEnough}

@@ -6,7 +6,7 @@ use Rattle.kmc_count.specs.declared.limits.Limits.{Limits}
 use Rattle.kmc_count.specs.Occurrences.{count_of}
 use Rattle.kmc_count.specs.Dump.{IsDump}
 use Rattle.kmc_count.specs.Merge.{joined}
-use Rattle.kmc_device.specs.Line.{line_of, text_of}
+use Rattle.kmc_lists.specs.Line.{line_of, text_of}
 use Rattle.kmc_sum.specs.Listed.{IsLength, IsPair, Lists, IsMerge}
 use Rattle.kmc_sum.specs.Numbers.{longest_line}
 use Rattle.kmc_sum.specs.Sum.{sum_of}

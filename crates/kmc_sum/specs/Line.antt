@@ -2,7 +2,7 @@
 use Rattle.std.specs.Prelude.{◌≡◌, ℕ, ◌<◌, ◌≤◌, ◌^◌, List, length, take, map, slice_index}
 use Rattle.kmc_base.specs.Words.{letter}
 use Rattle.kmc_base.specs.Packed.{unpack}
-use Rattle.kmc_device.specs.Line.{line_of}
+use Rattle.kmc_lists.specs.Line.{line_of}
 use Rattle.kmc_sum.specs.Listed.{IsLength}
 use Rattle.kmc_sum.specs.declared.line.Line.{Line}
 

@@ -6,7 +6,7 @@ use Rattle.kmc_base.specs.Words.{kmer_cmp}
 use Rattle.kmc_base.specs.Lemmas.Keys.{IsWord}
 use Rattle.kmc_base.specs.declared.kmer.TheConstants.{MAX_K}
 use Rattle.kmc_count.specs.Dump.{words_of, IsDump}
-use Rattle.kmc_device.specs.Line.{text_of}
+use Rattle.kmc_lists.specs.Line.{text_of}
 use Rattle.kmc_count.specs.declared.limits.Limits.{Limits}
 use Rattle.kmc_sum.specs.Sum.{sum_of}
 

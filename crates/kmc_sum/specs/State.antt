@@ -3,7 +3,7 @@ use Rattle.std.specs.Prelude.{◌≡◌, ℕ, ◌<◌, List, [], length, slice_i
 use Rattle.kmc_count.specs.declared.limits.Limits.{Limits}
 use Rattle.kmc_device.specs.Device.{AppendsFront, GaveAll, WritesOut}
 use Rattle.kmc_count.specs.Dump.{IsDump}
-use Rattle.kmc_device.specs.Line.{text_of}
+use Rattle.kmc_lists.specs.Line.{text_of}
 use Rattle.std.specs.Io.KnownBytes.{Appends}
 use Rattle.kmc_sum.specs.Sum.{sum_of}
 use Rattle.kmc_sum.specs.Listed.{IsMerge}

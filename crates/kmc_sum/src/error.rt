@@ -4,7 +4,7 @@ ghost use Rattle.kmc_sum.specs.Messages.{text_of_line_fault, text_of_source_faul
 ghost use Rattle.kmc_sum.specs.declared.error.SourceFault.TheVariants.{Read};
 ghost use Rattle.kmc_sum.specs.declared.error.SumError.TheVariants.{Source};
 
-use kmc_rooms::ReadFault;
+use kmc_device::ReadFault;
 use std::fmt;
 
 /// How a line is at fault.

@@ -6,7 +6,7 @@ ghost use Rattle.kmc_sum.specs.declared.fault.Fault.TheVariants.{Sum};
 
 use crate::error::SumError;
 use crate::request::RequestError;
-use kmc_settings::name_at;
+use kmc_options::name_at;
 use std::alloc::AllocError;
 use std::fmt;
 

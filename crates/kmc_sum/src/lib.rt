@@ -1,6 +1,6 @@
-//! Sums of dumps: what the texts of dumps list, read side by side, and the dump of the sum of their counts. It stands
-//! on the words of kmc_base and on the dumps of kmc_count. The layer above uses that the text written is the dump of
-//! the sum, within limits, of what the texts list, or that a named file is at fault, or a device failed.
+//! The sum of dumps: lines of many files side by side, the least first, within limits; and the program that merges. It stands on
+//! kmc_device for files, on kmc_count for limits and on kmc_options for words. The layer above calls [`program`], and learns from
+//! `laws` that the dumps of parts are summed to the dump of all reads.
 #![tactic(auto)]
 
 mod arguments;

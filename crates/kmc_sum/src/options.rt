@@ -1,7 +1,7 @@
 //! The options of the command line.
 ghost use Rattle.std.specs.Prelude.{◌≡◌};
 
-use kmc_settings::Setting;
+use kmc_options::Setting;
 
 /// An option of the command line, with the range and the default that `kmc` has for it.
 #[derive(Clone, Copy, Debug, PartialEq, Eq)]

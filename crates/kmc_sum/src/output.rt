@@ -2,10 +2,11 @@
 ghost use Rattle.std.specs.Prelude.{◌≡◌, ◌-◌, ◌^◌, ◌<◌, ◌≤◌, ◌++◌, [], List, take, length, OnOk, OnErr};
 ghost use Rattle.std.specs.Io.KnownBytes.{Appends};
 ghost use Rattle.kmc_device.specs.Device.{AppendsFront, RisesByOne, WritesOut};
-ghost use Rattle.kmc_device.specs.Line.{line_of};
+ghost use Rattle.kmc_lists.specs.Line.{line_of};
 
 use kmc_base::Kmer;
-use kmc_device::{Counted, DIGITS, ROOM, WriteFault, line_room, make_room, put_line, write_text};
+use kmc_device::{Counted, WriteFault, write_text};
+use kmc_lists::{DIGITS, ROOM, line_room, make_room, put_line};
 use std::io::Write;
 use std::marker::Model;
 

@@ -1,15 +1,15 @@
 //! What the words of a command line ask for: limits and the names of files.
 ghost use Rattle.std.specs.Prelude.{◌≡◌, ◌≤◌, ◌||◌, Some, None, option_map, MatchResult, IfOk, IfErr, length, map, string_bytes};
 ghost use Rattle.std.specs.List.{list_all, filter};
-ghost use Rattle.kmc_settings.specs.Settings.{bounds_of, IsFor};
+ghost use Rattle.kmc_options.specs.Settings.{bounds_of, IsFor};
 ghost use Rattle.kmc_sum.specs.declared.options.LimitOption.TheVariants.{Ci, Cx, Cs};
 ghost use Rattle.kmc_sum.specs.Messages.{text_of_request_error};
-ghost use Rattle.kmc_settings.specs.Words.{is_file_name};
+ghost use Rattle.kmc_options.specs.Words.{is_file_name};
 ghost use Rattle.kmc_sum.specs.Request.{is_option, given, texts_of, number_given, setting_of, value_of, IsRequest, IsTaken, Explains};
 
 use crate::options::LimitOption;
 use kmc_count::Limits;
-use kmc_settings::{is_file_name, rest_after};
+use kmc_options::{is_file_name, rest_after};
 use std::fmt;
 
 /// What is asked for: the dump of the sum of these files within these limits.

@@ -12,8 +12,7 @@ ghost use Rattle.kmc_sum.specs.Source.{unread, IsRoom, IsEnough, GoesOn};
 use crate::error::{LineFault, SourceFault};
 use crate::line::{Line, line_at};
 use kmc_base::MAX_K;
-use kmc_device::Counted;
-use kmc_rooms::read_behind;
+use kmc_device::{Counted, read_behind};
 use std::alloc::{AllocError, Global};
 use std::io::Read;
 

@@ -2,7 +2,7 @@
 ghost use Rattle.std.specs.Prelude.{◌≡◌, ◌-◌, ◌^◌, ◌<◌, ◌≤◌, ◌++◌, length, OnOk, OnErr, IfOk};
 ghost use Rattle.kmc_base.specs.Packed.{unpack};
 ghost use Rattle.kmc_device.specs.Device.{AppendsFront, RisesByOne, WritesOut};
-ghost use Rattle.kmc_device.specs.Line.{text_of};
+ghost use Rattle.kmc_lists.specs.Line.{text_of};
 ghost use Rattle.kmc_sum.specs.Tally.{kept_pair};
 
 use crate::output::OutputBuffer;

@@ -6,8 +6,8 @@ use Rattle.kmc_dump.specs.declared.write.DumpError.{DumpError}
 use Rattle.kmc_dump.specs.declared.write.DumpError.TheVariants as dump
 use Rattle.kmc_tool.specs.Errors.{write_error}
 use Rattle.kmc_options.specs.Errors.{run_error}
-use Rattle.kmc_input.specs.declared.input_error.InputError.{InputError}
-use Rattle.kmc_input.specs.declared.input_error.InputError.TheVariants.{Memory, Read, Faulty, TooLong}
+use Rattle.kmc_reads.specs.declared.input_error.InputError.{InputError}
+use Rattle.kmc_reads.specs.declared.input_error.InputError.TheVariants.{Memory, Read, Faulty, TooLong}
 use Rattle.kmc_options.specs.declared.run_error.RunError.{RunError}
 use Rattle.kmc_options.specs.declared.fault.Fault.TheVariants.{Options, Run}
 use Rattle.kmc_options.specs.declared.error.ParamsError.{ParamsError}

@@ -4,7 +4,7 @@ use Rattle.std.specs.Prelude.{Option}
 use Rattle.kmc_base.specs.declared.strands.Strands.{Strands}
 use Rattle.kmc_reads.specs.declared.format.Format.{Format}
 use Rattle.kmc_count.specs.declared.limits.Limits.{Limits}
-use Rattle.kmc_device.specs.Line.{text_of}
+use Rattle.kmc_lists.specs.Line.{text_of}
 use Rattle.kmc_tool.specs.Run.{IsDumpOf, IsDumpOfInput}
 
 -- pairs that are the dump of an input give its text, with as many lines

@@ -9,17 +9,17 @@ use Rattle.kmc_reads.specs.Stages.{fault}
 use Rattle.kmc_count.specs.declared.limits.Limits.{Limits}
 use Rattle.kmc_count.specs.Occurrences.{count_of}
 use Rattle.kmc_count.specs.Dump.{IsDump}
-use Rattle.kmc_device.specs.Line.{text_of}
-use Rattle.kmc_device.specs.declared.bin_lists.BinLists.{BinLists}
-use Rattle.kmc_device.specs.Listed.{spelled}
-use Rattle.kmc_device.specs.Lists.{lists_of}
-use Rattle.kmc_device.specs.Ordered.{CanBeMerged, whole}
+use Rattle.kmc_lists.specs.Line.{text_of}
+use Rattle.kmc_lists.specs.declared.bin_lists.BinLists.{BinLists}
+use Rattle.kmc_lists.specs.Listed.{spelled}
+use Rattle.kmc_lists.specs.Lists.{lists_of}
+use Rattle.kmc_lists.specs.Ordered.{CanBeMerged, whole}
 use Rattle.kmc_reads.specs.declared.error.ReadsError.{ReadsError}
 use Rattle.kmc_reads.specs.declared.error.ReadsError.TheVariants.{Memory as NoMemory}
-use Rattle.kmc_settings.specs.declared.params.Params.{Params}
-use Rattle.kmc_input.specs.Fed.{AreCountsOf, IsRefused}
-use Rattle.kmc_rounds.specs.Rounds.{IsInputError}
-use Rattle.kmc_input.specs.declared.input_error.InputError.{InputError}
+use Rattle.kmc_options.specs.declared.run_params.Params.{Params}
+use Rattle.kmc_stage_one.specs.Fed.{AreCountsOf, IsRefused}
+use Rattle.kmc_stage_one.specs.Rounds.{IsInputError}
+use Rattle.kmc_reads.specs.declared.input_error.InputError.{InputError}
 use Rattle.kmc_options.specs.declared.run_error.RunError.{RunError}
 use Rattle.kmc_options.specs.declared.run_error.RunError.TheVariants.{Read, Write, Input, TooLong}
 

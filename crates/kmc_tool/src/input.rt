@@ -2,14 +2,15 @@
 ghost use Rattle.std.specs.Prelude.{◌+◌, ◌-◌, ◌^◌, ◌<◌, ◌≤◌};
 ghost use Rattle.kmc_tool.specs.Run.{IsCountedInput};
 
-use kmc_bin_lists::laws::{cut_reads_are_counted, held_reads_are_counted};
-use kmc_bin_lists::stage_two;
+use crate::stages::stage_two;
 use kmc_count::laws::pieces_are_counted_as_reads;
-use kmc_device::{BinLists, Counted};
-use kmc_input::InputError;
+use kmc_device::Counted;
+use kmc_lists::BinLists;
+use kmc_options::Params;
 use kmc_partqueue::{Gate, NoGate};
-use kmc_rounds::bins_of_input;
-use kmc_settings::Params;
+use kmc_reads::InputError;
+use kmc_stage_one::bins_of_input;
+use kmc_stage_two::laws::{cut_reads_are_counted, held_reads_are_counted};
 use std::alloc::Global;
 use std::io::Read;
 use std::sync::Wait;

@@ -5,10 +5,10 @@
 
 mod look_up;
 
-use kmc_base::{Kmer, Strands};
-use kmc_count::{GREATEST_COUNT, Limits};
+use kmc_base::{Kmer, Strands, code};
+use kmc_count::{GREATEST_COUNT, Limits, count_direct};
 use kmc_device::Counted;
-use kmc_plain::{code, count_direct, write_dump};
+use kmc_dump::write_dump;
 use look_up::shown_of;
 use std::alloc::{AllocError, Global};
 use std::io;

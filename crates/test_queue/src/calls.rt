@@ -2,10 +2,9 @@
 //! and then each call with its answer, as `tests_model/queue_model.py` spells them.
 use crate::lists;
 use kmc_partcore::{
-    CompleteError, Event, MAX_WRITERS, PutError, QueueShape, RegisterError, Reply, TakeError,
-    Taken, Totals,
+    CompleteError, Event, MAX_WRITERS, PartCore, PutError, QueueShape, RegisterError, Reply,
+    TakeError, Taken, Totals, run,
 };
-use kmc_plain_queue::{PartCore, run};
 use std::alloc::{AllocError, Global};
 use std::process::Abort;
 use std::test::Fail;

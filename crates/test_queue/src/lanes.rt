@@ -3,8 +3,9 @@ ghost use Rattle.std.specs.Prelude.{◌≡◌, ◌≤◌, IfOk};
 ghost use Rattle.kmc_partqueue.specs.Seats.{IsWriterOf, IsReaderOf};
 
 use kmc_partcore::{QueueShape, Taken, Totals};
-use kmc_partqueue::{DoneSeat, Lanes, NoGate, ReaderSeat, TryPutError, TryTaken, WriterSeat};
-use kmc_waiting_queue::{put, take};
+use kmc_partqueue::{
+    DoneSeat, Lanes, NoGate, ReaderSeat, TryPutError, TryTaken, WriterSeat, put, take,
+};
 use std::alloc::Global;
 use std::process::Abort;
 use std::test::Fail;

@@ -3,14 +3,13 @@ ghost use Rattle.std.specs.Prelude.{◌≡◌, ℕ, length, map, slice_index, If
 
 use kmc_count::Limits;
 use kmc_device::Counted;
+use kmc_options::Params;
 use kmc_partqueue::NoGate;
-use kmc_reads::Format;
-use kmc_rounds::stage_one;
-use kmc_settings::Params;
+use kmc_reads::{Format, read_all, slices_of};
 use kmc_slice_files::{Slicing, read_slice};
 use kmc_slices::{CutError, cut_slices_with};
+use kmc_stage_one::stage_one;
 use kmc_store::Bins;
-use kmc_whole_reads::{read_all, slices_of};
 use std::alloc::{AllocError, Global};
 use std::process::Abort;
 use std::sync::Wait;

@@ -3,11 +3,11 @@
 ghost use Rattle.std.specs.Prelude.{◌≤◌};
 
 use kmc_device::Counted;
+use kmc_record::Shape;
 use kmc_slice_files::{
     FileFault, FrameFault, FramesFault, HeaderFault, Place, SliceFault, Slicing, read_slice,
     write_bin, write_end, write_header,
 };
-use kmc_store::Shape;
 use std::alloc::Global;
 use std::process::Abort;
 use std::test::Fail;

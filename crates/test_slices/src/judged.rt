@@ -1,6 +1,7 @@
 //! Bodies from outside, judged by several threads.
-use kmc_judging::{BinFault, PartError, judged_bins};
-use kmc_store::{Bins, Shape};
+use kmc_record::{PartError, Shape};
+use kmc_slices::{BinFault, judged_bins};
+use kmc_store::Bins;
 use std::alloc::{AllocError, Global};
 use std::process::Abort;
 use std::test::Fail;

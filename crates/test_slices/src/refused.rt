@@ -4,7 +4,7 @@ use crate::devices::{Weak, writers_of};
 use crate::texts::settings;
 use kmc_base::Strands;
 use kmc_device::Counted;
-use kmc_judging::PartError;
+use kmc_record::PartError;
 use kmc_slice_files::{FrameFault, FramesFault, SliceFault};
 use kmc_slices::{CutError, GatherError, ListError, SliceRecords, cut_slices, list_records};
 use std::alloc::Global;

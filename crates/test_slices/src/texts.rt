@@ -1,8 +1,8 @@
 //! Random reads, their text, and settings.
 use kmc_base::Strands;
 use kmc_count::Limits;
+use kmc_options::Params;
 use kmc_reads::Format;
-use kmc_settings::Params;
 use std::alloc::{AllocError, Global};
 use std::process::Abort;
 use test_support::Dice;

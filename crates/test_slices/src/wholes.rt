@@ -4,7 +4,7 @@ use crate::texts::{fasta, reads_of, sequence, settings};
 use kmc_base::Strands;
 use kmc_count::Limits;
 use kmc_device::Counted;
-use kmc_settings::Params;
+use kmc_options::Params;
 use kmc_slices::{SliceRecords, cut_slices, list_records};
 use kmc_sum::{MOST_SOURCES, merge};
 use kmc_tool::run;

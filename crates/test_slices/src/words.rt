@@ -1,10 +1,9 @@
 //! Command lines of the programs that cut and list, and what they ask for.
 use kmc_base::Strands;
-use kmc_reads::Format;
-use kmc_settings::Setting;
-use kmc_slice_options::{
-    CutRequest, CutRequestError, ListRequest, ListRequestError, cut_request, list_request,
+use kmc_options::{
+    CutRequest, CutRequestError, ListRequest, ListRequestError, Setting, cut_request, list_request,
 };
+use kmc_reads::Format;
 use std::alloc::{AllocError, Global};
 use std::process::Abort;
 

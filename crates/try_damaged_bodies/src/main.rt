@@ -8,7 +8,7 @@ mod told;
 ghost use Rattle.std.specs.Prelude.{◌<◌, IfSome};
 
 use crate::told::{tell_count, tell_part};
-use kmc_store::Shape;
+use kmc_record::Shape;
 use std::alloc::Global;
 use std::io;
 

@@ -2,12 +2,10 @@
 ghost use Rattle.std.specs.Prelude.{◌<◌};
 
 use kmc_base::{Kmer, Strands};
-use kmc_count::Limits;
+use kmc_count::{Limits, count_bin};
 use kmc_device::Counted;
-use kmc_judging::{PartError, part_of_body};
-use kmc_plain::{count_bin, write_dump};
-use kmc_record::{BodyError, RecordFault};
-use kmc_store::Shape;
+use kmc_dump::write_dump;
+use kmc_record::{BodyError, PartError, RecordFault, Shape, part_of_body};
 use std::alloc::Global;
 use std::io;
 use std::io::ErrorKind;

@@ -6,8 +6,7 @@ ghost use Rattle.kmc_partqueue.specs.Seats.{IsWriterOf, IsReaderOf, new_writer, 
 
 use crate::seen::{EACH, Seen, WRITERS, item_of};
 use kmc_partcore::{Taken, Totals};
-use kmc_partqueue::{DoneSeat, Lanes, NoGate, ReaderSeat, WriterSeat};
-use kmc_waiting_queue::{put, take};
+use kmc_partqueue::{DoneSeat, Lanes, NoGate, ReaderSeat, WriterSeat, put, take};
 use std::alloc::AllocError;
 use std::sync::Wait;
 use std::thread;

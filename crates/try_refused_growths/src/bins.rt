@@ -1,8 +1,8 @@
 //! Bins: `absorb` and `merge`.
 use crate::records::print_bytes;
 use crate::tell;
-use kmc_plain::{Chunk, parts_of};
-use kmc_store::{Bins, Part, Shape};
+use kmc_record::{Chunk, Part, Shape, parts_of};
+use kmc_store::Bins;
 use std::alloc::{AllocError, Global};
 
 const READS: [&[u8]; 3] = [

@@ -1,9 +1,7 @@
 //! Records: `encode` and `part_of_body`.
 use crate::tell;
-use kmc_judging::{PartError, part_of_body};
-use kmc_plain::encode;
-use kmc_store::{Part, Shape};
-use kmc_super_kmers::SuperKmer;
+use kmc_record::{Part, PartError, Shape, encode, part_of_body};
+use kmc_split::SuperKmer;
 use std::alloc::{AllocError, Global};
 
 /// Prints bytes in hex, and ends the line.

@@ -3,7 +3,7 @@ ghost use Rattle.std.specs.Prelude.{◌≡◌};
 
 use crate::tell;
 use kmc_base::Kmer;
-use kmc_device::Counts;
+use kmc_lists::KmerList;
 use std::alloc::{AllocError, Global};
 
 /// Writes the word of these codes behind the others.
@@ -31,7 +31,7 @@ pub fn write_words(rt: &(impl Print + Eprint), alloc: Global) -> Result<(), Allo
 /// Appends a pair to a packed list of words of four codes.
 fn push_pair(
     rt: &impl Eprint,
-    list: &mut Counts<u64, u8>,
+    list: &mut KmerList<u64, u8>,
     word: u8,
     count: u8,
 ) -> Result<(), AllocError>
@@ -46,7 +46,7 @@ fn push_pair(
 }
 
 /// Prints the pairs of a packed list.
-fn print_pairs(rt: &impl Print, list: &Counts<u64, u8>) {
+fn print_pairs(rt: &impl Print, list: &KmerList<u64, u8>) {
     let _ = print!(rt; "pairs:");
     for i in 0..list.len() {
         let (word, count) = list.get(i);
@@ -57,7 +57,7 @@ fn print_pairs(rt: &impl Print, list: &Counts<u64, u8>) {
 
 /// Appends pairs to a packed list.
 pub fn push_pairs(rt: &(impl Print + Eprint), alloc: Global) -> Result<(), AllocError> {
-    let mut list: Counts<u64, u8> = Counts::new(alloc, 4);
+    let mut list: KmerList<u64, u8> = KmerList::new(alloc, 4);
     for word in 0..40u8 {
         push_pair(rt, &mut list, word, 200 - word)?;
     }

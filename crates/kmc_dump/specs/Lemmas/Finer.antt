@@ -4,8 +4,8 @@ use Rattle.std.proofs.Common.{◌≡◌, ℕ, ◌+◌, ◌-◌, ◌*◌, ◌/◌
 use Rattle.std.proofs.Math.Nat.{add-mul, mul_comm, mul_assoc, div-mul-le_self, lt-div-mul-add, div-div-eq-div-mul}
 use Rattle.std.proofs.lemmas.Bool.Decides.{nat_tests}
 use Rattle.std.proofs.lemmas.Nat.{mul-le, pow-add, pow_pos}
-use Rattle.kmc_device.specs.Listed.{Listed}
-use Rattle.kmc_device.specs.Ordered.{is_within, within, joined, packs}
+use Rattle.kmc_lists.specs.Listed.{Listed}
+use Rattle.kmc_lists.specs.Ordered.{is_within, within, joined, packs}
 use Rattle.kmc_dump.specs.Ranges.{count_within}
 use Rattle.kmc_dump.specs.Lemmas.Parted.{more}
 

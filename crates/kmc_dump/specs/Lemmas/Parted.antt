@@ -3,8 +3,8 @@ use Rattle.std.proofs.Common.{◌≡◌, ℕ, ◌+◌, ◌-◌, ◌<◌, ◌≤�
 use Rattle.std.specs.Ordering.{nat_cmp, ord_max, is_lt}
 use Rattle.std.proofs.lemmas.Bool.Decides.{nat_tests}
 use Rattle.std.proofs.lemmas.List.{length-append, get_or_append_left, get_or-append-add}
-use Rattle.kmc_device.specs.Listed.{Listed}
-use Rattle.kmc_device.specs.Ordered.{is_within, within, joined, packs}
+use Rattle.kmc_lists.specs.Listed.{Listed}
+use Rattle.kmc_lists.specs.Ordered.{is_within, within, joined, packs}
 use Rattle.kmc_dump.specs.Ranges.{count_within, AreBounds, ArePartedTo}
 
 pub more : (w from to : ℕ) (p : ℕ × ℕ) (ps : List (ℕ × ℕ)) → length (within w from to (p ∷ ps)) ≡ cond (is_within w from to p) 1 0 + length (within w from to ps)

@@ -1,15 +1,15 @@
 //! The open line of a text that comes in blocks: its bytes as they come, whether it is a header, and its end, where it is judged.
 ghost use Rattle.std.specs.Prelude.{true, false, ◌≡◌, ◌≢◌, ℕ, ◌<◌, List, [], ◌∷◌, ◌++◌, length, take, IfErr, OnOk, Some, None};
 ghost use Rattle.std.specs.Io.BufRead.{strip_last};
-ghost use Rattle.kmc_reads.specs.declared.stage.Stage.TheVariants.{Body, Name};
+ghost use Rattle.kmc_reads.specs.declared.line_kind.LineKind.TheVariants.{Body, Name};
 ghost use Rattle.kmc_reads.specs.Lines.{line_feed};
 ghost use Rattle.kmc_reads.specs.Stages.{Spot, fault_of, past, begun_by, given_by};
 ghost use Rattle.kmc_reads.specs.Standing.{Keeps, At, Goes, HasFault, HasNoFeed, IsName};
 
 use crate::error::ReadsError;
 use crate::line::{begins_header, cut_return};
+use crate::line_kind::LineKind;
 use crate::scan::Scan;
-use crate::stage::Stage;
 use std::alloc::AllocError;
 
 impl Scan {
@@ -24,7 +24,9 @@ impl Scan {
         ensures ends { self.new.ends.items ≡ self.old.ends.items }
     {
         match self.place.stage {
-            Stage::Sequence | Stage::Body | Stage::Rest => self.bytes.extend_from_slice(content)?,
+            LineKind::Sequence | LineKind::Body | LineKind::Rest => self
+                .bytes
+                .extend_from_slice(content)?,
             _ => {}
         }
         if self.place.length == 0 && !content.is_empty() {
@@ -84,7 +86,7 @@ impl Scan {
             → At rows spot front self.now → result ≡ false
             → begun_by spot.stage spot.read (front ++ bytes.now) ≡ [] }
     {
-        self.place.stage == Stage::Body && self.is_between() && begins_header(bytes)
+        self.place.stage == LineKind::Body && self.is_between() && begins_header(bytes)
     }
 
     /// A header begins, and the open read is whole.
@@ -98,7 +100,7 @@ impl Scan {
         ensures ends { take (length self.old.ends.items) self.new.ends.items ≡ self.old.ends.items }
     {
         self.close()?;
-        self.place.stage = Stage::Name;
+        self.place.stage = LineKind::Name;
         Ok(())
     }
 
@@ -132,16 +134,16 @@ impl Scan {
     {
         let place = self.place;
         match place.stage {
-            Stage::Header if place.length > 0 && place.first != b'@' => {
+            LineKind::Header if place.length > 0 && place.first != b'@' => {
                 Err(ReadsError::BadHeader(place.number))
             }
-            Stage::FirstHeader if place.length > 0 && place.first != b'>' => {
+            LineKind::FirstHeader if place.length > 0 && place.first != b'>' => {
                 Err(ReadsError::BadHeader(place.number))
             }
-            Stage::Plus if place.length == 0 || place.first != b'+' => {
+            LineKind::Plus if place.length == 0 || place.first != b'+' => {
                 Err(ReadsError::BadPlus(place.number))
             }
-            Stage::Quality if place.length != self.bytes.len().saturating_sub(place.start) => {
+            LineKind::Quality if place.length != self.bytes.len().saturating_sub(place.start) => {
                 Err(ReadsError::QualityLength(place.number))
             }
             _ => Ok(()),
@@ -151,19 +153,20 @@ impl Scan {
     /// The line after the open one begins.
     fn next_line(&mut self)
         ensures at { (rows : List (List ℕ)) (spot : Spot) (line : List ℕ)
-            → Keeps rows spot line self.old → (spot.stage ≡ Stage.Quality → spot.read ≡ [])
+            → Keeps rows spot line self.old → (spot.stage ≡ LineKind.Quality → spot.read ≡ [])
             → begun_by spot.stage spot.read line ≡ [] → At rows (past spot line) [] self.new }
         ensures bytes { self.new.bytes.items ≡ self.old.bytes.items }
         ensures ends { self.new.ends.items ≡ self.old.ends.items }
     {
         let stage = match self.place.stage {
-            Stage::Header if self.place.length == 0 => Stage::Header,
-            Stage::Header => Stage::Sequence,
-            Stage::Sequence => Stage::Plus,
-            Stage::Plus => Stage::Quality,
-            Stage::Quality => Stage::Header,
-            Stage::FirstHeader if self.place.length == 0 => Stage::FirstHeader,
-            Stage::FirstHeader | Stage::Body | Stage::Name | Stage::Rest => Stage::Body,
+            LineKind::Header if self.place.length == 0 => LineKind::Header,
+            LineKind::Header => LineKind::Sequence,
+            LineKind::Sequence => LineKind::Plus,
+            LineKind::Plus => LineKind::Quality,
+            LineKind::Quality => LineKind::Header,
+            LineKind::FirstHeader if self.place.length == 0 => LineKind::FirstHeader,
+            LineKind::FirstHeader | LineKind::Body | LineKind::Name | LineKind::Rest =>
+                LineKind::Body,
         };
         self.place.stage = stage;
         self.place.number = self.place.number.saturating_add(1);
@@ -191,7 +194,7 @@ impl Scan {
     {
         self.judge()?;
         match self.place.stage {
-            Stage::Quality => self.close()?,
+            LineKind::Quality => self.close()?,
             _ => {}
         }
         self.next_line();
@@ -235,10 +238,10 @@ impl Scan {
         }
         let (content, _) = cut_return(line);
         match self.place.stage {
-            Stage::Header => self.header(content),
-            Stage::Sequence => self.sequence(content),
-            Stage::Plus => self.plus(content),
-            Stage::Quality => self.quality(content),
+            LineKind::Header => self.header(content),
+            LineKind::Sequence => self.sequence(content),
+            LineKind::Plus => self.plus(content),
+            LineKind::Quality => self.quality(content),
             _ => self.last_part(line),
         }
     }

@@ -1,6 +1,6 @@
 //! The lines of a FASTQ record that come whole: each is judged where it lies, and of it nothing but symbols is kept.
 ghost use Rattle.std.specs.Prelude.{false, ◌≡◌, ◌≢◌, ℕ, List, [], length, take, IfErr, OnOk, Some};
-ghost use Rattle.kmc_reads.specs.declared.stage.Stage.TheVariants.{Header, Sequence, Plus, Quality};
+ghost use Rattle.kmc_reads.specs.declared.line_kind.LineKind.TheVariants.{Header, Sequence, Plus, Quality};
 ghost use Rattle.kmc_reads.specs.Lines.{line_past};
 ghost use Rattle.kmc_reads.specs.Stages.{Spot, fault_of};
 ghost use Rattle.kmc_reads.specs.Standing.{Keeps, At};
@@ -8,13 +8,13 @@ ghost use Rattle.kmc_reads.specs.Records.{TookLine};
 
 use crate::error::ReadsError;
 use crate::line::first_of;
+use crate::line_kind::LineKind;
 use crate::scan::Scan;
-use crate::stage::Stage;
 
 impl Scan {
     /// The next line begins. Nothing was noted of the last one.
     #[inline(always)]
-    fn step(&mut self, stage: Stage)
+    fn step(&mut self, stage: LineKind)
         ensures at { (rows : List (List ℕ)) (spot : Spot) → Keeps rows spot [] self.old
             → self.old.place.held ≡ false
             → At rows
@@ -38,13 +38,13 @@ impl Scan {
         ensures ends { self.new.ends.items ≡ self.old.ends.items }
     {
         if content.is_empty() {
-            self.step(Stage::Header);
+            self.step(LineKind::Header);
             return Ok(());
         }
         if first_of(content) != b'@' {
             return Err(ReadsError::BadHeader(self.place.number));
         }
-        self.step(Stage::Sequence);
+        self.step(LineKind::Sequence);
         Ok(())
     }
 
@@ -60,7 +60,7 @@ impl Scan {
         ensures ends { self.new.ends.items ≡ self.old.ends.items }
     {
         self.bytes.extend_from_slice(content)?;
-        self.step(Stage::Plus);
+        self.step(LineKind::Plus);
         Ok(())
     }
 
@@ -78,7 +78,7 @@ impl Scan {
         if first_of(content) != b'+' {
             return Err(ReadsError::BadPlus(self.place.number));
         }
-        self.step(Stage::Quality);
+        self.step(LineKind::Quality);
         Ok(())
     }
 
@@ -99,7 +99,7 @@ impl Scan {
             return Err(ReadsError::QualityLength(self.place.number));
         }
         self.close()?;
-        self.step(Stage::Header);
+        self.step(LineKind::Header);
         Ok(())
     }
 }

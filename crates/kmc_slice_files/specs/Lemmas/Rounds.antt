@@ -7,7 +7,7 @@ use Rattle.std.proofs.lemmas.Bool.{eq-eqb, lt-ltb}
 use Rattle.std.proofs.lemmas.Grind.{flat_map-append}
 use Rattle.std.proofs.lemmas.List.{append-nil}
 use Rattle.std.proofs.lemmas.List.Elements.{filter-append}
-use Rattle.kmc_store.specs.Shapes.{Sizes, IsShape}
+use Rattle.kmc_record.specs.Shapes.{Sizes, IsShape}
 use Rattle.kmc_store.specs.Bins.{body_at}
 use Rattle.kmc_slice_files.specs.Frames.{Frame, AreFrames, frame_bytes, frames_bytes, head_bytes, end_bytes, NO_BIN, body_of}
 use Rattle.kmc_slice_files.specs.Files.{header_bytes, file_bytes, IsSliceFile}

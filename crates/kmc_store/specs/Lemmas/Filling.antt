@@ -10,8 +10,8 @@ use native.Mathlib.Decide.{ℕ_discrete}
 use Rattle.kmc_base.specs.Words.{windows}
 use Rattle.kmc_split.specs.Signature.{signature_of}
 use Rattle.kmc_base.specs.Record.{spelling, IsSpelled, IsBodyOf}
-use Rattle.kmc_store.specs.Shapes.{Sizes}
-use Rattle.kmc_store.specs.Parts.{Parcel, IsPart, all_windows, capped}
+use Rattle.kmc_record.specs.Shapes.{Sizes}
+use Rattle.kmc_record.specs.Parts.{Parcel, IsPart, all_windows, capped}
 use Rattle.kmc_store.specs.Bins.{BinList, body_at, AreBins, Absorbed, Merged}
 use Rattle.kmc_store.specs.Lemmas.Places.{Bytes, bytes_of, body_is}
 

@@ -2,11 +2,10 @@
 ghost use Rattle.std.specs.Prelude.{◌≤◌};
 
 use crate::tests::listed::limits_up_to;
-use kmc_base::{Kmer, Strands, Word};
-use kmc_bin_lists::list_bins;
-use kmc_count::Limits;
-use kmc_device::{BinLists, Counts, Shown, SizedLists};
-use kmc_plain::count_bin;
+use kmc_base::{Kmer, PackedKmer, Strands};
+use kmc_count::{Limits, count_bin};
+use kmc_lists::{BinLists, CountWidth, KmerList, SizedLists};
+use kmc_stage_two::list_bins;
 use std::alloc::{AllocError, Global};
 use std::process::Abort;
 use std::test::Fail;
@@ -64,8 +63,8 @@ fn packed(word: &Kmer) -> u128 {
 }
 
 /// Whether the pairs of a list are these.
-pub(crate) fn has_pairs<W: Word + Drop, C: Shown + Drop>(
-    list: &Counts<W, C>,
+pub(crate) fn has_pairs<W: PackedKmer + Drop, C: CountWidth + Drop>(
+    list: &KmerList<W, C>,
     pairs: &[(Kmer, u64)],
 ) -> bool {
     if list.len() != pairs.len() {
@@ -76,7 +75,7 @@ pub(crate) fn has_pairs<W: Word + Drop, C: Shown + Drop>(
             return false;
         }
         let pair = list.get(i);
-        if pair.0.widen() != packed(word) || pair.1.widen() != *count {
+        if pair.0.to_u128() != packed(word) || pair.1.to_u128() != *count {
             return false;
         }
     }
@@ -84,8 +83,8 @@ pub(crate) fn has_pairs<W: Word + Drop, C: Shown + Drop>(
 }
 
 /// Whether the lists are these, pair by pair.
-fn are_same<W: Word + Drop, C: Shown + Drop>(
-    lists: &[Counts<W, C>],
+fn are_same<W: PackedKmer + Drop, C: CountWidth + Drop>(
+    lists: &[KmerList<W, C>],
     plain: &[Vec<(Kmer, u64)>],
 ) -> bool {
     if lists.len() != plain.len() {
@@ -102,12 +101,12 @@ fn are_same<W: Word + Drop, C: Shown + Drop>(
 /// The same of lists of any width.
 pub(crate) fn are_plain(lists: &BinLists, plain: &[Vec<(Kmer, u64)>]) -> bool {
     match lists {
-        BinLists::Narrow(SizedLists::Byte(lists)) => are_same(lists, plain),
-        BinLists::Narrow(SizedLists::Half(lists)) => are_same(lists, plain),
-        BinLists::Narrow(SizedLists::Full(lists)) => are_same(lists, plain),
-        BinLists::Wide(SizedLists::Byte(lists)) => are_same(lists, plain),
-        BinLists::Wide(SizedLists::Half(lists)) => are_same(lists, plain),
-        BinLists::Wide(SizedLists::Full(lists)) => are_same(lists, plain),
+        BinLists::Narrow(SizedLists::U8(lists)) => are_same(lists, plain),
+        BinLists::Narrow(SizedLists::U32(lists)) => are_same(lists, plain),
+        BinLists::Narrow(SizedLists::U64(lists)) => are_same(lists, plain),
+        BinLists::Wide(SizedLists::U8(lists)) => are_same(lists, plain),
+        BinLists::Wide(SizedLists::U32(lists)) => are_same(lists, plain),
+        BinLists::Wide(SizedLists::U64(lists)) => are_same(lists, plain),
     }
 }
 

@@ -1,6 +1,6 @@
 //! Dumps by ranges against what they should be.
 use crate::tests::listed::{by_ranges, plain};
-use kmc_settings::Params;
+use kmc_options::Params;
 use std::alloc::Global;
 use std::process::Abort;
 use std::sync::Wait;

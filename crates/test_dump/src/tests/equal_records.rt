@@ -2,10 +2,9 @@
 
 use crate::tests::bodies::{are_plain, has_pairs};
 use kmc_base::{Kmer, Strands};
-use kmc_bin_lists::list_bins;
-use kmc_count::Limits;
-use kmc_device::{BinLists, SizedLists};
-use kmc_plain::count_bin;
+use kmc_count::{Limits, count_bin};
+use kmc_lists::{BinLists, SizedLists};
+use kmc_stage_two::list_bins;
 use std::alloc::{AllocError, Global};
 use std::process::Abort;
 use std::test::Fail;
@@ -226,7 +225,7 @@ fn assert_repeated<R: Abort + Threads + Sync>(
     bodies.push(body)?;
     let lists = list_bins(rt, alloc, bodies, k, Strands::Joined, &LIMITS, 1);
     match lists.ok().ok_or("records")? {
-        BinLists::Narrow(SizedLists::Full(lists)) => {
+        BinLists::Narrow(SizedLists::U64(lists)) => {
             assert_eq!(rt; lists.len(), 1);
             for list in &lists {
                 assert!(rt; has_pairs(list, &want));

@@ -1,12 +1,13 @@
 //! Devices that fail at each byte of a dump, and memory that is refused.
 ghost use Rattle.std.specs.Prelude.{Some, ◌≤◌, IfSome};
-ghost use Rattle.kmc_device.specs.Lists.{lists_of};
-ghost use Rattle.kmc_device.specs.Ordered.{CanBeMerged};
+ghost use Rattle.kmc_lists.specs.Lists.{lists_of};
+ghost use Rattle.kmc_lists.specs.Ordered.{CanBeMerged};
 
 use crate::tests::listed::{listed, plain, settings, thrown_alone};
-use kmc_device::{BinLists, Counted};
+use kmc_device::Counted;
 use kmc_dump::{DumpError, write_bins};
-use kmc_settings::Params;
+use kmc_lists::BinLists;
+use kmc_options::Params;
 use std::alloc::Global;
 use std::io;
 use std::io::{ErrorKind, Write};

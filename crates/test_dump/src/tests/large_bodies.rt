@@ -2,10 +2,9 @@
 
 use crate::tests::bodies::{are_plain, push_record};
 use kmc_base::{Kmer, Strands};
-use kmc_bin_lists::list_bins;
-use kmc_count::Limits;
-use kmc_plain::count_bin;
+use kmc_count::{Limits, count_bin};
 use kmc_record::{BodyError, RecordFault};
+use kmc_stage_two::list_bins;
 use std::alloc::{AllocError, Global};
 use std::process::Abort;
 use std::test::Fail;

@@ -1,18 +1,17 @@
 //! Reads, the lists that both stages make of them, and their plain dump.
 ghost use Rattle.std.specs.Prelude.{IfSome};
-ghost use Rattle.kmc_device.specs.Lists.{lists_of};
-ghost use Rattle.kmc_device.specs.Ordered.{CanBeMerged};
+ghost use Rattle.kmc_lists.specs.Lists.{lists_of};
+ghost use Rattle.kmc_lists.specs.Ordered.{CanBeMerged};
 
-use kmc_bin_lists::stage_two;
-use kmc_count::Limits;
-use kmc_device::{BinLists, Counted};
-use kmc_dump::write_bins;
+use kmc_count::{Limits, count_direct};
+use kmc_device::Counted;
+use kmc_dump::{write_bins, write_dump};
+use kmc_lists::BinLists;
+use kmc_options::Params;
 use kmc_partqueue::NoGate;
-use kmc_plain::{count_direct, write_dump};
-use kmc_reads::Format;
-use kmc_rounds::stage_one;
-use kmc_settings::Params;
-use kmc_whole_reads::slices_of;
+use kmc_reads::{Format, slices_of};
+use kmc_stage_one::stage_one;
+use kmc_tool::stage_two;
 use std::alloc::{AllocError, Global};
 use std::process::Abort;
 use std::sync::Wait;

@@ -3,7 +3,7 @@ use crate::tests::compared::{assert_direct, assert_dump};
 use crate::tests::letters::{equal, push_line};
 use crate::tests::listed::{alone, push_thrown, settings};
 use kmc_base::Strands;
-use kmc_settings::Params;
+use kmc_options::Params;
 use std::alloc::{AllocError, Global};
 use std::process::Abort;
 use std::sync::Wait;

@@ -1,8 +1,7 @@
 //! Open reads that are taken in pieces.
 use crate::tests::answers::assert_fed;
 use crate::tests::calls::{finish, take_open};
-use kmc_reads::{Feeder, Format, Reads};
-use kmc_whole_reads::{read_all, to_vecs};
+use kmc_reads::{Feeder, Format, Reads, read_all, to_vecs};
 use std::alloc::{AllocError, Global};
 use std::process::Abort;
 use test_support::Dice;

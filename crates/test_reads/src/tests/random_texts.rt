@@ -2,8 +2,7 @@
 use crate::tests::answers::{assert_end_refused, assert_fed};
 use crate::tests::calls::{feed, finish, take};
 use crate::tests::plain::{Reading, plain_reads};
-use kmc_reads::{Feeder, Format, Reads, ReadsError};
-use kmc_whole_reads::{read_all, to_vecs};
+use kmc_reads::{Feeder, Format, Reads, ReadsError, read_all, to_vecs};
 use std::alloc::{AllocError, Global};
 use std::process::Abort;
 use test_support::Dice;

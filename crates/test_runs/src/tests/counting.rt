@@ -4,8 +4,7 @@ ghost use Rattle.std.specs.Prelude.{◌≤◌};
 
 use crate::tests::texts::vectors_of;
 use kmc_base::{Kmer, Strands};
-use kmc_count::Limits;
-use kmc_plain::count_direct;
+use kmc_count::{Limits, count_direct};
 use std::alloc::Global;
 use std::process::Abort;
 

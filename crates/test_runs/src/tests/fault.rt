@@ -1,7 +1,5 @@
-use kmc_options::ParamsError;
+use kmc_options::{Fault, ParamsError, RunError, Setting};
 use kmc_reads::ReadsError;
-use kmc_settings::Setting;
-use kmc_tool::{Fault, RunError};
 use std::alloc::Global;
 use std::process::Abort;
 

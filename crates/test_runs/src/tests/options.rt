@@ -1,8 +1,7 @@
 use crate::tests::texts::words_of;
 use kmc_base::Strands;
-use kmc_options::{ParamsError, params, words};
+use kmc_options::{Params, ParamsError, Setting, params, words};
 use kmc_reads::Format;
-use kmc_settings::{Params, Setting};
 use std::alloc::{AllocError, Global};
 use std::process::Abort;
 

@@ -1,7 +1,7 @@
 use kmc_base::Strands;
 use kmc_count::Limits;
+use kmc_options::Params;
 use kmc_reads::Format;
-use kmc_settings::Params;
 
 fn sized(k: usize, p: usize, n: usize, sp: usize, sr: usize) -> Option<Params> {
     let limits = Limits::new(1, 2, 3)?;

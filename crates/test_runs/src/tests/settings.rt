@@ -1,7 +1,7 @@
 //! Settings over FASTQ.
 use kmc_count::Limits;
+use kmc_options::Params;
 use kmc_reads::Format;
-use kmc_settings::Params;
 use std::process::Abort;
 
 pub const BILLION: u64 = 1_000_000_000;

@@ -1,8 +1,9 @@
 //! Words, reads, and the lines of dumps to compare with.
 use kmc_base::Kmer;
+use kmc_count::count_direct;
 use kmc_device::Counted;
-use kmc_plain::{count_direct, write_dump};
-use kmc_settings::Params;
+use kmc_dump::write_dump;
+use kmc_options::Params;
 use std::alloc::{AllocError, Global};
 use std::process::Abort;
 

@@ -13,8 +13,8 @@ mod refused;
 pub mod side_by_side;
 
 use kmc_partcore::QueueShape;
-use kmc_splitters::Plan;
-use kmc_store::Shape;
+use kmc_record::Shape;
+use kmc_stage_one::Plan;
 use std::alloc::{AllocError, Global};
 
 /// The reads, between which stand commas.

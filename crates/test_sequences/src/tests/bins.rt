@@ -1,8 +1,7 @@
 //! Bins filled part by part, and merged.
 use crate::tests::given::{assert_number, assert_text, chunk_of, long_read, push_bin, shape_of};
-use kmc_judging::part_of_body;
-use kmc_plain::{Chunk, parts_of};
-use kmc_store::{Bins, Part, Shape, laws};
+use kmc_record::{Chunk, Part, Shape, part_of_body, parts_of};
+use kmc_store::{Bins, laws};
 use std::alloc::{AllocError, Global};
 use std::process::Abort;
 use std::test::Fail;

@@ -1,8 +1,7 @@
 //! Codes of bases, words and segments.
 use crate::tests::given::{assert_bytes, assert_number, assert_text, word_of};
-use kmc_base::{Kmer, MAX_K, Segment, Strands, laws, leading_codes};
-use kmc_input::{piece_count, push_pieces};
-use kmc_plain::{code, segments};
+use kmc_base::{Kmer, MAX_K, Segment, Strands, code, laws, leading_codes, segments};
+use kmc_stage_one::{piece_count, push_pieces};
 use std::alloc::{AllocError, Global};
 use std::process::Abort;
 use std::test::Fail;

@@ -1,8 +1,7 @@
 //! What the tests are given: segments, words, records and chunks of reads, written as texts; and what they compare.
-use kmc_base::{Kmer, Segment};
-use kmc_plain::{Chunk, encode, segments};
-use kmc_store::Shape;
-use kmc_super_kmers::SuperKmer;
+use kmc_base::{Kmer, Segment, segments};
+use kmc_record::{Chunk, Shape, encode};
+use kmc_split::SuperKmer;
 use std::alloc::{AllocError, Global};
 use std::process::Abort;
 use std::test::Fail;

@@ -1,8 +1,7 @@
 //! Keys: those that a window rolled over codes gives, and those that records are unpacked to.
 use crate::tests::given::{long_read, one_segment, record_of};
-use kmc_base::Strands;
-use kmc_plain::{push_body, push_keys};
-use kmc_record::{BodyError, RecordFault};
+use kmc_base::{Strands, push_keys};
+use kmc_record::{BodyError, RecordFault, push_body};
 use std::alloc::{AllocError, Global};
 use std::process::Abort;
 use std::test::Fail;

@@ -1,7 +1,6 @@
 //! FASTQ and FASTA texts with their reads, or with the refusal of their first faulty line.
 use crate::tests::given::{assert_bytes, assert_number, assert_text};
-use kmc_reads::{Format, ReadsError};
-use kmc_whole_reads::read_all;
+use kmc_reads::{Format, ReadsError, read_all};
 use std::alloc::Global;
 use std::process::Abort;
 use std::test::Fail;

@@ -8,11 +8,10 @@ use crate::tests::given::{
     push_bin, record_of, same_bytes, shape_of,
 };
 use kmc_base::laws::{body_has_one_list, no_spelling_begins_another};
-use kmc_judging::{PartError, part_of_body};
-use kmc_plain::{RecordError, decode, parts_of};
-use kmc_record::RecordFault;
 use kmc_record::laws::{spelling_has_no_fault, whole_body_has_no_fault};
-use kmc_store::{Part, Shape};
+use kmc_record::{
+    Part, PartError, RecordError, RecordFault, Shape, decode, part_of_body, parts_of,
+};
 use plain::plain_text;
 use rows::rows;
 use std::alloc::{AllocError, Global};

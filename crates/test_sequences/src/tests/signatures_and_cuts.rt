@@ -6,10 +6,8 @@ use crate::tests::given::{
     super_kmer_of, word_of,
 };
 use kmc_base::MAX_K;
-use kmc_judging::super_kmer_in_bin;
-use kmc_plain::super_kmers;
-use kmc_split::{MAX_M, Run, Scratch, cut, laws};
-use kmc_super_kmers::{SuperKmer, allowed, signature};
+use kmc_record::super_kmer_in_bin;
+use kmc_split::{MAX_M, Run, Scratch, SuperKmer, allowed, cut, laws, signature, super_kmers};
 use rows::rows;
 use std::alloc::{AllocError, Global};
 use std::process::Abort;

@@ -25,7 +25,7 @@ add_item-requires-clause-table g c = c.loop-item.invariant.table
 
 pub add_item-requires-clause-fits : goal.add_item-requires-clause-fits
 add_item-requires-clause-fits g c =
-    let num = g.W.Word.number in
+    let num = g.W.PackedKmer.number in
     let i = c.loop-item.item-index in
     let ns = map num c.args.added.now in
     let at : num c.item-item.result ≡ get_or ns i 0 =
@@ -38,7 +38,7 @@ returns-in_err-add_item g c = refused _ c.from_residual.result c.from_residual.e
 
 pub loop-item-preserved : goal.loop-item-preserved
 loop-item-preserved g c =
-    let num = g.W.Word.number in
+    let num = g.W.PackedKmer.number in
     let i = c.loop-item.item-index in
     let ns = map num c.args.added.now in
     let at : num c.item-item.result ≡ get_or ns i 0 =
@@ -50,7 +50,7 @@ loop-item-preserved g c =
 
 pub returns : goal.returns
 returns g c =
-    let num = g.W.Word.number in
+    let num = g.W.PackedKmer.number in
     let ns = map num c.args.added.now in
     subst (TakesIn c.args.k c.args.bits c.args.table.now (map num c.args.over.now.items) c.loop-item.table (map num c.loop-item.over.items))
     (take_all c.loop-item.item-index ns (omega (arith, c.loop-item-test.false, length-map c.args.added.now num))) c.loop-item.invariant

@@ -20,7 +20,7 @@ add_items-requires-clause-table g c =
     subst (IsTable c.args.k c.args.bits) (sym (c.as_mut_slice.ensures.value ∙ c.in_ok-make_table.ensures)) (fresh_table c.args.k c.args.bits)
 
 pub add_items-requires-clause-fit : goal.add_items-requires-clause-fit
-add_items-requires-clause-fit g c = subst (λ ns. AreItems c.args.k c.args.bits (map g.W.Word.number ns)) (sym c.deref.ensures.value) c.requires.fit
+add_items-requires-clause-fit g c = subst (λ ns. AreItems c.args.k c.args.bits (map g.W.PackedKmer.number ns)) (sym c.deref.ensures.value) c.requires.fit
 
 pub returns-in_err-add_items : goal.returns-in_err-add_items
 returns-in_err-add_items g c = refused _ c.from_residual-in_err-add_items.result c.from_residual-in_err-add_items.ensures.0
@@ -39,7 +39,7 @@ push_counters-requires-clause-table g c =
 
 pub returns : goal.returns
 returns g c =
-    let num = g.W.Word.number in
+    let num = g.W.PackedKmer.number in
     let k = c.args.k in
     let f = c.args.bits in
     let all = map num c.args.items.now.items in

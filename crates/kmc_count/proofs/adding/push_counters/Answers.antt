@@ -15,7 +15,7 @@ overflow_cast-place g c = omega (arith, c.loop-place-test.true, c.requires.table
 
 pub loop-place-preserved : goal.loop-place-preserved
 loop-place-preserved g c =
-    let num = g.W.Word.number in
+    let num = g.W.PackedKmer.number in
     let k = c.args.k in
     let f = c.args.bits in
     let cs = c.args.table.now in
@@ -41,7 +41,7 @@ loop-place-preserved g c =
 
 pub returns-clause-each : goal.returns-clause-each
 returns-clause-each g c =
-    all_pushed c.args.k c.args.bits c.args.table.now (map g.W.Word.number c.args.out.now.items) (map g.W.Word.number c.loop-place.out.items) c.loop-place.place
+    all_pushed c.args.k c.args.bits c.args.table.now (map g.W.PackedKmer.number c.args.out.now.items) (map g.W.PackedKmer.number c.loop-place.out.items) c.loop-place.place
     (omega (arith, c.loop-place-test.false)) c.loop-place.invariant
 
 pub returns-clause-fit : goal.returns-clause-fit

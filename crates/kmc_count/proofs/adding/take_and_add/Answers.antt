@@ -19,7 +19,7 @@ loop-offset-init g c =
       taken = (
         [],
         record { each = tt; is = refl },
-        subst (λ ns. IsTaken rule.strands rule.k c.args.bits [] (map g.W.Word.number ns) []) (sym c.clear.ensures.items) (none_taken rule.strands rule.k c.args.bits),
+        subst (λ ns. IsTaken rule.strands rule.k c.args.bits [] (map g.W.PackedKmer.number ns) []) (sym c.clear.ensures.items) (none_taken rule.strands rule.k c.args.bits),
       );
     }
 

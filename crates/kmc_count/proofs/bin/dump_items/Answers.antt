@@ -12,7 +12,7 @@ pub tally-requires-clause-fit : goal.tally-requires-clause-fit
 tally-requires-clause-fit g c =
     let k = c.args.rule.k in
     let f = c.args.bits in
-    subst (λ ns. AreItems k f (map g.W.Word.number ns)) (sym c.deref.ensures.value)
+    subst (λ ns. AreItems k f (map g.W.PackedKmer.number ns)) (sym c.deref.ensures.value)
     (All-permutation (λ n. n / 2 ^ f < 4 ^ k) _ _ c.sort.ensures.moved c.requires.fit)
 
 pub returns-clause-ok : goal.returns-clause-ok
@@ -22,6 +22,6 @@ returns-clause-ok g c = λ body are.
     let moved = items_moved rule.strands rule.k f body _ _ c.sort.ensures.moved are in
     on_ok_weaker c.tally.result
     (λ dump. body_dump rule.strands rule.k f body _ c.args.limits.now _ moved
-    (subst (λ ns. IsDump (weight_of (items rule.k f (map g.W.Word.number ns))) c.args.limits.now
+    (subst (λ ns. IsDump (weight_of (items rule.k f (map g.W.PackedKmer.number ns))) c.args.limits.now
     (g.L.PairList.pairs c.tally.new.pairs)) c.deref.ensures.value dump))
     c.tally.ensures.dump

@@ -12,7 +12,7 @@ push_rows-requires-clause-long g c =
 
 pub returns-clause-ok : goal.returns-clause-ok
 returns-clause-ok g c =
-    let num = g.W.Word.number in
+    let num = g.W.PackedKmer.number in
     let rule = c.args.rule in
     let taken = c.in_ok-take_body.ensures.ok in
     let gains = subst (λ t. Gains rule.k c.args.bits (map num c.take_body.new.items.items) (map num c.push_rows.new.items.items)

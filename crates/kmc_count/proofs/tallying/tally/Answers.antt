@@ -11,7 +11,7 @@ use Rattle.kmc_count.proofs.tallying.tally.Goals.{then-is_same, else-is_same+in_
 
 pub returns-in_default-clause-dump : goal.returns-in_default-clause-dump
 returns-in_default-clause-dump g c =
-    let num = g.W.Word.number in
+    let num = g.W.PackedKmer.number in
     let k = c.args.rule.k in
     let f = c.args.bits in
     let ns = map num c.args.words.now in
@@ -20,7 +20,7 @@ returns-in_default-clause-dump g c =
 
 pub loop-next-init : goal.loop-next-init
 loop-next-init g c =
-    let num = g.W.Word.number in
+    let num = g.W.PackedKmer.number in
     let k = c.args.rule.k in
     let f = c.args.bits in
     let first = num c.in-Some.first.now in
@@ -39,7 +39,7 @@ one_answer b is other = cc
 
 pub loop-next-preserved : goal.loop-next-preserved
 loop-next-preserved g c =
-    let num = g.W.Word.number in
+    let num = g.W.PackedKmer.number in
     let k = c.args.rule.k in
     let f = c.args.bits in
     let rest = map num c.in-Some.rest.now in
@@ -73,7 +73,7 @@ loop-next-preserved g c =
 
 pub returns-clause-dump : goal.returns-clause-dump
 returns-clause-dump g c =
-    let num = g.W.Word.number in
+    let num = g.W.PackedKmer.number in
     let rest = map num c.in-Some.rest.now in
     on_ok_weaker c.push_kept-2.result
     (run_ends_all c.args.rule.k c.args.bits c.args.limits.now rest (num c.in-Some.first.now) (map num c.args.words.now) _ _ _ _ _ _ _ _

@@ -6,9 +6,9 @@ use Rattle.kmc_count.proofs.tallying.tally.Given as goal
 abbrev pub invariant-loop-next : goal.invariant-loop-next
 invariant-loop-next g l = record {
   takes : g.L.PairList.takes l.rule.k l.pairs;
-  fits : g.W.Word.number l.word < 4 ^ l.rule.k;
-  run : OpenRun l.rule.k l.bits l.limits (map g.W.Word.number l.rest)
+  fits : g.W.PackedKmer.number l.word < 4 ^ l.rule.k;
+  run : OpenRun l.rule.k l.bits l.limits (map g.W.PackedKmer.number l.rest)
       (g.L.PairList.pairs l.initial.pairs
-      ++ runs_of l.rule.k l.bits l.limits (map g.W.Word.number l.rest) (g.W.Word.number l.initial.word) l.initial.count)
-      (g.L.PairList.pairs l.pairs) (g.W.Word.number l.word) l.count l.next-index;
+      ++ runs_of l.rule.k l.bits l.limits (map g.W.PackedKmer.number l.rest) (g.W.PackedKmer.number l.initial.word) l.initial.count)
+      (g.L.PairList.pairs l.pairs) (g.W.PackedKmer.number l.word) l.count l.next-index;
 }

@@ -1,33 +1,32 @@
-use Rattle.std.proofs.Common.{◌≡◌, ℕ, ◌+◌, ◌-◌, ◌*◌, ◌<◌, ◌≤◌, ◌^◌, cond, List, [], ◌∷◌, ◌++◌, length, get_or, take, drop, map, sym, ap, subst, ◌∙◌, arith}
-use Rattle.std.proofs.Common.{vec_len, vec_capacity, length-drop}
+use Rattle.std.proofs.Common.{◌≡◌, ℕ, ◌+◌, ◌-◌, ◌*◌, ◌<◌, ◌≤◌, ◌^◌, cond, List, [], ◌∷◌, ◌++◌, length, get_or, take, drop, map, sym, ap, subst, ◌∙◌, arith, vec_len, vec_capacity, length-drop}
 use Rattle.std.proofs.lemmas.Nat.{pow_pos}
 use Rattle.std.proofs.lemmas.List.{length-map, map-append, length-append, length-take-le, get_or-drop}
 use Rattle.kmc_dump.specs.Keys.{key_pair, key_pairs}
-use Rattle.kmc_device.specs.Ordered.{within}
+use Rattle.kmc_lists.specs.Ordered.{within}
 use Rattle.kmc_dump.proofs.Cuts.{cut_within, ok_if, one_more}
 use Rattle.kmc_dump.proofs.RangeKeys.{between, has_key}
 use Rattle.kmc_dump.proofs.keys.gather_keys.Goals as goal
 
 pub key_of-requires-clause-least : goal.key_of-requires-clause-least
 key_of-requires-clause-least g c =
-    let n = g.W.Word.number c.get-word.result.0 in
-    let key = has_key (2 ^ c.args.shift) c.args.from c.args.to c.args.least g.C.Shown.bits n (pow_pos c.args.shift) c.requires.least c.requires.fits
+    let n = g.W.PackedKmer.number c.get-word.result.0 in
+    let key = has_key (2 ^ c.args.shift) c.args.from c.args.to c.args.least g.C.CountWidth.bits n (pow_pos c.args.shift) c.requires.least c.requires.fits
     (between (2 ^ c.args.shift) c.args.from c.args.to c.below-begin.result c.below-end.result c.args.list.now.packed c.below-begin.ensures
-    c.below-end.ensures c.loop-i.i (n, g.C.Shown.count c.get-word.result.1) (omega (arith, c.loop-i.auto.i)) c.loop-i-test.true c.get-word.ensures) in
-    subst (λ m. c.args.least ≤ m) (sym c.widen.ensures) key.0
+    c.below-end.ensures c.loop-i.i (n, g.C.CountWidth.count c.get-word.result.1) (omega (arith, c.loop-i.auto.i)) c.loop-i-test.true c.get-word.ensures) in
+    subst (λ m. c.args.least ≤ m) (sym c.to_u128.ensures) key.0
 
 pub key_of-requires-clause-room : goal.key_of-requires-clause-room
 key_of-requires-clause-room g c =
-    let n = g.W.Word.number c.get-word.result.0 in
-    let key = has_key (2 ^ c.args.shift) c.args.from c.args.to c.args.least g.C.Shown.bits n (pow_pos c.args.shift) c.requires.least c.requires.fits
+    let n = g.W.PackedKmer.number c.get-word.result.0 in
+    let key = has_key (2 ^ c.args.shift) c.args.from c.args.to c.args.least g.C.CountWidth.bits n (pow_pos c.args.shift) c.requires.least c.requires.fits
     (between (2 ^ c.args.shift) c.args.from c.args.to c.below-begin.result c.below-end.result c.args.list.now.packed c.below-begin.ensures
-    c.below-end.ensures c.loop-i.i (n, g.C.Shown.count c.get-word.result.1) (omega (arith, c.loop-i.auto.i)) c.loop-i-test.true c.get-word.ensures) in
-    subst (λ m. (m - c.args.least + 1) * 2 ^ c.bits-bits.result ≤ 2 ^ 64) (sym c.widen.ensures)
+    c.below-end.ensures c.loop-i.i (n, g.C.CountWidth.count c.get-word.result.1) (omega (arith, c.loop-i.auto.i)) c.loop-i-test.true c.get-word.ensures) in
+    subst (λ m. (m - c.args.least + 1) * 2 ^ c.bits-bits.result ≤ 2 ^ 64) (sym c.to_u128.ensures)
     (subst (λ b. (n - c.args.least + 1) * 2 ^ b ≤ 2 ^ 64) (sym c.bits-bits.ensures.is) key.1)
 
 pub loop-i-preserved : goal.loop-i-preserved
 loop-i-preserved g c =
-    let f : ℕ → ℕ × ℕ = key_pair c.args.least g.C.Shown.bits in
+    let f : ℕ → ℕ × ℕ = key_pair c.args.least g.C.CountWidth.bits in
     let ps = c.args.list.now.packed in
     let b = c.below-begin.result in
     let e = c.below-end.result in
@@ -59,8 +58,8 @@ loop-i-preserved g c =
     let items : c.push.new.self.items ≡ now ++ key ∷ [] = c.push.ensures.items ∙ ap (λ t. cond t (now ++ key ∷ []) now) ok in
     let next : i + 1 - b ≡ (i - b) + 1 = omega (arith, c.loop-i.auto.i) in
     let place : b + (i - b) ≡ i = omega (arith, c.loop-i.auto.i) in
-    let pair : f key ≡ (g.W.Word.number c.get-word.result.0, g.C.Shown.count c.get-word.result.1) = ap (λ t. key_pair c.args.least t key)
-    (sym c.bits-bits.ensures.is) ∙ c.key_of.ensures ∙ (λ j. (c.widen.ensures j, c.widen-in-loop-i.ensures.is j)) in
+    let pair : f key ≡ (g.W.PackedKmer.number c.get-word.result.0, g.C.CountWidth.count c.get-word.result.1) = ap (λ t. key_pair c.args.least t key)
+    (sym c.bits-bits.ensures.is) ∙ c.key_of.ensures ∙ (λ j. (c.to_u128.ensures j, c.to_u128-in-loop-i.ensures.is j)) in
     record {
       capacity = omega (arith, c.loop-i.invariant.capacity, c.push.ensures.capacity);
       pairs = ap (map f) items ∙ map-append f now (key ∷ [])
@@ -75,5 +74,5 @@ returns-clause-pairs g c =
     let e = c.below-end.result in
     let is = cut_within (2 ^ c.args.shift) c.args.from c.args.to b e ps c.requires.range c.below-begin.ensures c.below-end.ensures in
     let end : c.loop-i.i ≡ e = omega (arith, c.loop-i-test.false, c.loop-i.auto.i-end, is.0) in
-    let old = key_pairs c.args.least g.C.Shown.bits c.args.keys.now.items in
+    let old = key_pairs c.args.least g.C.CountWidth.bits c.args.keys.now.items in
     c.loop-i.invariant.pairs ∙ ap (λ (l : List (ℕ × ℕ)). old ++ l) (ap (λ n. take (n - b) (drop b ps)) end ∙ sym is.1)

@@ -6,6 +6,6 @@ use Rattle.kmc_dump.proofs.keys.gather_keys.Given as goal
 abbrev pub invariant-loop-i : goal.invariant-loop-i
 invariant-loop-i g l = record {
   capacity : vec_capacity l.initial.keys ≤ vec_capacity l.keys;
-  pairs : key_pairs l.least g.C.Shown.bits l.keys.items
-      ≡ key_pairs l.least g.C.Shown.bits l.initial.keys.items ++ take (l.i - l.begin) (drop l.begin l.list.packed);
+  pairs : key_pairs l.least g.C.CountWidth.bits l.keys.items
+      ≡ key_pairs l.least g.C.CountWidth.bits l.initial.keys.items ++ take (l.i - l.begin) (drop l.begin l.list.packed);
 }

@@ -3,12 +3,12 @@ use Rattle.std.proofs.lemmas.List.{length-map}
 use Rattle.std.proofs.lemmas.List.Elements.{All-filter}
 use Rattle.std.proofs.lemmas.List.Sorted.{All-permutation, IsPermutation-map, length_permutation}
 use Rattle.std.specs.List.{filter}
-use Rattle.kmc_device.specs.Line.{line_room, text_of}
+use Rattle.kmc_lists.specs.Line.{line_room, text_of}
 use Rattle.kmc_dump.specs.Keys.{key_pair}
-use Rattle.kmc_device.specs.Listed.{spelled}
-use Rattle.kmc_device.specs.Ordered.{is_within, joined, packs}
+use Rattle.kmc_lists.specs.Listed.{spelled}
+use Rattle.kmc_lists.specs.Ordered.{is_within, joined, packs}
 use Rattle.kmc_dump.proofs.RangeKeys.{keys_climb}
-use Rattle.kmc_device.specs.Lemmas.Order.{part_is}
+use Rattle.kmc_lists.specs.Lemmas.Order.{part_is}
 use Rattle.kmc_dump.proofs.Gathered.{climbs_there, room_left, range_more, gathered_moved, gathered_long}
 use Rattle.kmc_dump.proofs.keys.put_keys.Goals as goal
 
@@ -19,7 +19,7 @@ gather_keys-requires-clause-rise g c =
 pub gather_keys-requires-clause-room : goal.gather_keys-requires-clause-room
 gather_keys-requires-clause-room g c =
     let least = c.args.from * 2 ^ c.args.shift % 2 ^ 128 in
-    let f : ℕ → ℕ × ℕ = key_pair least g.C.Shown.bits in
+    let f : ℕ → ℕ × ℕ = key_pair least g.C.CountWidth.bits in
     let left = room_left
     (is_within (2 ^ c.args.shift) c.args.from c.args.to) c.args.lists.now c.loop-list.list-index c.list-item.result c.loop-list-test.true c.list-item.is in
     omega (
@@ -36,7 +36,7 @@ gather_keys-requires-clause-room g c =
 pub put_key_lines-requires-clause-fit : goal.put_key_lines-requires-clause-fit
 put_key_lines-requires-clause-fit g c =
     let least = c.args.from * 2 ^ c.args.shift % 2 ^ 128 in
-    let f : ℕ → ℕ × ℕ = key_pair least g.C.Shown.bits in
+    let f : ℕ → ℕ × ℕ = key_pair least g.C.CountWidth.bits in
     let t = is_within (2 ^ c.args.shift) c.args.from c.args.to in
     let made = c.loop-list.keys in
     let all = joined (packs c.args.lists.now) in
@@ -49,7 +49,7 @@ put_key_lines-requires-clause-fit g c =
 pub returns-clause-lines : goal.returns-clause-lines
 returns-clause-lines g c =
     let least = c.args.from * 2 ^ c.args.shift % 2 ^ 128 in
-    let f : ℕ → ℕ × ℕ = key_pair least g.C.Shown.bits in
+    let f : ℕ → ℕ × ℕ = key_pair least g.C.CountWidth.bits in
     let t = is_within (2 ^ c.args.shift) c.args.from c.args.to in
     let made = c.loop-list.keys in
     let sorted = c.sort_unstable.new.self.items in
@@ -58,7 +58,7 @@ returns-clause-lines g c =
     c.put_key_lines.ensures.lines
     ∙ ap (λ (ns : List ℕ). text_of (spelled c.args.size.k (map f ns))) c.deref.ensures.value
     ∙ ap (λ (ps : List (ℕ × ℕ)). text_of (spelled c.args.size.k ps)) (part_is t
-    (packs c.args.lists.now) _ c.requires.merge.rise c.requires.merge.apart moved (keys_climb least g.C.Shown.bits sorted c.sort_unstable.ensures.sorted))
+    (packs c.args.lists.now) _ c.requires.merge.rise c.requires.merge.apart moved (keys_climb least g.C.CountWidth.bits sorted c.sort_unstable.ensures.sorted))
 
 pub gather_keys-requires-clause-least : goal.gather_keys-requires-clause-least
 gather_keys-requires-clause-least g c = mod-eq_of_lt c.requires.least
@@ -76,13 +76,13 @@ loop-list-preserved g c =
 
 pub put_key_lines-requires-clause-room : goal.put_key_lines-requires-clause-room
 put_key_lines-requires-clause-room g c =
-    let f : ℕ → ℕ × ℕ = key_pair (c.args.from * 2 ^ c.args.shift % 2 ^ 128) g.C.Shown.bits in
+    let f : ℕ → ℕ × ℕ = key_pair (c.args.from * 2 ^ c.args.shift % 2 ^ 128) g.C.CountWidth.bits in
     let t = is_within (2 ^ c.args.shift) c.args.from c.args.to in
     let made = c.loop-list.keys.items in
     let long = ap length c.deref.ensures.value
     ∙ length_permutation made c.sort_unstable.new.self.items c.sort_unstable.ensures.permutation
     ∙ gathered_long f t c.args.lists.now c.loop-list.list-index made c.loop-list-test.false c.loop-list.invariant.pairs in
-    subst (λ n. n * line_room c.args.size.k g.C.Shown.most_digits ≤ length c.args.text.now) (sym long) c.requires.text
+    subst (λ n. n * line_room c.args.size.k g.C.CountWidth.most_digits ≤ length c.args.text.now) (sym long) c.requires.text
 
 pub returns-clause-within : goal.returns-clause-within
 returns-clause-within g c = c.put_key_lines.ensures.within

@@ -1,5 +1,5 @@
 use Rattle.std.proofs.Common.{ℕ, ◌≡◌, ◌+◌, ◌-◌, ◌/◌, ◌^◌, ◌<◌, ◌≤◌, List, sym, subst, arith}
-use Rattle.kmc_device.specs.Ordered.{joined, packs}
+use Rattle.kmc_lists.specs.Ordered.{joined, packs}
 use Rattle.kmc_dump.specs.Ranges.{count_within, ArePartedTo}
 use Rattle.kmc_dump.specs.Lemmas.Parted.{both, range_more, closed}
 use Rattle.kmc_dump.proofs.parting.+halves.Goals as goal

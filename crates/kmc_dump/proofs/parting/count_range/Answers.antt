@@ -2,7 +2,7 @@ use Rattle.std.proofs.Common.{◌^◌, arith}
 use Rattle.std.proofs.lemmas.Grind.{common_steps}
 use Rattle.kmc_dump.proofs.Cuts.{cut_length}
 use Rattle.kmc_dump.proofs.Gathered.{climbs_there, list_more}
-use Rattle.kmc_device.specs.Ordered.{is_within}
+use Rattle.kmc_lists.specs.Ordered.{is_within}
 use Rattle.kmc_dump.proofs.parting.count_range.Goals as goal
 
 pub loop-list-init : goal.loop-list-init

@@ -1,6 +1,6 @@
 use Rattle.std.proofs.Common.{◌≡◌, ℕ, ◌*◌, ◌/◌, ◌<◌, ◌^◌, All, List, [], ◌∷◌, ◌++◌, length, refl, sym, ap, subst, ◌∙◌, arith}
 use Rattle.std.proofs.lemmas.List.{get_or_default}
-use Rattle.kmc_device.specs.Ordered.{joined, packs}
+use Rattle.kmc_lists.specs.Ordered.{joined, packs}
 use Rattle.kmc_dump.specs.Ranges.{ArePartedTo}
 use Rattle.kmc_dump.specs.Lemmas.Finer.{next_slot, slot_size, slot_fits, all_before, end_fits}
 use Rattle.kmc_dump.specs.Lemmas.Parted.{no_range}

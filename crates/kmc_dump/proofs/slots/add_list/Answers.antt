@@ -7,10 +7,10 @@ pub loop-i-preserved : goal.loop-i-preserved
 loop-i-preserved g c =
     let w = 2 ^ c.args.shift in
     let first = ap (λ (p : ℕ × ℕ). p.0 / w) (c.get-word.ensures (0, 0)) in
-    let slot = ap (λ n. n / w) c.widen.ensures in
+    let slot = ap (λ n. n / w) c.to_u128.ensures in
     let low = c.requires.inside c.loop-i.i (0, 0) (omega arith) in
     noted c.loop-i.sizes c.args.sizes.now w c.loop-i.i _ c.in-Some.size c.args.list.now.packed
-    (g.W.Word.number c.get-word.result.0, g.C.Shown.count c.get-word.result.1)
+    (g.W.PackedKmer.number c.get-word.result.0, g.C.CountWidth.count c.get-word.result.1)
     (omega arith) (c.get-word.ensures _) slot (omega (arith, low, first, slot)) c.in-Some.ensures.1 c.loop-i.invariant
 
 pub overflow_cast-slot-in-loop-i : goal.overflow_cast-slot-in-loop-i

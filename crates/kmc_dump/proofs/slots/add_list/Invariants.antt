@@ -1,5 +1,5 @@
 use Rattle.std.proofs.Common.{◌≡◌, ℕ, ◌+◌, ◌<◌, ◌^◌, length, get_or, take}
-use Rattle.kmc_device.specs.Ordered.{within}
+use Rattle.kmc_lists.specs.Ordered.{within}
 use Rattle.kmc_dump.proofs.slots.add_list.Given as goal
 
 -- each slot has its pairs so far

@@ -1,5 +1,5 @@
 use Rattle.std.proofs.Common.{◌≡◌, length, take}
-use Rattle.kmc_device.specs.Ordered.{joined, packs}
+use Rattle.kmc_lists.specs.Ordered.{joined, packs}
 use Rattle.kmc_dump.proofs.write.count_pairs.Given as goal
 
 abbrev pub invariant-loop-list : goal.invariant-loop-list

@@ -1,9 +1,9 @@
 use Rattle.std.proofs.Common.{sym, subst, ◌∙◌, Ok, Err}
 use Rattle.std.proofs.lemmas.List.Sorted.{length_permutation}
-use Rattle.kmc_device.specs.Line.{text_of}
-use Rattle.kmc_device.specs.Listed.{spelled}
-use Rattle.kmc_device.specs.Ordered.{joined, packs, whole}
-use Rattle.kmc_device.specs.Lemmas.Order.{in_order_moves}
+use Rattle.kmc_lists.specs.Line.{text_of}
+use Rattle.kmc_lists.specs.Listed.{spelled}
+use Rattle.kmc_lists.specs.Ordered.{joined, packs, whole}
+use Rattle.kmc_lists.specs.Lemmas.Order.{in_order_moves}
 use Rattle.kmc_dump.specs.Written.{IsWritten}
 use Rattle.kmc_dump.proofs.Writing.{dumped, front_dumped, none_dumped}
 use Rattle.kmc_dump.proofs.write.write_lists.Goals as goal

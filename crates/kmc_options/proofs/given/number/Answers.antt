@@ -8,8 +8,8 @@ use Rattle.kmc_options.proofs.Searching.{passes}
 use Rattle.kmc_options.specs.CommandLine.{value_of}
 use Rattle.kmc_options.specs.Names.{settings}
 use Rattle.kmc_options.proofs.given.number.Goals as goal
-use Rattle.kmc_settings.specs.declared.setting.Setting.{Setting}
-use Rattle.kmc_settings.specs.declared.setting.Setting.TheVariants.{K, P, N, Ci, Cx, Cs, Sp, Sr}
+use Rattle.kmc_options.specs.declared.setting.Setting.{Setting}
+use Rattle.kmc_options.specs.declared.setting.Setting.TheVariants.{K, P, N, Ci, Cx, Cs, Sp, Sr}
 
 place : (s : Setting) → (i : ℕ) × (i < 8) × (slice_index_or settings i K ≡ s)
 place K = (0, omega arith, refl)

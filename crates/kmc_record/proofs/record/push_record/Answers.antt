@@ -1,5 +1,4 @@
-use Rattle.std.proofs.Common.{◌≡◌, ℕ, ◌+◌, ◌*◌, ◌-◌, ◌/◌, ◌^◌, ◌<◌, ◌≤◌, min, List, length, get_or, take, map, vec_len, vec_capacity, ap, sym, ◌∙◌, arith}
-use Rattle.std.proofs.Common.{◌%◌, max, Fits, w8, w64}
+use Rattle.std.proofs.Common.{◌≡◌, ℕ, ◌+◌, ◌*◌, ◌-◌, ◌/◌, ◌^◌, ◌<◌, ◌≤◌, min, List, length, get_or, take, map, vec_len, vec_capacity, ap, sym, ◌∙◌, arith, ◌%◌, max, Fits, w8, w64}
 use Rattle.std.proofs.lemmas.List.{length-take-le, get_or-take}
 use Rattle.std.proofs.lemmas.Result.{IfOk-from_err}
 use borrow.Author.Count.{falls}
@@ -155,7 +154,7 @@ front-init g c = roll_start c.args.rule.k (take c.args.symbols (codes_in c.args.
 
 pub slide_byte-requires-clause-back : goal.slide_byte-requires-clause-back
 slide_byte-requires-clause-back g c =
-    let num = g.W.Word.number in
+    let num = g.W.PackedKmer.number in
     let bs = c.args.bytes.now in
     let n = c.args.symbols in
     fits_at c.args.rule.k c.args.rule.within.0 (take n (codes_in bs)) (4 * c.front.j) (num c.front.forward) (num c.front.back)
@@ -164,7 +163,7 @@ slide_byte-requires-clause-back g c =
 
 pub front-preserved : goal.front-preserved
 front-preserved g c =
-    let num = g.W.Word.number in
+    let num = g.W.PackedKmer.number in
     front_more c.args.rule.k c.args.symbols c.front.j (num c.front.forward) (num c.front.back) (num c.slide_byte.result.0) (num c.slide_byte.result.1)
     (num c.top-top.result) c.args.bytes.now c.args.rule.within.0 c.requires.long c.requires.inside c.front-test.true c.top-top.ensures
     c.slide_byte.ensures.ahead c.slide_byte.ensures.behind c.front.invariant
@@ -176,7 +175,7 @@ head-init g c =
 
 pub behind-back-requires-clause-back : goal.behind-back-requires-clause-back
 behind-back-requires-clause-back g c =
-    let num = g.W.Word.number in
+    let num = g.W.PackedKmer.number in
     let bs = c.args.bytes.now in
     fits c.args.rule.strands c.args.rule.k c.args.symbols c.args.weight.bits c.args.weight.times c.args.rule.within.0 (codes_in bs) (are_codes bs)
     (within bs c.args.symbols c.requires.inside) (num c.top-top.result) c.top-top.ensures
@@ -184,7 +183,7 @@ behind-back-requires-clause-back g c =
 
 pub head-preserved : goal.head-preserved
 head-preserved g c =
-    let num = g.W.Word.number in
+    let num = g.W.PackedKmer.number in
     let bs = c.args.bytes.now in
     let n = c.args.symbols in
     let less = head_less c.args.rule.k n c.head.i c.requires.long c.head-test.true in
@@ -195,7 +194,7 @@ head-preserved g c =
 
 pub near-init : goal.near-init
 near-init g c =
-    let num = g.W.Word.number in
+    let num = g.W.PackedKmer.number in
     let bs = c.args.bytes.now in
     let n = c.args.symbols in
     let old = map num c.args.words.now.items in
@@ -212,7 +211,7 @@ near-init g c =
 
 pub push_code-requires-clause-back : goal.push_code-requires-clause-back
 push_code-requires-clause-back g c =
-    let num = g.W.Word.number in
+    let num = g.W.PackedKmer.number in
     let bs = c.args.bytes.now in
     let n = c.args.symbols in
     fits c.args.rule.strands c.args.rule.k n c.args.weight.bits c.args.weight.times c.args.rule.within.0 (codes_in bs) (are_codes bs)
@@ -221,7 +220,7 @@ push_code-requires-clause-back g c =
 
 pub near-preserved : goal.near-preserved
 near-preserved g c =
-    let num = g.W.Word.number in
+    let num = g.W.PackedKmer.number in
     let bs = c.args.bytes.now in
     let n = c.args.symbols in
     held_more c.args.rule.strands c.args.rule.k n c.args.weight.bits c.args.weight.times c.args.rule.within.0 (codes_in bs) (are_codes bs)
@@ -235,7 +234,7 @@ near-preserved g c =
 
 pub bytes-init : goal.bytes-init
 bytes-init g c =
-    let num = g.W.Word.number in
+    let num = g.W.PackedKmer.number in
     let bs = c.args.bytes.now in
     let n = c.args.symbols in
     let here = near_ended c.args.rule.k n c.min-near.result c.near.i c.args.rule.within.0 c.requires.long c.min-near.ensures
@@ -244,7 +243,7 @@ bytes-init g c =
 
 pub codes-init : goal.codes-init
 codes-init g c =
-    let num = g.W.Word.number in
+    let num = g.W.PackedKmer.number in
     let bs = c.args.bytes.now in
     let n = c.args.symbols in
     let here = byte_begun n c.bytes.j c.bytes-test.true in
@@ -252,7 +251,7 @@ codes-init g c =
 
 pub push_code-requires-in-codes-clause-back : goal.push_code-requires-in-codes-clause-back
 push_code-requires-in-codes-clause-back g c =
-    let num = g.W.Word.number in
+    let num = g.W.PackedKmer.number in
     let bs = c.args.bytes.now in
     let n = c.args.symbols in
     fits c.args.rule.strands c.args.rule.k n c.args.weight.bits c.args.weight.times c.args.rule.within.0 (codes_in bs) (are_codes bs)
@@ -261,7 +260,7 @@ push_code-requires-in-codes-clause-back g c =
 
 pub codes-preserved : goal.codes-preserved
 codes-preserved g c =
-    let num = g.W.Word.number in
+    let num = g.W.PackedKmer.number in
     let bs = c.args.bytes.now in
     let n = c.args.symbols in
     let up = code_on c.bytes.j c.codes.r in
@@ -278,7 +277,7 @@ codes-preserved g c =
 
 pub bytes-preserved : goal.bytes-preserved
 bytes-preserved g c =
-    let num = g.W.Word.number in
+    let num = g.W.PackedKmer.number in
     let bs = c.args.bytes.now in
     let n = c.args.symbols in
     let here = byte_ended n c.bytes.j c.codes.r c.bytes-test.true c.codes.auto.r-end c.codes-test.false in
@@ -286,7 +285,7 @@ bytes-preserved g c =
 
 pub rest-init : goal.rest-init
 rest-init g c =
-    let num = g.W.Word.number in
+    let num = g.W.PackedKmer.number in
     let bs = c.args.bytes.now in
     let n = c.args.symbols in
     let here = behind_bytes
@@ -295,7 +294,7 @@ rest-init g c =
 
 pub push_code-requires-in-rest-clause-back : goal.push_code-requires-in-rest-clause-back
 push_code-requires-in-rest-clause-back g c =
-    let num = g.W.Word.number in
+    let num = g.W.PackedKmer.number in
     let bs = c.args.bytes.now in
     let n = c.args.symbols in
     fits c.args.rule.strands c.args.rule.k n c.args.weight.bits c.args.weight.times c.args.rule.within.0 (codes_in bs) (are_codes bs)
@@ -304,7 +303,7 @@ push_code-requires-in-rest-clause-back g c =
 
 pub rest-preserved : goal.rest-preserved
 rest-preserved g c =
-    let num = g.W.Word.number in
+    let num = g.W.PackedKmer.number in
     let bs = c.args.bytes.now in
     let n = c.args.symbols in
     held_more c.args.rule.strands c.args.rule.k n c.args.weight.bits c.args.weight.times c.args.rule.within.0 (codes_in bs) (are_codes bs)
@@ -319,7 +318,7 @@ rest-preserved g c =
 
 pub returns : goal.returns
 returns g c =
-    let num = g.W.Word.number in
+    let num = g.W.PackedKmer.number in
     let bs = c.args.bytes.now in
     let n = c.args.symbols in
     let least = last_most ((c.args.rule.k + 2) / 4) n c.min-near.result c.max-last.result c.min-near.ensures c.max-last.ensures in
@@ -331,15 +330,15 @@ returns g c =
 
 pub push_code-requires-clause-beside : goal.push_code-requires-clause-beside
 push_code-requires-clause-beside g c =
-    beside c.args.rule.k c.args.weight.bits g.W.Word.most (g.W.Word.number c.top-top.result) c.args.rule.within.0 c.requires.beside c.top-top.ensures
+    beside c.args.rule.k c.args.weight.bits g.W.PackedKmer.most (g.W.PackedKmer.number c.top-top.result) c.args.rule.within.0 c.requires.beside c.top-top.ensures
 
 pub push_code-requires-in-codes-clause-beside : goal.push_code-requires-in-codes-clause-beside
 push_code-requires-in-codes-clause-beside g c =
-    beside c.args.rule.k c.args.weight.bits g.W.Word.most (g.W.Word.number c.top-top.result) c.args.rule.within.0 c.requires.beside c.top-top.ensures
+    beside c.args.rule.k c.args.weight.bits g.W.PackedKmer.most (g.W.PackedKmer.number c.top-top.result) c.args.rule.within.0 c.requires.beside c.top-top.ensures
 
 pub push_code-requires-in-rest-clause-beside : goal.push_code-requires-in-rest-clause-beside
 push_code-requires-in-rest-clause-beside g c =
-    beside c.args.rule.k c.args.weight.bits g.W.Word.most (g.W.Word.number c.top-top.result) c.args.rule.within.0 c.requires.beside c.top-top.ensures
+    beside c.args.rule.k c.args.weight.bits g.W.PackedKmer.most (g.W.PackedKmer.number c.top-top.result) c.args.rule.within.0 c.requires.beside c.top-top.ensures
 
 pub top-top-requires-clause-some : goal.top-top-requires-clause-some
 top-top-requires-clause-some g c = c.args.rule.within.0
@@ -363,19 +362,19 @@ pub ones-back-requires-clause-most : goal.ones-back-requires-clause-most
 ones-back-requires-clause-most g c = c.requires.most
 
 pub ahead-forward-requires-clause-top : goal.ahead-forward-requires-clause-top
-ahead-forward-requires-clause-top g c = top_place c.args.rule.k g.W.Word.most _ c.args.rule.within.0 c.requires.most c.top-top.ensures
+ahead-forward-requires-clause-top g c = top_place c.args.rule.k g.W.PackedKmer.most _ c.args.rule.within.0 c.requires.most c.top-top.ensures
 
 pub behind-back-requires-clause-top : goal.behind-back-requires-clause-top
-behind-back-requires-clause-top g c = top_place c.args.rule.k g.W.Word.most _ c.args.rule.within.0 c.requires.most c.top-top.ensures
+behind-back-requires-clause-top g c = top_place c.args.rule.k g.W.PackedKmer.most _ c.args.rule.within.0 c.requires.most c.top-top.ensures
 
 pub push_code-requires-clause-top : goal.push_code-requires-clause-top
-push_code-requires-clause-top g c = top_place c.args.rule.k g.W.Word.most _ c.args.rule.within.0 c.requires.most c.top-top.ensures
+push_code-requires-clause-top g c = top_place c.args.rule.k g.W.PackedKmer.most _ c.args.rule.within.0 c.requires.most c.top-top.ensures
 
 pub push_code-requires-in-codes-clause-top : goal.push_code-requires-in-codes-clause-top
-push_code-requires-in-codes-clause-top g c = top_place c.args.rule.k g.W.Word.most _ c.args.rule.within.0 c.requires.most c.top-top.ensures
+push_code-requires-in-codes-clause-top g c = top_place c.args.rule.k g.W.PackedKmer.most _ c.args.rule.within.0 c.requires.most c.top-top.ensures
 
 pub push_code-requires-in-rest-clause-top : goal.push_code-requires-in-rest-clause-top
-push_code-requires-in-rest-clause-top g c = top_place c.args.rule.k g.W.Word.most _ c.args.rule.within.0 c.requires.most c.top-top.ensures
+push_code-requires-in-rest-clause-top g c = top_place c.args.rule.k g.W.PackedKmer.most _ c.args.rule.within.0 c.requires.most c.top-top.ensures
 
 pub bounds-bytes-j : goal.bounds-bytes-j
 bounds-bytes-j g c = in_front c.args.rule.k c.args.symbols _ c.front.j c.requires.long c.requires.inside c.front-test.true
@@ -436,7 +435,7 @@ pub overflow_mul-symbols : goal.overflow_mul-symbols
 overflow_mul-symbols g c = last_fits c.args.symbols (length c.args.bytes.now) c.requires.inside c.requires.few
 
 pub slide_byte-requires-clause-top : goal.slide_byte-requires-clause-top
-slide_byte-requires-clause-top g c = top_far c.args.rule.k g.W.Word.most _ c.front.j c.front-test.true c.requires.most c.top-top.ensures
+slide_byte-requires-clause-top g c = top_far c.args.rule.k g.W.PackedKmer.most _ c.front.j c.front-test.true c.requires.most c.top-top.ensures
 
 pub front-smaller : goal.front-smaller
 front-smaller g c = falls ((c.args.rule.k - 1) / 4) c.front.j c.front-test.true

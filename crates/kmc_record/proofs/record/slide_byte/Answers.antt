@@ -5,7 +5,7 @@ use Rattle.kmc_record.proofs.record.slide_byte.Goals as goal
 
 pub returns : goal.returns
 returns g c =
-    let num = g.W.Word.number in
+    let num = g.W.PackedKmer.number in
     let t = num c.args.top in
     let h = c.requires.top in
     record {

@@ -1,11 +1,11 @@
 use Rattle.std.proofs.Common.{◌≡◌, [], ◌++◌, length, map, sym, ap, subst, ◌∙◌}
 use Rattle.kmc_device.specs.Device.{Watched}
 use Rattle.kmc_device.specs.Lemmas.Devices.{on_err}
-use Rattle.kmc_store.specs.Shapes.{Sizes}
-use Rattle.kmc_settings.specs.Shape.{shape_of}
+use Rattle.kmc_record.specs.Shapes.{Sizes}
+use Rattle.kmc_options.specs.Shape.{shape_of}
 use Rattle.kmc_store.specs.Bins.{BinList, empty_bins}
 use Rattle.kmc_store.specs.Holds.{HoldsReads}
-use Rattle.kmc_rounds.specs.Rounds.{HoldsPieces}
+use Rattle.kmc_stage_one.specs.Rounds.{HoldsPieces}
 use Rattle.kmc_slices.specs.Rounds.{AreRounds, AreUnended}
 use Rattle.kmc_slices.proofs.Rounds.{rounds_unended}
 use Rattle.kmc_slices.proofs.Told.{told_last}

@@ -1,12 +1,12 @@
 use Rattle.std.proofs.Common.{◌≡◌, ◌<◌, ◌^◌, ◌+◌, ◌-◌, ℕ, List, [], ◌++◌, Ok, OnErr, length, map, slice_index, refl, sym, ap, subst, ◌∙◌, arith}
 use Rattle.kmc_device.specs.Device.{Watched}
 use Rattle.kmc_device.specs.Lemmas.Devices.{on_ok, on_ok_then}
-use Rattle.kmc_store.specs.Shapes.{Sizes}
-use Rattle.kmc_settings.specs.Shape.{shape_of}
-use Rattle.kmc_input.specs.Fed.{AreCountsOf}
-use Rattle.kmc_rounds.specs.Rounds.{HoldsPieces}
-use Rattle.kmc_input.specs.Lemmas.Fed.{counts_on, risen, unfaulted}
-use Rattle.kmc_rounds.specs.Lemmas.Stored.{fed_cause}
+use Rattle.kmc_record.specs.Shapes.{Sizes}
+use Rattle.kmc_options.specs.Shape.{shape_of}
+use Rattle.kmc_stage_one.specs.Fed.{AreCountsOf}
+use Rattle.kmc_stage_one.specs.Rounds.{HoldsPieces}
+use Rattle.kmc_stage_one.specs.Lemmas.Fed.{counts_on, risen, unfaulted}
+use Rattle.kmc_stage_one.specs.Lemmas.Stored.{fed_cause}
 use Rattle.kmc_slices.specs.Rounds.{AreLastRounds, AreRounds, AreUnended}
 use Rattle.kmc_slices.proofs.Rounds.{rounds_unended}
 use Rattle.kmc_slices.proofs.Told.{last_cause, last_counts, refused_since, taken_since, told_cause, told_counts, told_writes, writes_on}

@@ -1,6 +1,6 @@
 use Rattle.std.proofs.Common.{◌≡◌, ◌<◌, ◌≤◌, ◌+◌, true, false, length, map}
 use Rattle.std.specs.Io.KnownBytes.{IsAtEnd}
-use Rattle.kmc_settings.specs.Shape.{shape_of}
+use Rattle.kmc_options.specs.Shape.{shape_of}
 use Rattle.kmc_slices.proofs.Told.{AreUnderWay}
 use Rattle.kmc_slices.proofs.cutting.cut_rounds.Given as goal
 

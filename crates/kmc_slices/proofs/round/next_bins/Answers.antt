@@ -1,9 +1,9 @@
 use Rattle.std.proofs.Common.{◌≡◌, ◌-◌, [], ◌++◌, OnOk, sym, ap, subst, ◌∙◌}
 use Rattle.kmc_store.specs.Bins.{BinList, empty_bins}
 use Rattle.kmc_store.specs.Holds.{HoldsReads}
-use Rattle.kmc_settings.specs.Shape.{shape_of}
-use Rattle.kmc_input.specs.Fed.{IsFedBy}
-use Rattle.kmc_rounds.specs.Rounds.{HoldsPieces}
+use Rattle.kmc_options.specs.Shape.{shape_of}
+use Rattle.kmc_stage_one.specs.Fed.{IsFedBy}
+use Rattle.kmc_stage_one.specs.Rounds.{HoldsPieces}
 use Rattle.kmc_base.specs.Lemmas.PassedOn.{passed_on}
 use Rattle.kmc_slices.proofs.round.next_bins.Goals as goal
 

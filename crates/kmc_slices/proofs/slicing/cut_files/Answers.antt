@@ -1,7 +1,7 @@
 use Rattle.std.proofs.Common.{◌≡◌, [], OnErr, length, map, inl, inr, sym, subst}
 use Rattle.kmc_device.specs.Device.{Watched}
-use Rattle.kmc_store.specs.Shapes.{Sizes}
-use Rattle.kmc_settings.specs.Shape.{shape_of}
+use Rattle.kmc_record.specs.Shapes.{Sizes}
+use Rattle.kmc_options.specs.Shape.{shape_of}
 use Rattle.kmc_slice_files.specs.Files.{header_bytes}
 use Rattle.kmc_slice_files.specs.Writes.{EachGot, EachBegan}
 use Rattle.kmc_slices.specs.Rounds.{AreRounds, AreUnended}

@@ -1,6 +1,6 @@
 use Rattle.std.proofs.Common.{◌≡◌, ℕ, ◌+◌, ◌<◌, ◌≤◌, length}
 use Rattle.std.specs.Prelude.{slice_index}
-use Rattle.kmc_store.specs.Parts.{capped}
+use Rattle.kmc_record.specs.Parts.{capped}
 use Rattle.kmc_store.proofs.growth.add_words.Given as goal
 
 abbrev pub invariant-loop-i : goal.invariant-loop-i

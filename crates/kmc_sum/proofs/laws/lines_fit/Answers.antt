@@ -2,7 +2,7 @@ use Rattle.std.proofs.Common.{◌≡◌, ◌+◌, ◌≤◌, ◌∷◌, ◌++◌
 use Rattle.std.proofs.lemmas.Fmt.{length-decimal-le}
 use Rattle.std.proofs.lemmas.List.{length-map}
 use Rattle.kmc_base.specs.Words.{letter}
-use Rattle.kmc_device.specs.Line.{line_of}
+use Rattle.kmc_lists.specs.Line.{line_of}
 use Rattle.kmc_sum.proofs.laws.lines_fit.Goals as goal
 
 pub returns : goal.returns

@@ -1,7 +1,7 @@
 use Rattle.std.proofs.Common.{refl, ap, ◌∙◌}
 use Rattle.kmc_count.specs.Occurrences.{count_of}
 use Rattle.kmc_count.specs.Merge.{joined}
-use Rattle.kmc_device.specs.Line.{text_of}
+use Rattle.kmc_lists.specs.Line.{text_of}
 use Rattle.kmc_sum.proofs.Parts.{whole}
 use Rattle.kmc_sum.proofs.Texts.{same_lists}
 use Rattle.kmc_sum.proofs.laws.merged_texts_are_whole.Goals as goal

@@ -2,8 +2,7 @@ use Rattle.std.proofs.Common.{◌+◌, ◌-◌, length, drop, arith, length-drop
 use Rattle.std.proofs.lemmas.List.{length-take-le}
 use Rattle.kmc_sum.proofs.Fronts.{some_letters, more_than_letters, tab, number_behind, line_is}
 use Rattle.kmc_sum.proofs.line.line_at.Goals as goal
-use Rattle.kmc_sum.proofs.line.line_at.Goals.{then-k-eq0-via-then-k-eq0, then-k-eq0-via-else-k-eq0+then-k-bytes}
-use Rattle.kmc_sum.proofs.line.line_at.Goals.{then-k-eq0-via-else-k-eq0+else-k-bytes+then-bytes-k-ne9}
+use Rattle.kmc_sum.proofs.line.line_at.Goals.{then-k-eq0-via-then-k-eq0, then-k-eq0-via-else-k-eq0+then-k-bytes, then-k-eq0-via-else-k-eq0+else-k-bytes+then-bytes-k-ne9}
 
 pub returns-then-k-eq0 : goal.returns-then-k-eq0
 returns-then-k-eq0 c = λ n p more size pair e.

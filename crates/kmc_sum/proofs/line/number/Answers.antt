@@ -1,9 +1,7 @@
 use Rattle.std.proofs.Common.{arith}
 use Rattle.kmc_sum.proofs.Fronts.{not_none, not_all, no_zero, line_feed, value_is, number_some, number_is}
 use Rattle.kmc_sum.proofs.line.number.Goals as goal
-use Rattle.kmc_sum.proofs.line.number.Goals.{then-n-eq0-via-then-n-eq0, then-n-eq0-via-else-n-eq0+then-n-bytes, then-bytes-eq48-via-then-bytes-eq48}
-use Rattle.kmc_sum.proofs.line.number.Goals.{then-bytes-eq48-via-else-bytes-eq48+then-bytes-n-ne10}
-use Rattle.kmc_sum.proofs.line.number.Goals.{then-bytes-eq48-via-else-bytes-eq48+else-bytes-n-ne10+then-value-from}
+use Rattle.kmc_sum.proofs.line.number.Goals.{then-n-eq0-via-then-n-eq0, then-n-eq0-via-else-n-eq0+then-n-bytes, then-bytes-eq48-via-then-bytes-eq48, then-bytes-eq48-via-else-bytes-eq48+then-bytes-n-ne10, then-bytes-eq48-via-else-bytes-eq48+else-bytes-n-ne10+then-value-from}
 
 pub returns-then-n-eq0 : goal.returns-then-n-eq0
 returns-then-n-eq0 c = λ n more some most e.

@@ -1,7 +1,7 @@
 use Rattle.std.proofs.Common.{◌≡◌, false, refl, sym, ap, ◌∙◌, arith}
 use Rattle.std.proofs.lemmas.Grind.{common_steps}
 use Rattle.std.specs.Prelude.{string_bytes, ◌||◌}
-use Rattle.kmc_settings.specs.Words.{is_file_name}
+use Rattle.kmc_options.specs.Words.{is_file_name}
 use Rattle.kmc_sum.specs.Request.{is_option}
 use Rattle.kmc_sum.proofs.Requests.{one_fails}
 use Rattle.kmc_sum.proofs.request.are_known.Goals as goal

@@ -2,7 +2,7 @@
 use Rattle.std.proofs.Common.{◌≡◌, map, take, true, ◌||◌}
 use Rattle.std.specs.Prelude.{string_bytes}
 use Rattle.std.specs.List.{list_all}
-use Rattle.kmc_settings.specs.Words.{is_file_name}
+use Rattle.kmc_options.specs.Words.{is_file_name}
 use Rattle.kmc_sum.specs.Request.{is_option}
 use Rattle.kmc_sum.proofs.request.are_known.Given as goal
 

@@ -1,6 +1,6 @@
 use Rattle.std.proofs.Common.{rules, map, sym, ap, subst, ◌∙◌}
 use Rattle.std.specs.Prelude.{string_bytes}
-use Rattle.kmc_settings.specs.Words.{is_file_name}
+use Rattle.kmc_options.specs.Words.{is_file_name}
 use Rattle.kmc_sum.specs.Request.{value_of, IsTaken}
 use Rattle.kmc_sum.specs.declared.options.LimitOption.TheVariants.{Ci, Cx, Cs}
 use Rattle.kmc_sum.proofs.Requests.{kept_words}

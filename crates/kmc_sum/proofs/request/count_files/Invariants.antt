@@ -2,7 +2,7 @@
 use Rattle.std.proofs.Common.{◌≡◌, ◌≤◌, length, map, take}
 use Rattle.std.specs.Prelude.{string_bytes}
 use Rattle.std.specs.List.{filter}
-use Rattle.kmc_settings.specs.Words.{is_file_name}
+use Rattle.kmc_options.specs.Words.{is_file_name}
 use Rattle.kmc_sum.proofs.request.count_files.Given as goal
 
 abbrev pub invariant-loop-word : goal.invariant-loop-word

@@ -1,7 +1,7 @@
 use Rattle.std.proofs.Common.{◌≡◌, ◌+◌, [], ◌∷◌, ◌++◌, length, map, take, Some, None, refl, sym, ap, ◌∙◌, arith, append-nil, length-append}
 use Rattle.std.proofs.lemmas.Grind.{common_steps}
 use Rattle.std.specs.Prelude.{string_bytes, option_map}
-use Rattle.kmc_settings.specs.Words.{rest_after}
+use Rattle.kmc_options.specs.Words.{rest_after}
 use Rattle.kmc_sum.specs.Request.{given, texts_of}
 use Rattle.kmc_sum.proofs.Requests.{given_next, given_least, texts_some, texts_none}
 use Rattle.kmc_sum.proofs.request.given.Goals as goal

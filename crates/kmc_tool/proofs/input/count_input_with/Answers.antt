@@ -4,10 +4,10 @@ use Rattle.kmc_base.specs.Pieces.{pieces}
 use Rattle.kmc_record.specs.RecordWords.{record_keys}
 use Rattle.kmc_count.specs.Occurrences.{occurrences, count_of}
 use Rattle.kmc_count.specs.Merge.{joined}
-use Rattle.kmc_device.specs.Listed.{spelled}
-use Rattle.kmc_device.specs.Lists.{lists_of}
-use Rattle.kmc_device.specs.Ordered.{whole}
-use Rattle.kmc_settings.specs.Shape.{shape_of}
+use Rattle.kmc_lists.specs.Listed.{spelled}
+use Rattle.kmc_lists.specs.Lists.{lists_of}
+use Rattle.kmc_lists.specs.Ordered.{whole}
+use Rattle.kmc_options.specs.Shape.{shape_of}
 use Rattle.kmc_tool.specs.declared.input.TheConstants.{PIECE_SYMBOLS}
 use Rattle.kmc_tool.proofs.SameCounts.{same_dump}
 use Rattle.kmc_tool.proofs.input.count_input_with.Goals as goal

@@ -2,16 +2,16 @@ use Rattle.std.proofs.Common.{◌≢◌, ◌+◌, Err, length, refl, sym, ap, su
 use Rattle.std.proofs.lemmas.List.{length-map}
 use Rattle.kmc_reads.specs.declared.error.ReadsError.TheVariants as reads
 use Rattle.kmc_reads.specs.Reads.{reads_of}
-use Rattle.kmc_device.specs.Line.{text_of}
-use Rattle.kmc_device.specs.Listed.{spell, spelled}
-use Rattle.kmc_device.specs.Lists.{lists_of}
-use Rattle.kmc_device.specs.Ordered.{whole}
+use Rattle.kmc_lists.specs.Line.{text_of}
+use Rattle.kmc_lists.specs.Listed.{spell, spelled}
+use Rattle.kmc_lists.specs.Lists.{lists_of}
+use Rattle.kmc_lists.specs.Ordered.{whole}
 use Rattle.kmc_options.specs.Errors.{run_error}
-use Rattle.kmc_input.specs.Fed.{AreCountsOf}
-use Rattle.kmc_rounds.specs.Rounds.{IsInputError}
-use Rattle.kmc_input.specs.declared.input_error.InputError.TheVariants as input
+use Rattle.kmc_stage_one.specs.Fed.{AreCountsOf}
+use Rattle.kmc_stage_one.specs.Rounds.{IsInputError}
+use Rattle.kmc_reads.specs.declared.input_error.InputError.TheVariants as input
 use Rattle.kmc_options.specs.declared.run_error.RunError.TheVariants as run
-use Rattle.kmc_input.specs.Lemmas.Causes.{kept_by, most_by}
+use Rattle.kmc_stage_one.specs.Lemmas.Causes.{kept_by, most_by}
 use Rattle.kmc_base.specs.Lemmas.PassedOn.{cause_of, no_answer, not_ok, of_err, passed_on}
 use Rattle.kmc_tool.proofs.Refusals.{no_refusal, of_told, same_input, no_write, no_read, no_input, no_length, is_write, is_memory}
 use Rattle.kmc_tool.proofs.Written.{is_dump_of}

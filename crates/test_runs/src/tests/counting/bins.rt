@@ -3,11 +3,10 @@ ghost use Rattle.std.specs.Prelude.{◌≡◌, ◌≤◌, [], ◌∷◌, map, If
 
 use crate::tests::texts::{assert_bytes, line_of_a, text_of, vectors_of};
 use kmc_base::{Kmer, Strands};
-use kmc_bin_lists::list_bins;
-use kmc_count::Limits;
-use kmc_device::{BinLists, Counts, SizedLists};
-use kmc_plain::{count_bin, merge_bins};
+use kmc_count::{Limits, count_bin, merge_bins};
+use kmc_lists::{BinLists, KmerList, SizedLists};
 use kmc_record::{BodyError, RecordFault};
+use kmc_stage_two::list_bins;
 use std::alloc::{AllocError, Global};
 use std::process::Abort;
 use std::test::Fail;
@@ -129,15 +128,15 @@ fn lists_of<R: Abort + Threads + Sync + Alloc<A = Global>>(
 }
 
 /// The lists of words in 64 bits with counts in a byte.
-fn narrowest(lists: BinLists) -> Option<Vec<Counts<u64, u8>>> {
+fn narrowest(lists: BinLists) -> Option<Vec<KmerList<u64, u8>>> {
     match lists {
-        BinLists::Narrow(SizedLists::Byte(lists)) => Some(lists),
+        BinLists::Narrow(SizedLists::U8(lists)) => Some(lists),
         _ => None,
     }
 }
 
 /// Asserts that the list has these pairs.
-fn assert_pairs(rt: &impl Abort, list: &Counts<u64, u8>, pairs: &[(u64, u8)]) {
+fn assert_pairs(rt: &impl Abort, list: &KmerList<u64, u8>, pairs: &[(u64, u8)]) {
     assert_eq!(rt; list.len(), pairs.len());
     for i in 0..list.len() {
         assert!(rt; Some(&list.get(i)) == pairs.get(i));

@@ -5,8 +5,8 @@ ghost use Rattle.kmc_partqueue.specs.Seats.{IsReaderOf, IsWriterOf, new_writer, 
 
 use kmc_partcore::QueueShape;
 use kmc_partqueue::{Gate, Lanes, Point, ReaderSeat, TryTaken, WriterSeat};
-use kmc_store::{Part, Shape, parts_of_reads};
-use kmc_whole_reads::slices_of;
+use kmc_reads::slices_of;
+use kmc_record::{Part, Shape, parts_of_reads};
 use std::alloc::Global;
 use std::process::Abort;
 

@@ -2,9 +2,10 @@
 use super::outcome::Outcome;
 use super::records::records_of;
 use kmc_partcore::{MAX_WRITERS, QueueShape};
-use kmc_splitters::Plan;
-use kmc_store::{Bins, Part, parts_of_reads};
-use kmc_whole_reads::slices_of;
+use kmc_reads::slices_of;
+use kmc_record::{Part, parts_of_reads};
+use kmc_stage_one::Plan;
+use kmc_store::Bins;
 use std::alloc::Global;
 use std::process::Abort;
 

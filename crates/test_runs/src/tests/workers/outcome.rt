@@ -3,10 +3,9 @@
 use super::{TWICE, one_read_a_chunk, reads_of};
 use kmc_partcore::{QueueShape, Totals};
 use kmc_partqueue::Gate;
-use kmc_rounds::fill_bins;
-use kmc_splitters::Plan;
+use kmc_reads::slices_of;
+use kmc_stage_one::{Plan, fill_bins};
 use kmc_store::Bins;
-use kmc_whole_reads::slices_of;
 use std::alloc::Global;
 use std::process::Abort;
 use std::sync::Wait;

@@ -2,10 +2,10 @@
 use super::records::assert_twice_in;
 use super::{TWICE, one_read_a_chunk, reads_of, two_writers};
 use kmc_partcore::QueueShape;
-use kmc_partqueue::NoGate;
-use kmc_rounds::{Refusal, fill_bins, pass_parts};
+use kmc_partqueue::{NoGate, Refusal};
+use kmc_reads::slices_of;
+use kmc_stage_one::{fill_bins, pass_parts};
 use kmc_store::Bins;
-use kmc_whole_reads::slices_of;
 use std::alloc::Global;
 use std::process::Abort;
 use std::sync::Wait;

@@ -1,9 +1,7 @@
 //! Bodies with wrong bytes, judged as a plain body does it: record by record and word by word.
 use crate::tests::given::{chunk_of, mixed_reads, shape_of};
-use kmc_judging::{PartError, part_of_body};
-use kmc_plain::{RecordError, decode, parts_of};
-use kmc_store::Shape;
-use kmc_super_kmers::{SuperKmer, signature};
+use kmc_record::{PartError, RecordError, Shape, decode, part_of_body, parts_of};
+use kmc_split::{SuperKmer, signature};
 use std::alloc::{AllocError, Global};
 use std::process::Abort;
 use std::test::Fail;

@@ -1,9 +1,8 @@
 //! The parts of reads by a plain body.
 use crate::tests::given::{chunk_of, push_bin};
-use kmc_base::Segment;
-use kmc_plain::{encode, segments, super_kmers};
-use kmc_store::Shape;
-use kmc_super_kmers::{SuperKmer, signature};
+use kmc_base::{Segment, segments};
+use kmc_record::{Shape, encode};
+use kmc_split::{SuperKmer, signature, super_kmers};
 use std::alloc::{AllocError, Global};
 use std::process::Abort;
 use std::test::Fail;

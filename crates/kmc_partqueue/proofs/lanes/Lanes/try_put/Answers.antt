@@ -1,5 +1,4 @@
-use Rattle.std.proofs.Common.{refl, sym, ap, ◌∙◌, ◌≡◌, ◌≢◌, ℕ, ◌+◌, ◌*◌, ◌/◌, ◌%◌, ◌<◌, ◌≤◌, ◌++◌, ◌∷◌, [], Some, None}
-use Rattle.std.proofs.Common.{arith, length, subst, length-append}
+use Rattle.std.proofs.Common.{refl, sym, ap, ◌∙◌, ◌≡◌, ◌≢◌, ℕ, ◌+◌, ◌*◌, ◌/◌, ◌%◌, ◌<◌, ◌≤◌, ◌++◌, ◌∷◌, [], Some, None, arith, length, subst, length-append}
 use Rattle.kmc_partqueue.specs.Seats.{sent_of, AtRest}
 use Rattle.kmc_partqueue.proofs.WriterCalls.{with_slot, free_call, send_call, held_after, full_after, sent_after, rests}
 use Rattle.kmc_partqueue.proofs.lanes.Lanes.try_put.Given.{Over}

@@ -1,7 +1,7 @@
 use Rattle.std.proofs.Common.{◌≡◌, refl, sym, ap, subst, ◌∙◌, [], ◌∷◌, ◌++◌, arith}
 use Rattle.std.proofs.lemmas.Grind.{common_steps}
 use Rattle.std.specs.Io.BufRead.{strip_last}
-use Rattle.kmc_reads.specs.declared.stage.Stage.TheVariants.{Quality}
+use Rattle.kmc_reads.specs.declared.line_kind.LineKind.TheVariants.{Quality}
 use Rattle.kmc_reads.specs.Stages.{Spot, begun_by}
 use Rattle.kmc_reads.specs.Standing.{Keeps, kept}
 use Rattle.kmc_reads.proofs.Feeding.{given, not_given, settled_stripped}

@@ -1,14 +1,14 @@
 use Rattle.std.proofs.Common.{◌≡◌, ℕ, List, [], ◌++◌, Ok, refl, sym, ap, subst, ◌∙◌, append-nil, rules}
 use Rattle.kmc_reads.proofs.Walking.{take_whole}
 use Rattle.kmc_reads.specs.declared.scan.Scan.{Scan}
-use Rattle.kmc_reads.specs.declared.stage.Stage.{Stage}
-use Rattle.kmc_reads.specs.declared.stage.Stage.TheVariants.{Header, FirstHeader}
+use Rattle.kmc_reads.specs.declared.line_kind.LineKind.{LineKind}
+use Rattle.kmc_reads.specs.declared.line_kind.LineKind.TheVariants.{Header, FirstHeader}
 use Rattle.kmc_reads.specs.Stages.{Spot, answer_at_end}
 use Rattle.kmc_reads.specs.Standing.{At, EndsRead, Lies, kept}
 use Rattle.kmc_reads.proofs.scan.Scan.end_read.Goals as goal
 
 -- at a stage that has no read at its end
-none_open : (stage : Stage) → ((n : ℕ) (read : List ℕ) → answer_at_end n stage read ≡ Ok []) → (v : Scan) → v.place.stage ≡ stage
+none_open : (stage : LineKind) → ((n : ℕ) (read : List ℕ) → answer_at_end n stage read ≡ Ok []) → (v : Scan) → v.place.stage ≡ stage
     → (rows : List (List ℕ)) (spot : Spot) → At rows spot [] v → EndsRead rows spot v
 none_open stage none v is rows spot at = let k = at.keeps in record {
   more = [];

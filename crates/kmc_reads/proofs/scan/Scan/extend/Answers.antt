@@ -1,7 +1,7 @@
 use Rattle.std.proofs.Common.{◌≡◌, ◌<◌, [], ◌∷◌, ◌++◌, length, refl, sym, subst, append-nil, arith}
 use Rattle.std.proofs.lemmas.Bool.Decides.{nat_tests}
 use Rattle.std.proofs.lemmas.Result.{on_ok_weaker}
-use Rattle.kmc_reads.specs.declared.stage.Stage.TheVariants.{Name}
+use Rattle.kmc_reads.specs.declared.line_kind.LineKind.TheVariants.{Name}
 use Rattle.kmc_reads.specs.Stages.{Spot}
 use Rattle.kmc_reads.specs.Standing.{At, Goes, Leads}
 use Rattle.kmc_reads.proofs.Feeding.{no_items}

@@ -2,7 +2,7 @@ use Rattle.std.proofs.Common.{◌≡◌, ◌+◌, ◌++◌, List, ℕ, map, set,
 use Rattle.std.proofs.lemmas.List.{get_or_read}
 use Rattle.std.proofs.lemmas.Grind.{common_steps}
 use Rattle.std.specs.Prelude.{slice_index}
-use Rattle.kmc_store.specs.Parts.{capped}
+use Rattle.kmc_record.specs.Parts.{capped}
 use Rattle.kmc_store.specs.Bins.{AreBins, Absorbed}
 use Rattle.kmc_store.specs.Lemmas.Places.{bytes_of, set_keeps}
 use Rattle.kmc_store.specs.Lemmas.Filling.{bin_within, bins_absorbed, absorbed_is}

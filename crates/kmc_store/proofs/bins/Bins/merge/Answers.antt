@@ -2,7 +2,7 @@ use Rattle.std.proofs.Common.{◌+◌, map, ap, sym, ◌∙◌, arith, rules}
 use Rattle.std.proofs.lemmas.List.{length-map}
 use Rattle.std.proofs.lemmas.Grind.{common_steps}
 use Rattle.std.specs.Prelude.{slice_index}
-use Rattle.kmc_store.specs.Parts.{capped}
+use Rattle.kmc_record.specs.Parts.{capped}
 use Rattle.kmc_store.specs.Bins.{BinList}
 use Rattle.kmc_store.specs.Lemmas.Places.{bytes_of, grown_with_room}
 use Rattle.kmc_store.specs.Lemmas.Filling.{bins_merge, merged_is}

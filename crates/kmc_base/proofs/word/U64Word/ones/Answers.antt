@@ -1,5 +1,0 @@
-use Rattle.kmc_base.specs.Lemmas.Powers.{ones_of}
-use Rattle.kmc_base.proofs.word.U64Word.ones.Goals as goal
-
-pub returns : goal.returns
-returns c = ones_of 32 c.args.k c.requires.most

@@ -1,6 +1,0 @@
-use Rattle.std.proofs.Common.{◌+◌, ap, arith}
-use Rattle.kmc_base.specs.Lemmas.Weights.{low_bits}
-use Rattle.kmc_base.proofs.word.U64Word.times.Goals as goal
-
-pub returns : goal.returns
-returns c = ap (λ t. t + 1) (low_bits 64 c.args.bits c.args.self (omega arith))

@@ -1,5 +1,0 @@
-mod Summed
-mod Counting
-mod Apart
-mod BinsDump
-mod Cutting

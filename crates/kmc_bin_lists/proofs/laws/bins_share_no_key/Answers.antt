@@ -1,5 +1,0 @@
-use Rattle.kmc_bin_lists.proofs.Apart.{keys_apart}
-use Rattle.kmc_bin_lists.proofs.laws.bins_share_no_key.Goals as goal
-
-pub returns : goal.returns
-returns c = keys_apart c.body_has_one_list.ensures c.canonical_fixes_signature.ensures

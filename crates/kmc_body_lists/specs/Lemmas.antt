@@ -1,4 +1,0 @@
--- Lemmas on the definitions beside this file: proofs cite them, here and in the crates above, and no promise needs them to be read.
-pub mod ManyBodies
-pub mod ListedBodies
-pub mod PlacedLists

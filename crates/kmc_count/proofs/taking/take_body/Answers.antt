@@ -1,0 +1,141 @@
+use Rattle.std.proofs.Common.{ℕ, ◌+◌, ◌++◌, List, [], ◌∷◌, length, map, refl, subst, sym, take_all, arith}
+use Rattle.std.proofs.lemmas.Result.{IfOk-from_err}
+use Rattle.kmc_base.specs.Record.{size_of, IsBodyOf}
+use Rattle.kmc_record.specs.RecordKeys.{IsTaken}
+use Rattle.kmc_record.specs.Lemmas.Taken.{none_taken}
+use Rattle.kmc_base.specs.Lemmas.Whole.{first_codes, next_body, next_inside, rest_at, same_codes}
+use Rattle.kmc_record.specs.Lemmas.Whole.{stops_there}
+use Rattle.kmc_count.proofs.Rests.{some_left, enough, record_long, few_symbols, symbols_fit, size_fits, some_size, all_of, few_bytes, less_left, found_fault, no_error, no_memory, no_damage}
+use Rattle.kmc_count.proofs.taking.take_body.Goals as goal
+
+pub loop-offset-init : goal.loop-offset-init
+loop-offset-init g c =
+    let num = g.W.PackedKmer.number in
+    let rule = c.args.rule in
+    record {
+      inside = omega arith;
+      records = (
+        [],
+        record { each = tt; is = refl },
+        subst (λ (ns : List ℕ). IsTaken rule.strands rule.k c.args.bits ns (map num c.args.items.now.items) []) (sym c.requires.no_numbers)
+            (subst (λ ns. IsTaken rule.strands rule.k c.args.bits [] (map num ns) []) (sym c.requires.no_items) (none_taken rule.strands rule.k c.args.bits)),
+      );
+    }
+
+pub returns-in_err-take_record-clause-memory : goal.returns-in_err-take_record-clause-memory
+returns-in_err-take_record-clause-memory g c = λ is.
+    let found = c.in-Ok.ensures in
+    stops_there c.args.rule.k c.in-Ok.symbols c.loop-offset.offset c.args.body.now (λ i. omega (arith, c.type_inv.body i)) found.count found.inside
+    found.rest c.loop-offset.invariant.records.0 c.loop-offset-test.true c.loop-offset.invariant.records.1
+
+pub loop-offset-preserved : goal.loop-offset-preserved
+loop-offset-preserved g c =
+    let rule = c.args.rule in
+    let n = c.in-Ok.symbols in
+    let rest = rest_at c.loop-offset.offset c.args.body.now in
+    let found = c.in-Ok.ensures in
+    let h = c.loop-offset.invariant.records in
+    record {
+      inside = next_inside rule.k n c.loop-offset.offset c.args.body.now (λ i. omega (arith, c.type_inv.body i)) found.count found.inside found.rest;
+      records = (
+        h.0 ++ first_codes n rest ∷ [],
+        next_body rule.k n c.loop-offset.offset c.args.body.now (λ i. omega (arith, c.type_inv.body i)) found.count found.inside found.rest _ h.0 h.1
+            (λ _. c.loop-offset.offset + (1 + size_of n)),
+        subst (λ (w : List ℕ). IsTaken rule.strands rule.k c.args.bits c.take_record.new.numbers.items
+            (map g.W.PackedKmer.number c.take_record.new.items.items) (h.0 ++ w ∷ [])) (same_codes n rest) (c.in_ok-take_record.ensures h.0 h.2),
+      );
+    }
+
+pub slice_bounds-rest-count : goal.slice_bounds-rest-count
+slice_bounds-rest-count g c = c.loop-offset.invariant.inside
+
+pub first_symbols-requires-clause-some : goal.first_symbols-requires-clause-some
+first_symbols-requires-clause-some g c = some_left c.loop-offset.offset c.args.body.now c.loop-offset-test.true
+
+pub first_symbols-requires-clause-most : goal.first_symbols-requires-clause-most
+first_symbols-requires-clause-most g c = c.args.rule.within.1
+
+pub returns-in-Err-clause-ok : goal.returns-in-Err-clause-ok
+returns-in-Err-clause-ok g c = tt
+
+pub returns-in-Err-clause-memory : goal.returns-in-Err-clause-memory
+returns-in-Err-clause-memory g c = λ is. no_memory _ _ _ _ refl is
+
+pub take_record-requires-clause-most : goal.take_record-requires-clause-most
+take_record-requires-clause-most g c = c.requires.most
+
+pub take_record-requires-clause-beside : goal.take_record-requires-clause-beside
+take_record-requires-clause-beside g c = c.requires.beside
+
+pub take_record-requires-clause-short : goal.take_record-requires-clause-short
+take_record-requires-clause-short g c = c.requires.short
+
+pub take_record-requires-clause-long : goal.take_record-requires-clause-long
+take_record-requires-clause-long g c = enough c.in-Ok.symbols c.args.rule.k _ c.in-Ok.ensures.count
+
+pub take_record-requires-clause-size : goal.take_record-requires-clause-size
+take_record-requires-clause-size g c = record_long c.in-Ok.symbols (rest_at c.loop-offset.offset c.args.body.now) c.in-Ok.ensures.inside
+
+pub returns-in_err-take_record-clause-ok : goal.returns-in_err-take_record-clause-ok
+returns-in_err-take_record-clause-ok g c = IfOk-from_err _ _ c.from_residual.ensures.0
+
+pub returns-clause-damaged : goal.returns-clause-damaged
+returns-clause-damaged g c = λ fault offset is. no_error _ _ _ is
+
+pub returns-clause-memory : goal.returns-clause-memory
+returns-clause-memory g c = λ is. no_error _ _ _ is
+
+pub returns-in_err-take_record-clause-damaged : goal.returns-in_err-take_record-clause-damaged
+returns-in_err-take_record-clause-damaged g c = λ fault offset is. no_damage _ _ _ _ c.from_residual.ensures.1 is
+
+pub slice_bounds-rest-start : goal.slice_bounds-rest-start
+slice_bounds-rest-start g c = c.loop-offset.invariant.inside
+
+pub slice_bounds-rest-end : goal.slice_bounds-rest-end
+slice_bounds-rest-end g c = all_of (length c.args.body.now)
+
+pub returns-in-Err-clause-damaged : goal.returns-in-Err-clause-damaged
+returns-in-Err-clause-damaged g c = λ fault offset is.
+    found_fault c.args.rule.k c.args.body.now c.loop-offset.invariant.records.0 c.loop-offset.offset offset c.in-Err.fault fault c.loop-offset-test.true
+    c.loop-offset.invariant.records.1 c.in-Err.ensures.fault is
+
+pub overflow_add-size : goal.overflow_add-size
+overflow_add-size g c =
+    let few = few_symbols c.args.rule.k c.in-Ok.symbols c.loop-offset.offset c.args.body.now (λ i. omega (arith, c.type_inv.body i)) c.in-Ok.ensures.count
+    c.in-Ok.ensures.inside c.in-Ok.ensures.rest c.args.rule.within.1 in
+    symbols_fit c.in-Ok.symbols few
+
+pub overflow_add-size-in-loop-offset : goal.overflow_add-size-in-loop-offset
+overflow_add-size-in-loop-offset g c =
+    let few = few_symbols c.args.rule.k c.in-Ok.symbols c.loop-offset.offset c.args.body.now (λ i. omega (arith, c.type_inv.body i)) c.in-Ok.ensures.count
+    c.in-Ok.ensures.inside c.in-Ok.ensures.rest c.args.rule.within.1 in
+    size_fits c.in-Ok.symbols few
+
+pub slice_bounds-take_record-count : goal.slice_bounds-take_record-count
+slice_bounds-take_record-count g c = some_size c.in-Ok.symbols
+
+pub slice_bounds-take_record-start : goal.slice_bounds-take_record-start
+slice_bounds-take_record-start g c = some_size c.in-Ok.symbols
+
+pub slice_bounds-take_record-end : goal.slice_bounds-take_record-end
+slice_bounds-take_record-end g c = c.in-Ok.ensures.inside
+
+pub take_record-requires-clause-few : goal.take_record-requires-clause-few
+take_record-requires-clause-few g c =
+    let few = few_symbols c.args.rule.k c.in-Ok.symbols c.loop-offset.offset c.args.body.now (λ i. omega (arith, c.type_inv.body i)) c.in-Ok.ensures.count
+    c.in-Ok.ensures.inside c.in-Ok.ensures.rest c.args.rule.within.1 in
+    few_bytes c.in-Ok.symbols (rest_at c.loop-offset.offset c.args.body.now) few c.in-Ok.ensures.inside
+
+pub overflow_add-offset : goal.overflow_add-offset
+overflow_add-offset g c =
+    let few = few_symbols c.args.rule.k c.in-Ok.symbols c.loop-offset.offset c.args.body.now (λ i. omega (arith, c.type_inv.body i)) c.in-Ok.ensures.count
+    c.in-Ok.ensures.inside c.in-Ok.ensures.rest c.args.rule.within.1 in
+    size_fits c.in-Ok.symbols few
+
+pub loop-offset-smaller : goal.loop-offset-smaller
+loop-offset-smaller g c = less_left c.in-Ok.symbols c.loop-offset.offset (length c.args.body.now) c.loop-offset-test.true
+
+pub returns-clause-ok : goal.returns-clause-ok
+returns-clause-ok g c =
+    let h = c.loop-offset.invariant.records in
+    (h.0, subst (IsBodyOf c.args.rule.k h.0) (take_all c.loop-offset.offset c.args.body.now c.loop-offset-test.false) h.1, h.2)

@@ -1,0 +1,180 @@
+//! A body's records, taken in to be counted: as numbers, the long ones as those of their pieces; or their words as items.
+ghost use Rattle.std.specs.Prelude.{◌≡◌, ℕ, ◌+◌, ◌*◌, ◌<◌, ◌≤◌, ◌++◌, ◌∷◌, [], List, length, map, take, OnOk, IfOk, IsErrOf};
+ghost use Rattle.kmc_base.specs.Record.{codes_in, size_of, IsBodyOf};
+ghost use Rattle.kmc_record.specs.RecordKeys.{GainsWords, IsTaken};
+ghost use Rattle.kmc_record.specs.Faults.{IsFirstFault};
+ghost use Rattle.kmc_record.specs.Refusals.{StopsAtRecord};
+ghost use Rattle.kmc_record.specs.declared.fault.RecordFault.{RecordFault};
+ghost use Rattle.kmc_record.specs.declared.record_keys.TheConstants.{MOST_KEY_SYMBOLS};
+
+use kmc_base::{KeyRule, PackedKmer, Weight};
+use kmc_record::{BodyError, MOST_KEY_SYMBOLS, first_symbols, push_record, record_key};
+use std::alloc::AllocError;
+
+/// Puts the number of the first symbols of the bytes behind the numbers.
+fn push_piece(
+    numbers: &mut Vec<u128>,
+    bytes: &[u8],
+    symbols: usize,
+    rule: KeyRule,
+) -> Result<(), AllocError>
+    requires long { rule.k ≤ symbols }
+    requires short { symbols ≤ MOST_KEY_SYMBOLS }
+    requires inside { symbols ≤ 4 * length bytes.now }
+    ensures { OnOk result (GainsWords rule.strands rule.k numbers.old.items numbers.new.items
+        (take symbols (codes_in bytes.now))) }
+{
+    let size = (symbols + 3) / 4;
+    numbers.push(record_key(&bytes[..size], symbols, rule.strands))?;
+    Ok(())
+}
+
+/// How many bytes on the next piece of a long record begins, so that a piece has at most `short` symbols and each word stands
+/// in one piece; 0 where there is no such place.
+fn bytes_on(k: usize, short: usize) -> usize
+    requires some { 1 ≤ k }
+    requires short { short ≤ MOST_KEY_SYMBOLS }
+    ensures { 1 ≤ result → 4 * result + k ≤ short + 1 }
+{
+    if short < k {
+        return 0;
+    }
+    (short - k + 1) / 4
+}
+
+/// Puts the numbers of a record's pieces behind the numbers. Each begins `on` bytes behind the one before, and neighbours
+/// overlap by k - 1 symbols. A record of at most `short` symbols is one piece.
+fn push_pieces(
+    numbers: &mut Vec<u128>,
+    bytes: &[u8],
+    symbols: usize,
+    rule: KeyRule,
+    short: usize,
+    on: usize,
+) -> Result<(), AllocError>
+    requires long { rule.k ≤ symbols }
+    requires short { short ≤ MOST_KEY_SYMBOLS }
+    requires inside { symbols ≤ 4 * length bytes.now }
+    requires few { length bytes.now < 1000 }
+    requires on { short < symbols → (1 ≤ on) × (4 * on + rule.k ≤ short + 1) }
+    ensures { OnOk result (GainsWords rule.strands rule.k numbers.old.items numbers.new.items
+        (take symbols (codes_in bytes.now))) }
+{
+    let mut at = 0;
+    while 4 * at + short < symbols {
+        push_piece(numbers, &bytes[at..], 4 * on + rule.k - 1, rule)?;
+        at += on;
+    }
+    push_piece(numbers, &bytes[at..], symbols - 4 * at, rule)?;
+    Ok(())
+}
+
+/// Takes in one record more: as the numbers of its pieces of at most `short` symbols, or where no four words fit one, word by
+/// word.
+fn take_record<W: PackedKmer + Drop>(
+    numbers: &mut Vec<u128>,
+    items: &mut Vec<W>,
+    bytes: &[u8],
+    symbols: usize,
+    rule: KeyRule,
+    bits: u32,
+    short: usize,
+) -> Result<(), AllocError>
+    requires most { rule.k ≤ W.most }
+    requires beside { 2 * rule.k + bits ≤ 2 * W.most }
+    requires short { short ≤ MOST_KEY_SYMBOLS }
+    requires long { rule.k ≤ symbols }
+    requires size { length bytes.now ≡ size_of symbols }
+    requires few { length bytes.now < 1000 }
+    ensures { OnOk result ((ss : List (List ℕ))
+        → IsTaken rule.strands rule.k bits numbers.old.items (map W.number items.old.items) ss
+        → IsTaken rule.strands rule.k bits numbers.new.items (map W.number items.new.items)
+        (ss ++ take symbols (codes_in bytes.now) ∷ [])) }
+{
+    let on = bytes_on(rule.k, short);
+    if symbols <= short || on > 0 {
+        push_pieces(numbers, bytes, symbols, rule, short, on)?;
+    } else {
+        push_record(items, rule, bytes, symbols, Weight { bits, times: 1 })?;
+    }
+    Ok(())
+}
+
+/// Takes in the records of a body, record by record: as numbers of at most `short` symbols, or where no four words fit one, the
+/// words.
+/// The items have so many bits for their weights.
+pub fn take_body<W: PackedKmer + Drop>(
+    numbers: &mut Vec<u128>,
+    items: &mut Vec<W>,
+    body: &[u8],
+    rule: KeyRule,
+    bits: u32,
+    short: usize,
+) -> Result<(), BodyError>
+    requires most { rule.k ≤ W.most }
+    requires beside { 2 * rule.k + bits ≤ 2 * W.most }
+    requires short { short ≤ MOST_KEY_SYMBOLS }
+    requires no_numbers { numbers.old.items ≡ [] }
+    requires no_items { items.old.items ≡ [] }
+    ensures ok { OnOk result ((ss : List (List ℕ)) × IsBodyOf rule.k ss body.now
+        × IsTaken rule.strands rule.k bits numbers.new.items (map W.number items.new.items) ss) }
+    ensures damaged { (fault : RecordFault) (offset : ℕ)
+        → IsErrOf result (BodyError.Damaged fault offset)
+        → IsFirstFault rule.k fault offset body.now }
+    ensures memory { IsErrOf result BodyError.Memory → StopsAtRecord rule.k body.now }
+{
+    let mut offset = 0;
+    while offset < body.len() {
+        let rest = &body[offset..];
+        let symbols = match first_symbols(rest, rule.k) {
+            Ok(symbols) => symbols,
+            Err(fault) => return Err(BodyError::Damaged(fault, offset)),
+        };
+        let size = (symbols + 3) / 4;
+        take_record(
+            numbers,
+            items,
+            &rest[1..1 + size],
+            symbols,
+            rule,
+            bits,
+            short,
+        )?;
+        offset += 1 + size;
+    }
+    Ok(())
+}
+
+/// Appends the words of the record at an offset of a body as items, each of weight 1. The answer is the offset behind the record.
+pub fn take_words<W: PackedKmer + Drop>(
+    items: &mut Vec<W>,
+    body: &[u8],
+    offset: usize,
+    rule: KeyRule,
+    bits: u32,
+) -> Result<usize, BodyError>
+    requires most { rule.k ≤ W.most }
+    requires beside { 2 * rule.k + bits ≤ 2 * W.most }
+    requires inside { offset < length body.now }
+    ensures on { IfOk result (λ next. (offset < next) × (next ≤ length body.now)) }
+    ensures ok { (ss : List (List ℕ)) → IsBodyOf rule.k ss (take offset body.now)
+        → IfOk result (λ next. (s : List ℕ) × IsBodyOf rule.k (ss ++ s ∷ []) (take next body.now)
+        × (IsTaken rule.strands rule.k bits [] (map W.number items.old.items) ss
+        → IsTaken rule.strands rule.k bits [] (map W.number items.new.items) (ss ++ s ∷ []))
+        × StopsAtRecord rule.k body.now) }
+    ensures damaged { (ss : List (List ℕ)) → IsBodyOf rule.k ss (take offset body.now)
+        → (fault : RecordFault) (at : ℕ) → IsErrOf result (BodyError.Damaged fault at)
+        → IsFirstFault rule.k fault at body.now }
+    ensures memory { (ss : List (List ℕ)) → IsBodyOf rule.k ss (take offset body.now)
+        → IsErrOf result BodyError.Memory → StopsAtRecord rule.k body.now }
+{
+    let rest = &body[offset..];
+    let symbols = match first_symbols(rest, rule.k) {
+        Ok(symbols) => symbols,
+        Err(fault) => return Err(BodyError::Damaged(fault, offset)),
+    };
+    let size = (symbols + 3) / 4;
+    let weight = Weight { bits, times: 1 };
+    push_record(items, rule, &rest[1..1 + size], symbols, weight)?;
+    Ok(offset + 1 + size)
+}

@@ -1,3 +1,0 @@
-pub mod SharedBodies
-pub mod Shares
-pub mod ShareDumps

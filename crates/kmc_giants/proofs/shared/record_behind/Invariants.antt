@@ -1,5 +1,0 @@
-use Rattle.std.proofs.Common.{◌-◌}
-use Rattle.kmc_giants.proofs.shared.record_behind.Given as goal
-
-abbrev pub decreases-loop-offset : goal.decreases-loop-offset
-decreases-loop-offset l = l.least - l.offset

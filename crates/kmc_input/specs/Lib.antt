@@ -1,3 +1,0 @@
-pub mod Fed
-pub mod Errors
-pub mod Lemmas

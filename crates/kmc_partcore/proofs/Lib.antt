@@ -1,0 +1,6 @@
+mod Advancing
+mod Answered
+mod Beginnings
+mod Calls
+mod Histories
+mod Room

@@ -1,5 +1,0 @@
-pub mod Counting
-pub mod DumpText
-pub mod GatheredKeys
-pub mod Merging
-mod Table

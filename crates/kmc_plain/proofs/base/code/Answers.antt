@@ -1,9 +1,0 @@
-use Rattle.std.proofs.Common.{◌<◌, refl, length, arith}
-use Rattle.kmc_plain.specs.declared.base.TheConstants.{CODES}
-use Rattle.kmc_plain.proofs.Table.{found}
-use Rattle.kmc_plain.proofs.base.code.Goals as goal
-
-pub returns-then-c-lt4-clause-is : goal.returns-then-c-lt4-clause-is
-returns-then-c-lt4-clause-is c =
-    let inside : c.args.b < length CODES = omega (arith, c.ranges.b.fits) in
-    found CODES c.args.b refl inside c.if-c-lt4.true

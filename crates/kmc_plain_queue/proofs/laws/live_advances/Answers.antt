@@ -1,5 +1,0 @@
-use Rattle.kmc_plain_queue.proofs.Advancing.{live_advances}
-use Rattle.kmc_plain_queue.proofs.laws.live_advances.Goals as goal
-
-pub returns : goal.returns
-returns g c = live_advances _

@@ -1,2 +1,0 @@
-pub mod CoreState
-pub mod Laws

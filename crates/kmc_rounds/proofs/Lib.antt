@@ -1,3 +1,0 @@
-mod Fresh
-mod Returned
-mod Stored

@@ -1,3 +1,0 @@
-pub mod Passages
-pub mod Rounds
-pub mod Lemmas

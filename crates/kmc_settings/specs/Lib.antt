@@ -1,5 +1,0 @@
-pub mod Words
-pub mod Settings
-pub mod Ranges
-pub mod Kept
-pub mod Shape

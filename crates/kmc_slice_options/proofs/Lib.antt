@@ -1,3 +1,0 @@
-mod Joined
-mod Found
-mod Asked

@@ -1,4 +1,0 @@
-pub mod Spelling
-pub mod Words
-pub mod Requests
-pub mod Messages

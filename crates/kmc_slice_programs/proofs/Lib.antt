@@ -1,3 +1,0 @@
-mod Statuses
-mod Uncut
-mod Unlisted

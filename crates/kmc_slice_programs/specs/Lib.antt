@@ -1,4 +1,0 @@
-pub mod Asking
-pub mod Cutting
-pub mod Listing
-pub mod Messages

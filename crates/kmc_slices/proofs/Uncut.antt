@@ -1,0 +1,30 @@
+-- Why reads were not cut to files.
+use Rattle.std.proofs.Common.{◌≡◌, ◌∙◌, ℕ, ◌^◌, List, length, map, Option, Err, subst}
+use Rattle.std.proofs.lemmas.List.{length-map}
+use Rattle.kmc_device.specs.Device.{Watched}
+use Rattle.kmc_options.specs.Shape.{shape_of}
+use Rattle.kmc_options.specs.declared.run_params.Params.{Params}
+use Rattle.kmc_tool.specs.declared.input.TheConstants.{PIECE_SYMBOLS}
+use Rattle.kmc_slices.specs.Cut.{IsCutting, IsLeft}
+use Rattle.kmc_slices.specs.declared.error.CutError.{CutError}
+use Rattle.kmc_slices.specs.CutProgram.{IsUncut}
+
+-- what the cut tells of its writers, told of files, as many as slices
+pub uncut : {R W : Type 0} (remaining : R → Option (List ℕ)) (contents : W → Option (List ℕ)) (params : Params) (S : ℕ) (reader read : Watched R)
+    (writers written : List (Watched W)) (e : CutError)
+    → IsCutting {A = Unit {0}} remaining contents params PIECE_SYMBOLS (2 ^ 32) reader read writers written (Err e) → length writers ≡ S
+    → IsUncut remaining params S reader read e
+uncut remaining contents params S reader read writers written e why many =
+    let olds = map (λ (w : Watched _). contents w.inner) writers in
+    let news = map (λ (w : Watched _). contents w.inner) written in
+    record {
+      olds = olds;
+      news = news;
+      failed = map (λ w. w.failures) writers;
+      fails = map (λ w. w.failures) written;
+      many = length-map writers _ ∙ many;
+      cause = why.cause;
+      read_counts = why.read_counts;
+      write_counts = why.write_counts;
+      left = subst (λ S. IsLeft params.format (shape_of params) PIECE_SYMBOLS S (remaining reader.inner) (remaining read.inner) olds news e) many why.left;
+    }

@@ -1,0 +1,36 @@
+-- Bodies from outside that are to be bins.
+use Rattle.std.specs.Prelude.{◌≡◌, ℕ, ◌+◌, ◌<◌, ◌≤◌, List, length, map, slice_index, Result, IfOk, IfErr, Vec}
+use Rattle.std.specs.Global.{Global}
+use Rattle.kmc_record.specs.Bodies.{AreRecordsOfBin, IsFirstError}
+use Rattle.kmc_record.specs.Parts.{IsPart}
+use Rattle.kmc_record.specs.Shapes.{Sizes}
+use Rattle.kmc_record.specs.declared.part_error.PartError.TheVariants.{Memory}
+use Rattle.kmc_store.specs.Bins.{body_at}
+use Rattle.kmc_slices.specs.declared.judging.BinFault.{BinFault}
+
+-- the bodies of the bins before are records of their bins, and this is the first fault of that of this bin
+pub record IsBinFault (shape : Sizes) (bodies : List (List ℕ)) (e : BinFault) : Type 0 where
+  pub inside : e.bin < shape.n
+  pub before : (i : ℕ) → i < e.bin → AreRecordsOfBin i shape (body_at bodies i)
+  pub here : (e.why ≡ Memory → ⊥) → IsFirstError e.bin shape e.why (body_at bodies e.bin)
+
+-- memory was refused: no body is said to be at fault
+abbrev pub want_of_memory : BinFault
+want_of_memory = record { bin = 0; why = Memory }
+
+-- the bodies of a row of bins, from one bin on and below another, are records of their bins, and these are the numbers of their words
+pub record AreCounted (shape : Sizes) (bodies : List (List ℕ)) (from to : ℕ) (words : List ℕ) : Type 0 where
+  pub long : from + length words ≡ to
+  pub each : (i : ℕ) → from + i < to → IsPart (from + i) shape (body_at bodies (from + i)) (slice_index words i)
+
+-- the same as `IsBinFault` for a row of bins
+pub record IsFaultIn (shape : Sizes) (bodies : List (List ℕ)) (from to : ℕ) (e : BinFault) : Type 0 where
+  pub inside : e.bin < shape.n
+  pub within : e.bin ≤ to
+  pub before : (i : ℕ) → from ≤ i → i < e.bin → AreRecordsOfBin i shape (body_at bodies i)
+  pub here : (e.why ≡ Memory → ⊥) → IsFirstError e.bin shape e.why (body_at bodies e.bin)
+
+-- the numbers of words of a row of bins, or its first fault
+pub record IsJudgedRow (shape : Sizes) (bodies : List (Vec ℕ Global)) (from to : ℕ) (r : Result (Vec ℕ Global) BinFault) : Type 0 where
+  pub ok : IfOk r (λ words. AreCounted shape (map (λ b. b.items) bodies) from to words.items)
+  pub fault : IfErr r (IsFaultIn shape (map (λ b. b.items) bodies) from to)

@@ -1,0 +1,151 @@
+//! The program that lists a slice.
+ghost use Rattle.std.specs.Prelude.{◌≡◌, ◌≢◌, ◌≤◌, ◌-◌, ◌^◌, ◌<◌, ◌⊎◌, List, length, map, string_bytes, true, false, IfOk, IfErr};
+ghost use Rattle.std.specs.Process.{exit_status};
+ghost use Rattle.kmc_options.specs.Words.{PackedKmer};
+ghost use Rattle.kmc_options.specs.Requests.{IsListRequest};
+ghost use Rattle.kmc_options.specs.declared.slices.listing.ListRequest.{ListRequest};
+ghost use Rattle.kmc_options.specs.declared.slices.listing.ListRequestError.{ListRequestError};
+ghost use Rattle.kmc_slices.specs.Asking.{is_asked, text_asked, Shows, ShowsFront};
+ghost use Rattle.kmc_slices.specs.ListProgram.{AsksForNothing, FailsToList, IsListed, IsListFault, status_of_answer};
+ghost use Rattle.kmc_slices.specs.declared.programs.list_fault.ListFault.{ListFault};
+ghost use Rattle.kmc_slices.specs.declared.programs.listing.TheConstants.{HELP};
+
+use crate::listing::list_records;
+use crate::programs::asking::{asked_text, shown};
+use crate::programs::gathering::gather_files;
+use crate::programs::list_fault::{ListFault, ListMessage};
+use kmc_device::Counted;
+use kmc_options::{ListRequest, ListRequestError, Params, arguments, list_request};
+use std::alloc::{AllocError, Global};
+use std::io::Write;
+use std::process::ExitCode;
+use std::rt::{Env, Files};
+use std::thread::Threads;
+
+const HELP: &'static str =
+    "kmc_list: the dump of one slice of reads that kmc_cut has cut\n\nusage: kmc_list [-ci<n>] [-cx<n>] [-cs<n>] [-sr<n>] [-b] <file> ..\n\n  -ci<n>     words that occur less often are not listed; 2 where it is not given\n  -cx<n>     words that occur more often are not listed; 10^9\n  -cs<n>     greater counts are shown as this; 255\n  -sr<n>     threads that count, 1 to 16; 2\n  -b         words are counted as read, not together with their reverse complements\n  <file>     the files of one slice, of all parts of the reads\n\nThe dumps of all slices are merged by\n  kmc_merge -ci1 -cx9223372036854775808 -cs9223372036854775808 <dump> ..\n";
+
+/// Writes the dump of the records of the files.
+fn listed<T: Threads + Sync + Files + Alloc<A = Global>, W: Write>(
+    rt: &T,
+    files: &[String],
+    params: &Params,
+    writer: &mut Counted<W>,
+) -> Result<u64, ListFault>
+    requires some { 1 ≤ length files.now }
+    requires failures { writer.old.failures < 2 ^ 64 - 1 }
+    ensures ok { IfOk result (λ lines. IsListed (length files.now) params.now
+        (W.contents writer.old.inner) (W.contents writer.new.inner)
+        × (writer.new.failures ≡ writer.old.failures)) }
+    ensures sound { IfErr result (λ e. (r : ListRequestError) → e ≢ ListFault.Request r) }
+    ensures fault { IfErr result (IsListFault (length files.now) params.now W.contents writer.old writer.new) }
+{
+    let records = gather_files(rt, files)?;
+    match list_records(rt, rt.alloc(), records, params, writer) {
+        Ok(lines) => Ok(lines),
+        Err(error) => Err(ListFault::Dump(error)),
+    }
+}
+
+/// Shows a fault, unless it is a write to a closed pipe, and gives the exit status: 0 where there is no fault. A line that cannot
+/// be written changes nothing of the status.
+fn ended(
+    rt: &impl Eprint,
+    files: &[String],
+    answer: Result<u64, ListFault>,
+    pipe_closed: bool,
+) -> ExitCode
+    ensures { exit_status result ≡ status_of_answer answer }
+{
+    match answer {
+        Ok(_) => ExitCode::from(0),
+        Err(fault) => {
+            if fault.is_told(pipe_closed) {
+                let _ = rt.eprintln(ListMessage { files, fault });
+            }
+            ExitCode::from(fault.status())
+        }
+    }
+}
+
+/// Reads the files, opened one after the other, which must be of one slice, and writes the dump of their records by the settings.
+/// A fault is shown in one line on standard error, but for a write to a pipe whose other end is closed. The exit status is 0
+/// where the dump was written and no device failed, and else 1; then a file or the records are at fault or memory was refused, and
+/// nothing was written, or one write failed and a front of the dump is out.
+pub fn list_files<T: Threads + Sync + Files + Eprint + Alloc<A = Global>, W: Write>(
+    rt: &T,
+    request: &ListRequest,
+    writer: &mut Counted<W>,
+) -> ExitCode
+    requires some { 1 ≤ length request.now.files.items }
+    requires failures { writer.old.failures < 2 ^ 64 - 1 }
+    ensures done { exit_status result ≡ 0 → IsListed (length request.now.files.items) request.now.params
+        (W.contents writer.old.inner) (W.contents writer.new.inner)
+        × (writer.new.failures ≡ writer.old.failures) }
+    ensures failed { exit_status result ≡ 1 → (fault : ListFault)
+        × IsListFault (length request.now.files.items) request.now.params W.contents writer.old writer.new fault }
+    ensures statuses { exit_status result ≤ 1 }
+{
+    let answer = listed(rt, &request.files, &request.params, writer);
+    ended(rt, &request.files, answer, writer.is_pipe_closed())
+}
+
+/// Does what the words ask for: shows help or the version, or lists the slice of the files that they name. The exit status is 2
+/// where they ask for nothing, and else that of [`list_files`].
+pub fn list_words<T: Threads + Sync + Files + Eprint + Alloc<A = Global>, W: Write>(
+    rt: &T,
+    words: Vec<String>,
+    writer: &mut Counted<W>,
+) -> ExitCode
+    requires { writer.old.failures < 2 ^ 64 - 1 }
+    ensures done { exit_status result ≡ 0 → is_asked (map string_bytes words.items) ≡ false
+        → (r : ListRequest) × IsListRequest (map string_bytes words.items) r
+        × IsListed (length r.files.items) r.params (W.contents writer.old.inner) (W.contents writer.new.inner)
+        × (writer.new.failures ≡ writer.old.failures) }
+    ensures misused { exit_status result ≡ 2 → AsksForNothing (map string_bytes words.items) × (writer.new ≡ writer.old) }
+    ensures shown { exit_status result ≡ 0 → is_asked (map string_bytes words.items) ≡ true
+        → Shows W.contents (text_asked HELP.now (map string_bytes words.items)) writer.old writer.new }
+    ensures unshown { exit_status result ≡ 1 → is_asked (map string_bytes words.items) ≡ true
+        → ShowsFront W.contents (text_asked HELP.now (map string_bytes words.items)) writer.old writer.new }
+    ensures failed { exit_status result ≡ 1 → is_asked (map string_bytes words.items) ≡ false
+        → FailsToList W.contents (map string_bytes words.items) writer.old writer.new }
+    ensures statuses { exit_status result ≤ 2 }
+{
+    if let Some(text) = asked_text(&words, HELP) {
+        return shown(text, writer);
+    }
+    match list_request(rt.alloc(), words) {
+        Ok(request) => list_files(rt, &request, writer),
+        Err(error) => ended(rt, &[], Err(ListFault::Request(error)), false),
+    }
+}
+
+/// The whole program: [`list_words`] of the words that the process was given.
+pub fn list_program<T: Threads + Sync + Files + Env + Eprint + Alloc<A = Global>, W: Write>(
+    rt: &T,
+    writer: &mut Counted<W>,
+) -> ExitCode
+    requires { writer.old.failures < 2 ^ 64 - 1 }
+    ensures done { exit_status result ≡ 0 → (words : List PackedKmer) × (is_asked words ≡ false
+        → (r : ListRequest) × IsListRequest words r
+        × IsListed (length r.files.items) r.params (W.contents writer.old.inner) (W.contents writer.new.inner)
+        × (writer.new.failures ≡ writer.old.failures))
+        × (is_asked words ≡ true → Shows W.contents (text_asked HELP.now words) writer.old writer.new) }
+    ensures failed { exit_status result ≡ 1 → (writer.new ≡ writer.old) ⊎ ((words : List PackedKmer)
+        × (is_asked words ≡ false → FailsToList W.contents words writer.old writer.new)
+        × (is_asked words ≡ true → ShowsFront W.contents (text_asked HELP.now words) writer.old writer.new)) }
+    ensures misused { exit_status result ≡ 2 → writer.new ≡ writer.old }
+    ensures statuses { exit_status result ≤ 2 }
+{
+    match arguments(rt) {
+        Ok(Some(words)) => list_words(rt, words, writer),
+        Ok(None) => {
+            let fault = ListFault::Request(ListRequestError::Usage);
+            ended(rt, &[], Err(fault), false)
+        }
+        Err(AllocError) => {
+            let fault = ListFault::Request(ListRequestError::Memory);
+            ended(rt, &[], Err(fault), false)
+        }
+    }
+}

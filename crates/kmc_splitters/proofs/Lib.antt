@@ -1,3 +1,0 @@
-mod Chunks
-mod Few
-mod Sent

@@ -1,5 +1,0 @@
-use Rattle.kmc_splitters.proofs.Few.{no_numbers_spent}
-use Rattle.kmc_splitters.proofs.laws.few_chunks_spend_no_numbers.Goals as goal
-
-pub returns : goal.returns
-returns c = no_numbers_spent

@@ -1,5 +1,0 @@
-use Rattle.std.proofs.Common.{vec_len}
-use Rattle.kmc_splitters.proofs.starting.+split_all.Given as goal
-
-abbrev pub decreases-split_all : goal.decreases-split_all
-decreases-split_all g l = vec_len l.seats

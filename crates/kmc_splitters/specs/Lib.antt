@@ -1,3 +1,0 @@
-pub mod Splitters
-pub mod Causes
-pub mod Laws

@@ -1,0 +1,9 @@
+mod Chunks
+mod Few
+mod Filled
+mod Fresh
+mod Merges
+mod OnePiece
+mod Returned
+mod Sent
+mod Stored

@@ -1,0 +1,9 @@
+pub mod Causes
+pub mod Fed
+pub mod Laws
+pub mod Lemmas
+pub mod Passages
+pub mod Rounds
+pub mod Shards
+pub mod Splitters
+pub mod StorerCauses

@@ -1,0 +1,226 @@
+//! The reads of a text, a round at a time, into bins: a round is cut in threads while the caller's thread reads on.
+ghost use Rattle.std.specs.Prelude.{◌≡◌, ◌≢◌, ℕ, ◌+◌, ◌-◌, ◌*◌, ◌^◌, ◌<◌, ◌≤◌, min, List, [], ◌++◌, Option, false, IfOk, IfErr, OnOk, Ok, Err};
+ghost use Rattle.std.specs.Io.KnownBytes.{IsAtEnd};
+ghost use Rattle.kmc_reads.specs.declared.format.Format.{Format};
+ghost use Rattle.kmc_reads.specs.Cuts.{AreCut};
+ghost use Rattle.kmc_reads.specs.Reads.{reads_of};
+ghost use Rattle.kmc_reads.specs.Standing.{StandsCut};
+ghost use Rattle.kmc_stage_one.specs.Lemmas.Stored.{AreStored, AreStoredBy};
+ghost use Rattle.kmc_stage_one.specs.Fed.{IsFedBy, AreCounts, AreCountsOf};
+ghost use Rattle.kmc_stage_one.specs.Rounds.{HoldsPieces, HoldsInput, IsInputError};
+ghost use Rattle.kmc_options.specs.Shape.{shape_of};
+
+use crate::dealing::{Dealing, store_round};
+use crate::round::fill_round;
+use kmc_device::Counted;
+use kmc_options::Params;
+use kmc_partqueue::Gate;
+use kmc_reads::{Feeder, InputError, Reads, ReadsError};
+use kmc_store::Bins;
+use kmc_store::laws::empty_bins_hold_no_reads;
+use std::alloc::{AllocError, Global};
+use std::io::Read;
+use std::sync::Wait;
+use std::thread::{Threads, join_mut};
+
+/// A run's round is full with so many symbols: fewer make more rounds, each of which waits for its slowest thread.
+const ROUND: usize = 1 << 25;
+
+/// So many reads fill a round: `batch` for each splitter, as far as a `usize` tells.
+pub fn round_of(params: &Params) -> usize
+    ensures { result ≡ min (params.now.sp * params.now.batch) (2 ^ 64 - 1) }
+{
+    params.sp.saturating_mul(params.batch)
+}
+
+/// A round, the reads that were taken out of the feeder last, is added in threads to the bins, which are of the shape of the
+/// settings; meanwhile this thread reads and feeds the next round, as [`fill_round`](crate::round::fill_round) does. Both end before
+/// this does. The first answer is that of the bins, which hold the round's reads too, each as its pieces of at most `limit`
+/// symbols, or were refused memory, and then what they held may be lost. The second is that of the reading: whether the text
+/// goes on. Where the one is a refusal the other may be none.
+pub fn feed_round<T: Threads + Wait + Sync, R: Read, G: Gate + Sync>(
+    rt: &T,
+    bins: &mut Bins,
+    round: &Reads,
+    dealing: &Dealing<'_, G>,
+    reader: &mut Counted<R>,
+    feeder: &mut Feeder,
+    most: u64,
+) -> (Result<(), AllocError>, Result<bool, InputError>)
+    requires shape { bins.old.shape ≡ shape_of dealing.now.params }
+    requires failures { reader.old.failures < 2 ^ 64 - 1 }
+    requires reads { reader.old.reads ≤ most }
+    ensures shape { bins.new.shape ≡ shape_of dealing.now.params }
+    ensures holds { (held : List (List ℕ))
+        → HoldsPieces (shape_of dealing.now.params) dealing.now.limit held bins.old.bodies
+        → OnOk result.0
+        (HoldsPieces (shape_of dealing.now.params) dealing.now.limit
+        (held ++ round.now) bins.new.bodies) }
+    ensures counts { AreCounts most reader.old.reads reader.new.reads reader.old.failures reader.new.failures result.1 }
+    ensures fed { (overlap : ℕ) (format : Format) (text : List ℕ) (taken : List (List ℕ))
+        → StandsCut overlap format text taken feeder.old
+        → IsFedBy overlap format (R.remaining reader.old.inner)
+        (R.remaining reader.new.inner) reader.old.reads reader.new.reads text taken feeder.new result.1 }
+    ensures at_end { result.1 ≡ Ok false → IsAtEnd (R.remaining reader.new.inner) }
+{
+    let reads = round_of(&dealing.params);
+    let symbols = dealing.symbols;
+    join_mut(
+        rt,
+        &mut || -> Result<(), AllocError>
+            requires { bins.now.shape ≡ shape_of dealing.now.params }
+        { store_round(rt, bins, round, dealing) },
+        &mut || -> Result<bool, InputError>
+            requires failures { reader.now.failures < 2 ^ 64 - 1 }
+            requires reads { reader.now.reads ≤ most }
+        { fill_round(reader, feeder, most, reads, symbols) },
+    )
+}
+
+/// The text ends here, where the reader gave all that it has: the feeder ends, and the reads that it still has go into the
+/// bins, each as its pieces. With those that were taken before they are the reads of the text, whatever the bins held: these
+/// go on with bins of the earlier rounds, or begin with none. It fails where the text is no list of reads, or for want of
+/// memory.
+pub fn last_round<T: Threads + Wait + Sync, G: Gate + Sync>(
+    rt: &T,
+    bins: Bins,
+    feeder: Feeder,
+    dealing: &Dealing<'_, G>,
+) -> Result<Bins, ReadsError>
+    requires { bins.shape ≡ shape_of dealing.now.params }
+    ensures shape { IfOk result (λ b. b.shape ≡ shape_of dealing.now.params) }
+    ensures holds { (format : Format) (text : List ℕ) (taken held : List (List ℕ))
+        → StandsCut (dealing.now.params.k - 1) format text taken feeder
+        → HoldsPieces (shape_of dealing.now.params) dealing.now.limit held bins.bodies
+        → IfOk result
+        (λ b. (reads last : List (List ℕ)) × (reads_of format text ≡ Ok reads)
+        × AreCut (dealing.now.params.k - 1) reads (taken ++ last)
+        × HoldsPieces (shape_of dealing.now.params) dealing.now.limit (held ++ last) b.bodies) }
+    ensures cause { (format : Format) (text : List ℕ) (taken : List (List ℕ))
+        → StandsCut (dealing.now.params.k - 1) format text taken feeder
+        → IfErr result (λ e. e ≢ ReadsError.Memory → reads_of format text ≡ Err e) }
+{
+    let reads = match feeder.finish() {
+        Ok(reads) => reads,
+        Err((e, _)) => return Err(e),
+    };
+    let mut bins = bins;
+    store_round(rt, &mut bins, &reads, dealing)?;
+    Ok(bins)
+}
+
+/// The reads that wait in the feeder are added to the bins, which are of the shape of the settings, while this thread reads and
+/// feeds the next round. The answer is whether the text goes on. A refusal is that of the reading before that of the bins.
+fn next_round<T: Threads + Wait + Sync, R: Read, G: Gate + Sync>(
+    rt: &T,
+    bins: &mut Bins,
+    feeder: &mut Feeder,
+    dealing: &Dealing<'_, G>,
+    reader: &mut Counted<R>,
+    most: u64,
+) -> Result<bool, InputError>
+    requires shape { bins.old.shape ≡ shape_of dealing.now.params }
+    requires failures { reader.old.failures < 2 ^ 64 - 1 }
+    requires reads { reader.old.reads ≤ most }
+    ensures shape { bins.new.shape ≡ shape_of dealing.now.params }
+    ensures stored { (format : Format) (first : Option (List ℕ)) (before : ℕ)
+        → AreStored format (shape_of dealing.now.params) dealing.now.limit first
+        (R.remaining reader.old.inner) before reader.old.reads bins.old feeder.old
+        → AreStoredBy format (shape_of dealing.now.params) dealing.now.limit first
+        (R.remaining reader.new.inner) before reader.new.reads bins.new feeder.new result }
+    ensures counts { AreCounts most reader.old.reads reader.new.reads reader.old.failures reader.new.failures result }
+    ensures at_end { result ≡ Ok false → IsAtEnd (R.remaining reader.new.inner) }
+{
+    let round = feeder.take_open(dealing.alloc, dealing.params.k - 1)?;
+    let (stored, fed) = feed_round(rt, bins, &round, dealing, reader, feeder, most);
+    let more = fed?;
+    stored?;
+    Ok(more)
+}
+
+/// Each round of a text but the last goes into the bins, which hold no reads, while this thread reads and feeds the next one. The
+/// feeder, which has taken nothing, is left with the last round, and the reader at its end. At most `max_reads` reads may give bytes.
+fn earlier_rounds<T: Threads + Wait + Sync, R: Read, G: Gate + Sync>(
+    rt: &T,
+    bins: &mut Bins,
+    feeder: &mut Feeder,
+    dealing: &Dealing<'_, G>,
+    reader: &mut Counted<R>,
+    max_reads: u64,
+) -> Result<(), InputError>
+    requires shape { bins.old.shape ≡ shape_of dealing.now.params }
+    requires bins { HoldsPieces (shape_of dealing.now.params) dealing.now.limit [] bins.old.bodies }
+    requires feeder { StandsCut
+        (dealing.now.params.k - 1) dealing.now.params.format [] [] feeder.old }
+    requires failures { reader.old.failures < 2 ^ 64 - 1 }
+    requires reads { reader.old.reads + max_reads < 2 ^ 64 }
+    requires most { max_reads ≤ 2 ^ 32 }
+    ensures shape { bins.new.shape ≡ shape_of dealing.now.params }
+    ensures stored { OnOk result
+        (AreStored dealing.now.params.format (shape_of dealing.now.params) dealing.now.limit
+        (R.remaining reader.old.inner)
+        (R.remaining reader.new.inner) reader.old.reads reader.new.reads bins.new feeder.new
+        × IsAtEnd (R.remaining reader.new.inner)
+        × (reader.new.failures ≡ reader.old.failures)
+        × (reader.old.reads ≤ reader.new.reads)
+        × (reader.new.reads < reader.old.reads + max_reads)) }
+    ensures cause { IfErr result (λ e. AreCountsOf
+        (reader.old.reads
+        + max_reads) reader.old.reads reader.new.reads reader.old.failures reader.new.failures e
+        × IsInputError dealing.now.params.format max_reads (R.remaining reader.old.inner)
+        (R.remaining reader.new.inner) e) }
+{
+    let most = reader.reads() + max_reads;
+    let full = round_of(&dealing.params);
+    let mut more = fill_round(reader, feeder, most, full, dealing.symbols)?;
+    for _ in 0..1u64 << 32 {
+        if !more {
+            return Ok(());
+        }
+        more = next_round(rt, bins, feeder, dealing, reader, most)?;
+    }
+    Err(InputError::TooLong)
+}
+
+/// Bins that hold the reads of all that the reader gives, of which at most `max_reads` reads may give bytes. Of a
+/// round's reads and the next round's bytes no more than one round is held at a time, beside the bins: a FASTA read that
+/// is open is taken in pieces. Each read is held as its pieces of at most `limit` symbols.
+pub fn bins_of_input<T: Threads + Wait + Sync, R: Read, G: Gate + Sync>(
+    rt: &T,
+    alloc: Global,
+    reader: &mut Counted<R>,
+    params: &Params,
+    gate: &G,
+    max_reads: u64,
+    limit: usize,
+) -> Result<Bins, InputError>
+    requires failures { reader.old.failures < 2 ^ 64 - 1 }
+    requires reads { reader.old.reads + max_reads < 2 ^ 64 }
+    requires most { max_reads ≤ 2 ^ 32 }
+    requires limit { params.now.k ≤ limit }
+    ensures ok { IfOk result (HoldsInput params.now.format (shape_of params.now) limit
+        (R.remaining reader.old.inner) (R.remaining reader.new.inner)) }
+    ensures sound { OnOk result ((reader.new.failures ≡ reader.old.failures)
+        × (reader.old.reads ≤ reader.new.reads)
+        × (reader.new.reads < reader.old.reads + max_reads)) }
+    ensures counts { IfErr result
+        (AreCountsOf
+        (reader.old.reads
+        + max_reads) reader.old.reads reader.new.reads reader.old.failures reader.new.failures) }
+    ensures cause { IfErr result
+        (IsInputError params.now.format max_reads (R.remaining reader.old.inner)
+        (R.remaining reader.new.inner)) }
+{
+    empty_bins_hold_no_reads();
+    let dealing = Dealing {
+        alloc,
+        params: *params,
+        limit,
+        symbols: ROUND,
+        gate,
+    };
+    let mut bins = Bins::new(alloc, params.shape())?;
+    let mut feeder = Feeder::new(alloc, params.format);
+    earlier_rounds(rt, &mut bins, &mut feeder, &dealing, reader, max_reads)?;
+    Ok(last_round(rt, bins, feeder, &dealing)?)
+}

@@ -1,0 +1,9 @@
+use Rattle.std.proofs.Common.{Vec, Global, ℕ}
+use Rattle.std.proofs.lemmas.List.{length-map}
+use Rattle.kmc_stage_two.specs.Lemmas.ManyBodies.{texts}
+use Rattle.kmc_stage_two.proofs.group.list_group.Goals as goal
+
+pub returns-in-Some-clause-ok : goal.returns-in-Some-clause-ok
+returns-in-Some-clause-ok g c =
+    let a = c.args in
+    c.in-Some.ensures a.rule.strands a.rule.k a.limits (texts a.bodies.now) (length-map a.bodies.now (λ (b : Vec ℕ Global). b.items)) c.in-Ok.ensures

@@ -1,0 +1,5 @@
+pub mod Bodies
+pub mod Laws
+pub mod Lemmas
+pub mod Shares
+pub mod Stages

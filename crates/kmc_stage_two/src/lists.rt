@@ -1,0 +1,72 @@
+//! The lists of all bins, with words and counts as narrow as k and the limits allow.
+ghost use Rattle.std.specs.Prelude.{ℕ, ◌≤◌, map, IfOk, IsErrOf};
+ghost use Rattle.kmc_record.specs.declared.fault.RecordFault.{RecordFault};
+ghost use Rattle.kmc_count.specs.Bodies.{IsFirstDamaged};
+ghost use Rattle.kmc_stage_two.specs.Bodies.{AreListsOfBodies};
+ghost use Rattle.kmc_lists.specs.Lists.{sized_lists, lists_of};
+
+use crate::bins::list_bodies;
+use kmc_base::{KeyRule, MAX_K, PackedKmer, Strands};
+use kmc_count::Limits;
+use kmc_lists::{BinLists, SizedLists};
+use kmc_record::BodyError;
+use std::alloc::Global;
+use std::thread::Threads;
+
+/// The most symbols of a word that 64 bits hold.
+const NARROW_K: usize = 32;
+
+/// The lists of bodies, over words of one width.
+fn list_sized<R: Threads + Sync, W: PackedKmer + Drop + Send + Sync>(
+    rt: &R,
+    alloc: Global,
+    bodies: Vec<Vec<u8>>,
+    rule: KeyRule,
+    limits: &Limits,
+    threads: usize,
+) -> Result<SizedLists<W>, BodyError>
+    requires most { rule.k ≤ W.most }
+    requires threads { 1 ≤ threads }
+    ensures ok { IfOk result (λ lists. AreListsOfBodies rule.strands rule.k limits.now
+        (map (λ b. b.items) bodies.items) (sized_lists lists)) }
+    ensures damaged { (fault : RecordFault) (offset : ℕ)
+        → IsErrOf result (BodyError.Damaged fault offset)
+        → IsFirstDamaged rule.k fault offset (map (λ b. b.items) bodies.items) }
+{
+    Ok(if limits.cs <= u64::from(u8::MAX) {
+        SizedLists::U8(list_bodies(rt, alloc, bodies, rule, *limits, threads)?)
+    } else if limits.cs <= u64::from(u32::MAX) {
+        SizedLists::U32(list_bodies(rt, alloc, bodies, rule, *limits, threads)?)
+    } else {
+        SizedLists::U64(list_bodies(rt, alloc, bodies, rule, *limits, threads)?)
+    })
+}
+
+/// The list of each bin's records, in the order of the bins, by at most so many threads. A pair takes 9 bytes up to k = 32
+/// and 17 above where cs is below 256, 4 more bytes in place of 1 where it is below 2^32, and 8 else. The records of some
+/// neighbouring bins are freed once these are counted. Where a bin is damaged, the fault is that of the first such bin.
+pub fn list_bins<R: Threads + Sync>(
+    rt: &R,
+    alloc: Global,
+    bodies: Vec<Vec<u8>>,
+    k: usize,
+    strands: Strands,
+    limits: &Limits,
+    threads: usize,
+) -> Result<BinLists, BodyError>
+    requires some { 1 ≤ k }
+    requires most { k ≤ MAX_K }
+    requires threads { 1 ≤ threads }
+    ensures ok { IfOk result (λ lists. AreListsOfBodies strands k limits.now
+        (map (λ b. b.items) bodies.items) (lists_of lists)) }
+    ensures damaged { (fault : RecordFault) (offset : ℕ)
+        → IsErrOf result (BodyError.Damaged fault offset)
+        → IsFirstDamaged k fault offset (map (λ b. b.items) bodies.items) }
+{
+    let rule = KeyRule { k, strands };
+    Ok(if k <= NARROW_K {
+        BinLists::Narrow(list_sized(rt, alloc, bodies, rule, limits, threads)?)
+    } else {
+        BinLists::Wide(list_sized(rt, alloc, bodies, rule, limits, threads)?)
+    })
+}

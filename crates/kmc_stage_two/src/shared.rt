@@ -1,0 +1,128 @@
+//! A body that is counted by several threads together: each takes records that follow one another.
+ghost use Rattle.std.specs.Prelude.{ℕ, ◌+◌, ◌*◌, ◌≤◌, List, ◌++◌, length, map, IfOk};
+ghost use Rattle.std.specs.Thread.{IsSync};
+ghost use Rattle.kmc_base.specs.declared.strands.Strands.{Strands};
+ghost use Rattle.kmc_base.specs.declared.packed_kmer.TheConstants.{MOST_WEIGHT_BITS};
+ghost use Rattle.kmc_count.specs.Bodies.{IsDumpOfBody};
+ghost use Rattle.kmc_lists.specs.Listed.{IsListOf, pairs_of};
+ghost use Rattle.kmc_stage_two.specs.Shares.{AreListsOfItems};
+
+use crate::merging::list_share;
+use crate::share::Share;
+use kmc_base::{KeyRule, MOST_WEIGHT_BITS, PackedKmer};
+use kmc_count::{Limits, items_of_body};
+use kmc_lists::{CountWidth, KmerList};
+use kmc_record::BodyError;
+use std::alloc::Global;
+use std::thread;
+use std::thread::Threads;
+
+/// Where the first record begins that has so many bytes before it; the end of the body where there is none. Of a body that is
+/// damaged it is any place.
+fn record_behind(body: &[u8], rule: KeyRule, bytes: usize) -> usize
+    ensures { result ≤ length body.now }
+{
+    let least = bytes.min(body.len());
+    let mut offset = 0;
+    while offset < least {
+        offset += 1 + (usize::from(body[offset]) + rule.k + 3) / 4;
+    }
+    offset.min(body.len())
+}
+
+/// The items of two pieces of a body, those of the second behind those of the first, or the first error.
+fn both_pieces<W: PackedKmer + Drop>(
+    first: Result<Vec<Vec<W>>, BodyError>,
+    second: Result<Vec<Vec<W>>, BodyError>,
+) -> Result<Vec<Vec<W>>, BodyError>
+    ensures { (strands : Strands) (k f : ℕ) (low high : List ℕ)
+        → IfOk first (λ lists. AreListsOfItems strands k f low (map (λ v. map W.number v.items) lists.items))
+        → IfOk second (λ lists. AreListsOfItems strands k f high (map (λ v. map W.number v.items) lists.items))
+        → IfOk result (λ lists. AreListsOfItems strands k f (low ++ high)
+        (map (λ v. map W.number v.items) lists.items)) }
+{
+    let mut lists = first?;
+    let mut more = second?;
+    lists.append(&mut more)?;
+    Ok(lists)
+}
+
+/// The words of a body as items, which so many threads take, each of a piece that is about as long as the others: a list that rises
+/// for each thread. A body whose pieces are whole records is whole records. Where no thread can be made, the calling thread takes
+/// them all.
+#[cycle(sharers)]
+fn take_shared<R: Threads + Sync, W: PackedKmer + Drop + Send>(
+    rt: &R,
+    alloc: Global,
+    body: &[u8],
+    rule: KeyRule,
+    bits: u32,
+    threads: usize,
+) -> Result<Vec<Vec<W>>, BodyError>
+    requires most { rule.k ≤ W.most }
+    requires beside { 2 * rule.k + bits ≤ 2 * W.most }
+    requires bits { bits ≤ MOST_WEIGHT_BITS }
+    requires threads { 1 ≤ threads }
+    ensures { IfOk result (λ lists. AreListsOfItems rule.strands rule.k bits body.now
+        (map (λ v. map W.number v.items) lists.items)) }
+{
+    if threads == 1 {
+        let items = items_of_body(alloc, body, rule, bits)?;
+        let mut lists = Vec::new(alloc);
+        return match lists.push(items) {
+            Ok(()) => Ok(lists),
+            Err(_) => Err(BodyError::Memory),
+        };
+    }
+    let few = threads / 2;
+    let others = threads - few;
+    let middle = record_behind(body, rule, body.len() / threads * few);
+    let (low, high) = body.split_at(middle);
+    let front = move || -> Result<Vec<Vec<W>>, BodyError>
+        requires { IsSync R.row × (rule.k ≤ W.most)
+            × (2 * rule.k + bits ≤ 2 * W.most) × (bits ≤ MOST_WEIGHT_BITS) × (1 ≤ few) }
+        ensures { IfOk result (λ lists. AreListsOfItems rule.strands rule.k bits low.entry.now
+            (map (λ v. map W.number v.items) lists.items)) }
+    { take_shared(rt, alloc, low, rule, bits, few) };
+    let back = move || -> Result<Vec<Vec<W>>, BodyError>
+        requires { IsSync R.row × (rule.k ≤ W.most)
+            × (2 * rule.k + bits ≤ 2 * W.most) × (bits ≤ MOST_WEIGHT_BITS) × (1 ≤ others) }
+        ensures { IfOk result (λ lists. AreListsOfItems rule.strands rule.k bits high.entry.now
+            (map (λ v. map W.number v.items) lists.items)) }
+    { take_shared(rt, alloc, high, rule, bits, others) };
+    let (first, second) = thread::join(rt, front, back);
+    both_pieces(first, second)
+}
+
+/// The dump of a body in packed form, counted by so many threads together. An error tells nothing of the body: pieces that are no
+/// whole records are told as damage too, so who wants the fault counts the body in one piece.
+pub fn list_by_threads<
+    R: Threads + Sync,
+    W: PackedKmer + Drop + Send + Sync,
+    C: CountWidth + Drop + Send,
+>(
+    rt: &R,
+    alloc: Global,
+    body: &[u8],
+    rule: KeyRule,
+    limits: &Limits,
+    threads: usize,
+) -> Result<KmerList<W, C>, BodyError>
+    requires most { rule.k ≤ W.most }
+    requires wide { limits.now.cs ≤ C.greatest }
+    requires threads { 1 ≤ threads }
+    ensures list { IfOk result (λ c. IsListOf rule.k c) }
+    ensures ok { IfOk result (λ c. IsDumpOfBody rule.strands rule.k limits.now body.now
+        (pairs_of c)) }
+{
+    let bits = W::weight_bits(rule.k);
+    let lists: Vec<Vec<W>> = take_shared(rt, alloc, body, rule, bits, threads)?;
+    let all = Share {
+        first: 0,
+        last: u128::MAX,
+        parts: threads,
+    };
+    let mut pairs = list_share(rt, alloc, &lists, rule, bits, *limits, all)?;
+    pairs.shrink();
+    Ok(pairs)
+}

@@ -1,9 +1,0 @@
-use Rattle.std.proofs.Common.{arith}
-use Rattle.std.proofs.lemmas.Grind.{common_steps}
-use Rattle.kmc_store.proofs.parts.push_runs.Goals as goal
-
-pub loop-run-preserved : goal.loop-run-preserved
-loop-run-preserved c = grind (arith, common_steps)
-
-pub returns : goal.returns
-returns c = grind (arith, common_steps)

@@ -1,9 +1,0 @@
-use Rattle.std.proofs.Common.{arith, rules}
-use Rattle.std.proofs.lemmas.Grind.{common_steps}
-use Rattle.kmc_super_kmers.proofs.super_kmers.SuperKmer.word_at.Goals as goal
-
-pub unreachable-requires : goal.unreachable-requires
-unreachable-requires c = grind (arith, common_steps)
-
-pub returns : goal.returns
-returns c = search rules
