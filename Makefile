@@ -22,34 +22,21 @@ MAN = $(DESTDIR)$(PREFIX)/share/man/man1
 
 .PHONY: all count check recipes install uninstall dist fuzz hostile damaged devices limits threads bench results merges clean
 
-all: count $(PROGRAMS)
+# all programs in one call, since most of what they stand on is the same
+all:
+	$(call built,kmc kmc_merge kmc_cut kmc_list)
+	@$(MAKE) --no-print-directory count
 
-# call built,CRATE: what the program stands on is proved, several libraries at a time, then the program itself, and it is built
+# call built,CRATES: what the programs stand on is proved, several libraries at a time, then they are, and are built
 define built
+	@echo "make: proving and building $(1) (some minutes the first time)"
 	@build/program.py $(1)
-	@cp crates/$(1)/out/$(1) $@
+	@for name in $(1); do cp crates/$$name/out/$$name ./$$name; done
 endef
 
 SOURCES := crates.txt $(shell find crates -path '*/out' -prune -o -type f -name '*.rt' -print -o -type f -name '*.antt' -print)
 
-$(KMC): $(SOURCES)
-	@echo "make: proving and building kmc (some minutes the first time)"
-	$(call built,kmc)
-
-$(KMC_MERGE): $(SOURCES)
-	@echo "make: proving and building kmc_merge (some minutes the first time)"
-	$(call built,kmc_merge)
-
-$(KMC_CUT): $(SOURCES)
-	@echo "make: proving and building kmc_cut (some minutes the first time)"
-	$(call built,kmc_cut)
-
-$(KMC_LIST): $(SOURCES)
-	@echo "make: proving and building kmc_list (some minutes the first time)"
-	$(call built,kmc_list)
-
-$(REFUSED) $(BODIES) $(MANY): ./%: $(SOURCES)
-	@echo "make: proving and building $* (some minutes the first time)"
+$(PROGRAMS) $(REFUSED) $(BODIES) $(MANY): ./%: $(SOURCES)
 	$(call built,$*)
 
 count: $(KMC)
