@@ -1,6 +1,7 @@
 //! Points of a call at which a caller may look in.
 
-/// A point that a call passes, with the number of the writer `w`, the number of the part among that writer's, `n`, and the number of the reader `r`.
+/// A point that a call passes, with the number of the writer `w`, the number of the part among that writer's, `n`, and the number of the
+/// reader `r`.
 #[derive(Drop, Clone, Copy)]
 pub enum Point {
     /// `(w, n)`: a worker is about to put the part.

@@ -91,7 +91,10 @@ impl<T: Drop> Lanes<T> {
         }
     }
 
-    /// All seats of the queue come back, each number once, in any order, one of the readers having seen each lane at its end. Each part that was put was got once, by one reader, and nothing else was. The run had a legal history, in which each part was put, and left to the reader that got it, at its number, and each reader that saw all lanes at their ends was told once that the queue is finished. It answers how many parts each writer put.
+    /// All seats of the queue come back, each number once, in any order, one of the readers having seen each lane at its end. Each part
+    /// that was put was got once, by one reader, and nothing else was. The run had a legal history, in which each part was put, and left
+    /// to the reader that got it, at its number, and each reader that saw all lanes at their ends was told once that the queue is
+    /// finished. It answers how many parts each writer put.
     pub fn gather(self, writers: Vec<DoneSeat<T>>, mut readers: Vec<ReaderSeat<T>>) -> Totals
         requires queue { Each (IsWriterOf self.table.shared.table_id self.shape) writers.items
             × Each (IsReaderOf self.table.shared.table_id self.shape) readers.items }

@@ -12,17 +12,20 @@ use std::alloc::{AllocError, Global};
 
 /// A queue of parts without a lock: one lane of slots for each writer, read by any reader, in single atomic steps.
 ///
-/// What the readers got together is known once all seats are back (`gather`); a caller that never gathers its seats learns what each of them knows, and no more.
+/// What the readers got together is known once all seats are back (`gather`); a caller that never gathers its seats learns what each of
+/// them knows, and no more.
 #[derive(Drop)]
 pub struct Lanes<T> {
     pub(crate) table: Table<Option<T>, View<T>, QueueShape, Reached, Global>,
     pub(crate) shape: QueueShape,
     ghost shaped: { table.shared.key ≡ shape },
-    ghost sized: { (table.shared.table_id.words ≡ 2 * shape.writers + shape.writers * shape.per_writer) × (table.shared.table_id.slots ≡ shape.writers * shape.per_writer) },
+    ghost sized: { (table.shared.table_id.words ≡ 2 * shape.writers + shape.writers * shape.per_writer)
+        × (table.shared.table_id.slots ≡ shape.writers * shape.per_writer) },
 }
 
 impl<T> Lanes<T> {
-    /// Of the part with this number in the lane: its slot, the word of the slot's mark, and what the mark says while the slot is free for it.
+    /// Of the part with this number in the lane: its slot, the word of the slot's mark, and what the mark says while the slot is free for
+    /// it.
     pub(crate) fn place(&self, lane: usize, number: u64) -> (usize, usize, u64)
         requires { (lane < self.now.shape.writers) × (number ≤ MAX_ITEMS) }
         ensures slot { result.0
@@ -86,7 +89,8 @@ impl<T: Drop> Lanes<T> {
         alloc: Global,
         seat: &mut Seat<Option<T>, View<T>>,
     ) -> Result<Vec<ReaderSeat<T>>, AllocError>
-        requires fresh { seat.old.me ≡ (record { writers = []; readers = row_from (fresh_reader self.now.table.shared.key) 0 self.now.shape.readers }, []) }
+        requires fresh { seat.old.me
+            ≡ (record { writers = []; readers = row_from (fresh_reader self.now.table.shared.key) 0 self.now.shape.readers }, []) }
         requires queue { seat.old.table_id ≡ self.now.table.shared.table_id }
         ensures seats { IfOk result (λ v. v.items
             ≡ row_from (new_reader self.now.table.shared.table_id self.now.shape) 0 self.now.shape.readers) }
@@ -122,7 +126,8 @@ impl<T: Drop> Lanes<T> {
         Ok((lanes, seat))
     }
 
-    /// The queue, and its seats in the order of their numbers. Every writer is registered. All words and slots are made here; no other call of the queue takes memory.
+    /// The queue, and its seats in the order of their numbers. Every writer is registered. All words and slots are made here; no other
+    /// call of the queue takes memory.
     pub fn new(
         alloc: Global,
         shape: QueueShape,

@@ -259,7 +259,8 @@ impl<T> Lanes<T> {
         None
     }
 
-    /// Takes a part, if it finds one, at once. It goes once round the lanes, from the one after that it last took from, and tries each head once; a lane that it has seen at its end is passed over.
+    /// Takes a part, if it finds one, at once. It goes once round the lanes, from the one after that it last took from, and tries each
+    /// head once; a lane that it has seen at its end is passed over.
     pub fn try_take<G: Gate>(&self, s: &mut ReaderSeat<T>, gate: &G) -> TryTaken<T>
         requires { IsReaderOf self.now.table.shared.table_id self.now.shape s.old }
         ensures seat { (s.new.table ≡ s.old.table) × (s.new.number ≡ s.old.number)

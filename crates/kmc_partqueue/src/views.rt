@@ -2,7 +2,8 @@
 use kmc_partcore::Received;
 use std::collections::LinkedList;
 
-/// What a writer knows: its number, the slots of its lane, what it has put, whether the slot of its next part is in its hand, and whether it has completed.
+/// What a writer knows: its number, the slots of its lane, what it has put, whether the slot of its next part is in its hand, and whether
+/// it has completed.
 pub struct Writing<T> {
     pub number: u64,
     pub per_writer: u64,
@@ -17,7 +18,9 @@ pub struct Ending {
     pub total: u64,
 }
 
-/// What a reader knows: its number, the lanes and the slots of each, what it got, whether the slot of the last part that it got is in its hand, the lane and the head that it read last, whether that part was seen published, and the totals of the lanes that it saw at their end.
+/// What a reader knows: its number, the lanes and the slots of each, what it got, whether the slot of the last part that it got is in its
+/// hand, the lane and the head that it read last, whether that part was seen published, and the totals of the lanes that it saw at their
+/// end.
 pub struct Reading<T> {
     pub number: u64,
     pub writers: u64,

@@ -14,7 +14,8 @@ use atomic_table::Seat;
 use kmc_partcore::MAX_ITEMS;
 use std::marker::Model;
 
-/// The seat of a writer. One that is dropped before it has completed leaves its lane open for good, and no reader is ever answered that the queue is finished.
+/// The seat of a writer. One that is dropped before it has completed leaves its lane open for good, and no reader is ever answered that
+/// the queue is finished.
 #[derive(Drop)]
 pub struct WriterSeat<T> {
     pub(crate) seat: Seat<Option<T>, View<T>>,

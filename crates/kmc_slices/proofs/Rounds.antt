@@ -192,15 +192,3 @@ left_so format shape limit S old new olds news r e q is passed h =
     (is_left format shape limit S old new olds news e (subst (λ x. OnErr x (AreUnended shape S olds news)) is h))
 
 -- the shape of settings
-pub shape_is : (p : Params) → IsShape p.k (min (min p.p (most_symbols p.k)) p.k) p.n
-shape_is p =
-    let a = p.in_range.0 in
-    record {
-      some_k = a.0.0;
-      most_k = a.0.1;
-      some_m = omega (arith, a.0.0, a.1.0);
-      most_m = omega (arith, a.1.1);
-      within = omega arith;
-      some_n = a.2.0;
-      most_n = a.2.1;
-    }

@@ -4,7 +4,7 @@ use Rattle.std.proofs.lemmas.List.{length-map}
 use Rattle.kmc_device.specs.Device.{Watched}
 use Rattle.kmc_options.specs.Shape.{shape_of}
 use Rattle.kmc_options.specs.declared.run_params.Params.{Params}
-use Rattle.kmc_tool.specs.declared.input.TheConstants.{PIECE_SYMBOLS}
+use Rattle.kmc_stage_one.specs.declared.settings.TheConstants.{PIECE_SYMBOLS}
 use Rattle.kmc_slices.specs.Cut.{IsCutting, IsLeft}
 use Rattle.kmc_slices.specs.declared.error.CutError.{CutError}
 use Rattle.kmc_slices.specs.CutProgram.{IsUncut}

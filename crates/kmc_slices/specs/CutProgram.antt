@@ -5,7 +5,7 @@ use Rattle.kmc_options.specs.declared.run_params.Params.{Params}
 use Rattle.kmc_options.specs.declared.setting.Setting.{Setting}
 use Rattle.kmc_options.specs.Shape.{shape_of}
 use Rattle.kmc_options.specs.Words.{PackedKmer}
-use Rattle.kmc_tool.specs.declared.input.TheConstants.{PIECE_SYMBOLS}
+use Rattle.kmc_stage_one.specs.declared.settings.TheConstants.{PIECE_SYMBOLS}
 use Rattle.kmc_slice_files.specs.Opening.{IsCreateFault}
 use Rattle.kmc_options.specs.Requests.{AsksForCut, IsCutRequest, IsOutOfRange}
 use Rattle.kmc_options.specs.declared.slices.cutting.CutRequest.{CutRequest}

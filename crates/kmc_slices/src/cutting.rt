@@ -2,7 +2,6 @@
 ghost use Rattle.std.specs.Prelude.{◌≡◌, ℕ, ◌+◌, ◌-◌, ◌^◌, ◌<◌, ◌≤◌, List, [], length, map, slice_index, Option, OnOk, OnErr, IfErr};
 ghost use Rattle.kmc_reads.specs.declared.format.Format.{Format};
 ghost use Rattle.kmc_reads.specs.Standing.{StandsCut};
-ghost use Rattle.kmc_options.specs.Shape.{shape_of};
 ghost use Rattle.kmc_slices.specs.Cut.{AreReadCounts, AreWriteCounts, IsCutError, IsLastCutError};
 ghost use Rattle.kmc_slices.specs.Rounds.{AreAllRounds, AreLastRounds, AreRounds, AreUnended};
 
@@ -32,28 +31,28 @@ fn cut_last_round<T: Threads + Wait + Sync, W: Write, G: Gate + Sync>(
     requires failures { (s : ℕ) → s < length writers.old
         → slice_index (map (λ w. w.failures) writers.old) s < 2 ^ 64 - 1 }
     ensures ok { (format : Format) (text : List ℕ) (taken : List (List ℕ)) (olds : List (Option (List ℕ)))
-        → StandsCut (dealing.now.params.k - 1) format text taken feeder
-        → AreRounds (shape_of dealing.now.params) dealing.now.limit (length writers.old) taken olds
+        → StandsCut (dealing.now.settings.shape.k - 1) format text taken feeder
+        → AreRounds dealing.now.settings.shape dealing.now.limit (length writers.old) taken olds
         (map (λ w. W.contents w.inner) writers.old) counts.old
         → OnOk result
-        (AreLastRounds format (shape_of dealing.now.params) dealing.now.limit
+        (AreLastRounds format dealing.now.settings.shape dealing.now.limit
         (length writers.old) text olds (map (λ w. W.contents w.inner) writers.new) counts.new) }
     ensures kept { OnOk result
         (map (λ w. w.failures) writers.new ≡ map (λ w. w.failures) writers.old) }
     ensures cause { (format : Format) (text : List ℕ) (taken : List (List ℕ))
-        → StandsCut (dealing.now.params.k - 1) format text taken feeder
+        → StandsCut (dealing.now.settings.shape.k - 1) format text taken feeder
         → IfErr result (IsLastCutError format text) }
     ensures write_counts { IfErr result
         (AreWriteCounts (map (λ w. w.failures) writers.old) (map (λ w. w.failures) writers.new)) }
     ensures left { (taken : List (List ℕ)) (olds : List (Option (List ℕ)))
-        → AreRounds (shape_of dealing.now.params) dealing.now.limit (length writers.old) taken olds
+        → AreRounds dealing.now.settings.shape dealing.now.limit (length writers.old) taken olds
         (map (λ w. W.contents w.inner) writers.old) counts.old
         → OnErr result
-        (AreUnended (shape_of dealing.now.params) (length writers.old) olds
+        (AreUnended dealing.now.settings.shape (length writers.old) olds
         (map (λ w. W.contents w.inner) writers.new)) }
 {
     empty_bins_hold_no_reads();
-    let bins = Bins::new(dealing.alloc, dealing.params.shape())?;
+    let bins = Bins::new(dealing.alloc, dealing.settings.shape)?;
     let bins = match last_round(rt, bins, feeder, dealing) {
         Ok(bins) => bins,
         Err(e) => return Err(told(InputError::from(e))),
@@ -83,10 +82,10 @@ pub(crate) fn cut_rounds<T: Threads + Wait + Sync, R: Read, W: Write, G: Gate + 
     requires failures { (s : ℕ) → s < length writers.old
         → slice_index (map (λ w. w.failures) writers.old) s < 2 ^ 64 - 1 }
     ensures ok { (olds : List (Option (List ℕ)))
-        → AreRounds (shape_of dealing.now.params) dealing.now.limit (length writers.old) [] olds
+        → AreRounds dealing.now.settings.shape dealing.now.limit (length writers.old) [] olds
         (map (λ w. W.contents w.inner) writers.old) counts.old
         → OnOk result
-        (AreAllRounds dealing.now.params.format (shape_of dealing.now.params) dealing.now.limit
+        (AreAllRounds dealing.now.settings.format dealing.now.settings.shape dealing.now.limit
         (length writers.old) (R.remaining reader.old.inner) (R.remaining reader.new.inner) olds
         (map (λ w. W.contents w.inner) writers.new) counts.new) }
     ensures sound { OnOk result ((reader.new.failures ≡ reader.old.failures)
@@ -95,7 +94,7 @@ pub(crate) fn cut_rounds<T: Threads + Wait + Sync, R: Read, W: Write, G: Gate + 
     ensures kept { OnOk result
         (map (λ w. w.failures) writers.new ≡ map (λ w. w.failures) writers.old) }
     ensures cause { IfErr result
-        (IsCutError dealing.now.params.format max_reads (R.remaining reader.old.inner)
+        (IsCutError dealing.now.settings.format max_reads (R.remaining reader.old.inner)
         (R.remaining reader.new.inner)) }
     ensures read_counts { IfErr result
         (AreReadCounts (reader.old.reads + max_reads) reader.old.reads reader.new.reads
@@ -103,16 +102,22 @@ pub(crate) fn cut_rounds<T: Threads + Wait + Sync, R: Read, W: Write, G: Gate + 
     ensures write_counts { IfErr result
         (AreWriteCounts (map (λ w. w.failures) writers.old) (map (λ w. w.failures) writers.new)) }
     ensures left { (olds : List (Option (List ℕ)))
-        → AreRounds (shape_of dealing.now.params) dealing.now.limit (length writers.old) [] olds
+        → AreRounds dealing.now.settings.shape dealing.now.limit (length writers.old) [] olds
         (map (λ w. W.contents w.inner) writers.old) counts.old
         → OnErr result
-        (AreUnended (shape_of dealing.now.params) (length writers.old) olds
+        (AreUnended dealing.now.settings.shape (length writers.old) olds
         (map (λ w. W.contents w.inner) writers.new)) }
 {
-    let params = &dealing.params;
-    let mut feeder = Feeder::new(dealing.alloc, params.format);
+    let settings = &dealing.settings;
+    let mut feeder = Feeder::new(dealing.alloc, settings.format);
     let most = reader.reads() + max_reads;
-    let mut more = match fill_round(reader, &mut feeder, most, round_of(params), dealing.symbols) {
+    let mut more = match fill_round(
+        reader,
+        &mut feeder,
+        most,
+        round_of(settings),
+        dealing.symbols,
+    ) {
         Ok(more) => more,
         Err(e) => return Err(told(e)),
     };

@@ -59,12 +59,14 @@ pub fn unended_is_no_file()
     files_are_one();
 }
 
-/// What [`cut_slices`](crate::slicing::cut_slices) wrote to files that were empty is the cut of the reads, of which `files_are_whole` speaks.
+/// What [`cut_slices`](crate::slicing::cut_slices) wrote to files that were empty is the cut of the reads, of which `files_are_whole`
+/// speaks.
 pub fn written_slices_are_cut()
     ensures { WrittenSlicesAreCut }
 {}
 
-/// The records of files whose bytes are known, gathered by [`SliceRecords`](crate::gathering::SliceRecords), are what is read of these files,
+/// The records of files whose bytes are known, gathered by [`SliceRecords`](crate::gathering::SliceRecords), are what is read of these
+/// files,
 /// of which `files_are_whole` speaks.
 pub fn gathered_files_are_read()
     ensures { GatheredFilesAreRead }

@@ -3,14 +3,13 @@ ghost use Rattle.std.specs.Prelude.{◌≡◌, ℕ, ◌-◌, ◌^◌, ◌<◌, �
 ghost use Rattle.std.specs.Io.KnownBytes.{IsAtEnd};
 ghost use Rattle.kmc_reads.specs.declared.format.Format.{Format};
 ghost use Rattle.kmc_reads.specs.Standing.{StandsCut};
-ghost use Rattle.kmc_options.specs.Shape.{shape_of};
 ghost use Rattle.kmc_stage_one.specs.Fed.{AreCounts, AreCountsOf};
 ghost use Rattle.kmc_slices.specs.Rounds.{IsRound, IsRoundError};
 
 use kmc_device::Counted;
 use kmc_partqueue::Gate;
 use kmc_reads::{Feeder, InputError};
-use kmc_stage_one::{Dealing, feed_round};
+use kmc_stage_one::{Dealing, feed_round, take_round};
 use kmc_store::Bins;
 use kmc_store::laws::empty_bins_hold_no_reads;
 use std::io::Read;
@@ -28,28 +27,28 @@ pub(crate) fn next_bins<T: Threads + Wait + Sync, R: Read, G: Gate + Sync>(
 ) -> Result<(Bins, bool), InputError>
     requires failures { reader.old.failures < 2 ^ 64 - 1 }
     requires reads { reader.old.reads ≤ most }
-    ensures shape { IfOk result (λ p. p.0.shape ≡ shape_of dealing.now.params) }
+    ensures shape { IfOk result (λ p. p.0.shape ≡ dealing.now.settings.shape) }
     ensures counts { IfOk result (λ p. AreCounts most reader.old.reads reader.new.reads
         reader.old.failures reader.new.failures (Ok p.1)) }
     ensures refused { IfErr result
         (AreCountsOf most reader.old.reads reader.new.reads reader.old.failures reader.new.failures) }
     ensures at_end { IfOk result (λ p. p.1 ≡ false → IsAtEnd (R.remaining reader.new.inner)) }
     ensures round { (format : Format) (text : List ℕ) (taken : List (List ℕ))
-        → StandsCut (dealing.now.params.k - 1) format text taken feeder.old
+        → StandsCut (dealing.now.settings.shape.k - 1) format text taken feeder.old
         → IfOk result
-        (λ p. IsRound (shape_of dealing.now.params) dealing.now.limit format
+        (λ p. IsRound dealing.now.settings.shape dealing.now.limit format
         (R.remaining reader.old.inner) (R.remaining reader.new.inner) reader.old.reads
         reader.new.reads text taken p.0.bodies feeder.new) }
     ensures cause { (format : Format) (text : List ℕ) (taken : List (List ℕ))
-        → StandsCut (dealing.now.params.k - 1) format text taken feeder.old
+        → StandsCut (dealing.now.settings.shape.k - 1) format text taken feeder.old
         → IfErr result
-        (IsRoundError (dealing.now.params.k - 1) format (R.remaining reader.old.inner)
+        (IsRoundError (dealing.now.settings.shape.k - 1) format (R.remaining reader.old.inner)
         (R.remaining reader.new.inner) reader.old.reads reader.new.reads text taken feeder.new) }
 {
     empty_bins_hold_no_reads();
-    let params = &dealing.params;
-    let mut bins = Bins::new(dealing.alloc, params.shape())?;
-    let round = feeder.take_open(dealing.alloc, params.k - 1)?;
+    let shape = dealing.settings.shape;
+    let mut bins = Bins::new(dealing.alloc, shape)?;
+    let round = take_round(feeder, dealing.alloc, shape)?;
     let (stored, fed) = feed_round(rt, &mut bins, &round, dealing, reader, feeder, most);
     let more = fed?;
     stored?;

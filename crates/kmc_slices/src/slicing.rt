@@ -1,7 +1,6 @@
 //! All that a reader gives, to the files of all slices.
 ghost use Rattle.std.specs.Prelude.{◌≡◌, ℕ, ◌+◌, ◌-◌, ◌^◌, ◌<◌, ◌≤◌, length, map, slice_index, IfOk, OnOk, IfErr};
-ghost use Rattle.kmc_options.specs.Shape.{shape_of};
-ghost use Rattle.kmc_tool.specs.declared.input.TheConstants.{PIECE_SYMBOLS};
+ghost use Rattle.kmc_stage_one.specs.declared.settings.TheConstants.{PIECE_SYMBOLS};
 ghost use Rattle.kmc_slices.specs.Cut.{AreReadCounts, AreWriteCounts, IsCutError, IsCutting, IsLeft, WroteSlices};
 
 use crate::cutting::cut_rounds;
@@ -10,9 +9,9 @@ use kmc_device::Counted;
 use kmc_options::Params;
 use kmc_partqueue::{Gate, NoGate};
 use kmc_slice_files::{begin_files, end_files};
-use kmc_stage_one::Dealing;
+use kmc_stage_one::{Dealing, MOST_READS, PIECE_SYMBOLS};
 use kmc_store::laws::{empty_bins_hold_no_reads, merged_bins_hold_both};
-use kmc_tool::{MOST_READS, PIECE_SYMBOLS};
+use kmc_tool::round_settings;
 use std::alloc::{AllocError, Global};
 use std::io::{Read, Write};
 use std::sync::Wait;
@@ -39,7 +38,7 @@ fn cut_files<T: Threads + Wait + Sync, R: Read, W: Write, G: Gate + Sync>(
     requires failures { (s : ℕ) → s < length writers.old
         → slice_index (map (λ w. w.failures) writers.old) s < 2 ^ 64 - 1 }
     ensures ok { OnOk result
-        (WroteSlices dealing.now.params.format (shape_of dealing.now.params) dealing.now.limit
+        (WroteSlices dealing.now.settings.format dealing.now.settings.shape dealing.now.limit
         (length writers.old) (R.remaining reader.old.inner) (R.remaining reader.new.inner)
         (map (λ w. W.contents w.inner) writers.old) (map (λ w. W.contents w.inner) writers.new)) }
     ensures sound { OnOk result ((reader.new.failures ≡ reader.old.failures)
@@ -48,7 +47,7 @@ fn cut_files<T: Threads + Wait + Sync, R: Read, W: Write, G: Gate + Sync>(
     ensures kept { OnOk result
         (map (λ w. w.failures) writers.new ≡ map (λ w. w.failures) writers.old) }
     ensures cause { IfErr result
-        (IsCutError dealing.now.params.format max_reads (R.remaining reader.old.inner)
+        (IsCutError dealing.now.settings.format max_reads (R.remaining reader.old.inner)
         (R.remaining reader.new.inner)) }
     ensures read_counts { IfErr result
         (AreReadCounts (reader.old.reads + max_reads) reader.old.reads reader.new.reads
@@ -56,13 +55,13 @@ fn cut_files<T: Threads + Wait + Sync, R: Read, W: Write, G: Gate + Sync>(
     ensures write_counts { IfErr result
         (AreWriteCounts (map (λ w. w.failures) writers.old) (map (λ w. w.failures) writers.new)) }
     ensures left { IfErr result
-        (IsLeft dealing.now.params.format (shape_of dealing.now.params) dealing.now.limit
+        (IsLeft dealing.now.settings.format dealing.now.settings.shape dealing.now.limit
         (length writers.old) (R.remaining reader.old.inner) (R.remaining reader.new.inner)
         (map (λ w. W.contents w.inner) writers.old) (map (λ w. W.contents w.inner) writers.new)) }
 {
     merged_bins_hold_both();
     empty_bins_hold_no_reads();
-    let shape = dealing.params.shape();
+    let shape = dealing.settings.shape;
     match begin_files(writers, counts, shape) {
         Ok(()) => {}
         Err(s) => return Err(CutError::Write(s)),
@@ -135,7 +134,7 @@ pub fn cut_slices_with<T: Threads + Wait + Sync, R: Read, W: Write, G: Gate + Sy
     let mut counts = noughts(alloc, writers.len())?;
     let dealing = Dealing {
         alloc,
-        params: *params,
+        settings: round_settings(params),
         limit: PIECE_SYMBOLS,
         symbols: ROUND,
         gate,

@@ -1,11 +1,10 @@
 //! How the reads of a round are dealt to the splitters: long ones as pieces.
 ghost use Rattle.std.specs.Prelude.{◌≡◌, ℕ, ◌≤◌, List, ◌++◌, OnOk};
 ghost use Rattle.kmc_stage_one.specs.Rounds.{HoldsPieces};
-ghost use Rattle.kmc_options.specs.Shape.{shape_of};
 
 use crate::pieces::pieces_of;
+use crate::settings::RoundSettings;
 use crate::storing::store_reads;
-use kmc_options::Params;
 use kmc_partqueue::Gate;
 use kmc_reads::Reads;
 use kmc_store::Bins;
@@ -19,15 +18,15 @@ use std::thread::Threads;
 pub struct Dealing<'a, G> {
     /// The source of the memory for pieces and records.
     pub alloc: Global,
-    /// The settings of the run.
-    pub params: Params,
+    /// What the text is, and how its reads are cut and passed.
+    pub settings: RoundSettings,
     /// A read is dealt as its pieces of at most so many symbols, and at least of the symbols of a word.
     pub limit: usize,
     /// A round is full with so many symbols, however few its reads are.
     pub symbols: usize,
     /// It is told of the points that the parts of the reads pass.
     pub gate: &'a G,
-    pub ghost some: { params.k ≤ limit },
+    pub ghost some: { settings.shape.k ≤ limit },
 }
 
 /// Adds the reads of a round to the bins, each as its pieces: a few chunks of pieces for each splitter, so that all of them work
@@ -38,20 +37,20 @@ pub(crate) fn store_round<T: Threads + Wait + Sync, G: Gate + Sync>(
     round: &Reads,
     dealing: &Dealing<'_, G>,
 ) -> Result<(), AllocError>
-    requires { bins.old.shape ≡ shape_of dealing.now.params }
-    ensures shape { bins.new.shape ≡ shape_of dealing.now.params }
+    requires { bins.old.shape ≡ dealing.now.settings.shape }
+    ensures shape { bins.new.shape ≡ dealing.now.settings.shape }
     ensures holds { (held : List (List ℕ))
-        → HoldsPieces (shape_of dealing.now.params) dealing.now.limit held bins.old.bodies
+        → HoldsPieces dealing.now.settings.shape dealing.now.limit held bins.old.bodies
         → OnOk result
-        (HoldsPieces (shape_of dealing.now.params) dealing.now.limit
+        (HoldsPieces dealing.now.settings.shape dealing.now.limit
         (held ++ round.now) bins.new.bodies) }
 {
     let alloc = dealing.alloc;
-    let params = &dealing.params;
-    let pieces = pieces_of(alloc, round, params.k, dealing.limit)?;
-    let empty = Bins::new(alloc, params.shape())?;
+    let settings = &dealing.settings;
+    let pieces = pieces_of(alloc, round, settings.shape.k(), dealing.limit)?;
+    let empty = Bins::new(alloc, settings.shape)?;
     let before = replace(bins, empty);
-    let more = store_reads(rt, alloc, before, &pieces, params, dealing.gate)?;
+    let more = store_reads(rt, alloc, before, &pieces, settings, dealing.gate)?;
     *bins = more;
     Ok(())
 }

@@ -1,7 +1,7 @@
 //! Stage one: reads become bins. Reads come in rounds from a device; a round goes through the queue into bins, by splitters and
 //! storers in threads, while the next one is read. It stands on kmc_reads for reads, on kmc_record for parts, on kmc_partqueue for
-//! the queue, on kmc_store for bins and on kmc_options for the settings of a run. The layer above uses that the bins hold the reads
-//! of all that the reader gave, or why they do not.
+//! the queue and on kmc_store for bins. The layer above uses that the bins hold the reads of all that the reader gave, or why they do
+//! not.
 #![tactic(auto)]
 
 mod beginning;
@@ -14,6 +14,7 @@ mod pieces;
 mod plan;
 mod round;
 mod rounds;
+mod settings;
 mod shard;
 mod splitter;
 mod splitters;
@@ -31,8 +32,9 @@ pub use passing::pass_parts;
 pub use pieces::{piece, piece_count, pieces_of, push_pieces};
 pub use plan::Plan;
 pub use round::fill_round;
-pub use rounds::{bins_of_input, feed_round, last_round, round_of};
+pub use rounds::{bins_of_input, feed_round, last_round, round_of, take_round};
+pub use settings::{MOST_READS, PIECE_SYMBOLS, RoundSettings};
 pub use shard::Shard;
 pub use splitters::split_all;
 pub use storers::{Takes, start_storer};
-pub use storing::{stage_one, store_reads};
+pub use storing::store_reads;

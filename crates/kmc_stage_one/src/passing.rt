@@ -76,7 +76,8 @@ pub fn pass_parts<R: Threads + Wait + Sync, G: Gate + Sync>(
         thread::scope_env(),
         rt,
         move |scope| -> Result<(Vec<DoneSeat<Part>>, Vec<Shard>), GivenUp>
-            requires shards { Each (IsFreshShard shared.now.lanes.table.shared.table_id shared.now.lanes.shape plan.shape) seats.shards.items }
+            requires shards { Each
+                (IsFreshShard shared.now.lanes.table.shared.table_id shared.now.lanes.shape plan.shape) seats.shards.items }
             requires writers { Each (IsFreshWriter shared.now.lanes.table.shared.table_id shared.now.lanes.shape) seats.writers.items }
         { store_all(rt, scope, shared, seats, reads, plan, gate) },
     );

@@ -8,14 +8,14 @@ ghost use Rattle.kmc_reads.specs.Standing.{StandsCut};
 ghost use Rattle.kmc_stage_one.specs.Lemmas.Stored.{AreStored, AreStoredBy};
 ghost use Rattle.kmc_stage_one.specs.Fed.{IsFedBy, AreCounts, AreCountsOf};
 ghost use Rattle.kmc_stage_one.specs.Rounds.{HoldsPieces, HoldsInput, IsInputError};
-ghost use Rattle.kmc_options.specs.Shape.{shape_of};
 
 use crate::dealing::{Dealing, store_round};
 use crate::round::fill_round;
+use crate::settings::RoundSettings;
 use kmc_device::Counted;
-use kmc_options::Params;
 use kmc_partqueue::Gate;
 use kmc_reads::{Feeder, InputError, Reads, ReadsError};
+use kmc_record::Shape;
 use kmc_store::Bins;
 use kmc_store::laws::empty_bins_hold_no_reads;
 use std::alloc::{AllocError, Global};
@@ -27,10 +27,10 @@ use std::thread::{Threads, join_mut};
 const ROUND: usize = 1 << 25;
 
 /// So many reads fill a round: `batch` for each splitter, as far as a `usize` tells.
-pub fn round_of(params: &Params) -> usize
-    ensures { result ≡ min (params.now.sp * params.now.batch) (2 ^ 64 - 1) }
+pub fn round_of(settings: &RoundSettings) -> usize
+    ensures { result ≡ min (settings.now.queue.writers * settings.now.batch) (2 ^ 64 - 1) }
 {
-    params.sp.saturating_mul(params.batch)
+    settings.queue.writers.saturating_mul(settings.batch)
 }
 
 /// A round, the reads that were taken out of the feeder last, is added in threads to the bins, which are of the shape of the
@@ -47,14 +47,14 @@ pub fn feed_round<T: Threads + Wait + Sync, R: Read, G: Gate + Sync>(
     feeder: &mut Feeder,
     most: u64,
 ) -> (Result<(), AllocError>, Result<bool, InputError>)
-    requires shape { bins.old.shape ≡ shape_of dealing.now.params }
+    requires shape { bins.old.shape ≡ dealing.now.settings.shape }
     requires failures { reader.old.failures < 2 ^ 64 - 1 }
     requires reads { reader.old.reads ≤ most }
-    ensures shape { bins.new.shape ≡ shape_of dealing.now.params }
+    ensures shape { bins.new.shape ≡ dealing.now.settings.shape }
     ensures holds { (held : List (List ℕ))
-        → HoldsPieces (shape_of dealing.now.params) dealing.now.limit held bins.old.bodies
+        → HoldsPieces dealing.now.settings.shape dealing.now.limit held bins.old.bodies
         → OnOk result.0
-        (HoldsPieces (shape_of dealing.now.params) dealing.now.limit
+        (HoldsPieces dealing.now.settings.shape dealing.now.limit
         (held ++ round.now) bins.new.bodies) }
     ensures counts { AreCounts most reader.old.reads reader.new.reads reader.old.failures reader.new.failures result.1 }
     ensures fed { (overlap : ℕ) (format : Format) (text : List ℕ) (taken : List (List ℕ))
@@ -63,12 +63,12 @@ pub fn feed_round<T: Threads + Wait + Sync, R: Read, G: Gate + Sync>(
         (R.remaining reader.new.inner) reader.old.reads reader.new.reads text taken feeder.new result.1 }
     ensures at_end { result.1 ≡ Ok false → IsAtEnd (R.remaining reader.new.inner) }
 {
-    let reads = round_of(&dealing.params);
+    let reads = round_of(&dealing.settings);
     let symbols = dealing.symbols;
     join_mut(
         rt,
         &mut || -> Result<(), AllocError>
-            requires { bins.now.shape ≡ shape_of dealing.now.params }
+            requires { bins.now.shape ≡ dealing.now.settings.shape }
         { store_round(rt, bins, round, dealing) },
         &mut || -> Result<bool, InputError>
             requires failures { reader.now.failures < 2 ^ 64 - 1 }
@@ -87,17 +87,17 @@ pub fn last_round<T: Threads + Wait + Sync, G: Gate + Sync>(
     feeder: Feeder,
     dealing: &Dealing<'_, G>,
 ) -> Result<Bins, ReadsError>
-    requires { bins.shape ≡ shape_of dealing.now.params }
-    ensures shape { IfOk result (λ b. b.shape ≡ shape_of dealing.now.params) }
+    requires { bins.shape ≡ dealing.now.settings.shape }
+    ensures shape { IfOk result (λ b. b.shape ≡ dealing.now.settings.shape) }
     ensures holds { (format : Format) (text : List ℕ) (taken held : List (List ℕ))
-        → StandsCut (dealing.now.params.k - 1) format text taken feeder
-        → HoldsPieces (shape_of dealing.now.params) dealing.now.limit held bins.bodies
+        → StandsCut (dealing.now.settings.shape.k - 1) format text taken feeder
+        → HoldsPieces dealing.now.settings.shape dealing.now.limit held bins.bodies
         → IfOk result
         (λ b. (reads last : List (List ℕ)) × (reads_of format text ≡ Ok reads)
-        × AreCut (dealing.now.params.k - 1) reads (taken ++ last)
-        × HoldsPieces (shape_of dealing.now.params) dealing.now.limit (held ++ last) b.bodies) }
+        × AreCut (dealing.now.settings.shape.k - 1) reads (taken ++ last)
+        × HoldsPieces dealing.now.settings.shape dealing.now.limit (held ++ last) b.bodies) }
     ensures cause { (format : Format) (text : List ℕ) (taken : List (List ℕ))
-        → StandsCut (dealing.now.params.k - 1) format text taken feeder
+        → StandsCut (dealing.now.settings.shape.k - 1) format text taken feeder
         → IfErr result (λ e. e ≢ ReadsError.Memory → reads_of format text ≡ Err e) }
 {
     let reads = match feeder.finish() {
@@ -107,6 +107,15 @@ pub fn last_round<T: Threads + Wait + Sync, G: Gate + Sync>(
     let mut bins = bins;
     store_round(rt, &mut bins, &reads, dealing)?;
     Ok(bins)
+}
+
+/// The reads of a round, taken out of the feeder: of an open one all but the k - 1 symbols that its next piece begins with.
+pub fn take_round(feeder: &mut Feeder, alloc: Global, shape: Shape) -> Result<Reads, AllocError>
+    ensures stands { (format : Format) (text : List ℕ) (taken : List (List ℕ))
+        → StandsCut (shape.k - 1) format text taken feeder.old
+        → IfOk result (λ reads. StandsCut (shape.k - 1) format text (taken ++ reads) feeder.new) }
+{
+    feeder.take_open(alloc, shape.k() - 1)
 }
 
 /// The reads that wait in the feeder are added to the bins, which are of the shape of the settings, while this thread reads and
@@ -119,19 +128,19 @@ fn next_round<T: Threads + Wait + Sync, R: Read, G: Gate + Sync>(
     reader: &mut Counted<R>,
     most: u64,
 ) -> Result<bool, InputError>
-    requires shape { bins.old.shape ≡ shape_of dealing.now.params }
+    requires shape { bins.old.shape ≡ dealing.now.settings.shape }
     requires failures { reader.old.failures < 2 ^ 64 - 1 }
     requires reads { reader.old.reads ≤ most }
-    ensures shape { bins.new.shape ≡ shape_of dealing.now.params }
+    ensures shape { bins.new.shape ≡ dealing.now.settings.shape }
     ensures stored { (format : Format) (first : Option (List ℕ)) (before : ℕ)
-        → AreStored format (shape_of dealing.now.params) dealing.now.limit first
+        → AreStored format dealing.now.settings.shape dealing.now.limit first
         (R.remaining reader.old.inner) before reader.old.reads bins.old feeder.old
-        → AreStoredBy format (shape_of dealing.now.params) dealing.now.limit first
+        → AreStoredBy format dealing.now.settings.shape dealing.now.limit first
         (R.remaining reader.new.inner) before reader.new.reads bins.new feeder.new result }
     ensures counts { AreCounts most reader.old.reads reader.new.reads reader.old.failures reader.new.failures result }
     ensures at_end { result ≡ Ok false → IsAtEnd (R.remaining reader.new.inner) }
 {
-    let round = feeder.take_open(dealing.alloc, dealing.params.k - 1)?;
+    let round = take_round(feeder, dealing.alloc, dealing.settings.shape)?;
     let (stored, fed) = feed_round(rt, bins, &round, dealing, reader, feeder, most);
     let more = fed?;
     stored?;
@@ -148,16 +157,16 @@ fn earlier_rounds<T: Threads + Wait + Sync, R: Read, G: Gate + Sync>(
     reader: &mut Counted<R>,
     max_reads: u64,
 ) -> Result<(), InputError>
-    requires shape { bins.old.shape ≡ shape_of dealing.now.params }
-    requires bins { HoldsPieces (shape_of dealing.now.params) dealing.now.limit [] bins.old.bodies }
+    requires shape { bins.old.shape ≡ dealing.now.settings.shape }
+    requires bins { HoldsPieces dealing.now.settings.shape dealing.now.limit [] bins.old.bodies }
     requires feeder { StandsCut
-        (dealing.now.params.k - 1) dealing.now.params.format [] [] feeder.old }
+        (dealing.now.settings.shape.k - 1) dealing.now.settings.format [] [] feeder.old }
     requires failures { reader.old.failures < 2 ^ 64 - 1 }
     requires reads { reader.old.reads + max_reads < 2 ^ 64 }
     requires most { max_reads ≤ 2 ^ 32 }
-    ensures shape { bins.new.shape ≡ shape_of dealing.now.params }
+    ensures shape { bins.new.shape ≡ dealing.now.settings.shape }
     ensures stored { OnOk result
-        (AreStored dealing.now.params.format (shape_of dealing.now.params) dealing.now.limit
+        (AreStored dealing.now.settings.format dealing.now.settings.shape dealing.now.limit
         (R.remaining reader.old.inner)
         (R.remaining reader.new.inner) reader.old.reads reader.new.reads bins.new feeder.new
         × IsAtEnd (R.remaining reader.new.inner)
@@ -167,11 +176,11 @@ fn earlier_rounds<T: Threads + Wait + Sync, R: Read, G: Gate + Sync>(
     ensures cause { IfErr result (λ e. AreCountsOf
         (reader.old.reads
         + max_reads) reader.old.reads reader.new.reads reader.old.failures reader.new.failures e
-        × IsInputError dealing.now.params.format max_reads (R.remaining reader.old.inner)
+        × IsInputError dealing.now.settings.format max_reads (R.remaining reader.old.inner)
         (R.remaining reader.new.inner) e) }
 {
     let most = reader.reads() + max_reads;
-    let full = round_of(&dealing.params);
+    let full = round_of(&dealing.settings);
     let mut more = fill_round(reader, feeder, most, full, dealing.symbols)?;
     for _ in 0..1u64 << 32 {
         if !more {
@@ -189,7 +198,7 @@ pub fn bins_of_input<T: Threads + Wait + Sync, R: Read, G: Gate + Sync>(
     rt: &T,
     alloc: Global,
     reader: &mut Counted<R>,
-    params: &Params,
+    settings: &RoundSettings,
     gate: &G,
     max_reads: u64,
     limit: usize,
@@ -197,8 +206,8 @@ pub fn bins_of_input<T: Threads + Wait + Sync, R: Read, G: Gate + Sync>(
     requires failures { reader.old.failures < 2 ^ 64 - 1 }
     requires reads { reader.old.reads + max_reads < 2 ^ 64 }
     requires most { max_reads ≤ 2 ^ 32 }
-    requires limit { params.now.k ≤ limit }
-    ensures ok { IfOk result (HoldsInput params.now.format (shape_of params.now) limit
+    requires limit { settings.now.shape.k ≤ limit }
+    ensures ok { IfOk result (HoldsInput settings.now.format settings.now.shape limit
         (R.remaining reader.old.inner) (R.remaining reader.new.inner)) }
     ensures sound { OnOk result ((reader.new.failures ≡ reader.old.failures)
         × (reader.old.reads ≤ reader.new.reads)
@@ -208,19 +217,19 @@ pub fn bins_of_input<T: Threads + Wait + Sync, R: Read, G: Gate + Sync>(
         (reader.old.reads
         + max_reads) reader.old.reads reader.new.reads reader.old.failures reader.new.failures) }
     ensures cause { IfErr result
-        (IsInputError params.now.format max_reads (R.remaining reader.old.inner)
+        (IsInputError settings.now.format max_reads (R.remaining reader.old.inner)
         (R.remaining reader.new.inner)) }
 {
     empty_bins_hold_no_reads();
     let dealing = Dealing {
         alloc,
-        params: *params,
+        settings: *settings,
         limit,
         symbols: ROUND,
         gate,
     };
-    let mut bins = Bins::new(alloc, params.shape())?;
-    let mut feeder = Feeder::new(alloc, params.format);
+    let mut bins = Bins::new(alloc, settings.shape)?;
+    let mut feeder = Feeder::new(alloc, settings.format);
     earlier_rounds(rt, &mut bins, &mut feeder, &dealing, reader, max_reads)?;
     Ok(last_round(rt, bins, feeder, &dealing)?)
 }

@@ -1,15 +1,13 @@
 //! Stage one: the parts of the reads, through a queue, into bins.
 ghost use Rattle.std.specs.Prelude.{◌≡◌, ℕ, ◌*◌, ◌<◌, ◌≤◌, List, ◌++◌, map, IfOk};
 ghost use Rattle.kmc_store.specs.Holds.{HoldsReads};
-ghost use Rattle.kmc_options.specs.Shape.{shape_of};
 
 use crate::filling::fill_bins;
 use crate::laws::few_chunks_spend_no_numbers;
 use crate::plan::Plan;
-use kmc_options::Params;
+use crate::settings::RoundSettings;
 use kmc_partqueue::{Gate, Refusal};
 use kmc_store::Bins;
-use kmc_store::laws::empty_bins_hold_no_reads;
 use std::alloc::{AllocError, Global};
 use std::sync::Wait;
 use std::thread::Threads;
@@ -38,40 +36,23 @@ pub fn store_reads<R: Threads + Wait + Sync, G: Gate + Sync>(
     alloc: Global,
     bins: Bins,
     reads: &[&[u8]],
-    params: &Params,
+    settings: &RoundSettings,
     gate: &G,
 ) -> Result<Bins, AllocError>
-    requires { bins.shape ≡ shape_of params.now }
-    ensures shape { IfOk result (λ b. b.shape ≡ shape_of params.now) }
-    ensures holds { (held : List (List ℕ)) → HoldsReads (shape_of params.now) held bins.bodies
+    requires { bins.shape ≡ settings.now.shape }
+    ensures shape { IfOk result (λ b. b.shape ≡ settings.now.shape) }
+    ensures holds { (held : List (List ℕ)) → HoldsReads settings.now.shape held bins.bodies
         → IfOk result
-        (λ b. HoldsReads (shape_of params.now) (held ++ map (λ r. r.now) reads.now) b.bodies) }
+        (λ b. HoldsReads settings.now.shape (held ++ map (λ r. r.now) reads.now) b.bodies) }
 {
     few_chunks_spend_no_numbers();
     let plan = Plan {
-        shape: params.shape(),
-        batch: few_chunks_each(reads.len(), params.sp),
+        shape: settings.shape,
+        batch: few_chunks_each(reads.len(), settings.queue.writers),
     };
-    match fill_bins(rt, alloc, bins, reads, plan, params.queue(), gate) {
+    match fill_bins(rt, alloc, bins, reads, plan, settings.queue, gate) {
         Ok((bins, _)) => Ok(bins),
         Err(Refusal::Memory) => Err(AllocError),
         Err(Refusal::NumbersSpent) => unreachable!(),
     }
-}
-
-/// Bins that hold the reads. It fails only for want of memory.
-pub fn stage_one<R: Threads + Wait + Sync, G: Gate + Sync>(
-    rt: &R,
-    alloc: Global,
-    reads: &[&[u8]],
-    params: &Params,
-    gate: &G,
-) -> Result<Bins, AllocError>
-    ensures shape { IfOk result (λ b. b.shape ≡ shape_of params.now) }
-    ensures holds { IfOk result (λ b. HoldsReads (shape_of params.now)
-        (map (λ r. r.now) reads.now) b.bodies) }
-{
-    empty_bins_hold_no_reads();
-    let bins = Bins::new(alloc, params.shape())?;
-    store_reads(rt, alloc, bins, reads, params, gate)
 }

@@ -32,7 +32,8 @@ pub fn lists_of_bins<R: Threads + Sync>(
     requires threads { 1 ≤ threads }
     ensures each { IfOk result (λ lists. AreListsOfBodies strands bins.shape.k limits.now bins.bodies (lists_of lists)) }
     ensures merge { IfOk result (λ lists. CanBeMerged bins.shape.k (lists_of lists)) }
-    ensures all { IfOk result (λ lists. IsDumpOfBins strands bins.shape.k limits.now bins.bodies (spelled bins.shape.k (whole (lists_of lists)))) }
+    ensures all { IfOk result (λ lists. IsDumpOfBins strands bins.shape.k limits.now bins.bodies
+        (spelled bins.shape.k (whole (lists_of lists)))) }
 {
     bins_share_no_key();
     whole_body_has_no_fault();

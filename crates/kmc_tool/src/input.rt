@@ -2,25 +2,19 @@
 ghost use Rattle.std.specs.Prelude.{◌+◌, ◌-◌, ◌^◌, ◌<◌, ◌≤◌};
 ghost use Rattle.kmc_tool.specs.Run.{IsCountedInput};
 
-use crate::stages::stage_two;
+use crate::stages::{round_settings, stage_two};
 use kmc_count::laws::pieces_are_counted_as_reads;
 use kmc_device::Counted;
 use kmc_lists::BinLists;
 use kmc_options::Params;
 use kmc_partqueue::{Gate, NoGate};
 use kmc_reads::InputError;
-use kmc_stage_one::bins_of_input;
+use kmc_stage_one::{MOST_READS, PIECE_SYMBOLS, bins_of_input};
 use kmc_stage_two::laws::{cut_reads_are_counted, held_reads_are_counted};
 use std::alloc::Global;
 use std::io::Read;
 use std::sync::Wait;
 use std::thread::Threads;
-
-/// A splitter cuts no more symbols at once: a longer read is dealt as pieces.
-pub const PIECE_SYMBOLS: usize = 1 << 16;
-
-/// So many reads of a reader may give bytes.
-pub const MOST_READS: u64 = 1 << 32;
 
 /// Reads all that the reader gives and counts its reads: lists of bins whose pairs, in the order of the words, are the dump
 /// of the direct count. A faulty text is refused once its first faulty line was read.
@@ -55,6 +49,7 @@ pub fn count_input_with<T: Threads + Wait + Sync, R: Read, G: Gate + Sync>(
     held_reads_are_counted();
     cut_reads_are_counted();
     pieces_are_counted_as_reads();
-    let bins = bins_of_input(rt, alloc, reader, params, gate, max_reads, PIECE_SYMBOLS)?;
+    let settings = round_settings(params);
+    let bins = bins_of_input(rt, alloc, reader, &settings, gate, max_reads, PIECE_SYMBOLS)?;
     Ok(stage_two(rt, alloc, bins, params)?)
 }

@@ -10,7 +10,8 @@ mod running;
 mod stages;
 
 pub use arguments::{count, program, program_of};
-pub use input::{MOST_READS, PIECE_SYMBOLS, count_input, count_input_with};
-pub use kmc_options::{Fault, RunError};
+pub use input::{count_input, count_input_with};
+pub use kmc_options::{Fault, Params, RunError, params, words};
+pub use kmc_stage_one::pass_parts;
 pub use running::{run, run_with_gate};
-pub use stages::stage_two;
+pub use stages::{round_settings, stage_one, stage_two};

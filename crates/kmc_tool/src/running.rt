@@ -3,12 +3,13 @@ ghost use Rattle.std.specs.Prelude.{◌≡◌, ◌+◌, ◌-◌, ◌^◌, ◌<�
 ghost use Rattle.kmc_tool.specs.Errors.{write_error};
 ghost use Rattle.kmc_tool.specs.Run.{IsRun};
 
-use crate::input::{MOST_READS, count_input_with};
+use crate::input::count_input_with;
 use kmc_device::Counted;
 use kmc_dump::{DumpError, write_bins};
 use kmc_options::{Params, RunError};
 use kmc_partqueue::{Gate, NoGate};
 use kmc_reads::laws::memory_is_no_fault;
+use kmc_stage_one::MOST_READS;
 use std::alloc::Global;
 use std::io::{Read, Write};
 use std::sync::Wait;

@@ -4,9 +4,9 @@ use kmc_device::Counted;
 use kmc_options::Params;
 use kmc_partqueue::NoGate;
 use kmc_reads::{Format, InputError, ReadsError, read_all, slices_of};
-use kmc_stage_one::{bins_of_input, stage_one};
+use kmc_stage_one::{PIECE_SYMBOLS, bins_of_input};
 use kmc_store::Bins;
-use kmc_tool::PIECE_SYMBOLS;
+use kmc_tool::{round_settings, stage_one};
 use std::alloc::Global;
 use std::process::Abort;
 use std::sync::Wait;
@@ -35,7 +35,7 @@ fn bins_of<R: Abort + Threads + Wait + Sync>(
         rt,
         alloc,
         &mut reader,
-        params,
+        &round_settings(params),
         &NoGate,
         max_reads,
         PIECE_SYMBOLS,

@@ -11,7 +11,7 @@ use kmc_partqueue::NoGate;
 use kmc_reads::{Format, InputError, read_all};
 use kmc_stage_one::bins_of_input;
 use kmc_store::Bins;
-use kmc_tool::stage_two;
+use kmc_tool::{round_settings, stage_two};
 use std::alloc::{AllocError, Global};
 use std::process::Abort;
 use std::sync::Wait;
@@ -32,7 +32,8 @@ fn bins_in_pieces<R: Abort + Threads + Wait + Sync>(
 {
     assert!(rt; 1 <= block && params.k <= limit);
     let mut reader = Counted::new(BlockReader::new(text, block, 0));
-    bins_of_input(rt, alloc, &mut reader, params, &NoGate, 1 << 32, limit)
+    let settings = round_settings(params);
+    bins_of_input(rt, alloc, &mut reader, &settings, &NoGate, 1 << 32, limit)
 }
 
 /// The dump of a text that comes so many bytes a read, its reads dealt as pieces of at most `limit` symbols.

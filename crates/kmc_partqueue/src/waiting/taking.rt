@@ -18,7 +18,8 @@ pub fn take<T, R: Wait, G: Gate>(
     gate: &G,
 ) -> Taken<T>
     requires { IsReaderOf lanes.now.table.shared.table_id lanes.now.shape s.old }
-    ensures seat { (s.new.table ≡ s.old.table) × (s.new.number ≡ s.old.number) × (s.new.per_writer ≡ s.old.per_writer) × (s.new.writers ≡ s.old.writers) }
+    ensures seat { (s.new.table ≡ s.old.table) × (s.new.number ≡ s.old.number)
+        × (s.new.per_writer ≡ s.old.per_writer) × (s.new.writers ≡ s.old.writers) }
     ensures answer { TakeAnswers s.old s.new result }
     ensures notes { KeepsNotes s.old s.new }
     ensures again { AllEnded s.old.writers s.old.totals → (s.new ≡ s.old) × IsLast result }

@@ -2,7 +2,6 @@ use Rattle.std.proofs.Common.{◌≡◌, [], ◌++◌, length, map, sym, ap, sub
 use Rattle.kmc_device.specs.Device.{Watched}
 use Rattle.kmc_device.specs.Lemmas.Devices.{on_err}
 use Rattle.kmc_record.specs.Shapes.{Sizes}
-use Rattle.kmc_options.specs.Shape.{shape_of}
 use Rattle.kmc_store.specs.Bins.{BinList, empty_bins}
 use Rattle.kmc_store.specs.Holds.{HoldsReads}
 use Rattle.kmc_stage_one.specs.Rounds.{HoldsPieces}
@@ -13,7 +12,7 @@ use Rattle.kmc_slices.proofs.cutting.cut_last_round.Goals as goal
 
 pub returns-in_err-bins-clause-left : goal.returns-in_err-bins-clause-left
 returns-in_err-bins-clause-left g c = λ taken olds before.
-    on_err c.from_residual.result _ (rounds_unended (shape_of c.args.dealing.now.params) c.args.dealing.now.limit
+    on_err c.from_residual.result _ (rounds_unended c.args.dealing.now.settings.shape c.args.dealing.now.limit
     (length c.args.writers.now) olds taken _ c.args.counts.now before)
 
 pub returns-in-Err-clause-cause : goal.returns-in-Err-clause-cause
@@ -22,15 +21,15 @@ returns-in-Err-clause-cause g c = λ format text taken s. told_last format text 
 
 pub returns-in-Err-clause-left : goal.returns-in-Err-clause-left
 returns-in-Err-clause-left g c = λ taken olds before.
-    rounds_unended (shape_of c.args.dealing.now.params) c.args.dealing.now.limit (length c.args.writers.now) olds taken _ c.args.counts.now before
+    rounds_unended c.args.dealing.now.settings.shape c.args.dealing.now.limit (length c.args.writers.now) olds taken _ c.args.counts.now before
 
 pub returns-in-Ok-write_bins-clause-ok : goal.returns-in-Ok-write_bins-clause-ok
 returns-in-Ok-write_bins-clause-ok g c = λ format text taken olds s before.
-    let dealing = c.args.dealing.now in let shape = shape_of dealing.params in let S = length c.args.writers.now in
+    let dealing = c.args.dealing.now in let shape = dealing.settings.shape in let S = length c.args.writers.now in
     let held = λ (w : Watched g.row.W.Denot). g.W.Write.contents w.inner in
     let mids = map held c.args.writers.now in let news = map held c.write_bins.new.writers in
     let bins = c.in-Ok.bins in let shaped : bins.shape ≡ shape = c.in-Ok.ensures.shape in
-    let empty : c.in_ok-bins.bins ≡ empty_bins shape = c.in_ok-bins.ensures ∙ ap empty_bins c.shape.ensures in
+    let empty : c.in_ok-bins.bins ≡ empty_bins shape = c.in_ok-bins.ensures in
     let none = subst (λ (b : BinList). HoldsReads shape [] b.bodies) (sym empty) (c.empty_bins_hold_no_reads.ensures shape) in
     let all = c.in-Ok.ensures.holds format text taken [] s none in
     let wrote = c.in-Ok-write_bins.ensures.ok dealing.limit taken all.1 olds
@@ -46,7 +45,7 @@ returns-in-Ok-write_bins-clause-ok g c = λ format text taken olds s before.
 
 pub returns-clause-left : goal.returns-clause-left
 returns-clause-left g c = λ taken olds before.
-    let dealing = c.args.dealing.now in let shape = shape_of dealing.params in let S = length c.args.writers.now in
+    let dealing = c.args.dealing.now in let shape = dealing.settings.shape in let S = length c.args.writers.now in
     let held = λ (w : Watched g.row.W.Denot). g.W.Write.contents w.inner in
     let mids = map held c.args.writers.now in let news = map held c.write_bins.new.writers in
     let shaped : c.in-Ok.bins.shape ≡ shape = c.in-Ok.ensures.shape in

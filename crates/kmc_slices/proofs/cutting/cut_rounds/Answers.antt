@@ -2,7 +2,6 @@ use Rattle.std.proofs.Common.{◌≡◌, ◌<◌, ◌^◌, ◌+◌, ◌-◌, ℕ
 use Rattle.kmc_device.specs.Device.{Watched}
 use Rattle.kmc_device.specs.Lemmas.Devices.{on_ok, on_ok_then}
 use Rattle.kmc_record.specs.Shapes.{Sizes}
-use Rattle.kmc_options.specs.Shape.{shape_of}
 use Rattle.kmc_stage_one.specs.Fed.{AreCountsOf}
 use Rattle.kmc_stage_one.specs.Rounds.{HoldsPieces}
 use Rattle.kmc_stage_one.specs.Lemmas.Fed.{counts_on, risen, unfaulted}
@@ -14,20 +13,20 @@ use Rattle.kmc_slices.proofs.cutting.cut_rounds.Goals as goal
 
 pub returns-in-Err-clause-cause : goal.returns-in-Err-clause-cause
 returns-in-Err-clause-cause g c =
-    let p = c.args.dealing.now.params in let max = c.args.max_reads in let e = c.in-Err.e in
+    let p = c.args.dealing.now.settings in let max = c.args.max_reads in let e = c.in-Err.e in
     let old = c.args.reader.now in let new = c.fill_round.new.reader in
     let counts = subst (λ n. AreCountsOf (n + max) old.reads new.reads old.failures new.failures e) c.reads.ensures c.in-Err.ensures.counts in
     told_cause p.format max _ _ e c.told.result c.told.ensures
-    (fed_cause (p.k - 1) p.format max _ _ old.reads new.reads old.failures new.failures [] c.fill_round.new.feeder e
-    (c.in-Err.ensures.fed (p.k - 1) p.format [] [] (c.new-feeder.ensures.cut (p.k - 1))) counts)
+    (fed_cause (p.shape.k - 1) p.format max _ _ old.reads new.reads old.failures new.failures [] c.fill_round.new.feeder e
+    (c.in-Err.ensures.fed (p.shape.k - 1) p.format [] [] (c.new-feeder.ensures.cut (p.shape.k - 1))) counts)
 
 pub returns-in-Err-clause-left : goal.returns-in-Err-clause-left
 returns-in-Err-clause-left g c = λ olds before.
-    rounds_unended (shape_of c.args.dealing.now.params) c.args.dealing.now.limit (length c.args.writers.now) olds [] _ c.args.counts.now before
+    rounds_unended c.args.dealing.now.settings.shape c.args.dealing.now.limit (length c.args.writers.now) olds [] _ c.args.counts.now before
 
 pub loop-init : goal.loop-init
 loop-init g c =
-    let p = c.args.dealing.now.params in let old = c.args.reader.now in let new = c.fill_round.new.reader in
+    let p = c.args.dealing.now.settings in let old = c.args.reader.now in let new = c.fill_round.new.reader in
     let r = risen (c.reads.result + c.args.max_reads) old.reads new.reads old.failures new.failures c.in-Ok.more c.in-Ok.ensures.counts in
     record {
       kept = r.kept;
@@ -41,7 +40,7 @@ loop-init g c =
       same = refl;
       way = record {
         taken = [];
-        fed = c.in-Ok.ensures.fed (p.k - 1) p.format [] [] (c.new-feeder.ensures.cut (p.k - 1));
+        fed = c.in-Ok.ensures.fed (p.shape.k - 1) p.format [] [] (c.new-feeder.ensures.cut (p.shape.k - 1));
         written = λ olds before. before;
       };
     }
@@ -53,7 +52,7 @@ cut_last_round-requires-clause-failures g c κs within = λ s inside.
 
 pub returns-then-not-more-clause-ok : goal.returns-then-not-more-clause-ok
 returns-then-not-more-clause-ok g c = λ olds before.
-    let inv = c.loop.invariant in let st = inv.way in let dealing = c.args.dealing.now in let p = dealing.params in let shape = shape_of p in
+    let inv = c.loop.invariant in let st = inv.way in let dealing = c.args.dealing.now in let p = dealing.settings in let shape = p.shape in
     let held = λ (w : Watched g.row.W.Denot). g.W.Write.contents w.inner in
     let mids = map held c.loop.writers in let news = map held c.cut_last_round.new.writers in
     on_ok_then c.cut_last_round.result _ _ (λ last. record {
@@ -71,13 +70,13 @@ returns-then-not-more-clause-sound g c =
 
 pub returns-then-not-more-clause-cause : goal.returns-then-not-more-clause-cause
 returns-then-not-more-clause-cause g c =
-    let inv = c.loop.invariant in let st = inv.way in let p = c.args.dealing.now.params in
-    last_cause (p.k - 1) p.format c.args.max_reads _ _ c.args.reader.now.reads c.loop.reader.reads st.taken c.loop.feeder c.cut_last_round.result
+    let inv = c.loop.invariant in let st = inv.way in let p = c.args.dealing.now.settings in
+    last_cause (p.shape.k - 1) p.format c.args.max_reads _ _ c.args.reader.now.reads c.loop.reader.reads st.taken c.loop.feeder c.cut_last_round.result
     st.fed (inv.ended c.if-not-more.true) (c.cut_last_round.ensures.cause p.format st.fed.bytes st.taken st.fed.stands)
 
 pub returns-then-not-more-clause-read_counts : goal.returns-then-not-more-clause-read_counts
 returns-then-not-more-clause-read_counts g c =
-    let inv = c.loop.invariant in let st = inv.way in let p = c.args.dealing.now.params in
+    let inv = c.loop.invariant in let st = inv.way in let p = c.args.dealing.now.settings in
     let old = c.args.reader.now in let new = c.loop.reader in
     last_counts p.format st.fed.bytes (old.reads + c.args.max_reads) old.reads new.reads old.failures new.failures c.cut_last_round.result
     inv.kept (omega (arith, inv.many)) (omega (arith, inv.below, c.reads.ensures))
@@ -91,7 +90,7 @@ returns-then-not-more-clause-write_counts g c =
 
 pub returns-then-not-more-clause-left : goal.returns-then-not-more-clause-left
 returns-then-not-more-clause-left g c = λ olds before.
-    let inv = c.loop.invariant in let st = inv.way in let dealing = c.args.dealing.now in let shape = shape_of dealing.params in
+    let inv = c.loop.invariant in let st = inv.way in let dealing = c.args.dealing.now in let shape = dealing.settings.shape in
     let held = λ (w : Watched g.row.W.Denot). g.W.Write.contents w.inner in
     let mids = map held c.loop.writers in let news = map held c.cut_last_round.new.writers in
     subst (λ n. OnErr c.cut_last_round.result (AreUnended shape n olds news)) inv.wide
@@ -100,15 +99,15 @@ returns-then-not-more-clause-left g c = λ olds before.
 
 pub returns-in-Err-next_bins-clause-cause : goal.returns-in-Err-next_bins-clause-cause
 returns-in-Err-next_bins-clause-cause g c =
-    let inv = c.loop.invariant in let st = inv.way in let p = c.args.dealing.now.params in let max = c.args.max_reads in
+    let inv = c.loop.invariant in let st = inv.way in let p = c.args.dealing.now.settings in let max = c.args.max_reads in
     let e = c.in-Err-next_bins.e in let told = c.told-in-Err-next_bins in
     let old = c.args.reader.now in let mid = c.loop.reader in let new = c.next_bins.new.reader in
     let counts =
     subst (λ n. AreCountsOf (n + max) mid.reads new.reads mid.failures new.failures e) c.reads.ensures c.in-Err-next_bins.ensures.refused in
     let round = c.in-Err-next_bins.ensures.cause p.format st.fed.bytes st.taken st.fed.stands in
     told_cause p.format max _ _ e told.result told.ensures
-    (fed_cause (p.k - 1) p.format max _ _ old.reads new.reads old.failures new.failures (st.taken ++ round.round) c.next_bins.new.feeder e
-    (refused_since (p.k - 1) p.format _ _ _ old.reads mid.reads new.reads [] st.taken
+    (fed_cause (p.shape.k - 1) p.format max _ _ old.reads new.reads old.failures new.failures (st.taken ++ round.round) c.next_bins.new.feeder e
+    (refused_since (p.shape.k - 1) p.format _ _ _ old.reads mid.reads new.reads [] st.taken
     (st.taken ++ round.round) c.loop.feeder c.next_bins.new.feeder e st.fed round.fed)
     (counts_on e (old.reads + max) old.reads mid.reads new.reads old.failures mid.failures new.failures (omega (arith, inv.many)) inv.kept counts))
 
@@ -128,7 +127,7 @@ returns-in-Err-next_bins-clause-write_counts g c =
 pub returns-in-Err-next_bins-clause-left : goal.returns-in-Err-next_bins-clause-left
 returns-in-Err-next_bins-clause-left g c = λ olds before.
     let st = c.loop.invariant.way in
-    rounds_unended (shape_of c.args.dealing.now.params) c.args.dealing.now.limit (length c.args.writers.now) olds st.taken _ c.loop.counts
+    rounds_unended c.args.dealing.now.settings.shape c.args.dealing.now.limit (length c.args.writers.now) olds st.taken _ c.loop.counts
     (st.written olds before)
 
 pub write_bins-requires-clause-failures : goal.write_bins-requires-clause-failures
@@ -146,7 +145,7 @@ returns-in-Err-write_bins-clause-read_counts g c =
 
 pub returns-in-Err-write_bins-clause-left : goal.returns-in-Err-write_bins-clause-left
 returns-in-Err-write_bins-clause-left g c = λ olds before.
-    let inv = c.loop.invariant in let st = inv.way in let dealing = c.args.dealing.now in let shape = shape_of dealing.params in let S =
+    let inv = c.loop.invariant in let st = inv.way in let dealing = c.args.dealing.now in let shape = dealing.settings.shape in let S =
     length c.args.writers.now in
     let held = λ (w : Watched g.row.W.Denot). g.W.Write.contents w.inner in
     let mids = map held c.loop.writers in let news = map held c.write_bins.new.writers in
@@ -158,7 +157,7 @@ returns-in-Err-write_bins-clause-left g c = λ olds before.
 
 pub loop-preserved : goal.loop-preserved
 loop-preserved g c =
-    let inv = c.loop.invariant in let st = inv.way in let dealing = c.args.dealing.now in let p = dealing.params in let shape = shape_of p in
+    let inv = c.loop.invariant in let st = inv.way in let dealing = c.args.dealing.now in let p = dealing.settings in let shape = p.shape in
     let held = λ (w : Watched g.row.W.Denot). g.W.Write.contents w.inner in
     let mids = map held c.loop.writers in let news = map held c.write_bins.new.writers in
     let old = c.args.reader.now in let mid = c.loop.reader in let new = c.next_bins.new.reader in
@@ -179,7 +178,7 @@ loop-preserved g c =
       same = c.in-Ok-write_bins.ensures.kept ∙ inv.same;
       way = record {
         taken = st.taken ++ round.round;
-        fed = taken_since (p.k - 1) p.format _ _ _ old.reads mid.reads new.reads [] st.taken
+        fed = taken_since (p.shape.k - 1) p.format _ _ _ old.reads mid.reads new.reads [] st.taken
             (st.taken ++ round.round) c.loop.feeder c.next_bins.new.feeder st.fed round.fed;
         written = λ olds before.
             subst (λ (t : Sizes × ℕ). AreRounds t.0 dealing.limit t.1 (st.taken ++ round.round) olds news c.write_bins.new.counts)
@@ -193,15 +192,15 @@ loop-preserved g c =
 
 pub returns-clause-cause : goal.returns-clause-cause
 returns-clause-cause g c =
-    let inv = c.loop.invariant in let st = inv.way in let p = c.args.dealing.now.params in (
+    let inv = c.loop.invariant in let st = inv.way in let p = c.args.dealing.now.settings in (
       st.fed.bytes,
       st.fed.given,
       omega (arith, st.fed.many, inv.many, c.requires.most, c.loop-test.false, c.loop.auto.counter-end),
-      unfaulted (p.k - 1) p.format st.fed.bytes st.taken c.loop.feeder st.fed.stands,
+      unfaulted (p.shape.k - 1) p.format st.fed.bytes st.taken c.loop.feeder st.fed.stands,
     )
 
 pub returns-clause-left : goal.returns-clause-left
 returns-clause-left g c = λ olds before.
     let st = c.loop.invariant.way in
-    rounds_unended (shape_of c.args.dealing.now.params) c.args.dealing.now.limit (length c.args.writers.now) olds st.taken _ c.loop.counts
+    rounds_unended c.args.dealing.now.settings.shape c.args.dealing.now.limit (length c.args.writers.now) olds st.taken _ c.loop.counts
     (st.written olds before)

@@ -1,6 +1,5 @@
 use Rattle.std.proofs.Common.{◌≡◌, ◌<◌, ◌≤◌, ◌+◌, true, false, length, map}
 use Rattle.std.specs.Io.KnownBytes.{IsAtEnd}
-use Rattle.kmc_options.specs.Shape.{shape_of}
 use Rattle.kmc_slices.proofs.Told.{AreUnderWay}
 use Rattle.kmc_slices.proofs.cutting.cut_rounds.Given as goal
 
@@ -15,7 +14,7 @@ invariant-loop g l = record {
   wide : length l.writers ≡ length l.fn.writers;
   counted : length l.counts ≡ length l.fn.counts;
   same : map (λ w. w.failures) l.writers ≡ map (λ w. w.failures) l.fn.writers;
-  way : AreUnderWay l.dealing.params.format (shape_of l.dealing.params) l.dealing.limit (length l.fn.writers) (g.R.Read.remaining l.fn.reader.inner)
+  way : AreUnderWay l.dealing.settings.format l.dealing.settings.shape l.dealing.limit (length l.fn.writers) (g.R.Read.remaining l.fn.reader.inner)
       (g.R.Read.remaining l.reader.inner) l.fn.reader.reads l.reader.reads l.feeder (map (λ w. g.W.Write.contents w.inner) l.fn.writers)
       (map (λ w. g.W.Write.contents w.inner) l.writers) l.fn.counts l.counts;
 }

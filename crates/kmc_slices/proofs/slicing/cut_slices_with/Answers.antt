@@ -1,7 +1,7 @@
 use Rattle.std.proofs.Common.{length, map, refl, arith}
 use Rattle.kmc_device.specs.Device.{Watched}
 use Rattle.kmc_options.specs.Shape.{shape_of}
-use Rattle.kmc_tool.specs.declared.input.TheConstants.{PIECE_SYMBOLS}
+use Rattle.kmc_stage_one.specs.declared.settings.TheConstants.{PIECE_SYMBOLS}
 use Rattle.kmc_base.specs.Lemmas.PassedOn.{not_ok, passed_on}
 use Rattle.kmc_slices.specs.declared.error.CutError.TheVariants.{Memory}
 use Rattle.kmc_slices.proofs.Rounds.{none_unended}

@@ -1,7 +1,6 @@
 use Rattle.std.proofs.Common.{◌≡◌, ◌+◌, ◌-◌, [], ◌++◌, refl, sym, ap, subst, ◌∙◌, arith}
-use Rattle.kmc_store.specs.Bins.{BinList, empty_bins}
+use Rattle.kmc_store.specs.Bins.{BinList}
 use Rattle.kmc_store.specs.Holds.{HoldsReads}
-use Rattle.kmc_options.specs.Shape.{shape_of}
 use Rattle.kmc_reads.specs.Errors.{input_error}
 use Rattle.kmc_base.specs.Lemmas.PassedOn.{no_answer, not_ok, passed_on}
 use Rattle.kmc_reads.specs.declared.input_error.InputError.TheVariants.{Memory}
@@ -11,16 +10,16 @@ use Rattle.kmc_stage_one.proofs.rounds.bins_of_input.Goals as goal
 
 pub earlier_rounds-requires-clause-shape : goal.earlier_rounds-requires-clause-shape
 earlier_rounds-requires-clause-shape g c κs within =
-    ap (λ (b : BinList). b.shape) (c.in_ok-bins.ensures ∙ ap empty_bins c.shape.ensures)
+    ap (λ (b : BinList). b.shape) c.in_ok-bins.ensures
 
 pub earlier_rounds-requires-clause-bins : goal.earlier_rounds-requires-clause-bins
 earlier_rounds-requires-clause-bins g c κs within =
-    let shape = shape_of c.args.params.now in
-    subst (λ (b : BinList). HoldsReads shape [] b.bodies) (sym (c.in_ok-bins.ensures ∙ ap empty_bins c.shape.ensures))
+    let shape = c.args.settings.now.shape in
+    subst (λ (b : BinList). HoldsReads shape [] b.bodies) (sym c.in_ok-bins.ensures)
     (c.empty_bins_hold_no_reads.ensures shape)
 
 pub earlier_rounds-requires-clause-feeder : goal.earlier_rounds-requires-clause-feeder
-earlier_rounds-requires-clause-feeder g c κs within = c.new-feeder.ensures.cut (c.args.params.now.k - 1)
+earlier_rounds-requires-clause-feeder g c κs within = c.new-feeder.ensures.cut (c.args.settings.now.shape.k - 1)
 
 pub returns-in_err-bins-clause-ok : goal.returns-in_err-bins-clause-ok
 returns-in_err-bins-clause-ok g c = no_answer _ _ c.from_residual.result c.from_residual.ensures.1
@@ -66,14 +65,14 @@ returns-in_err-last_round-clause-counts g c =
 pub returns-in_err-last_round-clause-cause : goal.returns-in_err-last_round-clause-cause
 returns-in_err-last_round-clause-cause g c =
     let gave = c.in_ok-earlier_rounds.ensures.stored in let st = gave.0 in let e = c.in_err-last_round.field-0.0 in
-    let to = c.from_residual-in_err-last_round in let p = c.args.params.now in
+    let to = c.from_residual-in_err-last_round in let p = c.args.settings.now in
     passed_on _ to.result (input_error e) to.ensures.1
-    (last_input (p.k - 1) p.format c.args.max_reads _ _ c.args.reader.now.reads c.earlier_rounds.new.reader.reads st.taken
+    (last_input (p.shape.k - 1) p.format c.args.max_reads _ _ c.args.reader.now.reads c.earlier_rounds.new.reader.reads st.taken
     c.earlier_rounds.new.feeder e st.fed gave.1 (c.in_err-last_round.ensures.cause p.format st.fed.bytes st.taken st.fed.stands))
 
 pub returns-clause-ok : goal.returns-clause-ok
 returns-clause-ok g c =
-    let gave = c.in_ok-earlier_rounds.ensures.stored in let st = gave.0 in let p = c.args.params.now in
+    let gave = c.in_ok-earlier_rounds.ensures.stored in let st = gave.0 in let p = c.args.settings.now in
     let last = c.in_ok-last_round.ensures.holds p.format st.fed.bytes st.taken st.taken st.fed.stands st.holds in
     record {
       bytes = st.fed.bytes;

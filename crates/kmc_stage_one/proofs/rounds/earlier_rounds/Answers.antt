@@ -7,19 +7,19 @@ use Rattle.kmc_stage_one.proofs.rounds.earlier_rounds.Goals as goal
 
 pub returns-in_err-more-clause-cause : goal.returns-in_err-more-clause-cause
 returns-in_err-more-clause-cause g c =
-    let p = c.args.dealing.now.params in let e = c.in_err-more.field-0.0 in let to = c.from_residual in
+    let p = c.args.dealing.now.settings in let e = c.in_err-more.field-0.0 in let to = c.from_residual in
     let old = c.args.reader.now in let new = c.fill_round.new.reader in
     let counts = subst (λ n. AreCountsOf (n + c.args.max_reads) old.reads new.reads old.failures new.failures e) c.reads.ensures
     c.in_err-more.ensures.counts in
     passed_on _ to.result e to.ensures.1 (
       counts,
-      fed_cause (p.k - 1) p.format c.args.max_reads _ _ old.reads new.reads old.failures new.failures []
-          c.fill_round.new.feeder e (c.in_err-more.ensures.fed (p.k - 1) p.format [] [] c.requires.feeder) counts,
+      fed_cause (p.shape.k - 1) p.format c.args.max_reads _ _ old.reads new.reads old.failures new.failures []
+          c.fill_round.new.feeder e (c.in_err-more.ensures.fed (p.shape.k - 1) p.format [] [] c.requires.feeder) counts,
     )
 
 pub loop-init : goal.loop-init
 loop-init g c =
-    let p = c.args.dealing.now.params in let old = c.args.reader.now in let new = c.fill_round.new.reader in
+    let p = c.args.dealing.now.settings in let old = c.args.reader.now in let new = c.fill_round.new.reader in
     let r = risen (c.reads.result + c.args.max_reads) old.reads new.reads old.failures new.failures c.in_ok-more.more
     c.in_ok-more.ensures.counts in
     record {
@@ -32,7 +32,7 @@ loop-init g c =
       ended = λ e. c.in_ok-more.ensures.at_end (ap Ok e);
       stored = record {
         taken = [];
-        fed = c.in_ok-more.ensures.fed (p.k - 1) p.format [] [] c.requires.feeder;
+        fed = c.in_ok-more.ensures.fed (p.shape.k - 1) p.format [] [] c.requires.feeder;
         holds = c.requires.bins;
       };
     }
@@ -44,7 +44,7 @@ returns-then-not-more-clause-stored g c =
 
 pub returns-in_err-more-2-clause-cause : goal.returns-in_err-more-2-clause-cause
 returns-in_err-more-2-clause-cause g c =
-    let inv = c.loop.invariant in let p = c.args.dealing.now.params in
+    let inv = c.loop.invariant in let p = c.args.dealing.now.settings in
     let e = c.in_err-more-2.field-0.0 in let to = c.from_residual-in_err-more-2 in
     let old = c.args.reader.now in let mid = c.loop.reader in let new = c.next_round.new.reader in
     let told = subst (λ n. AreCountsOf (n + c.args.max_reads) mid.reads new.reads mid.failures new.failures e) c.reads.ensures
@@ -54,7 +54,7 @@ returns-in_err-more-2-clause-cause g c =
     (omega (arith, inv.many)) inv.kept told in
     passed_on _ to.result e to.ensures.1 (
       counts,
-      fed_cause (p.k - 1) p.format c.args.max_reads _ _ old.reads new.reads old.failures new.failures by.0
+      fed_cause (p.shape.k - 1) p.format c.args.max_reads _ _ old.reads new.reads old.failures new.failures by.0
           c.next_round.new.feeder e by.1 counts,
     )
 
@@ -73,18 +73,18 @@ loop-preserved g c =
       below = r.below;
       under = r.under;
       ended = λ e. c.in_ok-more-2.ensures.at_end (ap Ok e);
-      stored = c.in_ok-more-2.ensures.stored c.args.dealing.now.params.format _ old.reads inv.stored;
+      stored = c.in_ok-more-2.ensures.stored c.args.dealing.now.settings.format _ old.reads inv.stored;
     }
 
 pub returns-clause-cause : goal.returns-clause-cause
 returns-clause-cause g c =
-    let inv = c.loop.invariant in let st = inv.stored in let p = c.args.dealing.now.params in (
+    let inv = c.loop.invariant in let st = inv.stored in let p = c.args.dealing.now.settings in (
       omega (arith, inv.below, inv.many, c.reads.ensures, c.loop-test.false, c.requires.most),
       (
         st.fed.bytes,
         st.fed.given,
         omega (arith, st.fed.many, inv.many, c.loop-test.false, c.requires.most),
-        unfaulted (p.k - 1) p.format st.fed.bytes st.taken c.loop.feeder st.fed.stands,
+        unfaulted (p.shape.k - 1) p.format st.fed.bytes st.taken c.loop.feeder st.fed.stands,
       ),
     )
 

@@ -2,7 +2,6 @@ use Rattle.std.proofs.Common.{◌≡◌, Bool, ◌+◌, ◌-◌, [], ◌++◌, O
 use Rattle.std.specs.Prelude.{Result, Ok, IsErrAnd}
 use Rattle.kmc_stage_one.specs.Fed.{AreCounts, IsFedBy}
 use Rattle.kmc_stage_one.specs.Rounds.{HoldsPieces}
-use Rattle.kmc_options.specs.Shape.{shape_of}
 use Rattle.kmc_reads.specs.declared.input_error.InputError.TheVariants.{Memory}
 use Rattle.kmc_stage_one.specs.Lemmas.Fed.{counts_err, fed_by, fed_on, memory_on, taken_fed}
 use Rattle.kmc_stage_one.specs.Lemmas.Stored.{stored_err}
@@ -15,7 +14,7 @@ no_end P Q r b is same = absurd (subst (λ x. IsErrAnd x Q) same is)
 pub returns-in_err-round-clause-stored : goal.returns-in_err-round-clause-stored
 returns-in_err-round-clause-stored g c = λ format first before st.
     let d = c.args.dealing.now in
-    stored_err format (shape_of d.params) d.limit first _ before _ c.args.bins.now c.take_open.new.self c.from_residual.result Memory
+    stored_err format d.settings.shape d.limit first _ before _ c.args.bins.now c.take_round.new.feeder c.from_residual.result Memory
     c.from_residual.ensures.1 [] tt
 
 pub returns-in_err-round-clause-counts : goal.returns-in_err-round-clause-counts
@@ -26,16 +25,16 @@ returns-in_err-round-clause-counts g c =
 
 pub returns-in_err-more-clause-stored : goal.returns-in_err-more-clause-stored
 returns-in_err-more-clause-stored g c = λ format first before st.
-    let d = c.args.dealing.now in let k = d.params.k - 1 in let e = c.in_err-more.field-0.0 in
+    let d = c.args.dealing.now in let k = d.settings.shape.k - 1 in let e = c.in_err-more.field-0.0 in
     let old = c.args.reader.now in let new = c.feed_round-stored.new.reader in
     let round = c.in_ok-round.round in
     let stands = c.in_ok-round.ensures.stands format st.fed.bytes st.taken st.fed.stands in
-    let f = taken_fed k format _ _ before old.reads st.taken round c.args.feeder.now c.take_open.new.self st.fed stands in
+    let f = taken_fed k format _ _ before old.reads st.taken round c.args.feeder.now c.take_round.new.feeder st.fed stands in
     let more = c.feed_round-stored.ensures.fed k format st.fed.bytes (st.taken ++ round) stands in
-    let fed = fed_by k format _ _ _ before old.reads new.reads [] (st.taken ++ round) c.take_open.new.self
+    let fed = fed_by k format _ _ _ before old.reads new.reads [] (st.taken ++ round) c.take_round.new.feeder
     c.feed_round-stored.new.feeder c.feed_round-stored.result.1 f more in
     let to = c.from_residual-in_err-more in
-    stored_err format (shape_of d.params) d.limit first _ before _ c.feed_round-stored.new.bins c.feed_round-stored.new.feeder to.result e
+    stored_err format d.settings.shape d.limit first _ before _ c.feed_round-stored.new.bins c.feed_round-stored.new.feeder to.result e
     to.ensures.1 (st.taken ++ round)
     (subst (λ r. IsFedBy k format first (g.R.Read.remaining new.inner) before new.reads [] (st.taken ++ round) c.feed_round-stored.new.feeder r)
     c.in_err-more.was fed)
@@ -49,7 +48,7 @@ returns-in_err-more-clause-counts g c =
 pub returns-in_err-stored-clause-stored : goal.returns-in_err-stored-clause-stored
 returns-in_err-stored-clause-stored g c = λ format first before st.
     let d = c.args.dealing.now in let to = c.from_residual-in_err-stored in
-    stored_err format (shape_of d.params) d.limit first _ before _ c.feed_round-stored.new.bins c.feed_round-stored.new.feeder to.result Memory
+    stored_err format d.settings.shape d.limit first _ before _ c.feed_round-stored.new.bins c.feed_round-stored.new.feeder to.result Memory
     to.ensures.1 [] tt
 
 pub returns-in_err-stored-clause-counts : goal.returns-in_err-stored-clause-counts
@@ -61,18 +60,18 @@ returns-in_err-stored-clause-counts g c =
 
 pub returns-clause-stored : goal.returns-clause-stored
 returns-clause-stored g c = λ format first before st.
-    let d = c.args.dealing.now in let k = d.params.k - 1 in
+    let d = c.args.dealing.now in let k = d.settings.shape.k - 1 in
     let old = c.args.reader.now in let new = c.feed_round-stored.new.reader in
     let round = c.in_ok-round.round in
     let stands = c.in_ok-round.ensures.stands format st.fed.bytes st.taken st.fed.stands in
-    let f = taken_fed k format _ _ before old.reads st.taken round c.args.feeder.now c.take_open.new.self st.fed stands in
+    let f = taken_fed k format _ _ before old.reads st.taken round c.args.feeder.now c.take_round.new.feeder st.fed stands in
     let more = subst (λ o. IsFedBy k format (g.R.Read.remaining old.inner) (g.R.Read.remaining new.inner)
     old.reads new.reads st.fed.bytes (st.taken ++ round) c.feed_round-stored.new.feeder o) c.in_ok-more.was
     (c.feed_round-stored.ensures.fed k format st.fed.bytes (st.taken ++ round) stands) in
     record {
       taken = st.taken ++ round;
-      fed = fed_on k format _ _ _ before old.reads new.reads [] (st.taken ++ round) c.take_open.new.self c.feed_round-stored.new.feeder f more;
-      holds = subst (λ o. OnOk o (HoldsPieces (shape_of d.params) d.limit (st.taken ++ round) c.feed_round-stored.new.bins.bodies))
+      fed = fed_on k format _ _ _ before old.reads new.reads [] (st.taken ++ round) c.take_round.new.feeder c.feed_round-stored.new.feeder f more;
+      holds = subst (λ o. OnOk o (HoldsPieces d.settings.shape d.limit (st.taken ++ round) c.feed_round-stored.new.bins.bodies))
           c.in_ok-stored.was (c.feed_round-stored.ensures.holds st.taken st.holds);
     }
 

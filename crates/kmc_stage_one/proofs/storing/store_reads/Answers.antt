@@ -12,11 +12,10 @@ few_parts n le = omega (arith, le)
 
 pub unreachable-requires : goal.unreachable-requires
 unreachable-requires g c =
-    let p = c.args.params.now in let sp = p.sp in let batch = c.few_chunks_each.result in
+    let p = c.args.settings.now in let sp = p.queue.writers in let batch = c.few_chunks_each.result in
     let reads = map (λ (r : Bor (List ℕ)). r.now) c.args.reads.now in
-    let bins = subst (λ (s : Sizes). CHUNKS_OF_A_SPLITTER * s.n ≤ MAX_ITEMS) (sym c.shape.ensures) (few_parts p.n p.in_range.0.2.1) in
+    let bins = few_parts p.shape.n p.bounds.most_n in
     let same = sym (length-map c.args.reads.now (λ (r : Bor (List ℕ)). r.now)) in
     let all = subst (λ (n : ℕ). n ≤ CHUNKS_OF_A_SPLITTER * sp * batch) same c.few_chunks_each.ensures.all in
-    let here = subst (λ e. IsCause c.shape.result batch reads c.queue.result.writers e) c.in-Err-NumbersSpent.field-0-is c.in-Err-NumbersSpent.ensures.cause in
-    c.few_chunks_spend_no_numbers.ensures CHUNKS_OF_A_SPLITTER c.shape.result batch reads sp bins c.few_chunks_each.ensures.some all
-    (subst (λ (n : ℕ). IsCause c.shape.result batch reads n NumbersSpent) c.queue.ensures.0 here)
+    let here = subst (λ e. IsCause p.shape batch reads sp e) c.in-Err-NumbersSpent.field-0-is c.in-Err-NumbersSpent.ensures.cause in
+    c.few_chunks_spend_no_numbers.ensures CHUNKS_OF_A_SPLITTER p.shape batch reads sp bins c.few_chunks_each.ensures.some all here

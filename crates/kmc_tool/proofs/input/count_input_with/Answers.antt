@@ -1,14 +1,17 @@
-use Rattle.std.proofs.Common.{ℕ, ◌≤◌, map, ◌∙◌, arith}
+use Rattle.std.proofs.Common.{◌≡◌, ℕ, ◌≤◌, map, subst, ◌∙◌, arith}
 use Rattle.std.specs.List.{flat_map}
 use Rattle.kmc_base.specs.Pieces.{pieces}
+use Rattle.kmc_reads.specs.declared.format.Format.{Format}
 use Rattle.kmc_record.specs.RecordWords.{record_keys}
+use Rattle.kmc_record.specs.Shapes.{Sizes}
+use Rattle.kmc_stage_one.specs.Rounds.{HoldsInput}
 use Rattle.kmc_count.specs.Occurrences.{occurrences, count_of}
 use Rattle.kmc_count.specs.Merge.{joined}
 use Rattle.kmc_lists.specs.Listed.{spelled}
 use Rattle.kmc_lists.specs.Lists.{lists_of}
 use Rattle.kmc_lists.specs.Ordered.{whole}
 use Rattle.kmc_options.specs.Shape.{shape_of}
-use Rattle.kmc_tool.specs.declared.input.TheConstants.{PIECE_SYMBOLS}
+use Rattle.kmc_stage_one.specs.declared.settings.TheConstants.{PIECE_SYMBOLS}
 use Rattle.kmc_tool.proofs.SameCounts.{same_dump}
 use Rattle.kmc_tool.proofs.input.count_input_with.Goals as goal
 
@@ -19,7 +22,10 @@ pub returns : goal.returns
 returns g c =
     let params = c.args.params.now in
     let of_bins = c.in_ok-stage_two.ensures.all in
-    let input = c.in_ok-bins.ensures.ok in
+    let told : (c.round_settings.result.format, c.round_settings.result.shape) ≡ (params.format, shape_of params) =
+    λ i. (c.round_settings.ensures.0 i, c.round_settings.ensures.1 i) in
+    let input = subst (λ (t : Format × Sizes). HoldsInput t.0 t.1 PIECE_SYMBOLS (g.R.Read.remaining c.args.reader.now.inner)
+    (g.R.Read.remaining c.bins_of_input.new.reader.inner) c.in_ok-bins.bins) told c.in_ok-bins.ensures.ok in
     record {
       merge = c.in_ok-stage_two.ensures.merge;
       dump = record {
