@@ -11,7 +11,7 @@ use Rattle.kmc_base.specs.Packed.{unpack}
 use Rattle.kmc_lists.specs.Line.{line_of, text_of}
 use Rattle.kmc_dump.specs.Keys.{key_pair, key_pairs}
 use Rattle.kmc_lists.specs.Listed.{spell, spelled}
-use Rattle.kmc_lists.specs.Ordered.{Climbs, IsCut}
+use Rattle.kmc_lists.specs.Ordered.{Climbs, IsCutOfList}
 use Rattle.kmc_lists.specs.Lemmas.Order.{climbs_from, slot_up}
 
 -- a key holds its pair
@@ -55,7 +55,7 @@ module _ (w from to n : ℕ) (pos : 0 < w) (low : from ≤ n / w) (high : n / w 
       )
 
 -- a pair between two cuts lies in the range, and has a key
-pub between : (w from to b e : ℕ) (ps : List (ℕ × ℕ)) → IsCut w from b ps → IsCut w to e ps → (i : ℕ) (p : ℕ × ℕ) → b ≤ i → i < e
+pub between : (w from to b e : ℕ) (ps : List (ℕ × ℕ)) → IsCutOfList w from b ps → IsCutOfList w to e ps → (i : ℕ) (p : ℕ × ℕ) → b ≤ i → i < e
     → ((d : ℕ × ℕ) → p ≡ get_or ps i d) → (from ≤ p.0 / w) × (p.0 / w < to)
 between w from to b e ps low high i p up inside is =
     let place : b + (i - b) ≡ i = omega arith in

@@ -1,6 +1,6 @@
 //! Room for ranges, had before the first byte of a dump goes out.
 ghost use Rattle.std.specs.Prelude.{◌≡◌, ℕ, ◌+◌, ◌*◌, All, vec_len, IfOk, OnOk};
-ghost use Rattle.kmc_dump.specs.Rooms.{HasRoom};
+ghost use Rattle.kmc_dump.specs.Rooms.{HasRoomForRange};
 
 use kmc_base::PackedKmer;
 use std::alloc::{AllocError, Global};
@@ -23,9 +23,9 @@ fn add_buffer<W: PackedKmer + Drop>(
     widest: usize,
     bytes: usize,
 ) -> Result<(), AllocError>
-    ensures { (line : ℕ) → bytes ≡ widest * line → All (HasRoom widest line) buffers.old.items
+    ensures { (line : ℕ) → bytes ≡ widest * line → All (HasRoomForRange widest line) buffers.old.items
         → OnOk result ((vec_len buffers.new ≡ vec_len buffers.old + 1)
-        × All (HasRoom widest line) buffers.new.items) }
+        × All (HasRoomForRange widest line) buffers.new.items) }
 {
     let pairs = Vec::with_capacity(alloc, widest)?;
     let keys = Vec::with_capacity(alloc, widest)?;
@@ -47,7 +47,7 @@ pub fn make_buffers<W: PackedKmer + Drop>(
     line: usize,
 ) -> Result<Vec<Buffer<W>>, AllocError>
     ensures count { IfOk result (λ v. vec_len v ≡ count) }
-    ensures room { IfOk result (λ v. All (HasRoom widest line) v.items) }
+    ensures room { IfOk result (λ v. All (HasRoomForRange widest line) v.items) }
 {
     let Some(bytes) = widest.checked_mul(line) else {
         return Err(AllocError);

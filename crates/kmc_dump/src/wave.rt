@@ -1,7 +1,7 @@
 //! A wave: ranges that follow one another, each put into a buffer by a thread of its own.
 ghost use Rattle.std.specs.Prelude.{◌≡◌, ℕ, ◌+◌, ◌-◌, ◌*◌, ◌^◌, ◌<◌, ◌≤◌, List, length, take, All, IsTrue, vec_len, vec_capacity, slice_index_or, slice_index};
 ghost use Rattle.kmc_lists.specs.Line.{line_room};
-ghost use Rattle.kmc_dump.specs.Rooms.{HasRoom};
+ghost use Rattle.kmc_dump.specs.Rooms.{HasRoomForRange};
 ghost use Rattle.kmc_dump.specs.Ranges.{range_text, count_within, AreRanges};
 
 use crate::buffers::Buffer;
@@ -42,11 +42,11 @@ fn put_text<W: PackedKmer + Drop, C: CountWidth + Drop>(
     requires ranges { AreRanges ranges.now lists.now }
     requires range { from ≤ to }
     requires few { count_within (2 ^ ranges.now.shift) from to lists.now ≤ ranges.now.widest }
-    requires room { HasRoom ranges.now.widest (line_room ranges.now.k C.most_digits) buffer.old }
+    requires room { HasRoomForRange ranges.now.widest (line_room ranges.now.k C.most_digits) buffer.old }
     ensures within { result ≤ length buffer.new.text.items }
     ensures text { take result buffer.new.text.items
         ≡ range_text ranges.now.k (2 ^ ranges.now.shift) from to lists.now }
-    ensures room { HasRoom ranges.now.widest (line_room ranges.now.k C.most_digits) buffer.new }
+    ensures room { HasRoomForRange ranges.now.widest (line_room ranges.now.k C.most_digits) buffer.new }
 {
     let size = WordSize { k: ranges.k };
     let shift = ranges.shift;
@@ -68,13 +68,13 @@ fn fill<W: PackedKmer + Drop, C: CountWidth + Drop>(
 )
     requires ranges { AreRanges ranges.now lists.now }
     requires inside { range + 1 < length ranges.now.bounds.items }
-    requires room { HasRoom ranges.now.widest (line_room ranges.now.k C.most_digits) buffer.old }
+    requires room { HasRoomForRange ranges.now.widest (line_room ranges.now.k C.most_digits) buffer.old }
     ensures within { buffer.new.filled ≤ length buffer.new.text.items }
     ensures text { take buffer.new.filled buffer.new.text.items
         ≡ range_text ranges.now.k (2 ^ ranges.now.shift)
         (slice_index ranges.now.bounds.items range)
         (slice_index ranges.now.bounds.items (range + 1)) lists.now }
-    ensures room { HasRoom ranges.now.widest (line_room ranges.now.k C.most_digits) buffer.new }
+    ensures room { HasRoomForRange ranges.now.widest (line_room ranges.now.k C.most_digits) buffer.new }
 {
     let from = ranges.bounds[range];
     let to = ranges.bounds[range + 1];
@@ -91,14 +91,14 @@ pub fn fill_wave<
     requires ranges { AreRanges ranges.now lists.now }
     requires some { 1 ≤ length buffers.old }
     requires inside { first + length buffers.old < length ranges.now.bounds.items }
-    requires room { All (HasRoom ranges.now.widest (line_room ranges.now.k C.most_digits)) buffers.old }
+    requires room { All (HasRoomForRange ranges.now.widest (line_room ranges.now.k C.most_digits)) buffers.old }
     ensures within { All (λ b. b.filled ≤ length b.text.items) buffers.new }
     ensures texts { (i : ℕ) (d : _) → i < length buffers.new
         → take (slice_index_or buffers.new i d).filled (slice_index_or buffers.new i d).text.items
         ≡ range_text ranges.now.k (2 ^ ranges.now.shift)
         (slice_index ranges.now.bounds.items (first + i))
         (slice_index ranges.now.bounds.items (first + i + 1)) lists.now }
-    ensures room { All (HasRoom ranges.now.widest (line_room ranges.now.k C.most_digits)) buffers.new }
+    ensures room { All (HasRoomForRange ranges.now.widest (line_room ranges.now.k C.most_digits)) buffers.new }
 {
     let threads = buffers.len();
     thread::for_each_mut(

@@ -3,7 +3,7 @@ ghost use Rattle.std.specs.Prelude.{◌-◌, ◌^◌, ◌<◌, ◌≤◌, length
 ghost use Rattle.std.specs.List.{flat_map};
 ghost use Rattle.kmc_lists.specs.Line.{line_room, text_of};
 ghost use Rattle.kmc_dump.specs.Ranges.{AreRanges};
-ghost use Rattle.kmc_dump.specs.Rooms.{HasRoom};
+ghost use Rattle.kmc_dump.specs.Rooms.{HasRoomForRange};
 ghost use Rattle.kmc_dump.specs.Written.{IsWritten};
 ghost use Rattle.kmc_lists.specs.Listed.{spelled};
 ghost use Rattle.kmc_lists.specs.Ordered.{whole};
@@ -49,8 +49,8 @@ fn write_rows<
 ) -> Result<(), WriteFault>
     requires ranges { AreRanges filling.now.ranges.now filling.now.lists.now }
     requires some { 1 ≤ length back.old }
-    requires front { All (HasRoom filling.now.ranges.now.widest (line_room filling.now.ranges.now.k C.most_digits)) front.old }
-    requires back { All (HasRoom filling.now.ranges.now.widest (line_room filling.now.ranges.now.k C.most_digits)) back.old }
+    requires front { All (HasRoomForRange filling.now.ranges.now.widest (line_room filling.now.ranges.now.k C.most_digits)) front.old }
+    requires back { All (HasRoomForRange filling.now.ranges.now.widest (line_room filling.now.ranges.now.k C.most_digits)) back.old }
     requires failures { writer.old.failures < 2 ^ 64 - 1 }
     ensures { IsWritten D.contents
         (text_of (spelled filling.now.ranges.now.k (whole filling.now.lists.now)))
@@ -92,7 +92,7 @@ pub fn write_ranges<
 ) -> Result<(), WriteFault>
     requires ranges { AreRanges ranges.now lists.now }
     requires buffers { 1 ≤ length buffers.old }
-    requires room { All (HasRoom ranges.now.widest (line_room ranges.now.k C.most_digits)) buffers.old }
+    requires room { All (HasRoomForRange ranges.now.widest (line_room ranges.now.k C.most_digits)) buffers.old }
     requires failures { writer.old.failures < 2 ^ 64 - 1 }
     ensures { IsWritten D.contents (text_of (spelled ranges.now.k (whole lists.now)))
         writer.old writer.new result }

@@ -16,15 +16,32 @@ use kmc_lists::{CountWidth, KmerList, line_room};
 use std::alloc::{AllocError, Global};
 use std::io::Write;
 use std::thread::Threads;
+use thiserror::Error;
 
 /// Why a dump was given up.
-#[derive(Clone, Copy, Debug, PartialEq, Eq)]
+#[derive(Clone, Copy, Debug, PartialEq, Eq, Error)]
 pub enum DumpError {
     /// A growth was refused. Nothing was written.
+    #[error("out of memory")]
     Memory,
     /// A write or the flush failed, or a write took nothing of what was left. What went out before is the front of the
     /// dump.
+    #[error("write failed")]
     Write,
+}
+
+impl DumpError {
+    ghost use Rattle.kmc_dump.specs.RefusalNumbers.{number_of_dump_error};
+
+    /// The number of the refusal, as docs/REFUSALS.md lists it.
+    pub fn number(&self) -> u8
+        ensures { result ≡ number_of_dump_error self.now }
+    {
+        match self {
+            DumpError::Memory => 1,
+            DumpError::Write => 3,
+        }
+    }
 }
 
 impl From<AllocError> for DumpError {

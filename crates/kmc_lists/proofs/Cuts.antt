@@ -6,7 +6,7 @@ use Rattle.std.proofs.lemmas.Bool.Decides.{nat_tests}
 use Rattle.std.proofs.lemmas.List.{length-map, get_or-map, get_or-drop, get_or-take, length-take-le}
 use Rattle.std.proofs.lemmas.List.Elements.{All-from_recursion}
 use Rattle.std.proofs.lemmas.Slice.Zip.{get_or-zip}
-use Rattle.kmc_lists.specs.Ordered.{Climbs, IsCut}
+use Rattle.kmc_lists.specs.Ordered.{Climbs, IsCutOfList}
 use Rattle.kmc_lists.specs.Lemmas.Order.{slot_up}
 use Rattle.kmc_lists.proofs.Beside.{long_beside}
 
@@ -40,7 +40,7 @@ module _ {A : Type 0} (num : A → ℕ) (w : ℕ) (pos : 0 < w) (ws : List A) (c
   some_of (x ∷ xs) k h = x
 
   pub cut : (slot n : ℕ) → n ≤ length ws → IsPartitionPoint (λ y. nat_lt (num y / w) slot ≡ true) (λ y. nat_lt (num y / w) slot ≡ false) ws n
-      → IsCut w slot n ps
+      → IsCutOfList w slot n ps
   cut slot n inside point = record {
     inside = omega (arith, inside, long_ps);
     before = λ k d low.

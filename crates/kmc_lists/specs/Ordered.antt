@@ -55,7 +55,7 @@ abbrev pub within : ℕ → ℕ → ℕ → List (ℕ × ℕ) → List (ℕ × �
 within weight from to ps = filter (is_within weight from to) ps
 
 -- the first n pairs have a slot below this one, and the others do not
-pub record IsCut (weight slot n : ℕ) (ps : List (ℕ × ℕ)) : Type 0 where
+pub record IsCutOfList (weight slot n : ℕ) (ps : List (ℕ × ℕ)) : Type 0 where
   pub inside : n ≤ length ps
   pub before : All (λ p. p.0 / weight < slot) (take n ps)
   pub behind : All (λ p. slot ≤ p.0 / weight) (drop n ps)

@@ -1,6 +1,6 @@
 //! A list of pairs in packed form: words in one vector, what is shown of their counts in another.
 ghost use Rattle.std.specs.Prelude.{◌≡◌, ℕ, ◌+◌, ◌^◌, ◌<◌, ◌≤◌, List, [], ◌∷◌, ◌++◌, length, map, All, ◌*◌, ◌/◌, OnOk, OnErr, IfOk, slice_index_or};
-ghost use Rattle.kmc_lists.specs.Ordered.{Climbs, IsCut};
+ghost use Rattle.kmc_lists.specs.Ordered.{Climbs, IsCutOfList};
 
 use crate::count_width::CountWidth;
 use crate::pair_list::PairList;
@@ -74,7 +74,7 @@ impl<W: PackedKmer + Drop, C: CountWidth + Drop> KmerList<W, C> {
     pub fn below(&self, shift: u32, slot: u128) -> usize
         requires rise { Climbs self.now.packed }
         requires shift { shift < 128 }
-        ensures { IsCut (2 ^ shift) slot result self.now.packed }
+        ensures { IsCutOfList (2 ^ shift) slot result self.now.packed }
     {
         self.words
             .partition_point(|word| word.to_u128() >> shift < slot)

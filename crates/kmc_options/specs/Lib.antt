@@ -7,6 +7,7 @@ pub mod Names
 pub mod Options
 pub mod Parsed
 pub mod Ranges
+pub mod RefusalNumbers
 pub mod Requests
 pub mod Settings
 pub mod Shape

@@ -3,7 +3,9 @@ ghost use Rattle.std.specs.Prelude.{◌≡◌, ◌≢◌, not, true, Some};
 ghost use Rattle.kmc_options.specs.Messages.{message_of};
 
 use crate::error::ParamsError;
+use crate::named::Named;
 use crate::run_error::RunError;
+use kmc_reads::ReadsMessage;
 use std::fmt;
 
 /// Why the program ends without its dump. Its text is the line for the user.
@@ -23,6 +25,17 @@ const FAILED: u8 = 1;
 
 impl Fault {
     ghost use Rattle.kmc_options.specs.Status.{status_of};
+    ghost use Rattle.kmc_options.specs.RefusalNumbers.{number_of_fault};
+
+    /// The number of the refusal, as docs/REFUSALS.md lists it.
+    pub fn number(&self) -> u8
+        ensures { result ≡ number_of_fault self.now }
+    {
+        match self {
+            Fault::Options(_) => 1,
+            Fault::Run(_) => 2,
+        }
+    }
 
     /// The exit status: 2 where the command line is at fault, and else 1.
     pub fn status(&self) -> u8
@@ -51,8 +64,22 @@ impl fmt::Display for Fault {
 
     fn fmt<W: fmt::Write>(&self, f: &mut fmt::Formatter<W>) -> fmt::Result {
         match self {
-            Fault::Options(error) => write!(f, "{error}"),
-            Fault::Run(error) => write!(f, "kmc: {error}"),
+            Fault::Options(ParamsError::Usage) => f.write_str(
+                "usage: kmc [-fa|-fq|-fm] [-k<len>] [-p<len>] [-ci<n>] [-cx<n>] [-cs<n>] [-n<bins>] [-sp<n>] [-sr<n>] [-b]",
+            ),
+            Fault::Options(ParamsError::OutOfRange(setting)) => {
+                let name = setting.name();
+                write!(f, "kmc: value of -{name} is out of range")
+            }
+            Fault::Options(ParamsError::Memory) => f.write_str("kmc: out of memory"),
+            Fault::Run(RunError::Memory) => f.write_str("kmc: out of memory"),
+            Fault::Run(RunError::Read) => f.write_str("kmc: read failed"),
+            Fault::Run(RunError::Write) => f.write_str("kmc: write failed"),
+            Fault::Run(RunError::Input(error)) => {
+                let why = ReadsMessage(*error);
+                write!(f, "kmc: {why}")
+            }
+            Fault::Run(RunError::TooLong) => f.write_str("kmc: input too long"),
         }
     }
 }

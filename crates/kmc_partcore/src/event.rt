@@ -1,5 +1,8 @@
 //! The calls of the queue and their answers, as values.
+ghost use Rattle.std.specs.Prelude.{◌≡◌};
+
 use crate::totals::Totals;
+use thiserror::Error;
 
 /// A call of the queue: by a writer, by a reader, or of a writer with an item.
 #[derive(Drop)]
@@ -39,35 +42,105 @@ pub enum Taken<T> {
 }
 
 /// Why a writer was not registered. The causes are tested in this order.
-#[derive(Clone, Copy)]
+#[derive(Clone, Copy, Debug, Error)]
 pub enum RegisterError {
+    #[error("no such writer")]
     NoSuchWriter,
     /// Also after the writer has completed.
+    #[error("writer already registered")]
     AlreadyRegistered,
 }
 
+impl RegisterError {
+    ghost use Rattle.kmc_partcore.specs.RefusalNumbers.{number_of_register_error};
+
+    /// The number of the refusal, as docs/REFUSALS.md lists it.
+    pub fn number(&self) -> u8
+        ensures { result ≡ number_of_register_error self.now }
+    {
+        match self {
+            RegisterError::NoSuchWriter => 1,
+            RegisterError::AlreadyRegistered => 2,
+        }
+    }
+}
+
 /// Why an item was not accepted. The causes are tested in this order.
-#[derive(Clone, Copy)]
+#[derive(Clone, Copy, Debug, Error)]
 pub enum PutError {
+    #[error("no such writer")]
     NoSuchWriter,
+    #[error("writer not registered")]
     NotRegistered,
+    #[error("writer has completed")]
     Completed,
     /// The writer has put as many items as have numbers.
+    #[error("item numbers spent")]
     NumbersSpent,
     /// As many of the writer's items as the shape allows are in the queue.
+    #[error("no room for an item of the writer")]
     Full,
 }
 
+impl PutError {
+    ghost use Rattle.kmc_partcore.specs.RefusalNumbers.{number_of_put_error};
+
+    /// The number of the refusal, as docs/REFUSALS.md lists it.
+    pub fn number(&self) -> u8
+        ensures { result ≡ number_of_put_error self.now }
+    {
+        match self {
+            PutError::NoSuchWriter => 1,
+            PutError::NotRegistered => 3,
+            PutError::Completed => 4,
+            PutError::NumbersSpent => 6,
+            PutError::Full => 5,
+        }
+    }
+}
+
 /// Why a reader was answered nothing.
-#[derive(Clone, Copy)]
+#[derive(Clone, Copy, Debug, Error)]
 pub enum TakeError {
+    #[error("no such reader")]
     NoSuchReader,
 }
 
+impl TakeError {
+    ghost use Rattle.kmc_partcore.specs.RefusalNumbers.{number_of_take_error};
+
+    /// The number of the refusal, as docs/REFUSALS.md lists it.
+    pub fn number(&self) -> u8
+        ensures { result ≡ number_of_take_error self.now }
+    {
+        match self {
+            TakeError::NoSuchReader => 7,
+        }
+    }
+}
+
 /// Why a writer did not complete. The causes are tested in this order.
-#[derive(Clone, Copy)]
+#[derive(Clone, Copy, Debug, Error)]
 pub enum CompleteError {
+    #[error("no such writer")]
     NoSuchWriter,
+    #[error("writer not registered")]
     NotRegistered,
+    #[error("writer has completed")]
     Completed,
+}
+
+impl CompleteError {
+    ghost use Rattle.kmc_partcore.specs.RefusalNumbers.{number_of_complete_error};
+
+    /// The number of the refusal, as docs/REFUSALS.md lists it.
+    pub fn number(&self) -> u8
+        ensures { result ≡ number_of_complete_error self.now }
+    {
+        match self {
+            CompleteError::NoSuchWriter => 1,
+            CompleteError::NotRegistered => 3,
+            CompleteError::Completed => 4,
+        }
+    }
 }

@@ -10,6 +10,7 @@ pub mod Lemmas
 pub mod PartPlaces
 pub mod Plays
 pub mod Reached
+pub mod RefusalNumbers
 pub mod Refusals
 pub mod Rule
 pub mod SameSeats

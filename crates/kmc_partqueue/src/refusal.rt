@@ -4,14 +4,31 @@ ghost use Rattle.kmc_partqueue.specs.Causes.{both, earlier, told};
 ghost use Rattle.kmc_partqueue.specs.declared.refusal.GivenUp.TheVariants.{Memory};
 
 use std::alloc::{AllocError, AllocFailed};
+use thiserror::Error;
 
 /// Why the workers end without their result.
-#[derive(Clone, Copy)]
+#[derive(Clone, Copy, Debug, Error)]
 pub enum Refusal {
     /// A growth or the start of a thread was refused.
+    #[error("out of memory")]
     Memory,
     /// A writer has put as many parts as have numbers.
+    #[error("part numbers spent")]
     NumbersSpent,
+}
+
+impl Refusal {
+    ghost use Rattle.kmc_partqueue.specs.RefusalNumbers.{number_of_refusal};
+
+    /// The number of the refusal, as docs/REFUSALS.md lists it.
+    pub fn number(&self) -> u8
+        ensures { result ≡ number_of_refusal self.now }
+    {
+        match self {
+            Refusal::Memory => 1,
+            Refusal::NumbersSpent => 6,
+        }
+    }
 }
 
 /// Why one worker ends without its result.

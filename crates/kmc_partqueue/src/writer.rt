@@ -13,6 +13,7 @@ use crate::views::View;
 use atomic_table::Seat;
 use kmc_partcore::MAX_ITEMS;
 use std::marker::Model;
+use thiserror::Error;
 
 /// The seat of a writer. One that is dropped before it has completed leaves its lane open for good, and no reader is ever answered that
 /// the queue is finished.
@@ -68,12 +69,28 @@ impl<T> WriterSeat<T> {
 }
 
 /// Why a part was not put. NumbersSpent is tested first, before any step.
-#[derive(Drop, Clone, Copy)]
+#[derive(Drop, Clone, Copy, Debug, Error)]
 pub enum TryPutError {
     /// The next slot of the lane is not yet free again.
+    #[error("no room for a part of the writer")]
     Full,
     /// The writer has put as many parts as have numbers.
+    #[error("part numbers spent")]
     NumbersSpent,
+}
+
+impl TryPutError {
+    ghost use Rattle.kmc_partqueue.specs.RefusalNumbers.{number_of_try_put_error};
+
+    /// The number of the refusal, as docs/REFUSALS.md lists it.
+    pub fn number(&self) -> u8
+        ensures { result ≡ number_of_try_put_error self.now }
+    {
+        match self {
+            TryPutError::Full => 5,
+            TryPutError::NumbersSpent => 6,
+        }
+    }
 }
 
 /// The number that the part got among the writer's, or why it was not put, and the part.

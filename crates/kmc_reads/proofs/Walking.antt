@@ -10,7 +10,7 @@ use Rattle.kmc_reads.specs.Fasta.{is_header}
 use Rattle.kmc_reads.specs.Lines.{line_past}
 use Rattle.kmc_reads.specs.OpenLines.{whole_from, open_from, lines_from}
 use Rattle.kmc_reads.specs.Stages.{Spot, past, given_by, fault_of, fault_from, ended_from, or_else, unless, reads_from, answer_past}
-use Rattle.kmc_reads.specs.Standing.{At, Goes, Leads, HasFault, HasNoFeed, IsCut}
+use Rattle.kmc_reads.specs.Standing.{At, Goes, Leads, HasFault, HasNoFeed, IsCutOfText}
 use Rattle.kmc_reads.proofs.Answers.{with_none, reads_join}
 use Rattle.kmc_reads.proofs.Feeding.{header_stripped}
 
@@ -195,7 +195,7 @@ fed rows s front w fine at = record {
 }
 
 -- the line, its line feed and what follows make the rest
-pub over_split : (over line after rest block : List ℕ) → IsCut rest line after → over ++ rest ≡ block → (over ++ (line ++ 10 ∷ [])) ++ after ≡ block
+pub over_split : (over line after rest block : List ℕ) → IsCutOfText rest line after → over ++ rest ≡ block → (over ++ (line ++ 10 ∷ [])) ++ after ≡ block
 over_split over line after rest block cut whole =
     append_assoc over (line ++ 10 ∷ []) after ∙ ap (λ (t : List ℕ). over ++ t) (append_assoc line (10 ∷ []) after ∙ sym cut.text_is) ∙ whole
 

@@ -3,12 +3,14 @@ pub mod Cuts
 pub mod Errors
 pub mod Fasta
 pub mod Fastq
+pub mod InputNumbers
 pub mod Laws
 pub mod Lines
 pub mod Messages
 pub mod OpenLines
 pub mod Reads
 pub mod Records
+pub mod RefusalNumbers
 pub mod Rows
 pub mod Stages
 pub mod Standing

@@ -86,7 +86,7 @@ abbrev pub HasNoFeed : List ℕ → Type 0
 HasNoFeed p = (k : ℕ) → k < length p → get_or p k 0 ≡ line_feed → ⊥
 
 -- the bytes before the first line feed, and those after it
-pub record IsCut (text line after : List ℕ) : Type 0 where
+pub record IsCutOfText (text line after : List ℕ) : Type 0 where
   pub text_is : text ≡ line ++ line_feed ∷ after
   pub unbroken : HasNoFeed line
   pub shorter : length after < length text

@@ -1,43 +1,47 @@
 //! Refusals.
-ghost use Rattle.std.specs.Prelude.{◌≡◌, Some};
-ghost use Rattle.kmc_reads.specs.Messages.{text_of_reads_error};
+ghost use Rattle.std.specs.Prelude.{◌≡◌};
 ghost use Rattle.kmc_reads.specs.declared.error.ReadsError.TheVariants.{Memory};
 
 use std::alloc::AllocError;
-use std::error::Error;
-use std::fmt;
+use thiserror::Error;
 
 /// Why a text gave no reads. Lines are numbered from 1, blank ones too; a number past the
 /// greatest `u64` is given as that.
-#[derive(Clone, Copy, Debug, PartialEq, Eq)]
+#[derive(Clone, Copy, Debug, PartialEq, Eq, Error)]
 pub enum ReadsError {
     /// Memory for the reads was refused. It says nothing of the text.
+    #[error("out of memory")]
     Memory,
     /// This line stands where a header must, and does not begin with `@` (FASTQ) or `>` (FASTA).
+    #[error("line {0}: bad header")]
     BadHeader(u64),
     /// The third line of a FASTQ record does not begin with `+`.
+    #[error("line {0}: bad plus line")]
     BadPlus(u64),
     /// The quality line of a FASTQ record is not as long as the sequence.
+    #[error("line {0}: quality length differs")]
     QualityLength(u64),
     /// A FASTQ text ended inside a record: the first line that is not there.
+    #[error("line {0}: record cut short")]
     Truncated(u64),
 }
 
-impl fmt::Display for ReadsError {
-    ghost output = { λ e. Some (text_of_reads_error e) };
+impl ReadsError {
+    ghost use Rattle.kmc_reads.specs.RefusalNumbers.{number_of_reads_error};
 
-    fn fmt<W: fmt::Write>(&self, f: &mut fmt::Formatter<W>) -> fmt::Result {
+    /// The number of the refusal, as docs/REFUSALS.md lists it.
+    pub fn number(&self) -> u8
+        ensures { result ≡ number_of_reads_error self.now }
+    {
         match self {
-            ReadsError::Memory => f.write_str("out of memory"),
-            ReadsError::BadHeader(line) => write!(f, "line {line}: bad header"),
-            ReadsError::BadPlus(line) => write!(f, "line {line}: bad plus line"),
-            ReadsError::QualityLength(line) => write!(f, "line {line}: quality length differs"),
-            ReadsError::Truncated(line) => write!(f, "line {line}: record cut short"),
+            ReadsError::Memory => 1,
+            ReadsError::BadHeader(_) => 2,
+            ReadsError::BadPlus(_) => 3,
+            ReadsError::QualityLength(_) => 4,
+            ReadsError::Truncated(_) => 5,
         }
     }
 }
-
-impl Error for ReadsError {}
 
 impl From<AllocError> for ReadsError {
     ghost from_gives = { λ _ e. e ≡ Memory };

@@ -2,14 +2,14 @@
 ghost use Rattle.std.specs.Prelude.{◌≡◌, MatchOption, get_or};
 ghost use Rattle.std.specs.Io.BufRead.{strip_last, ends_with_byte};
 ghost use Rattle.kmc_reads.specs.Fasta.{is_header};
-ghost use Rattle.kmc_reads.specs.Standing.{HasNoFeed, IsCut};
+ghost use Rattle.kmc_reads.specs.Standing.{HasNoFeed, IsCutOfText};
 
 use memchr::memchr;
 
 /// The bytes up to the first line feed and those after it; none where there is no line feed. A line of one byte, as most plus
 /// lines are, is seen without a search.
 pub fn cut_line(text: &[u8]) -> Option<(&[u8], &[u8])>
-    ensures { MatchOption result (HasNoFeed text.now) (λ p. IsCut text.now p.0.now p.1.now) }
+    ensures { MatchOption result (HasNoFeed text.now) (λ p. IsCutOfText text.now p.0.now p.1.now) }
 {
     if text.len() > 1 && text[1] == b'\n' && text[0] != b'\n' {
         return Some((&text[..1], &text[2..]));

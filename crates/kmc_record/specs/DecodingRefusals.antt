@@ -6,6 +6,6 @@ use Rattle.kmc_record.specs.declared.plain.decoding.RecordError.{RecordError}
 use Rattle.kmc_record.specs.declared.plain.decoding.RecordError.TheVariants.{Damaged, Memory}
 
 -- when each refusal comes
-abbrev pub IsRefused : ℕ → RecordError → List ℕ → Type 0
-IsRefused k (Damaged fault) bytes = HasFault k fault bytes
-IsRefused k Memory bytes = BeginsRecord k bytes
+abbrev pub IsRefusedRecord : ℕ → RecordError → List ℕ → Type 0
+IsRefusedRecord k (Damaged fault) bytes = HasFault k fault bytes
+IsRefusedRecord k Memory bytes = BeginsRecord k bytes

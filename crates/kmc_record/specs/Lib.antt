@@ -7,5 +7,6 @@ pub mod Lemmas
 pub mod Parts
 pub mod RecordKeys
 pub mod RecordWords
+pub mod RefusalNumbers
 pub mod Refusals
 pub mod Shapes

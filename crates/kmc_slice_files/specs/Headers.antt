@@ -55,14 +55,14 @@ Refuses t (OtherVersion v) = (t.letters ≡ LETTERS) × (v ≡ t.version) × (v 
 Refuses t Damaged = (t.letters ≡ LETTERS) × (t.version ≡ VERSION) × (t.check ≢ hashed 0 (front_of t))
 Refuses t OutOfRange = (t.letters ≡ LETTERS) × (t.version ≡ VERSION) × (t.check ≡ hashed 0 (front_of t)) × IsOutOfRange t
 
-abbrev pub IsRefused : List ℕ → HeaderFault → Type 0
-IsRefused bytes e = (t : Told) × IsTold t bytes × Refuses t e
+abbrev pub IsRefusedHeader : List ℕ → HeaderFault → Type 0
+IsRefusedHeader bytes e = (t : Told) × IsTold t bytes × Refuses t e
 
 -- a whole header was read, and is refused
 pub record GaveRefused (old new : Option (List ℕ)) (e : HeaderFault) : Type 0 where
   pub bytes : List ℕ
   pub gave : Consumes old new bytes
-  pub why : IsRefused bytes e
+  pub why : IsRefusedHeader bytes e
 
 -- why no header was read
 abbrev pub IsHeaderFault : Option (List ℕ) → Option (List ℕ) → HeaderFault → Type 0

@@ -3,7 +3,7 @@ ghost use Rattle.std.specs.Prelude.{◌≡◌, ◌-◌, ◌^◌, ◌<◌, OnOk, 
 ghost use Rattle.std.specs.Io.KnownBytes.{Appends, Consumes};
 ghost use Rattle.kmc_device.specs.Device.{AppendsFront, RisesByOne};
 ghost use Rattle.kmc_slice_files.specs.Files.{IsSlicing, slicing_bytes, header_bytes};
-ghost use Rattle.kmc_slice_files.specs.Headers.{IsTold, IsOutOfRange, IsSlicingOf, IsRefused, IsHeaderFault, HeaderTells};
+ghost use Rattle.kmc_slice_files.specs.Headers.{IsTold, IsOutOfRange, IsSlicingOf, IsRefusedHeader, IsHeaderFault, HeaderTells};
 
 use crate::check::check_word;
 use kmc_device::{Counted, ReadFault, WriteFault, fill_behind, write_text};
@@ -140,7 +140,7 @@ fn slicing_of(told: &Told) -> Option<Slicing>
 fn judge_header(bytes: &[u8; HEADER]) -> Result<Slicing, HeaderFault>
     ensures ok { IfOk result (λ h. IsSlicing h.shape h.slices h.slice
         × (bytes.now ≡ header_bytes h.shape h.slices h.slice)) }
-    ensures fault { IfErr result (IsRefused bytes.now) }
+    ensures fault { IfErr result (IsRefusedHeader bytes.now) }
 {
     let told = numbers_of(bytes);
     if told.letters != LETTERS {

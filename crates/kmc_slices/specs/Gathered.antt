@@ -41,10 +41,10 @@ abbrev pub IsOfSlice : Records → Records → Type 0
 IsOfSlice old new = (new.shape ≡ old.shape) × (new.slices ≡ old.slices) × (new.slice ≡ old.slice)
 
 -- the first fault of a file, whatever slice it tells of
-abbrev pub IsFirstFault : Option (List ℕ) → Option (List ℕ) → SliceFault → Type 0
-IsFirstFault old new (Header e) = IsHeaderFault old new e
-IsFirstFault old new (Other h) = ⊥
-IsFirstFault old new (Behind e) = (shape : Sizes) × (S s : ℕ) × IsFaultBehind shape S s old new (replicate shape.n []) e
+abbrev pub IsFirstFileFault : Option (List ℕ) → Option (List ℕ) → SliceFault → Type 0
+IsFirstFileFault old new (Header e) = IsHeaderFault old new e
+IsFirstFileFault old new (Other h) = ⊥
+IsFirstFileFault old new (Behind e) = (shape : Sizes) × (S s : ℕ) × IsFaultBehind shape S s old new (replicate shape.n []) e
 
 -- the header of a slice was read, and nothing behind it
 abbrev pub GaveHeader : Option (List ℕ) → Option (List ℕ) → Type 0

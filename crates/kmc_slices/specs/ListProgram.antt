@@ -14,7 +14,7 @@ use Rattle.kmc_slice_files.specs.declared.slice.SliceFault.{SliceFault}
 use Rattle.kmc_options.specs.Requests.{AsksForList, IsListRequest, IsOutOfRange}
 use Rattle.kmc_options.specs.declared.slices.listing.ListRequest.{ListRequest}
 use Rattle.kmc_options.specs.declared.slices.listing.ListRequestError.TheVariants.{Usage, OutOfRange, Memory}
-use Rattle.kmc_slices.specs.Gathered.{AreGathered, GaveHeader, IsFirstFault, Records}
+use Rattle.kmc_slices.specs.Gathered.{AreGathered, GaveHeader, IsFirstFileFault, Records}
 use Rattle.kmc_slices.specs.declared.listing.ListError.{ListError}
 use Rattle.kmc_slices.specs.declared.listing.ListError.TheVariants.{Foreign, Memory as NoMemory, Write}
 use Rattle.kmc_slices.specs.declared.programs.list_fault.ListFault.{ListFault}
@@ -45,7 +45,7 @@ pub record LeavesFront {W : Type 0} (r : Records) (params : Params) (contents : 
 abbrev pub IsOfFirst : ListFault → Type 0
 IsOfFirst fault =
     ((fault ≡ Dump NoMemory) × (old new : Option (List ℕ)) × GaveHeader old new) ⊎ ((fault ≡ NotOpened 0)
-    ⊎ ((e : SliceFault) × (fault ≡ File 0 e) × (old new : Option (List ℕ)) × IsFirstFault old new e))
+    ⊎ ((e : SliceFault) × (fault ≡ File 0 e) × (old new : Option (List ℕ)) × IsFirstFileFault old new e))
 
 -- a fault of the file of this number, behind files that gave these records
 abbrev pub IsOfNext : ℕ → Records → ListFault → Type 0

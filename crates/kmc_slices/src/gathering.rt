@@ -2,7 +2,7 @@
 ghost use Rattle.std.specs.Prelude.{◌≡◌, [], ◌∷◌, ◌++◌, List, ℕ, Option, map, OnOk, IfOk, IfErr, IsErrOf};
 ghost use Rattle.kmc_slice_files.specs.Whole.{IsSliceFault, SliceTells};
 ghost use Rattle.kmc_slice_files.specs.declared.slice.SliceFault.{SliceFault};
-ghost use Rattle.kmc_slices.specs.Gathered.{AreGathered, AreRecords, GaveHeader, IsFirstFault, IsOfSlice, Tells};
+ghost use Rattle.kmc_slices.specs.Gathered.{AreGathered, AreRecords, GaveHeader, IsFirstFileFault, IsOfSlice, Tells};
 ghost use Rattle.kmc_slices.specs.declared.gathering.GatherError.TheVariants.{Memory, File};
 
 use kmc_device::Counted;
@@ -58,7 +58,7 @@ impl SliceRecords {
             (AreGathered ((R.remaining reader.old.inner, R.remaining reader.new.inner) ∷ [])) }
         ensures kept { OnOk result (reader.new.failures ≡ reader.old.failures) }
         ensures fault { (fault : SliceFault) → IsErrOf result (File fault)
-            → IsFirstFault (R.remaining reader.old.inner) (R.remaining reader.new.inner) fault }
+            → IsFirstFileFault (R.remaining reader.old.inner) (R.remaining reader.new.inner) fault }
         ensures memory { IsErrOf result Memory
             → GaveHeader (R.remaining reader.old.inner) (R.remaining reader.new.inner) }
         ensures device { IfErr result (Tells reader.old.failures reader.new.failures) }

@@ -1,7 +1,7 @@
 -- Runs that grow at their end.
 use Rattle.std.proofs.Common.{◌≡◌, ℕ, ◌+◌, ◌-◌, ◌<◌, ◌≤◌, List, [], ◌∷◌, ◌++◌, refl, sym, ap, ◌∙◌, arith, ◌⊎◌, inl, inr}
 use Rattle.kmc_split.specs.declared.runs.Run.{Run}
-use Rattle.kmc_split.specs.Cut.{IsRun, IsLongOrOther, AreRuns}
+use Rattle.kmc_split.specs.Cut.{IsRunAt, IsLongOrOther, AreRuns}
 
 same_start : (s : Run) (rs : List Run) (r r2 : Run) → r2.signature ≡ r.signature → IsLongOrOther s (rs ++ r ∷ []) → IsLongOrOther s (rs ++ r2 ∷ [])
 same_start s [] r r2 e h = λ f. h (f ∙ e)
@@ -12,8 +12,8 @@ other_start s [] r n h = h
 other_start s (t ∷ rs) r n h = h
 
 module _ (at : ℕ → ℕ) where
-  longer : (r r2 : Run) (i : ℕ) → IsRun at r → r.start + r.words ≡ i → at i ≡ r.signature → r.words < 256
-      → r2.start ≡ r.start → r2.words ≡ r.words + 1 → r2.signature ≡ r.signature → IsRun at r2
+  longer : (r r2 : Run) (i : ℕ) → IsRunAt at r → r.start + r.words ≡ i → at i ≡ r.signature → r.words < 256
+      → r2.start ≡ r.start → r2.words ≡ r.words + 1 → r2.signature ≡ r.signature → IsRunAt at r2
   longer r r2 i h end here less start words signature =
       record { some = omega arith; most = omega arith; one = one }
     where
@@ -35,7 +35,7 @@ module _ (at : ℕ → ℕ) where
   extend p i (s ∷ rs) r r2 h here less start words signature =
       (h.0, h.1, same_start s rs r r2 signature h.2, extend (p + s.words) i rs r r2 h.3 here less start words signature)
 
-  single : (n : Run) (i : ℕ) → n.start ≡ i → n.words ≡ 1 → n.signature ≡ at i → IsRun at n
+  single : (n : Run) (i : ℕ) → n.start ≡ i → n.words ≡ 1 → n.signature ≡ at i → IsRunAt at n
   single n i start words signature = record { some = omega arith; most = omega arith; one = one }
     where
       one : (j : ℕ) → n.start ≤ j → j < n.start + n.words → at j ≡ n.signature

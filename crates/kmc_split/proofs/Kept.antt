@@ -6,7 +6,7 @@ use Rattle.std.proofs.lemmas.List.Elements.{All-cons}
 use Rattle.kmc_base.specs.Words.{window, windows}
 use Rattle.kmc_split.specs.declared.runs.Run.{Run}
 use Rattle.kmc_split.specs.Signature.{signature_of}
-use Rattle.kmc_split.specs.Cut.{IsRun, AreRuns, IsCut, run_codes, run_words, IsRunOf}
+use Rattle.kmc_split.specs.Cut.{IsRunAt, AreRuns, IsCut, run_codes, run_words, IsRunOf}
 use Rattle.kmc_base.specs.Lemmas.Windows.{length_window}
 use Rattle.kmc_split.specs.Lemmas.Least.{starts_within, window_window}
 use Rattle.kmc_base.specs.Lemmas.Places.{places_append, places_moved}
@@ -40,7 +40,7 @@ module _ (k m : ℕ) (codes : List ℕ) (some : 1 ≤ k) (long : k ≤ length co
       ∙ sym (places_append (window k codes) p r.words (end - (p + r.words)))
       ∙ ap (λ n. map (window k codes) (range_with_len p n)) count
 
-  run_is : (p : ℕ) (r : Run) → p + r.words ≤ length codes + 1 - k → r.start ≡ p → IsRun (λ i. signature_of m (window k codes i)) r → IsRunOf k m codes r
+  run_is : (p : ℕ) (r : Run) → p + r.words ≤ length codes + 1 - k → r.start ≡ p → IsRunAt (λ i. signature_of m (window k codes i)) r → IsRunOf k m codes r
   run_is p r within start h = record {
     some = h.some;
     most = h.most;

@@ -3,7 +3,7 @@ use Rattle.std.proofs.Common.{◌≡◌, ◌≢◌, ℕ, ◌+◌, ◌-◌, ◌<�
 use Rattle.std.proofs.Math.Seq.{drop-cons}
 use Rattle.std.proofs.lemmas.List.{take-set, take_more_set}
 use Rattle.kmc_split.specs.declared.runs.Run.{Run}
-use Rattle.kmc_split.specs.Cut.{IsRun, AreRuns}
+use Rattle.kmc_split.specs.Cut.{IsRunAt, AreRuns}
 use Rattle.kmc_split.specs.Rows.{IsRow, AreRowEnds, Last, MayFollow}
 
 module _ (at : ℕ → ℕ) where
@@ -36,11 +36,11 @@ module _ (at : ℕ → ℕ) where
   row_ends_here p i (q ∷ qs) h other = (h.0, h.1, h.2, row_ends_here q i qs h.3 other)
 
   -- a part of a row is a run
-  pub run_of_row : (p q : ℕ) (n : Run) → IsRow at p q → p ≤ n.start → n.start + n.words ≤ q → 1 ≤ n.words → n.words ≤ 256 → n.signature ≡ at p → IsRun at n
+  pub run_of_row : (p q : ℕ) (n : Run) → IsRow at p q → p ≤ n.start → n.start + n.words ≤ q → 1 ≤ n.words → n.words ≤ 256 → n.signature ≡ at p → IsRunAt at n
   run_of_row p q n row from to some most is =
       record { some = some; most = most; one = λ i low high. row i (omega arith) (omega arith) ∙ sym is }
 
-  pub add_run : (p i : ℕ) (rs : List Run) (n : Run) → AreRuns at p i rs → MayFollow n.signature rs → IsRun at n → n.start ≡ i → AreRuns at p
+  pub add_run : (p i : ℕ) (rs : List Run) (n : Run) → AreRuns at p i rs → MayFollow n.signature rs → IsRunAt at n → n.start ≡ i → AreRuns at p
       (i + n.words) (rs ++ n ∷ [])
   add_run p i [] n h apart run start = (start ∙ sym h, run, tt, omega arith)
   add_run p i (r ∷ []) n h apart run start = (h.0, h.1, apart, (start ∙ sym h.3, run, tt, omega arith))

@@ -2,7 +2,7 @@
 use Rattle.std.proofs.Common.{◌≡◌, ℕ, zero, suc, ◌+◌, ◌-◌, ◌<◌, ◌≤◌, List, [], ◌∷◌, ◌++◌, refl, sym, subst, ◌∙◌, arith, ◌⊎◌, inl, inr, add-one}
 use Rattle.std.proofs.lemmas.Bool.{cases_eq}
 use Rattle.kmc_split.specs.declared.runs.Run.{Run}
-use Rattle.kmc_split.specs.Cut.{IsRun, IsLongOrOther, AreRuns}
+use Rattle.kmc_split.specs.Cut.{IsRunAt, IsLongOrOther, AreRuns}
 use Rattle.kmc_split.specs.Lemmas.Least.{starts_within}
 use Rattle.kmc_split.proofs.Grouping.{open_run, first, grow, cut_here}
 
@@ -11,7 +11,7 @@ order a b = grind arith
 
 module _ (at : ℕ → ℕ) (end : ℕ) where
   -- a run that ends before another one that begins with it is not followed by anything
-  shorter : (p : ℕ) (r s : Run) (rs : List Run) → r.start ≡ p → s.start ≡ p → IsRun at r → IsRun at s
+  shorter : (p : ℕ) (r s : Run) (rs : List Run) → r.start ≡ p → s.start ≡ p → IsRunAt at r → IsRunAt at s
       → IsLongOrOther r rs → AreRuns at (p + r.words) end rs → p + s.words ≤ end → r.words < s.words → ⊥
   shorter p r s [] rp sp ri si long follow inside less = omega arith
   shorter p r s (t ∷ rs) rp sp ri si long follow inside less =

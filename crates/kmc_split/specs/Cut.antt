@@ -6,7 +6,7 @@ use Rattle.kmc_split.specs.declared.runs.Run.{Run}
 use Rattle.kmc_split.specs.Signature.{signature_of}
 
 -- the words of the run, of which there are 1 to 256, have its signature
-pub record IsRun (at : ℕ → ℕ) (r : Run) : Type 0 where
+pub record IsRunAt (at : ℕ → ℕ) (r : Run) : Type 0 where
   pub some : 1 ≤ r.words
   pub most : r.words ≤ 256
   pub one : (i : ℕ) → r.start ≤ i → i < r.start + r.words → at i ≡ r.signature
@@ -19,7 +19,7 @@ IsLongOrOther r (s ∷ rs) = r.signature ≡ s.signature → r.words ≡ 256
 -- the runs follow one another from place p to the end, for the signature at each place
 abbrev pub AreRuns : (ℕ → ℕ) → ℕ → ℕ → List Run → Type 0
 AreRuns at p end [] = p ≡ end
-AreRuns at p end (r ∷ rs) = (r.start ≡ p) × IsRun at r × IsLongOrOther r rs × AreRuns at (p + r.words) end rs
+AreRuns at p end (r ∷ rs) = (r.start ≡ p) × IsRunAt at r × IsLongOrOther r rs × AreRuns at (p + r.words) end rs
 
 -- the runs are the cut of a segment
 abbrev pub IsCut : ℕ → ℕ → List ℕ → List Run → Type 0

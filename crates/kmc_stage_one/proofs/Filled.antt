@@ -2,10 +2,10 @@
 use Rattle.std.proofs.Common.{◌≡◌, ◌⊎◌, ℕ, ◌≤◌, List, [], ◌++◌, length, Option, sym, subst, append-nil, arith}
 use Rattle.kmc_reads.specs.declared.format.Format.{Format}
 use Rattle.kmc_reads.specs.Standing.{FeederState, StandsCut}
-use Rattle.kmc_stage_one.specs.Fed.{HasRoom, IsFed, IsFilled}
+use Rattle.kmc_stage_one.specs.Fed.{HasRoomForReads, IsFed, IsFilled}
 
 module _ (reads symbols block overlap : ℕ) (format : Format) (from to : Option (List ℕ)) (a b : ℕ) (text : List ℕ) (taken : List (List ℕ)) (old v : FeederState)
-    (f : IsFed overlap format from to a b text taken v) (room : (v ≡ old) ⊎ HasRoom reads symbols v) where
+    (f : IsFed overlap format from to a b text taken v) (room : (v ≡ old) ⊎ HasRoomForReads reads symbols v) where
   -- one block more was fed
   pub filled : (w : FeederState) → ((last : List ℕ) × (length last ≤ block) × StandsCut overlap format ((text ++ f.bytes) ++ last) taken w)
       → IsFilled reads symbols block overlap format text taken old w

@@ -36,7 +36,7 @@ IsFedBy overlap format old new before after text taken v (Err (Faulty e)) = IsRe
 IsFedBy overlap format old new before after text taken v (Err TooLong) = IsFed overlap format old new before after text taken v
 
 -- fewer than so many reads wait in the feeder, with fewer than so many symbols, and an open read has fewer that can be handed out
-pub record HasRoom (reads symbols : ℕ) (v : FeederState) : Type 0 where
+pub record HasRoomForReads (reads symbols : ℕ) (v : FeederState) : Type 0 where
   pub waiting : (overlap : ℕ) (format : Format) (text : List ℕ) (taken : List (List ℕ)) (s : StandsCut overlap format text taken v)
       → (length s.rows < reads) × (length (concat s.rows) < symbols)
   pub open_read : (at : IsSomewhere v.scan) → length (open_symbols at.spot.stage at.spot.read (strip_last carriage_return at.front)) < symbols
@@ -50,7 +50,7 @@ pub record IsFilled (reads symbols block : ℕ) (overlap : ℕ) (format : Format
   pub before : StandsCut overlap format (text ++ front) taken earlier
   pub after : StandsCut overlap format ((text ++ front) ++ last) taken new
   pub most : length last ≤ block
-  pub room : (earlier ≡ old) ⊎ HasRoom reads symbols earlier
+  pub room : (earlier ≡ old) ⊎ HasRoomForReads reads symbols earlier
 
 -- how many reads gave bytes, at most so many, and how many calls failed, by the cause of a refusal
 abbrev pub AreCountsOf : ℕ → ℕ → ℕ → ℕ → ℕ → InputError → Type 0

@@ -2,7 +2,7 @@
 ghost use Rattle.std.specs.Prelude.{◌≡◌, ℕ, ◌+◌, ◌<◌, ◌++◌, length, map, OnOk, OnErr, slice_index};
 ghost use Rattle.kmc_record.specs.Parts.{capped};
 ghost use Rattle.kmc_store.specs.Bins.{body_at};
-ghost use Rattle.kmc_store.specs.Growing.{HasRoom, HaveRoom};
+ghost use Rattle.kmc_store.specs.Growing.{HasRoomForBodies, HaveRoom};
 
 use std::alloc::AllocError;
 use std::mem::swap;
@@ -10,8 +10,8 @@ use std::mem::swap;
 /// Makes room for the other body, but none where the own is empty: that one takes the other over.
 fn make_room_for(own: &mut Vec<u8>, more: &[u8]) -> Result<(), AllocError>
     ensures kept { own.new.items ≡ own.old.items }
-    ensures ok { OnOk result (HasRoom own.new (length more.now)) }
-    ensures full { OnErr result (¬ (HasRoom own.old (length more.now))) }
+    ensures ok { OnOk result (HasRoomForBodies own.new (length more.now)) }
+    ensures full { OnErr result (¬ (HasRoomForBodies own.old (length more.now))) }
 {
     if own.is_empty() {
         Ok(())
@@ -35,7 +35,7 @@ pub(crate) fn make_room(own: &mut Vec<Vec<u8>>, more: &[Vec<u8>]) -> Result<(), 
 
 /// Appends the other body where there is room for it; an empty body takes the other over.
 fn append_body(own: &mut Vec<u8>, more: &mut Vec<u8>)
-    requires { HasRoom own.old (length more.old.items) }
+    requires { HasRoomForBodies own.old (length more.old.items) }
     ensures { own.new.items ≡ own.old.items ++ more.old.items }
 {
     if own.is_empty() {

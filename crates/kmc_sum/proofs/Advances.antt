@@ -3,7 +3,7 @@ use Rattle.std.proofs.Common.{◌≡◌, ◌≢◌, ℕ, ◌+◌, ◌*◌, ◌-�
 use Rattle.std.proofs.lemmas.Bool.{cases_eq}
 use Rattle.std.proofs.lemmas.List.{get_or-set_other, get_or-set_same, length-set, length-map, get_or-map, map-set}
 use Rattle.std.proofs.Math.Seq.{map-set_same}
-use Rattle.kmc_sum.specs.Refusals.{BeginsWith, HasFailed, IsFirstFault, IsReadBefore}
+use Rattle.kmc_sum.specs.Refusals.{BeginsWith, HasFailed, IsFirstLineFault, IsReadBefore}
 use Rattle.kmc_sum.specs.declared.heads.Head.{Head}
 use Rattle.kmc_sum.specs.declared.source.Room.{Room}
 use Rattle.kmc_sum.specs.Heads.{rank, no_head, head_at, pending, IsWinner, IsTree}
@@ -187,7 +187,7 @@ left_now left readers s reader inside =
 pub fault_after : {T : Type 0} (left : T → Option (List ℕ)) (readers : List T) (s : ℕ) (reader : T) (k : ℕ) (starts : List (Option (List ℕ)))
     (source line : ℕ) (fault : LineFault) → s < length readers → s < length starts → source ≡ s
     → (fault ≡ OtherLength → IsReadBefore k starts (map left (set readers s reader)) s line) → IsFaultAt k (left_at starts s)
-    (left reader) line fault → IsFirstFault k starts (map left (set readers s reader)) source line fault
+    (left reader) line fault → IsFirstLineFault k starts (map left (set readers s reader)) source line fault
 fault_after left readers s reader k starts source line fault inside within e before h =
     let nows = map left (set readers s reader) in
     let now : left_at nows s ≡ left reader = left_now left readers s reader inside in
@@ -227,7 +227,7 @@ module _ {T : Type 0} (left : T → Option (List ℕ)) (readers : List T) (reade
       (sources_after k (length readers) rooms heads ready tree some head mended long leaves starts (map left readers) lists (left next) found count are is)
 
   pub source_at_fault : (source line : ℕ) (fault : LineFault) → source ≡ s → 2 ≤ line → IsFaultAt k (left_at starts s) (left next) line fault
-      → IsFirstFault k starts (map left (set readers s next)) source line fault
+      → IsFirstLineFault k starts (map left (set readers s next)) source line fault
   source_at_fault source line fault is two h =
       fault_after left readers s next k starts source line fault inside within is
       (λ other. record {

@@ -6,7 +6,7 @@ use Rattle.kmc_count.specs.declared.limits.Limits.{Limits}
 use Rattle.kmc_device.specs.Device.{Watched}
 use Rattle.kmc_device.specs.Lemmas.Devices.{on_ok_then}
 use Rattle.kmc_sum.specs.Answer.{IsCause, IsMergeAnswer}
-use Rattle.kmc_sum.specs.Refusals.{HasFailed, IsFaultOf, IsFirstFault}
+use Rattle.kmc_sum.specs.Refusals.{HasFailed, IsFaultOf, IsFirstLineFault}
 use Rattle.kmc_sum.specs.Sources.{failures_of, lefts_of}
 use Rattle.kmc_sum.specs.State.{IsBegun}
 use Rattle.kmc_sum.specs.declared.error.LineFault.{LineFault}
@@ -21,7 +21,7 @@ handed_on (Err d) e P made h = subst P (sym made) h
 
 -- a source by how it is at fault
 pub by_fault : (k : ℕ) (starts nows : List (Option (List ℕ))) (olds news : List ℕ) (source : ℕ) (fault : SourceFault)
-    → ((line : ℕ) (f : LineFault) → fault ≡ Line line f → IsFirstFault k starts nows source line f) → (fault ≡ Read → HasFailed source olds news)
+    → ((line : ℕ) (f : LineFault) → fault ≡ Line line f → IsFirstLineFault k starts nows source line f) → (fault ≡ Read → HasFailed source olds news)
     → IsFaultOf k starts nows olds news source fault
 by_fault k starts nows olds news source Read first read = read refl
 by_fault k starts nows olds news source (Line line f) first read = first line f refl

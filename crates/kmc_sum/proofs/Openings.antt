@@ -13,7 +13,7 @@ use Rattle.kmc_sum.specs.Heads.{no_head, head_at, pending}
 use Rattle.kmc_sum.specs.Source.{unread, IsRoom, GoesOn, IsEnough}
 use Rattle.kmc_sum.specs.Sources.{IsSource, IsFresh, Agrees, AreReady, AreSources, AreOpened, GaveFronts, left_at, list_at, no_lists}
 use Rattle.kmc_sum.specs.Sum.{sum_of, listed_count}
-use Rattle.kmc_sum.specs.Refusals.{BeginsWith, HasFailed, IsFaultOf, IsFirstFault, IsReadBefore}
+use Rattle.kmc_sum.specs.Refusals.{BeginsWith, HasFailed, IsFaultOf, IsFirstLineFault, IsReadBefore}
 use Rattle.kmc_sum.specs.declared.error.LineFault.{LineFault}
 use Rattle.kmc_sum.specs.declared.error.LineFault.TheVariants.{OtherLength}
 use Rattle.kmc_sum.specs.declared.error.SourceFault.{SourceFault}
@@ -265,7 +265,7 @@ module _ {T : Type 0} (left : T → Option (List ℕ)) (readers : List T) (reade
 
   pub reader_at_fault : (m source line : ℕ) (fault : LineFault) → source ≡ i
       → (fault ≡ OtherLength → IsReadBefore m starts (map left (set readers i next)) i line) → IsFaultAt m (left (get_or readers i reader))
-      (left next) line fault → IsFirstFault m starts (map left (set readers i next)) source line fault
+      (left next) line fault → IsFirstLineFault m starts (map left (set readers i next)) source line fault
   reader_at_fault m source line fault is read h =
       fault_after left readers i next m starts source line fault here (omega (arith, inside, before.starts_long)) is read
       (subst (λ a. IsFaultAt m a (left next) line fault) start h)

@@ -23,7 +23,7 @@ pub record IsReadBefore (k : ℕ) (starts nows : List (Option (List ℕ))) (sour
 
 -- in this source the lines before this one list pairs whose words have k letters and rise, and this line is at fault, and so;
 -- where its word has another length, k is that of a line read before
-pub record IsFirstFault (k : ℕ) (starts nows : List (Option (List ℕ))) (source line : ℕ) (fault : LineFault) : Type 0 where
+pub record IsFirstLineFault (k : ℕ) (starts nows : List (Option (List ℕ))) (source line : ℕ) (fault : LineFault) : Type 0 where
   pub inside : source < length starts
   pub first : IsFaultAt k (left_at starts source) (left_at nows source) line fault
   pub length_read : fault ≡ OtherLength → IsReadBefore k starts nows source line
@@ -42,4 +42,4 @@ pub record HaveTooMany (k : ℕ) (starts nows : List (Option (List ℕ))) : Type
 -- how this source is at fault: a read of it failed, or its first line at fault is this one
 abbrev pub IsFaultOf : ℕ → List (Option (List ℕ)) → List (Option (List ℕ)) → List ℕ → List ℕ → ℕ → SourceFault → Type 0
 IsFaultOf k starts nows olds news source Read = HasFailed source olds news
-IsFaultOf k starts nows olds news source (Line line fault) = IsFirstFault k starts nows source line fault
+IsFaultOf k starts nows olds news source (Line line fault) = IsFirstLineFault k starts nows source line fault

@@ -1,7 +1,7 @@
 //! How a record is read.
 ghost use Rattle.std.specs.Prelude.{◌≡◌, ◌+◌, ◌*◌, ◌≤◌, ◌++◌, length, take, IfOk, IfErr};
 ghost use Rattle.kmc_base.specs.Record.{spelling, IsSpelled, codes_in};
-ghost use Rattle.kmc_record.specs.DecodingRefusals.{IsRefused};
+ghost use Rattle.kmc_record.specs.DecodingRefusals.{IsRefusedRecord};
 
 use crate::fault::RecordFault;
 use crate::record::{code_at, first_symbols};
@@ -61,7 +61,7 @@ pub fn decode<'a>(
     ensures k { IfOk result (λ r. r.0.k ≡ k) }
     ensures spelled { IfOk result (λ r. IsSpelled k r.0.codes) }
     ensures rest { IfOk result (λ r. bytes.now ≡ spelling k r.0.codes ++ r.1.now) }
-    ensures refused { IfErr result (λ e. IsRefused k e bytes.now) }
+    ensures refused { IfErr result (λ e. IsRefusedRecord k e bytes.now) }
 {
     if bytes.is_empty() {
         return Err(RecordError::Damaged(RecordFault::Short));

@@ -5,7 +5,7 @@ use Rattle.std.proofs.Math.Seq.{map-set_same}
 use mathlib.Core.Logic.{dite}
 use native.Mathlib.Decide.{ℕ_discrete}
 use Rattle.kmc_store.specs.Bins.{body_at}
-use Rattle.kmc_store.specs.Growing.{HasRoom}
+use Rattle.kmc_store.specs.Growing.{HasRoomForBodies}
 
 abbrev pub Bytes : Type 0
 Bytes = Vec ℕ Global
@@ -33,12 +33,12 @@ pub left_more : {A : Type 0} (xs ys : List A) (i : ℕ) (v : A) → ((k : ℕ) (
 left_more xs ys i v left k d l = get_or-set_other xs i k v d (omega arith) ∙ left k d (omega arith)
 
 pub room_more : (own more : List Bytes) (i : ℕ) (v w : Bytes) (size : ℕ) → i < length own → i < length more → w ≡ get_or more i w → size
-    ≡ length w.items → HasRoom v size
-    → ((k : ℕ) (a b : Bytes) → k < i → HasRoom (get_or own k a) (length (get_or more k b).items)) → (k : ℕ) (a b : Bytes) → k < i + 1 → HasRoom
+    ≡ length w.items → HasRoomForBodies v size
+    → ((k : ℕ) (a b : Bytes) → k < i → HasRoomForBodies (get_or own k a) (length (get_or more k b).items)) → (k : ℕ) (a b : Bytes) → k < i + 1 → HasRoomForBodies
     (get_or (set own i v) k a) (length (get_or more k b).items)
 room_more own more i v w size inside inside_more is long here below k a b l =
-    each_more (λ j x. HasRoom x (length (get_or more j b).items)) own i v a inside (λ j lj. below j a b lj)
-    (subst (HasRoom v) (long ∙ ap (λ (z : Bytes). length z.items) (get_or_read more i w inside_more is b)) here) k l
+    each_more (λ j x. HasRoomForBodies x (length (get_or more j b).items)) own i v a inside (λ j lj. below j a b lj)
+    (subst (HasRoomForBodies v) (long ∙ ap (λ (z : Bytes). length z.items) (get_or_read more i w inside_more is b)) here) k l
 
 -- the body at place i has grown by the other's
 pub appended_more : (own more own₀ more₀ : List Bytes) (i : ℕ) (x y v : Bytes) → i < length own → i < length own₀ → i < length more₀ → x

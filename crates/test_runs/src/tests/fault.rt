@@ -1,6 +1,7 @@
 use kmc_options::{Fault, ParamsError, RunError, Setting};
 use kmc_reads::ReadsError;
 use std::alloc::Global;
+use std::fmt::Display;
 use std::process::Abort;
 
 fn shows(rt: &(impl Abort + Alloc<A = Global>), fault: Fault, line: &str, status: u8) {
@@ -74,5 +75,62 @@ fn a_run_that_gives_up_shows_its_cause_and_ends_with_1(rt: HostRuntime) {
     ];
     for (error, line) in told {
         shows(&rt, Fault::Run(error), line, 1);
+    }
+}
+
+/// Asserts that the line of a fault is the text of its cause, behind the name of the program where the text has none.
+fn shows_text<E: Display + Drop>(
+    rt: &(impl Abort + Alloc<A = Global>),
+    fault: Fault,
+    name: &str,
+    cause: E,
+) {
+    let text = format!(in rt.alloc(); "{name}{cause}").expect(rt, "memory");
+    shows(rt, fault, text.as_str(), fault.status());
+}
+
+#[test]
+fn each_refusal_of_a_command_line_has_the_text_that_is_shown(rt: HostRuntime) {
+    for error in [ParamsError::Usage, ParamsError::Memory] {
+        shows_text(&rt, Fault::Options(error), "", error);
+    }
+    for setting in [
+        Setting::K,
+        Setting::P,
+        Setting::N,
+        Setting::Ci,
+        Setting::Cx,
+        Setting::Cs,
+        Setting::Sp,
+        Setting::Sr,
+    ] {
+        let error = ParamsError::OutOfRange(setting);
+        shows_text(&rt, Fault::Options(error), "", error);
+    }
+}
+
+#[test]
+fn each_refusal_of_a_run_has_the_text_that_is_shown(rt: HostRuntime) {
+    for error in [
+        RunError::Memory,
+        RunError::Read,
+        RunError::Write,
+        RunError::Input(ReadsError::BadPlus(3)),
+        RunError::TooLong,
+    ] {
+        shows_text(&rt, Fault::Run(error), "kmc: ", error);
+    }
+}
+
+#[test]
+fn each_refusal_of_a_text_has_the_text_that_is_shown(rt: HostRuntime) {
+    for error in [
+        ReadsError::Memory,
+        ReadsError::BadHeader(1),
+        ReadsError::BadPlus(20),
+        ReadsError::QualityLength(4),
+        ReadsError::Truncated(u64::MAX),
+    ] {
+        shows_text(&rt, Fault::Run(RunError::Input(error)), "kmc: ", error);
     }
 }

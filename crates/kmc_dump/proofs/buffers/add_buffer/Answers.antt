@@ -1,12 +1,12 @@
 use Rattle.std.proofs.Common.{All, sym, subst, arith}
 use Rattle.std.proofs.lemmas.List.Elements.{All-push}
-use Rattle.kmc_dump.specs.Rooms.{HasRoom}
+use Rattle.kmc_dump.specs.Rooms.{HasRoomForRange}
 use Rattle.kmc_dump.proofs.Rooms.{no_answer}
 use Rattle.kmc_dump.proofs.buffers.add_buffer.Goals as goal
 
 pub returns : goal.returns
 returns g c = λ line is all.
-    let P = HasRoom {W = g.row.W.Denot} c.args.widest line in
+    let P = HasRoomForRange {W = g.row.W.Denot} c.args.widest line in
     let pairs = c.in_ok-pairs.pairs in
     let text = c.in_ok-text.text in (
       c.in_ok-push.ensures.len,

@@ -4,7 +4,7 @@ use Rattle.std.proofs.lemmas.List.Elements.{All-append, All-drop, All-take}
 use Rattle.std.specs.List.{flat_map}
 use Rattle.std.proofs.KnownBytes.{Appends-nil}
 use Rattle.kmc_lists.specs.Line.{line_room}
-use Rattle.kmc_dump.specs.Rooms.{HasRoom}
+use Rattle.kmc_dump.specs.Rooms.{HasRoomForRange}
 use Rattle.kmc_dump.proofs.Texts.{no_text}
 use Rattle.kmc_dump.proofs.Pieces.{front_row}
 use Rattle.kmc_dump.proofs.Writing.{between, turn_done, turn_failed, last_turn}
@@ -44,7 +44,7 @@ write_and_fill-requires-clause-room g c κs within =
         c.min-wave.ensures,
         c.loop-next-test.true,
       );
-      room = All-take (HasRoom r.widest (line_room r.k g.C.CountWidth.most_digits)) c.min-wave.result c.loop-next.back c.loop-next.invariant.back;
+      room = All-take (HasRoomForRange r.widest (line_room r.k g.C.CountWidth.most_digits)) c.min-wave.result c.loop-next.back c.loop-next.invariant.back;
     }
 
 pub returns-in_default : goal.returns-in_default
@@ -83,7 +83,7 @@ write_and_fill-requires-in-loop-next-clause-room g c κs within =
         c.min-wave.ensures,
         c.loop-next-test.true,
       );
-      room = All-take (HasRoom r.widest (line_room r.k g.C.CountWidth.most_digits)) c.min-full.result c.loop-next.front c.loop-next.invariant.front;
+      room = All-take (HasRoomForRange r.widest (line_room r.k g.C.CountWidth.most_digits)) c.min-full.result c.loop-next.front c.loop-next.invariant.front;
     }
 
 pub returns-in_default-write_and_fill : goal.returns-in_default-write_and_fill
@@ -136,7 +136,7 @@ loop-next-preserved g c =
     let done = c.in-Ok.ensures in
     let done_then = c.in-Ok-write_and_fill.ensures in
     let row_then = front_row full then (drop full c.loop-next.front) long_then in
-    let room = HasRoom {W = g.row.W.Denot} r.widest (line_room r.k g.C.CountWidth.most_digits) in
+    let room = HasRoomForRange {W = g.row.W.Denot} r.widest (line_room r.k g.C.CountWidth.most_digits) in
     let out = turn_done bytes r lists c.requires.ranges c.args.writer.now c.loop-next.writer c.write_and_fill.new.writer next (next + wave) _ _ _
     (omega arith) (omega (arith, c.min-wave.ensures, c.loop-next-test.true, c.requires.ranges.ends)) inv.out done.written
     (ap (flat_map (λ b. take b.filled b.text.items)) (front_row wave now (drop wave c.loop-next.back) long) ∙ done.filled.texts

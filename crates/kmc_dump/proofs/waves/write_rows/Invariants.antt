@@ -3,7 +3,7 @@ use Rattle.std.specs.List.{flat_map}
 use Rattle.kmc_device.specs.Device.{WritesOut}
 use Rattle.kmc_lists.specs.Line.{line_room}
 use Rattle.kmc_dump.specs.Ranges.{range_text}
-use Rattle.kmc_dump.specs.Rooms.{HasRoom}
+use Rattle.kmc_dump.specs.Rooms.{HasRoomForRange}
 use Rattle.kmc_dump.proofs.waves.write_rows.Given as goal
 
 -- of the ranges so far the last stand in the front row, and those before them are out
@@ -11,8 +11,8 @@ abbrev pub invariant-loop-next : goal.invariant-loop-next
 invariant-loop-next g l = record {
   inside : l.next ≤ l.count;
   fits : l.full ≤ length l.front;
-  front : All (HasRoom l.filling.ranges.now.widest (line_room l.filling.ranges.now.k g.C.CountWidth.most_digits)) l.front;
-  back : All (HasRoom l.filling.ranges.now.widest (line_room l.filling.ranges.now.k g.C.CountWidth.most_digits)) l.back;
+  front : All (HasRoomForRange l.filling.ranges.now.widest (line_room l.filling.ranges.now.k g.C.CountWidth.most_digits)) l.front;
+  back : All (HasRoomForRange l.filling.ranges.now.widest (line_room l.filling.ranges.now.k g.C.CountWidth.most_digits)) l.back;
   within : All (λ b. b.filled ≤ length b.text.items) (take l.full l.front);
   kept : l.writer.failures ≡ l.initial.writer.failures;
   out : WritesOut (g.D.Write.contents l.initial.writer.inner) (g.D.Write.contents l.writer.inner)

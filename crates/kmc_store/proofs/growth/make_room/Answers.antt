@@ -2,7 +2,7 @@ use Rattle.std.proofs.Common.{◌≡◌, ◌<◌, OnErr, length, get_or, ap, sym
 use Rattle.std.proofs.lemmas.List.{length-set}
 use Rattle.std.proofs.lemmas.Result.{err_from_is_err_and}
 use Rattle.kmc_store.specs.Lemmas.Places.{Bytes, set_keeps, left_more, room_more}
-use Rattle.kmc_store.specs.Growing.{HasRoom, HaveRoom}
+use Rattle.kmc_store.specs.Growing.{HasRoomForBodies, HaveRoom}
 use Rattle.kmc_store.proofs.growth.make_room.Goals as goal
 
 pub returns-in_err-make_room_for-clause-kept : goal.returns-in_err-make_room_for-clause-kept
@@ -35,6 +35,6 @@ returns-in_err-make_room_for-clause-full c =
     let inside : i < length start = omega (arith, c.loop-i-test.true, c.requires) in
     let full : ¬ (HaveRoom start c.args.more.now) =
     λ have. c.in_err-make_room_for.ensures.full
-    (subst (λ (z : Bytes). HasRoom z (length c.deref.result.now)) (sym own_is) (subst (HasRoom (get_or start i x)) (sym size_is) (have i x w inside))) in
+    (subst (λ (z : Bytes). HasRoomForBodies z (length c.deref.result.now)) (sym own_is) (subst (HasRoomForBodies (get_or start i x)) (sym size_is) (have i x w inside))) in
     let made = err_from_is_err_and c.from_residual.result c.from_residual.ensures.1 in
     subst (λ r. OnErr r (¬ (HaveRoom start c.args.more.now))) (sym made.1) full

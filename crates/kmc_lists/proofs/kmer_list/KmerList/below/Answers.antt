@@ -2,7 +2,7 @@ use Rattle.std.proofs.Common.{◌/◌, ◌<◌, ◌^◌, length, map, nat_lt, ap
 use Rattle.std.proofs.lemmas.Nat.{pow_pos}
 use Rattle.std.proofs.lemmas.List.Sorted.{IsPartitionPoint-from_clause, IsPartitionedBy-ltb}
 use Rattle.kmc_lists.specs.Listed.{Listed}
-use Rattle.kmc_lists.specs.Ordered.{Climbs, IsCut}
+use Rattle.kmc_lists.specs.Ordered.{Climbs, IsCutOfList}
 use Rattle.kmc_lists.proofs.Cuts.{slots_climb, cut}
 use Rattle.kmc_lists.proofs.kmer_list.KmerList.below.Goals as goal
 
@@ -20,6 +20,6 @@ returns g c =
     let here = sym c.deref.ensures.value in
     let point = IsPartitionPoint-from_clause (λ x. nat_lt (num x / w) slot) _ _ c.partition_point.ensures.partitioned (rw here at parted)
     (λ a r q k. search rules) in
-    subst (λ (v : Listed). IsCut w slot c.partition_point.result v.packed) c.self.view_is
+    subst (λ (v : Listed). IsCutOfList w slot c.partition_point.result v.packed) c.self.view_is
     (cut num w pos ws cs long slot c.partition_point.result (omega (arith, c.partition_point.ensures.bound, ap length c.deref.ensures.value))
     (rw c.deref.ensures.value at point))

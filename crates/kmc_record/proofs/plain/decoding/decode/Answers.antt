@@ -9,7 +9,7 @@ use Rattle.std.specs.Result.{IsErrAnd}
 use Rattle.kmc_record.specs.Refusals.{BeginsRecord}
 use Rattle.kmc_base.specs.Lemmas.Spelled.{bytes_each}
 use Rattle.kmc_base.specs.Lemmas.Whole.{first_codes, first_spelled, first_read, same_codes}
-use Rattle.kmc_record.specs.DecodingRefusals.{IsRefused}
+use Rattle.kmc_record.specs.DecodingRefusals.{IsRefusedRecord}
 use Rattle.kmc_record.specs.declared.plain.decoding.RecordError.{RecordError}
 use Rattle.kmc_record.specs.declared.plain.decoding.RecordError.TheVariants.{Memory}
 use Rattle.kmc_record.proofs.plain.decoding.decode.Goals as goal
@@ -26,9 +26,9 @@ spelled_super_kmer k w some limit h = record {
 
 -- memory was refused where a record stands
 no_memory : {A : Type 0} (k : ℕ) (bytes : List ℕ) (r : Result A RecordError) → IsErrAnd r (λ e. e ≡ Memory) → BeginsRecord k bytes → IfErr r
-    (λ e. IsRefused k e bytes)
+    (λ e. IsRefusedRecord k e bytes)
 no_memory k bytes (Ok x) h b = absurd h
-no_memory k bytes (Err e) h b = subst (λ e. IsRefused k e bytes) (sym h) b
+no_memory k bytes (Err e) h b = subst (λ e. IsRefusedRecord k e bytes) (sym h) b
 
 pub returns-in_err-codes-clause-refused : goal.returns-in_err-codes-clause-refused
 returns-in_err-codes-clause-refused c =
