@@ -7,13 +7,13 @@ use Rattle.std.proofs.lemmas.Bool.{cases_eq, cases_lt, eq-eqb, ne_eqb, lt-ltb, l
 use Rattle.std.proofs.lemmas.Grind.{flat_map-append}
 use Rattle.std.proofs.lemmas.List.{append-nil, length-take-le, get_or-set_same, get_or-set_other, length-map, get_or-map, map-set}
 use Rattle.std.proofs.Math.Seq.{take-add, map-set_same}
-use Rattle.kmc_device.specs.Device.{Watched, AppendsFront, RisesByOne}
+use Rattle.kmc_device.specs.Device.{Watched, AppendsFront, RisesByOne, HasFailed}
 use Rattle.kmc_device.specs.Lemmas.Devices.{front_after, front_of}
 use Rattle.kmc_record.specs.Parts.{capped}
 use Rattle.kmc_store.specs.Bins.{body_at}
 use Rattle.kmc_slice_files.specs.Frames.{Frame, frame, AreFrames, frame_bytes, frames_bytes, body_of}
 use Rattle.kmc_slice_files.specs.Lemmas.Rounds.{frames_more, body_more}
-use Rattle.kmc_slice_files.specs.Writes.{AreOfBin, joined_bodies, IsBinWritten, IsBinBegun, held_at, AreFramed, AreBegun, HasFailed}
+use Rattle.kmc_slice_files.specs.Writes.{AreOfBin, joined_bodies, IsBinWritten, IsBinBegun, held_at, AreFramed, AreBegun}
 
 pub of_bin_more : (b : ℕ) (fs gs : List Frame) → AreOfBin b fs → AreOfBin b gs → AreOfBin b (fs ++ gs)
 of_bin_more b [] gs of more = more
@@ -256,6 +256,9 @@ module _ {T : Type 0} (hold : Watched T → Option (List ℕ)) (writers : List (
           inside = omega (arith, size, inside, ap length e);
           rises = subst (λ m. RisesByOne m (get_or (map (λ (w : Watched T). w.failures) (set writers s new)) s 0)) (sym old)
               (subst (RisesByOne was_here.failures) (sym now) rises);
+          others = λ other apart. ap (λ (l : List ℕ). get_or l other 0) (map-set (λ (w : Watched T). w.failures) writers s new)
+              ∙ get_or-set_other (map (λ (w : Watched T). w.failures) writers) s other new.failures 0 apart
+              ∙ ap (λ (l : List ℕ). get_or l other 0) e;
         }
 
     module _ (n S b : ℕ) (bodies : List (List ℕ)) (olds : List (Option (List ℕ))) (counts counted : List ℕ)

@@ -2,7 +2,7 @@
 use Rattle.std.specs.Prelude.{◌≡◌, ℕ, ◌+◌, ◌%◌, ◌<◌, ◌≤◌, if◌then◌else◌, nat_lt, nat_eq, List, [], ◌++◌, length, slice_index, slice_index_or, Option, None}
 use Rattle.std.specs.List.{AllByRecursion, flat_map}
 use Rattle.std.specs.Io.KnownBytes.{Appends}
-use Rattle.kmc_device.specs.Device.{AppendsFront, RisesByOne}
+use Rattle.kmc_device.specs.Device.{AppendsFront}
 use Rattle.kmc_record.specs.Parts.{capped}
 use Rattle.kmc_record.specs.Shapes.{Sizes}
 use Rattle.kmc_store.specs.Bins.{body_at}
@@ -54,11 +54,6 @@ pub record AreBegun (n S : ℕ) (olds news : List (Option (List ℕ))) : Type 0 
   pub fs : ℕ → List Frame
   pub frames : (s : ℕ) → s < S → AreFrames n S s (fs s)
   pub written : (s : ℕ) → s < S → AppendsFront (held_at olds s) (held_at news s) (frames_bytes (fs s))
-
--- of the writers' numbers of failures that of this one rises by one
-pub record HasFailed (s : ℕ) (olds news : List ℕ) : Type 0 where
-  pub inside : s < length olds
-  pub rises : RisesByOne (slice_index olds s) (slice_index news s)
 
 -- each of S writers got its text
 abbrev pub EachGot : (ℕ → List ℕ) → ℕ → List (Option (List ℕ)) → List (Option (List ℕ)) → Type 0

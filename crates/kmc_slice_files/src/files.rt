@@ -1,10 +1,10 @@
 //! The files of all slices: begun, ended, or written whole.
 ghost use Rattle.std.specs.Prelude.{◌≡◌, ℕ, ◌-◌, ◌^◌, ◌<◌, ◌≤◌, length, map, OnOk, OnErr, IfErr, slice_index};
 ghost use Rattle.std.specs.Io.KnownBytes.{Appends};
-ghost use Rattle.kmc_device.specs.Device.{AppendsFront, RisesByOne};
+ghost use Rattle.kmc_device.specs.Device.{AppendsFront, RisesByOne, HasFailed};
 ghost use Rattle.kmc_slice_files.specs.Files.{header_bytes};
 ghost use Rattle.kmc_slice_files.specs.Frames.{end_bytes};
-ghost use Rattle.kmc_slice_files.specs.Writes.{EachGot, EachBegan, AreFiles, HasFailed};
+ghost use Rattle.kmc_slice_files.specs.Writes.{EachGot, EachBegan, AreFiles};
 
 use crate::frame::write_end;
 use crate::header::{Slicing, write_header};

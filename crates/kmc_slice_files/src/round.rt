@@ -1,6 +1,7 @@
 //! Bins on the writers of their slices.
 ghost use Rattle.std.specs.Prelude.{◌≡◌, ℕ, ◌-◌, ◌^◌, ◌<◌, ◌≤◌, length, map, OnOk, OnErr, IfErr, slice_index};
-ghost use Rattle.kmc_slice_files.specs.Writes.{AreFramed, AreBegun, HasFailed};
+ghost use Rattle.kmc_slice_files.specs.Writes.{AreFramed, AreBegun};
+ghost use Rattle.kmc_device.specs.Device.{HasFailed};
 
 use crate::frame::write_bin;
 use kmc_device::Counted;

@@ -1,7 +1,7 @@
 -- Reads cut to the files of slices.
 use Rattle.std.specs.Prelude.{◌≡◌, ◌⊎◌, ℕ, ◌+◌, ◌-◌, ◌<◌, ◌≤◌, List, [], length, map, Option, None, Result, Ok, Err, IfErr, OnOk}
 use Rattle.std.specs.Io.KnownBytes.{Consumes}
-use Rattle.kmc_device.specs.Device.{AppendsFront, GaveAll, Watched}
+use Rattle.kmc_device.specs.Device.{AppendsFront, GaveAll, Watched, HasFailed}
 use Rattle.kmc_reads.specs.declared.format.Format.{Format}
 use Rattle.kmc_reads.specs.Cuts.{AreCut}
 use Rattle.kmc_reads.specs.Reads.{reads_of}
@@ -11,7 +11,7 @@ use Rattle.kmc_options.specs.declared.run_params.Params.{Params}
 use Rattle.kmc_options.specs.Shape.{shape_of}
 use Rattle.kmc_store.specs.Bins.{AreBins}
 use Rattle.kmc_slice_files.specs.Files.{IsSliceFile}
-use Rattle.kmc_slice_files.specs.Writes.{AreFiles, HasFailed, held_at}
+use Rattle.kmc_slice_files.specs.Writes.{AreFiles, held_at}
 use Rattle.kmc_reads.specs.declared.input_error.InputError.{InputError}
 use Rattle.kmc_reads.specs.declared.input_error.InputError.TheVariants as input
 use Rattle.kmc_stage_one.specs.Fed.{IsRefused}

@@ -1,6 +1,6 @@
 //! The bins of a round as frames behind those of the rounds before.
 ghost use Rattle.std.specs.Prelude.{◌≡◌, ℕ, ◌-◌, ◌^◌, ◌<◌, ◌≤◌, List, ◌++◌, length, map, slice_index, Option, OnOk, OnErr, IfErr};
-ghost use Rattle.kmc_slice_files.specs.Writes.{HasFailed};
+ghost use Rattle.kmc_device.specs.Device.{HasFailed};
 ghost use Rattle.kmc_slices.specs.Rounds.{AreRounds, AreUnended};
 ghost use Rattle.kmc_stage_one.specs.Rounds.{HoldsPieces};
 

@@ -3,13 +3,13 @@ use Rattle.std.proofs.Common.{◌≡◌, ◌≢◌, ℕ, ◌+◌, ◌*◌, ◌-�
 use Rattle.std.proofs.lemmas.Bool.{cases_eq}
 use Rattle.std.proofs.lemmas.List.{get_or-set_other, get_or-set_same, length-set, length-map, get_or-map, map-set}
 use Rattle.std.proofs.Math.Seq.{map-set_same}
-use Rattle.kmc_sum.specs.Refusals.{BeginsWith, HasFailed, IsFirstLineFault, IsReadBefore}
+use Rattle.kmc_sum.specs.Refusals.{BeginsWith, IsFirstLineFault, IsReadBefore}
 use Rattle.kmc_sum.specs.declared.heads.Head.{Head}
 use Rattle.kmc_sum.specs.declared.source.Room.{Room}
 use Rattle.kmc_sum.specs.Heads.{rank, no_head, head_at, pending, IsWinner, IsTree}
 use Rattle.kmc_sum.specs.Source.{unread, IsRoom}
 use Rattle.kmc_lists.specs.Line.{text_of}
-use Rattle.kmc_device.specs.Device.{Watched, RisesByOne}
+use Rattle.kmc_device.specs.Device.{Watched, RisesByOne, HasFailed}
 use Rattle.kmc_sum.specs.Faults.{GaveFront, IsFaultAt}
 use Rattle.kmc_sum.specs.declared.error.LineFault.{LineFault}
 use Rattle.kmc_sum.specs.declared.error.LineFault.TheVariants.{OtherLength}
@@ -259,6 +259,8 @@ module _ {T : Type 0} (readers : List (Watched T)) (s : ℕ) (result reader : Wa
         inside = omega (arith, is, inside, length-map readers (λ (w : Watched T). w.failures));
         rises = subst (λ m. RisesByOne m (get_or (failures_of (set readers s reader)) source 0)) (sym old)
             (subst (λ m. RisesByOne (get_or readers s result).failures m) (sym new) h);
+        others = λ other apart. ap (λ l. get_or l other 0) (map-set (λ (w : Watched T). w.failures) readers s reader)
+            ∙ get_or-set_other (failures_of readers) s other reader.failures 0 (λ same. apart (same ∙ sym is));
       }
 
   pub kept_at : reader.failures ≡ (get_or readers s result).failures → failures_of (set readers s reader) ≡ failures_of readers

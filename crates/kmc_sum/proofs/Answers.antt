@@ -3,10 +3,10 @@ use Rattle.std.proofs.Common.{◌≡◌, ℕ, List, Option, Result, Ok, Err, ref
 use Rattle.std.specs.Result.{IsErrAnd}
 use Rattle.std.specs.Prelude.{IfErr}
 use Rattle.kmc_count.specs.declared.limits.Limits.{Limits}
-use Rattle.kmc_device.specs.Device.{Watched}
+use Rattle.kmc_device.specs.Device.{Watched, HasFailed}
 use Rattle.kmc_device.specs.Lemmas.Devices.{on_ok_then}
 use Rattle.kmc_sum.specs.Answer.{IsCause, IsMergeAnswer}
-use Rattle.kmc_sum.specs.Refusals.{HasFailed, IsFaultOf, IsFirstLineFault}
+use Rattle.kmc_sum.specs.Refusals.{IsFaultOf, IsFirstLineFault}
 use Rattle.kmc_sum.specs.Sources.{failures_of, lefts_of}
 use Rattle.kmc_sum.specs.State.{IsBegun}
 use Rattle.kmc_sum.specs.declared.error.LineFault.{LineFault}

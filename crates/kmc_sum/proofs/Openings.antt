@@ -13,7 +13,8 @@ use Rattle.kmc_sum.specs.Heads.{no_head, head_at, pending}
 use Rattle.kmc_sum.specs.Source.{unread, IsRoom, GoesOn, IsEnough}
 use Rattle.kmc_sum.specs.Sources.{IsSource, IsFresh, Agrees, AreReady, AreSources, AreOpened, GaveFronts, left_at, list_at, no_lists}
 use Rattle.kmc_sum.specs.Sum.{sum_of, listed_count}
-use Rattle.kmc_sum.specs.Refusals.{BeginsWith, HasFailed, IsFaultOf, IsFirstLineFault, IsReadBefore}
+use Rattle.kmc_sum.specs.Refusals.{BeginsWith, IsFaultOf, IsFirstLineFault, IsReadBefore}
+use Rattle.kmc_device.specs.Device.{HasFailed}
 use Rattle.kmc_sum.specs.declared.error.LineFault.{LineFault}
 use Rattle.kmc_sum.specs.declared.error.LineFault.TheVariants.{OtherLength}
 use Rattle.kmc_sum.specs.declared.error.SourceFault.{SourceFault}

@@ -1,7 +1,7 @@
 -- The causes of refusals.
 use Rattle.std.specs.Prelude.{◌≡◌, ◌≤◌, ◌-◌, ◌^◌, ℕ, ◌<◌, ◌⊎◌, List, [], ◌∷◌, length, slice_index_or, Option}
 use Rattle.std.specs.List.{sum_by}
-use Rattle.kmc_device.specs.Device.{RisesByOne}
+use Rattle.kmc_device.specs.Device.{HasFailed}
 use Rattle.kmc_sum.specs.Sources.{left_at, GaveFronts}
 use Rattle.kmc_sum.specs.Faults.{GaveFront, IsFaultAt}
 use Rattle.kmc_sum.specs.declared.error.LineFault.{LineFault}
@@ -27,11 +27,6 @@ pub record IsFirstLineFault (k : ℕ) (starts nows : List (Option (List ℕ))) (
   pub inside : source < length starts
   pub first : IsFaultAt k (left_at starts source) (left_at nows source) line fault
   pub length_read : fault ≡ OtherLength → IsReadBefore k starts nows source line
-
--- of the readers' numbers of failures that of this source rises by one
-pub record HasFailed (source : ℕ) (olds news : List ℕ) : Type 0 where
-  pub inside : source < length olds
-  pub rises : RisesByOne (slice_index_or olds source 0) (slice_index_or news source 0)
 
 -- the readers gave the lines of these pairs first, more of them than are counted
 pub record HaveTooMany (k : ℕ) (starts nows : List (Option (List ℕ))) : Type 0 where
