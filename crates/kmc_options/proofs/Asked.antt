@@ -1,7 +1,7 @@
 -- What is asked for is asked for once.
 use Rattle.std.proofs.Common.{◌≡◌, List, [], ◌∷◌, Some, sym, subst, ◌∙◌}
 use Rattle.std.specs.List.{filter}
-use Rattle.kmc_options.specs.Words.{PackedKmer}
+use Rattle.kmc_options.specs.Words.{Word}
 use Rattle.kmc_options.specs.declared.run_params.Params.{Params}
 use Rattle.kmc_options.specs.CommandLine.{found}
 use Rattle.kmc_options.specs.Options.{AreGiven}
@@ -17,7 +17,7 @@ same_some : {X : Type 0} (x y : X) → Some x ≡ Some y → x ≡ y
 same_some x y is = cc is
 
 -- the word that gives the slices and the bins that are given leave no choice
-pub slices_asked : (words : List PackedKmer) (r : CutRequest) (word : PackedKmer) (p : Params) → filter is_slices (joined words) ≡ word ∷ [] → AreGiven
+pub slices_asked : (words : List Word) (r : CutRequest) (word : Word) (p : Params) → filter is_slices (joined words) ≡ word ∷ [] → AreGiven
     (found (options_of words)) p → IsCutRequest words r → IsNumberOfSlices word p.n r.slices
 slices_asked words r word p one given is =
     let same = same_first is.word word (sym is.slices_word ∙ one) in

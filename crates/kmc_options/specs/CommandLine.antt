@@ -12,7 +12,7 @@ use Rattle.kmc_base.specs.declared.strands.Strands.{Strands}
 use Rattle.kmc_base.specs.declared.strands.Strands.TheVariants.{Apart, Joined}
 use Rattle.kmc_reads.specs.declared.format.Format.{Format}
 use Rattle.kmc_reads.specs.declared.format.Format.TheVariants.{Fasta, Fastq}
-use Rattle.kmc_options.specs.Words.{PackedKmer}
+use Rattle.kmc_options.specs.Words.{Word}
 use Rattle.kmc_options.specs.Names.{flag_name, flags, name_of, settings}
 use Rattle.kmc_options.specs.Settings.{bounds_of, chosen}
 use Rattle.kmc_options.specs.declared.named.Flag.{Flag}
@@ -58,11 +58,11 @@ command = record {
 }
 
 -- `clap` finds no fault with the words
-unfoldable pub is_accepted : List PackedKmer → Bool
+unfoldable pub is_accepted : List Word → Bool
 is_accepted words = length (fault_of command words) == 0
 
 -- what `clap` finds in words that it accepts
-unfoldable pub found : List PackedKmer → List Row
+unfoldable pub found : List Word → List Row
 found words = matches_of command words
 
 -- ---- what stands for a flag and an option
@@ -71,7 +71,7 @@ found words = matches_of command words
 abbrev pub is_set : List Row → Flag → Bool
 is_set rows f = option_map_or (bytes_eq (codes "true")) (first_of (flag_name f) rows) false
 
-abbrev pub given_text : List Row → Setting → Option PackedKmer
+abbrev pub given_text : List Row → Setting → Option Word
 given_text rows s = first_of (name_of s) rows
 
 -- the number of an option; none where what is given for it is out of range

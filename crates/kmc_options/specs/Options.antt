@@ -2,7 +2,7 @@
 use Rattle.std.specs.Prelude.{◌≡◌, ◌&&◌, Bool, true, false, not, List, Option, Some, None, find, is_some}
 use Rattle.clap.specs.Walk.{Row}
 use Rattle.kmc_options.specs.CommandLine.{format_of, found, is_accepted, strands_of, value_of}
-use Rattle.kmc_options.specs.Words.{PackedKmer}
+use Rattle.kmc_options.specs.Words.{Word}
 use Rattle.kmc_options.specs.Names.{settings}
 use Rattle.kmc_options.specs.declared.error.ParamsError.{ParamsError}
 use Rattle.kmc_options.specs.declared.error.ParamsError.TheVariants.{Memory, OutOfRange, Usage}
@@ -11,7 +11,7 @@ use Rattle.kmc_options.specs.declared.setting.Setting.{Setting}
 use Rattle.kmc_options.specs.declared.setting.Setting.TheVariants.{K, P, N, Ci, Cx, Cs, Sp, Sr}
 
 -- `clap` accepts the words, and at most one format flag stands among them
-abbrev pub is_taken : List PackedKmer → Bool
+abbrev pub is_taken : List Word → Bool
 is_taken words = is_accepted words && is_some (format_of (found words))
 
 -- the first option, in the order of `settings`, whose value is out of range
@@ -43,7 +43,7 @@ Faults rows (OutOfRange s) =
 Faults rows Memory = ⊥
 
 -- why the words give no settings; want of memory says nothing of them
-abbrev pub Explains : List PackedKmer → ParamsError → Type 0
+abbrev pub Explains : List Word → ParamsError → Type 0
 Explains words Usage = is_taken words ≡ false
 Explains words (OutOfRange s) =
     (is_taken words ≡ true) × (first_out_of_range (found words) ≡ Some s)

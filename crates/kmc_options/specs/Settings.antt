@@ -1,6 +1,6 @@
 -- Which numbers the settings of a run may have, and which one a word gives.
 use Rattle.std.specs.Prelude.{◌&&◌, ℕ, ◌≤◌, ◌^◌, Option, Some, None, if◌then◌else◌, nat_le, option_and_then}
-use Rattle.kmc_options.specs.Words.{PackedKmer, number_of}
+use Rattle.kmc_options.specs.Words.{Word, number_of}
 use Rattle.kmc_options.specs.declared.setting.Bounds.{Bounds}
 use Rattle.kmc_options.specs.declared.setting.Setting.{Setting}
 use Rattle.kmc_options.specs.declared.setting.Setting.TheVariants.{K, P, N, Ci, Cx, Cs, Sp, Sr}
@@ -25,6 +25,6 @@ abbrev pub within : Bounds → ℕ → Option ℕ
 within b n = if nat_le b.least n && nat_le n b.most then Some n else None
 
 -- the number that a text gives, where it is one and in range, and the default where there is no text
-abbrev pub chosen : Bounds → Option PackedKmer → Option ℕ
+abbrev pub chosen : Bounds → Option Word → Option ℕ
 chosen b None = Some b.default
 chosen b (Some text) = option_and_then (within b) (number_of text)

@@ -2,7 +2,7 @@
 use Rattle.std.proofs.Common.{◌≡◌, ℕ, List, Result, Ok, Err, inl, inr, refl, sym, subst, arith}
 use Rattle.std.specs.Result.{IsErrAnd}
 use Rattle.std.specs.Prelude.{IfErr, OnOk}
-use Rattle.kmc_options.specs.Words.{PackedKmer}
+use Rattle.kmc_options.specs.Words.{Word}
 use Rattle.kmc_options.specs.declared.setting.Setting.{Setting}
 use Rattle.kmc_options.specs.Requests.{AsksForCut, AsksForList, IsCutRequest, IsOutOfRange}
 use Rattle.kmc_options.specs.declared.slices.cutting.CutRequest.{CutRequest}
@@ -17,13 +17,13 @@ use Rattle.kmc_slices.specs.declared.programs.cut_fault.CutFault.TheVariants.{Re
 use Rattle.kmc_slices.specs.declared.programs.list_fault.ListFault.{ListFault}
 use Rattle.kmc_slices.specs.declared.programs.list_fault.ListFault.TheVariants as list_fault
 
-pub asks_for_nothing : (words : List PackedKmer) (e : ListRequestError) → (e ≡ list.Usage → AsksForList words → ⊥)
+pub asks_for_nothing : (words : List Word) (e : ListRequestError) → (e ≡ list.Usage → AsksForList words → ⊥)
     → ((s : Setting) → e ≡ list.OutOfRange s → IsOutOfRange words s) → listing.status_of (list_fault.Request e) ≡ 2 → listing.AsksForNothing words
 asks_for_nothing words list.Usage usage range is = inl (usage refl)
 asks_for_nothing words (list.OutOfRange s) usage range is = inr (s, range s refl)
 asks_for_nothing words list.Memory usage range is = absurd (omega (arith, is))
 
-pub asks_for_no_cut : (words : List PackedKmer) (e : CutRequestError) → (e ≡ cut.Usage → AsksForCut words → ⊥)
+pub asks_for_no_cut : (words : List Word) (e : CutRequestError) → (e ≡ cut.Usage → AsksForCut words → ⊥)
     → ((s : Setting) → e ≡ cut.OutOfRange s → IsOutOfRange words s) → (e ≡ cut.Slices → (r : CutRequest) → IsCutRequest words r → ⊥)
     → cutting.status_of (Request e) ≡ 2 → cutting.AsksForNoCut words
 asks_for_no_cut words cut.Usage usage range slices is = inl (usage refl)

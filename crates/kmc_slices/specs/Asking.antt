@@ -4,18 +4,18 @@ use Rattle.std.specs.Io.KnownBytes.{Appends}
 use Rattle.std.specs.List.{list_any}
 use Rattle.std.specs.Str.{bytes_eq}
 use Rattle.kmc_device.specs.Device.{AppendsFront, RisesByOne, Watched}
-use Rattle.kmc_options.specs.Words.{PackedKmer}
+use Rattle.kmc_options.specs.Words.{Word}
 use Rattle.kmc_slices.specs.declared.programs.asking.TheConstants.{VERSION}
 
-abbrev pub has_word : PackedKmer → List PackedKmer → Bool
+abbrev pub has_word : Word → List Word → Bool
 has_word word words = list_any (λ other. bytes_eq other word) words
 
 -- help or the version is asked for
-abbrev pub is_asked : List PackedKmer → Bool
+abbrev pub is_asked : List Word → Bool
 is_asked words = has_word (codes "--help") words || has_word (codes "--version") words
 
 -- the text that is asked for: help before the version
-abbrev pub text_asked : List ℕ → List PackedKmer → List ℕ
+abbrev pub text_asked : List ℕ → List Word → List ℕ
 text_asked help words = cond (has_word (codes "--help") words) help VERSION.now
 
 -- the text was written, and no call of the device failed

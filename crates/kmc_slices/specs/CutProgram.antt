@@ -4,7 +4,7 @@ use Rattle.kmc_device.specs.Device.{Watched}
 use Rattle.kmc_options.specs.declared.run_params.Params.{Params}
 use Rattle.kmc_options.specs.declared.setting.Setting.{Setting}
 use Rattle.kmc_options.specs.Shape.{shape_of}
-use Rattle.kmc_options.specs.Words.{PackedKmer}
+use Rattle.kmc_options.specs.Words.{Word}
 use Rattle.kmc_stage_one.specs.declared.settings.TheConstants.{PIECE_SYMBOLS}
 use Rattle.kmc_slice_files.specs.Opening.{IsCreateFault}
 use Rattle.kmc_options.specs.Requests.{AsksForCut, IsCutRequest, IsOutOfRange}
@@ -41,12 +41,12 @@ IsCutFault remaining params S reader read (NotMade e) = IsCreateFault S e × (re
 IsCutFault remaining params S reader read (Cut e) = IsUncut remaining params S reader read e
 
 -- why the words' reads were not cut: memory was refused before they were understood, and nothing was read; or the cut failed
-abbrev pub FailsToCut : {R : Type 0} → (R → Option (List ℕ)) → List PackedKmer → Watched R → Watched R → Type 0
+abbrev pub FailsToCut : {R : Type 0} → (R → Option (List ℕ)) → List Word → Watched R → Watched R → Type 0
 FailsToCut remaining words reader read =
     (read ≡ reader) ⊎ ((r : CutRequest) × IsCutRequest words r × (fault : CutFault) × IsCutFault remaining r.params r.slices reader read fault)
 
 -- the words ask for no cut: they are no usage, an option is out of its range, or the number of slices is
-abbrev pub AsksForNoCut : List PackedKmer → Type 0
+abbrev pub AsksForNoCut : List Word → Type 0
 AsksForNoCut words = (AsksForCut words → ⊥) ⊎ (((s : Setting) × IsOutOfRange words s) ⊎ ((r : CutRequest) → IsCutRequest words r → ⊥))
 
 -- 2 where the command line is at fault, and else 1

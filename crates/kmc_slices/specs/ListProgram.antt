@@ -5,7 +5,7 @@ use Rattle.kmc_device.specs.Device.{AppendsFront, RisesByOne, Watched}
 use Rattle.kmc_lists.specs.Line.{text_of}
 use Rattle.kmc_options.specs.declared.run_params.Params.{Params}
 use Rattle.kmc_options.specs.declared.setting.Setting.{Setting}
-use Rattle.kmc_options.specs.Words.{PackedKmer}
+use Rattle.kmc_options.specs.Words.{Word}
 use Rattle.kmc_store.specs.Bins.{AreBins}
 use Rattle.kmc_slices.specs.Outside.{IsBinFault}
 use Rattle.kmc_stage_two.specs.Stages.{IsDumpOfBins}
@@ -86,13 +86,13 @@ IsListFault n params contents writer written fault =
     (IsOfFiles n fault × (written ≡ writer)) ⊎ ((e : ListError) × (fault ≡ Dump e) × IsUnlisted n params contents writer written e)
 
 -- why the words' files were not listed: memory was refused before they were understood, and nothing was written; or the listing failed
-abbrev pub FailsToList : {W : Type 0} → (W → Option (List ℕ)) → List PackedKmer → Watched W → Watched W → Type 0
+abbrev pub FailsToList : {W : Type 0} → (W → Option (List ℕ)) → List Word → Watched W → Watched W → Type 0
 FailsToList contents words writer written =
     (written ≡ writer) ⊎ ((r : ListRequest) × IsListRequest words r × (fault : ListFault)
     × IsListFault (length r.files.items) r.params contents writer written fault)
 
 -- the words ask for nothing: they are no usage, or an option is out of its range
-abbrev pub AsksForNothing : List PackedKmer → Type 0
+abbrev pub AsksForNothing : List Word → Type 0
 AsksForNothing words = (AsksForList words → ⊥) ⊎ ((s : Setting) × IsOutOfRange words s)
 
 -- 2 where the command line is at fault, and else 1

@@ -3,7 +3,7 @@ use Rattle.std.specs.Prelude.{ℕ, List, ◌++◌, codes, decimal}
 use Rattle.kmc_reads.specs.Messages.{text_of_reads_error}
 use Rattle.kmc_record.specs.declared.part_error.PartError.{PartError}
 use Rattle.kmc_record.specs.declared.part_error.PartError.TheVariants.{Damaged, WrongBin, Memory as NoMemory}
-use Rattle.kmc_options.specs.Words.{PackedKmer, name_at}
+use Rattle.kmc_options.specs.Words.{Word, name_at}
 use Rattle.kmc_slices.specs.declared.judging.BinFault.{BinFault}
 use Rattle.kmc_slice_files.specs.Messages.{text_of_slice_fault}
 use Rattle.kmc_slice_files.specs.declared.opening.CreateFault.TheVariants as create
@@ -27,7 +27,7 @@ abbrev pub text_of_bin_fault : BinFault → List ℕ
 text_of_bin_fault e = text_of_part_error e.bin e.why
 
 -- the reads were not cut to the files that begin with the prefix
-abbrev pub text_of_cut_error : PackedKmer → CutError → List ℕ
+abbrev pub text_of_cut_error : Word → CutError → List ℕ
 text_of_cut_error prefix cut.Memory = codes "kmc_cut: out of memory"
 text_of_cut_error prefix cut.Read = codes "kmc_cut: read failed"
 text_of_cut_error prefix (cut.Write s) = codes "kmc_cut: " ++ prefix ++ codes "." ++ decimal s ++ codes ": cannot be written"
@@ -35,7 +35,7 @@ text_of_cut_error prefix (cut.Input e) = codes "kmc_cut: " ++ text_of_reads_erro
 text_of_cut_error prefix cut.TooLong = codes "kmc_cut: input too long"
 
 -- the line that tells of a fault of the cutting: `kmc_cut: a.3: cannot be written`
-abbrev pub message_of_cut : PackedKmer → CutFault → List ℕ
+abbrev pub message_of_cut : Word → CutFault → List ℕ
 message_of_cut prefix (Request e) = text_of_no_cut e
 message_of_cut prefix (NotMade (create.File s)) =
     codes "kmc_cut: " ++ prefix ++ codes "." ++ decimal s ++ codes ": cannot be made; one that is there is written over with --force alone"
@@ -43,7 +43,7 @@ message_of_cut prefix (NotMade create.Memory) = codes "kmc_cut: out of memory"
 message_of_cut prefix (Cut e) = text_of_cut_error prefix e
 
 -- the line that tells of a fault of the listing: `kmc_list: a.3: behind frame 12, at byte 40960: the file was cut short`
-abbrev pub message_of_list : List PackedKmer → ListFault → List ℕ
+abbrev pub message_of_list : List Word → ListFault → List ℕ
 message_of_list files (ListRequest e) = text_of_no_list e
 message_of_list files (NotOpened i) = codes "kmc_list: " ++ name_at files i ++ codes ": cannot be opened"
 message_of_list files (File i e) = codes "kmc_list: " ++ name_at files i ++ codes ": " ++ text_of_slice_fault e

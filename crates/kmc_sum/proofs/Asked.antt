@@ -1,14 +1,14 @@
 -- What was asked for, and what was read for it.
 use Rattle.std.proofs.Common.{◌≡◌, ℕ, List, length, map, Option, sym, ◌∙◌}
 use Rattle.std.proofs.lemmas.List.{length-map}
-use Rattle.kmc_options.specs.Words.{PackedKmer}
+use Rattle.kmc_options.specs.Words.{Word}
 use Rattle.kmc_count.specs.declared.limits.Limits.{Limits}
 use Rattle.kmc_sum.specs.Request.{IsRequest}
 use Rattle.kmc_sum.specs.Program.{AreRead}
 use Rattle.kmc_sum.specs.Numbers.{most_sources}
 
 -- as many readers as files
-abbrev pub are_read : {F : Type 0} (words : List PackedKmer) (limits : Limits) (name : F → PackedKmer) (files : List F) → IsRequest most_sources words limits
+abbrev pub are_read : {F : Type 0} (words : List Word) (limits : Limits) (name : F → Word) (files : List F) → IsRequest most_sources words limits
     (map name files) → (starts nows : List (Option (List ℕ))) → length starts ≡ length files → AreRead words
 are_read words limits name files request starts nows many = record {
   limits = limits;

@@ -1,6 +1,6 @@
 -- What a user is shown of a fault, and the exit status.
 use Rattle.std.specs.Prelude.{ℕ, List, ◌++◌, Result, Ok, Err, codes, decimal}
-use Rattle.kmc_options.specs.Words.{PackedKmer, name_at}
+use Rattle.kmc_options.specs.Words.{Word, name_at}
 use Rattle.kmc_sum.specs.Request.{prefix_of}
 use Rattle.kmc_sum.specs.declared.error.LineFault.{LineFault}
 use Rattle.kmc_sum.specs.declared.error.LineFault.TheVariants.{Malformed, OtherLength, NotRising}
@@ -26,7 +26,7 @@ text_of_request_error Usage = codes "usage: kmc_merge [-ci<n>] [-cx<n>] [-cs<n>]
 text_of_request_error (OutOfRange o) = codes "kmc_merge: value of " ++ prefix_of o ++ codes " is out of range"
 
 -- the line that tells of a fault: `kmc_merge: b.dump: line 4 is no line of a dump`
-abbrev pub message_of : List PackedKmer → Fault → List ℕ
+abbrev pub message_of : List Word → Fault → List ℕ
 message_of files (Request error) = text_of_request_error error
 message_of files (NotOpened source) = codes "kmc_merge: " ++ name_at files source ++ codes ": cannot be opened"
 message_of files (Sum (Source e)) = codes "kmc_merge: " ++ name_at files e.source ++ codes ": " ++ text_of_source_fault e.fault

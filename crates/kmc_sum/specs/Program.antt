@@ -1,6 +1,6 @@
 -- What the words of a command line ask for, and what was written.
 use Rattle.std.specs.Prelude.{◌≡◌, ℕ, List, length, Option}
-use Rattle.kmc_options.specs.Words.{PackedKmer}
+use Rattle.kmc_options.specs.Words.{Word}
 use Rattle.kmc_count.specs.declared.limits.Limits.{Limits}
 use Rattle.kmc_device.specs.Device.{Watched}
 use Rattle.kmc_sum.specs.Answer.{IsCause}
@@ -10,23 +10,23 @@ use Rattle.kmc_sum.specs.Numbers.{most_sources}
 use Rattle.kmc_sum.specs.declared.error.SumError.{SumError}
 
 -- the words ask for the sum of files within limits, and as many readers gave bytes
-pub record AreRead (words : List PackedKmer) : Type 0 where
+pub record AreRead (words : List Word) : Type 0 where
   pub limits : Limits
-  pub files : List PackedKmer
+  pub files : List Word
   pub request : IsRequest most_sources words limits files
   pub starts : List (Option (List ℕ))
   pub nows : List (Option (List ℕ))
   pub each : length starts ≡ length files
 
 -- the dump of the sum of what the readers gave for the words was written
-pub record IsAnswered (words : List PackedKmer) (old new : Option (List ℕ)) : Type 0 where
+pub record IsAnswered (words : List Word) (old new : Option (List ℕ)) : Type 0 where
   pub read : AreRead words
   pub lines : ℕ
   pub written : IsSumWritten read.limits read.starts read.nows lines old new
 
 -- the merge for the words was given up for a cause, by the readers' numbers of failures before and after, and a front of the
 -- dump of the sum of what they gave first was written
-pub record IsGivenUp {W : Type 0} (words : List PackedKmer) (contents : W → Option (List ℕ)) (writer written : Watched W) : Type 0 where
+pub record IsGivenUp {W : Type 0} (words : List Word) (contents : W → Option (List ℕ)) (writer written : Watched W) : Type 0 where
   pub read : AreRead words
   pub olds : List ℕ
   pub news : List ℕ

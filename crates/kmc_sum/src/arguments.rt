@@ -1,7 +1,7 @@
 //! The program: from its arguments to the dump of the sum and the exit status.
 ghost use Rattle.std.specs.Prelude.{◌≡◌, ℕ, ◌-◌, ◌^◌, ◌<◌, ◌≤◌, ◌⊎◌, List, length, map, MatchResult, string_bytes};
 ghost use Rattle.std.specs.Process.{exit_status};
-ghost use Rattle.kmc_options.specs.Words.{PackedKmer};
+ghost use Rattle.kmc_options.specs.Words.{Word};
 ghost use Rattle.kmc_sum.specs.Answer.{IsCause};
 ghost use Rattle.kmc_sum.specs.Request.{Explains};
 ghost use Rattle.kmc_sum.specs.Numbers.{most_sources};
@@ -142,12 +142,12 @@ pub fn program<T: Files + Env + Eprint + Alloc<A = Global>, W: Write>(
     writer: &mut Counted<W>,
 ) -> ExitCode
     requires { writer.old.failures < 2 ^ 64 - 1 }
-    ensures done { exit_status result ≡ 0 → (words : List PackedKmer)
+    ensures done { exit_status result ≡ 0 → (words : List Word)
         × IsAnswered words (W.contents writer.old.inner) (W.contents writer.new.inner)
         × (writer.new.failures ≡ writer.old.failures) }
     ensures misused { exit_status result ≡ 2 → writer.new ≡ writer.old }
     ensures failed { exit_status result ≡ 1 → (writer.new ≡ writer.old)
-        ⊎ ((words : List PackedKmer)
+        ⊎ ((words : List Word)
         × IsGivenUp words W.contents writer.old writer.new) }
     ensures statuses { exit_status result ≤ 2 }
 {

@@ -11,24 +11,24 @@ use Rattle.kmc_options.specs.declared.fault.Fault.{Fault}
 use Rattle.kmc_options.specs.declared.fault.Fault.TheVariants.{Options, Run}
 use Rattle.kmc_tool.specs.Run.{IsDumpOf}
 use Rattle.kmc_options.specs.declared.run_params.Params.{Params}
-use Rattle.kmc_options.specs.Words.{PackedKmer}
+use Rattle.kmc_options.specs.Words.{Word}
 use Rattle.kmc_options.specs.CommandLine.{found}
 use Rattle.kmc_options.specs.Options.{AreGiven, Explains, is_taken}
 use Rattle.kmc_options.specs.declared.error.ParamsError.{ParamsError}
 
 -- the words, in long form, give settings
-pub record IsAsked (words : List PackedKmer) : Type 0 where
+pub record IsAsked (words : List Word) : Type 0 where
   pub taken : is_taken words ≡ true
   pub params : Params
   pub given : AreGiven (found words) params
 
 -- the words, in long form, give settings by which the text is the dump of the bytes, and has so many lines
-pub record IsAnswered (words : List PackedKmer) (bytes text : List ℕ) (lines : ℕ) : Type 0 where
+pub record IsAnswered (words : List Word) (bytes text : List ℕ) (lines : ℕ) : Type 0 where
   pub asked : IsAsked words
   pub dump : IsDumpOf asked.params.format bytes asked.params.strands asked.params.k asked.params.limits text lines
 
 -- a count of what a reader gives by the words, in long form, from the reader to a writer, each before and after, by its answer
-pub record IsCount {R W : Type 0} (words : List PackedKmer) (remaining : R → Option (List ℕ)) (contents : W → Option (List ℕ))
+pub record IsCount {R W : Type 0} (words : List Word) (remaining : R → Option (List ℕ)) (contents : W → Option (List ℕ))
     (reader read : Watched R) (writer written : Watched W) (answer : Result ℕ Fault) : Type 0 where
   -- what was written is the dump that the words ask for, and the answer is its number of lines
   pub ok : IfOk answer (λ lines. (bytes text : List ℕ) × GaveAll (remaining reader.inner) (remaining read.inner) bytes
@@ -51,7 +51,7 @@ pub record IsCount {R W : Type 0} (words : List PackedKmer) (remaining : R → O
   pub kept : IfErr answer (λ e. e ≢ Run Read → read.failures ≡ reader.failures)
 
 -- the dump that the words ask for was written whole, and no device failed
-pub record IsDone {R W : Type 0} (words : List PackedKmer) (remaining : R → Option (List ℕ)) (contents : W → Option (List ℕ))
+pub record IsDone {R W : Type 0} (words : List Word) (remaining : R → Option (List ℕ)) (contents : W → Option (List ℕ))
     (reader read : Watched R) (writer written : Watched W) : Type 0 where
   pub bytes : List ℕ
   pub text : List ℕ
@@ -63,7 +63,7 @@ pub record IsDone {R W : Type 0} (words : List PackedKmer) (remaining : R → Op
   pub writer_sound : written.failures ≡ writer.failures
 
 -- a write failed once, and a front of the dump that the words ask for is out
-pub record LeavesFront {R W : Type 0} (words : List PackedKmer) (remaining : R → Option (List ℕ)) (contents : W → Option (List ℕ))
+pub record LeavesFront {R W : Type 0} (words : List Word) (remaining : R → Option (List ℕ)) (contents : W → Option (List ℕ))
     (reader read : Watched R) (writer written : Watched W) : Type 0 where
   pub bytes : List ℕ
   pub text : List ℕ

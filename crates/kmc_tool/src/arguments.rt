@@ -1,7 +1,7 @@
 //! The program: from its arguments to the dump and the exit status.
 ghost use Rattle.std.specs.Prelude.{◌≡◌, ◌+◌, ◌-◌, ◌^◌, ◌<◌, ◌≤◌, ◌⊎◌, List, map, string_bytes};
 ghost use Rattle.std.specs.Process.{exit_status};
-ghost use Rattle.kmc_options.specs.Words.{PackedKmer};
+ghost use Rattle.kmc_options.specs.Words.{Word};
 ghost use Rattle.kmc_options.specs.Glued.{long_forms};
 ghost use Rattle.kmc_options.specs.Options.{Explains};
 ghost use Rattle.kmc_tool.specs.Program.{IsCount, IsDone, LeavesFront};
@@ -76,10 +76,10 @@ pub fn program<T: Threads + Wait + Sync + Env + Eprint + Alloc<A = Global>, R: R
     requires reader { reader.old.failures < 2 ^ 64 - 1 }
     requires writer { writer.old.failures < 2 ^ 64 - 1 }
     requires reads { reader.old.reads + 2 ^ 32 < 2 ^ 64 }
-    ensures done { exit_status result ≡ 0 → (words : List PackedKmer)
+    ensures done { exit_status result ≡ 0 → (words : List Word)
         × IsDone words R.remaining W.contents reader.old reader.new writer.old writer.new }
     ensures failed { exit_status result ≡ 1 → (writer.new ≡ writer.old)
-        ⊎ ((words : List PackedKmer) × LeavesFront words R.remaining W.contents reader.old reader.new writer.old writer.new) }
+        ⊎ ((words : List Word) × LeavesFront words R.remaining W.contents reader.old reader.new writer.old writer.new) }
     ensures misused { exit_status result ≡ 2 → (reader.new ≡ reader.old)
         × (writer.new ≡ writer.old) }
     ensures statuses { exit_status result ≤ 2 }

@@ -1,7 +1,7 @@
 //! The program that cuts reads into slices.
 ghost use Rattle.std.specs.Prelude.{◌≡◌, ◌≢◌, ◌+◌, ◌-◌, ◌^◌, ◌<◌, ◌≤◌, ◌⊎◌, List, map, string_bytes, true, false, IfErr, OnOk};
 ghost use Rattle.std.specs.Process.{exit_status};
-ghost use Rattle.kmc_options.specs.Words.{PackedKmer};
+ghost use Rattle.kmc_options.specs.Words.{Word};
 ghost use Rattle.kmc_options.specs.Requests.{IsCutRequest};
 ghost use Rattle.kmc_options.specs.declared.slices.cutting.CutRequest.{CutRequest};
 ghost use Rattle.kmc_options.specs.declared.slices.cutting.CutRequestError.{CutRequestError};
@@ -121,13 +121,13 @@ pub fn cut_program<
     requires reader { reader.old.failures < 2 ^ 64 - 1 }
     requires reads { reader.old.reads + 2 ^ 32 < 2 ^ 64 }
     requires writer { writer.old.failures < 2 ^ 64 - 1 }
-    ensures done { exit_status result ≡ 0 → (words : List PackedKmer) × (is_asked words ≡ false
+    ensures done { exit_status result ≡ 0 → (words : List Word) × (is_asked words ≡ false
         → (r : CutRequest) × IsCutRequest words r
         × WroteFiles r.params r.slices (R.remaining reader.old.inner) (R.remaining reader.new.inner)
         × (reader.new.failures ≡ reader.old.failures))
         × (is_asked words ≡ true → Shows W.contents (text_asked HELP.now words) writer.old writer.new) }
     ensures failed { exit_status result ≡ 1 → ((reader.new ≡ reader.old) × (writer.new ≡ writer.old))
-        ⊎ ((words : List PackedKmer)
+        ⊎ ((words : List Word)
         × (is_asked words ≡ false → FailsToCut R.remaining words reader.old reader.new × (writer.new ≡ writer.old))
         × (is_asked words ≡ true → ShowsFront W.contents (text_asked HELP.now words) writer.old writer.new
         × (reader.new ≡ reader.old))) }

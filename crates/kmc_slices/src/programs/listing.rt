@@ -1,7 +1,7 @@
 //! The program that lists a slice.
 ghost use Rattle.std.specs.Prelude.{◌≡◌, ◌≢◌, ◌≤◌, ◌-◌, ◌^◌, ◌<◌, ◌⊎◌, List, length, map, string_bytes, true, false, IfOk, IfErr};
 ghost use Rattle.std.specs.Process.{exit_status};
-ghost use Rattle.kmc_options.specs.Words.{PackedKmer};
+ghost use Rattle.kmc_options.specs.Words.{Word};
 ghost use Rattle.kmc_options.specs.Requests.{IsListRequest};
 ghost use Rattle.kmc_options.specs.declared.slices.listing.ListRequest.{ListRequest};
 ghost use Rattle.kmc_options.specs.declared.slices.listing.ListRequestError.{ListRequestError};
@@ -126,12 +126,12 @@ pub fn list_program<T: Threads + Sync + Files + Env + Eprint + Alloc<A = Global>
     writer: &mut Counted<W>,
 ) -> ExitCode
     requires { writer.old.failures < 2 ^ 64 - 1 }
-    ensures done { exit_status result ≡ 0 → (words : List PackedKmer) × (is_asked words ≡ false
+    ensures done { exit_status result ≡ 0 → (words : List Word) × (is_asked words ≡ false
         → (r : ListRequest) × IsListRequest words r
         × IsListed (length r.files.items) r.params (W.contents writer.old.inner) (W.contents writer.new.inner)
         × (writer.new.failures ≡ writer.old.failures))
         × (is_asked words ≡ true → Shows W.contents (text_asked HELP.now words) writer.old writer.new) }
-    ensures failed { exit_status result ≡ 1 → (writer.new ≡ writer.old) ⊎ ((words : List PackedKmer)
+    ensures failed { exit_status result ≡ 1 → (writer.new ≡ writer.old) ⊎ ((words : List Word)
         × (is_asked words ≡ false → FailsToList W.contents words writer.old writer.new)
         × (is_asked words ≡ true → ShowsFront W.contents (text_asked HELP.now words) writer.old writer.new)) }
     ensures misused { exit_status result ≡ 2 → writer.new ≡ writer.old }

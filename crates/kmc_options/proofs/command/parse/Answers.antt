@@ -9,9 +9,9 @@ use Rattle.kmc_options.specs.declared.error.ParamsError.{ParamsError}
 use Rattle.kmc_options.specs.declared.error.ParamsError.TheVariants.{Memory}
 use Rattle.kmc_options.proofs.Judging.{accepts, finds, judged, plain, refuses}
 use Rattle.kmc_options.proofs.command.parse.Goals as goal
-use Rattle.kmc_options.specs.Words.{PackedKmer}
+use Rattle.kmc_options.specs.Words.{Word}
 
-for_memory : (words : List PackedKmer) (e : ParamsError) → e ≡ Memory → FailsAs words e
+for_memory : (words : List Word) (e : ParamsError) → e ≡ Memory → FailsAs words e
 for_memory words e is = subst (FailsAs words) (sym is) tt
 
 pub returns-in-Ok-try_get_matches_from : goal.returns-in-Ok-try_get_matches_from

@@ -6,17 +6,17 @@ use Rattle.std.proofs.lemmas.Option.{same_Some}
 use Rattle.kmc_options.specs.Glued.{glued_name, is_flag, option_in, unless_empty, value_in, with_value}
 use Rattle.kmc_options.specs.Names.{settings}
 use Rattle.kmc_options.proofs.glued.changed.Goals as goal
-use Rattle.kmc_options.specs.Words.{PackedKmer}
+use Rattle.kmc_options.specs.Words.{Word}
 use Rattle.kmc_options.specs.declared.setting.Setting.{Setting}
 
 -- the long form of a word, by whether it is a flag and by its option
-abbrev by_parts : Bool → Option Setting → PackedKmer → PackedKmer
+abbrev by_parts : Bool → Option Setting → Word → Word
 by_parts b o word = cond b (45 ∷ word) (option_map_or (λ s. with_value s (drop (length (glued_name s)) word)) o word)
 
-by_option : (b : Bool) (o p : Option Setting) (word : PackedKmer) → b ≡ false → o ≡ p → by_parts b o word ≡ by_parts false p word
+by_option : (b : Bool) (o p : Option Setting) (word : Word) → b ≡ false → o ≡ p → by_parts b o word ≡ by_parts false p word
 by_option b o p word unflagged is = ap (λ x. by_parts x o word) unflagged ∙ ap (λ y. by_parts false y word) is
 
-glued_by : (b : Bool) (rest value : PackedKmer) → Some value ≡ option_and_then unless_empty (cond b (Some rest) None) → value ≡ rest
+glued_by : (b : Bool) (rest value : Word) → Some value ≡ option_and_then unless_empty (cond b (Some rest) None) → value ≡ rest
 glued_by false rest value e = absurd (cc)
 glued_by true [] value e = absurd (cc)
 glued_by true (x ∷ xs) value e = same_Some value (x ∷ xs) e
@@ -34,7 +34,7 @@ pub returns-then-is_flag : goal.returns-then-is_flag
 returns-then-is_flag c =
     let word = c.args.word.now in
     let flagged : is_flag word ≡ true = sym c.is_flag.ensures ∙ c.if-is_flag.true in
-    c.in_ok-concat.ensures.ok ∙ ap (λ (t : PackedKmer). 45 ∷ t) (append-nil word) ∙ sym (ap (λ b. by_parts b (option_in word) word) flagged)
+    c.in_ok-concat.ensures.ok ∙ ap (λ (t : Word). 45 ∷ t) (append-nil word) ∙ sym (ap (λ b. by_parts b (option_in word) word) flagged)
 
 pub returns-in_default : goal.returns-in_default
 returns-in_default c =

@@ -6,9 +6,9 @@ use Rattle.kmc_options.proofs.Searching.{meets}
 use Rattle.kmc_options.specs.Glued.{value_in}
 use Rattle.kmc_options.specs.Names.{settings}
 use Rattle.kmc_options.proofs.glued.option_in.Goals as goal
-use Rattle.kmc_options.specs.Words.{PackedKmer}
+use Rattle.kmc_options.specs.Words.{Word}
 
-some_of : {B : Type 0} (f : B → PackedKmer) (o : Option B) → is_some (option_map f o) ≡ is_some o
+some_of : {B : Type 0} (f : B → Word) (o : Option B) → is_some (option_map f o) ≡ is_some o
 some_of f None = refl
 some_of f (Some x) = refl
 
