@@ -20,7 +20,7 @@ LIST_NAME := futoncrane-kmc-list
 BIN = $(DESTDIR)$(PREFIX)/bin
 MAN = $(DESTDIR)$(PREFIX)/share/man/man1
 
-.PHONY: all count check recipes install uninstall dist fuzz hostile damaged devices limits threads bench results merges clean
+.PHONY: all count check test recipes install uninstall dist fuzz hostile damaged devices limits threads bench results merges clean
 
 # all programs in one call, since most of what they stand on is the same
 all:
@@ -55,6 +55,11 @@ check:
 # the tests of users: the command futoncrane, and the programs, as people call them
 recipes: $(PROGRAMS)
 	@tests_user/run.py
+
+# what a newcomer runs behind `make`, in some minutes: the tests of users, and a thousand random texts and options, each answer against a
+# plain count. It shows that these programs do on this machine what they are said to; that they do so always is what `make check` proves
+test: recipes
+	KMC="$(abspath $(KMC))" bench/fuzz.py --seed $(SEED) --tries 1000
 
 # call installed,FILE,PAGE,NAME: the program, and its page, which then speaks of the names of this installation
 RENAMED = s/^\.Xr kmc 1/.Xr $(NAME) 1/; s/^\.Xr kmc_merge 1/.Xr $(MERGE_NAME) 1/; s/^\.Xr kmc_cut 1/.Xr $(CUT_NAME) 1/; \

@@ -8,10 +8,12 @@ use Rattle.kmc_options.specs.declared.error.ParamsError.{ParamsError}
 use Rattle.kmc_options.specs.declared.error.ParamsError.TheVariants.{Memory, OutOfRange, Usage}
 use Rattle.kmc_options.specs.declared.run_error.RunError.TheVariants as run
 
--- status 2 comes of the command line alone
-pub only_misuse : (r : Result ℕ Fault) → status_of_answer r ≡ 2 → (e : ParamsError) × (r ≡ Err (Options e))
+-- status 2 comes of the command line alone, and of no want of memory
+pub only_misuse : (r : Result ℕ Fault) → status_of_answer r ≡ 2 → (e : ParamsError) × (e ≢ Memory) × (r ≡ Err (Options e))
 only_misuse (Ok lines) h = absurd (omega arith)
-only_misuse (Err (Options e)) h = (e, refl)
+only_misuse (Err (Options Usage)) h = (Usage, (λ is. absurd (cc)), refl)
+only_misuse (Err (Options (OutOfRange s))) h = (OutOfRange s, (λ is. absurd (cc)), refl)
+only_misuse (Err (Options Memory)) h = absurd (omega arith)
 only_misuse (Err (Run e)) h = absurd (omega arith)
 
 pub at_most_2 : (r : Result ℕ Fault) → status_of_answer r ≤ 2

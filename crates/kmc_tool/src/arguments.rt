@@ -1,5 +1,5 @@
 //! The program: from its arguments to the dump and the exit status.
-ghost use Rattle.std.specs.Prelude.{◌≡◌, ◌+◌, ◌-◌, ◌^◌, ◌<◌, ◌≤◌, ◌⊎◌, List, map, string_bytes};
+ghost use Rattle.std.specs.Prelude.{◌≡◌, ◌≢◌, ◌+◌, ◌-◌, ◌^◌, ◌<◌, ◌≤◌, ◌⊎◌, List, map, string_bytes};
 ghost use Rattle.std.specs.Process.{exit_status};
 ghost use Rattle.kmc_options.specs.Words.{Word};
 ghost use Rattle.kmc_options.specs.Glued.{long_forms};
@@ -58,7 +58,8 @@ pub fn program_of<T: Threads + Wait + Sync + Eprint + Alloc<A = Global>, R: Read
         → IsDone (long_forms (map string_bytes argv.items)) R.remaining W.contents reader.old reader.new writer.old writer.new }
     ensures failed { exit_status result ≡ 1 → (writer.new ≡ writer.old)
         ⊎ LeavesFront (long_forms (map string_bytes argv.items)) R.remaining W.contents reader.old reader.new writer.old writer.new }
-    ensures misused { exit_status result ≡ 2 → ((e : ParamsError) × Explains (long_forms (map string_bytes argv.items)) e)
+    ensures misused { exit_status result ≡ 2 → ((e : ParamsError) × (e ≢ ParamsError.Memory)
+        × Explains (long_forms (map string_bytes argv.items)) e)
         × (reader.new ≡ reader.old) × (writer.new ≡ writer.old) }
     ensures statuses { exit_status result ≤ 2 }
 {

@@ -37,10 +37,10 @@ returns-clause-failed g c = λ one.
 pub returns-clause-misused : goal.returns-clause-misused
 returns-clause-misused g c = λ two.
     let misuse = only_misuse c.count-answer.result (sym c.ended.ensures ∙ two) in
-    let told = c.count-answer.ensures.options misuse.0 misuse.1 in (
-      (misuse.0, told.0),
+    let told = c.count-answer.ensures.options misuse.0 misuse.2 in (
+      (misuse.0, misuse.1, told.0),
       told.1,
-      of_err _ c.count-answer.result _ misuse.1 c.count-answer.ensures.silent (λ no. absurd (cc)),
+      of_err _ c.count-answer.result _ misuse.2 c.count-answer.ensures.silent (λ no. absurd (cc)),
     )
 
 pub returns-clause-statuses : goal.returns-clause-statuses
