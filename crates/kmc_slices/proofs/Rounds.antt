@@ -8,7 +8,6 @@ use Rattle.kmc_device.specs.Device.{AppendsFront}
 use Rattle.kmc_device.specs.Lemmas.Devices.{front_after, front_of, front_all}
 use Rattle.kmc_reads.specs.declared.format.Format.{Format}
 use Rattle.kmc_record.specs.Shapes.{Sizes, IsShape}
-use Rattle.kmc_options.specs.Shape.{most_symbols}
 use Rattle.kmc_options.specs.declared.run_params.Params.{Params}
 use Rattle.kmc_store.specs.Bins.{AreBins, body_at}
 use Rattle.kmc_store.specs.Holds.{HoldsReads}
@@ -192,15 +191,14 @@ left_so format shape limit S old new olds news r e q is passed h =
     (is_left format shape limit S old new olds news e (subst (λ x. OnErr x (AreUnended shape S olds news)) is h))
 
 -- the shape of settings
-pub shape_is : (p : Params) → IsShape p.k (min (min p.p (most_symbols p.k)) p.k) p.n
+pub shape_is : (p : Params) → IsShape p.k p.signature_length p.n
 shape_is p =
     let a = p.in_range.0 in
     record {
       some_k = a.0.0;
       most_k = a.0.1;
-      some_m = omega (arith, a.0.0, a.1.0);
-      most_m = omega (arith, a.1.1);
-      within = omega arith;
+      most_m = p.in_range.2.0;
+      within = p.in_range.2.1;
       some_n = a.2.0;
       most_n = a.2.1;
     }
