@@ -1,5 +1,5 @@
 -- The settings of a run where no option is given, and what stays of them where some are changed.
-use Rattle.std.specs.Prelude.{◌≡◌}
+use Rattle.std.specs.Prelude.{◌≡◌, min}
 use Rattle.kmc_base.specs.declared.strands.Strands.TheVariants.{Joined}
 use Rattle.kmc_partcore.specs.declared.shape.QueueShape.{QueueShape}
 use Rattle.kmc_reads.specs.declared.format.Format.TheVariants.{Fastq}
@@ -18,6 +18,13 @@ KeepsQueue a b =
 abbrev pub KeepsOptions : Params → Params → Type 0
 KeepsOptions a b = (b.format ≡ a.format) × (b.limits ≡ a.limits) × KeepsNumbers a b
 
+abbrev pub KeepsSignatures : Params → Params → Type 0
+KeepsSignatures a b = b.signature_length ≡ a.signature_length
+
+-- signatures of p symbols, or of a whole word where that has fewer
+abbrev pub HasAskedSignatures : Params → Type 0
+HasAskedSignatures a = a.signature_length ≡ min a.p a.k
+
 -- one storer, up to 8 parts of a writer in the queue, 1024 reads of a round for each writer
 abbrev pub HasUsualQueue : Params → Type 0
 HasUsualQueue a = (a.readers ≡ 1) × (a.per_writer ≡ 8) × (a.batch ≡ 1024)
@@ -31,10 +38,10 @@ abbrev pub HasDefaultLimits : Params → Type 0
 HasDefaultLimits a = (a.limits.ci ≡ (bounds_of Ci).default)
     × (a.limits.cx ≡ (bounds_of Cx).default) × (a.limits.cs ≡ (bounds_of Cs).default)
 
--- FASTQ, both strands joined, each number at its default, and the usual queue
+-- FASTQ, both strands joined, each number at its default, signatures of as many symbols as p says, and the usual queue
 abbrev pub IsDefault : Params → Type 0
 IsDefault a = (a.format ≡ Fastq) × (a.strands ≡ Joined) × HasDefaultNumbers a
-    × HasDefaultLimits a × HasUsualQueue a
+    × HasDefaultLimits a × HasAskedSignatures a × HasUsualQueue a
 
 -- a writer for each splitter, a reader for each storer
 abbrev pub IsQueueOf : Params → QueueShape → Type 0

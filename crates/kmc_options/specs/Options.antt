@@ -1,11 +1,12 @@
 -- What the answers to a command line in long form mean.
-use Rattle.std.specs.Prelude.{◌≡◌, ◌&&◌, Bool, true, false, not, List, Option, Some, None, find, is_some}
+use Rattle.std.specs.Prelude.{◌≡◌, ◌&&◌, Bool, true, false, not, List, Option, Some, None, if◌then◌else◌, find, is_some, min}
 use Rattle.clap.specs.Walk.{Row}
-use Rattle.kmc_options.specs.CommandLine.{format_of, found, is_accepted, strands_of, value_of}
+use Rattle.kmc_options.specs.CommandLine.{format_of, found, given_text, is_accepted, strands_of, value_of}
 use Rattle.kmc_options.specs.Words.{Word}
 use Rattle.kmc_options.specs.Names.{settings}
 use Rattle.kmc_options.specs.declared.error.ParamsError.{ParamsError}
 use Rattle.kmc_options.specs.declared.error.ParamsError.TheVariants.{Memory, OutOfRange, Usage}
+use Rattle.kmc_options.specs.Ranges.{fitting_length}
 use Rattle.kmc_options.specs.declared.run_params.Params.{Params}
 use Rattle.kmc_options.specs.declared.setting.Setting.{Setting}
 use Rattle.kmc_options.specs.declared.setting.Setting.TheVariants.{K, P, N, Ci, Cx, Cs, Sp, Sr}
@@ -34,6 +35,11 @@ pub record AreGiven (rows : List Row) (r : Params) : Type 0 where
 -- the program's own queue: one storer, up to 64 parts of a splitter in the queue, 65536 reads of a round for each splitter
 abbrev pub HasProgramQueue : Params → Type 0
 HasProgramQueue r = (r.readers ≡ 1) × (r.per_writer ≡ 64) × (r.batch ≡ 65536)
+
+-- the program's own signatures: of as many symbols as `-p` says, or of a whole word, and where `-p` does not stand of as many as
+-- fit words of k symbols best
+abbrev pub HasProgramSignatures : List Row → Params → Type 0
+HasProgramSignatures rows r = r.signature_length ≡ (if is_some (given_text rows P) then min r.p r.k else fitting_length r.k)
 
 -- why the options give no settings
 abbrev pub Faults : List Row → ParamsError → Type 0

@@ -1,16 +1,19 @@
 //! The command line: KMC's glued options put into long form, and the settings that they give.
-ghost use Rattle.std.specs.Prelude.{◌≡◌, IfErr, IfOk, MatchResult, None, map, string_bytes, true};
-ghost use Rattle.kmc_options.specs.CommandLine.{found};
+ghost use Rattle.std.specs.Prelude.{◌≡◌, IfErr, IfOk, MatchResult, None, if◌then◌else◌, is_some, map, min, string_bytes, true};
+ghost use Rattle.kmc_options.specs.CommandLine.{found, given_text};
 ghost use Rattle.kmc_options.specs.Glued.{long_forms};
-ghost use Rattle.kmc_options.specs.Options.{AreGiven, Explains, HasProgramQueue, first_out_of_range, is_taken};
-ghost use Rattle.kmc_options.specs.Kept.{HasUsualQueue};
+ghost use Rattle.kmc_options.specs.Options.{AreGiven, Explains, HasProgramQueue, HasProgramSignatures, first_out_of_range, is_taken};
+ghost use Rattle.kmc_options.specs.Kept.{HasAskedSignatures, HasUsualQueue, KeepsOptions};
+ghost use Rattle.kmc_options.specs.Ranges.{fitting_length};
+ghost use Rattle.kmc_options.specs.declared.setting.Setting.TheVariants.{P};
 ghost use Rattle.kmc_options.specs.declared.error.ParamsError.TheVariants.{Memory};
 
 use crate::command::parse;
 use crate::error::ParamsError;
-use crate::given::given;
+use crate::given::{given, is_given};
 use crate::glued::long_form;
 use crate::run_params::Params;
+use crate::setting::Setting;
 use std::alloc::{AllocError, Global};
 
 /// The command line in long form, word by word: KMC's `-k31` becomes `--k=31`, its `-fa` becomes
@@ -26,6 +29,21 @@ pub fn words(alloc: Global, argv: Vec<String>) -> Result<Vec<String>, AllocError
     Ok(words)
 }
 
+/// The settings that a command line in long form gives, and whether `-p` stands in it.
+fn asked(alloc: Global, words: &[String]) -> Result<(Params, bool), ParamsError>
+    ensures answer { let texts = map string_bytes words.now in MatchResult result
+        (λ r. (is_taken texts ≡ true) × AreGiven (found texts) r.0 × HasAskedSignatures r.0
+        × HasUsualQueue r.0 × (r.1 ≡ is_some (given_text (found texts) P)))
+        (Explains texts) }
+    ensures complete { let texts = map string_bytes words.now in
+        is_taken texts ≡ true → first_out_of_range (found texts) ≡ None
+        → IfErr result (λ e. e ≡ Memory) }
+{
+    let matches = parse(alloc, words)?;
+    let params = given(&matches)?;
+    Ok((params, is_given(&matches, Setting::P)))
+}
+
 /// The settings that a command line in long form gives; an option that it leaves out has its
 /// default. The refusals are judged in this order: words that the command does not take, an option
 /// that is given twice or without its value, more than one format (Usage); then the first of k, p,
@@ -33,14 +51,15 @@ pub fn words(alloc: Global, argv: Vec<String>) -> Result<Vec<String>, AllocError
 /// or more ASCII digits.
 pub fn params(alloc: Global, words: Vec<String>) -> Result<Params, ParamsError>
     ensures answer { let texts = map string_bytes words.items in MatchResult result
-        (λ r. (is_taken texts ≡ true) × AreGiven (found texts) r × HasUsualQueue r)
+        (λ r. (is_taken texts ≡ true) × AreGiven (found texts) r × HasAskedSignatures r
+        × HasUsualQueue r)
         (Explains texts) }
     ensures complete { let texts = map string_bytes words.items in
         is_taken texts ≡ true → first_out_of_range (found texts) ≡ None
         → IfErr result (λ e. e ≡ Memory) }
 {
-    let matches = parse(alloc, words.as_slice())?;
-    given(&matches)
+    let (params, _is_length_asked) = asked(alloc, words.as_slice())?;
+    Ok(params)
 }
 
 /// The threads that store parts: one keeps up with four that cut reads.
@@ -52,17 +71,34 @@ const WAITING_PARTS: usize = 64;
 /// The reads of a round for each splitter: fewer make many small parts.
 const SPLITTER_READS: usize = 65536;
 
-/// The settings of a run that the words of a command line give, glued or in long form, with the program's own queue.
+/// The same run with signatures as they are asked for, or as they fit best.
+fn with_signatures(params: Params, are_asked: bool) -> Params
+    requires { HasAskedSignatures params }
+    ensures length { result.signature_length
+        ≡ (if are_asked then min params.p params.k else fitting_length params.k) }
+    ensures kept { (result.strands ≡ params.strands) × KeepsOptions params result }
+{
+    if are_asked {
+        params
+    } else {
+        params.with_fitting_signatures()
+    }
+}
+
+/// The settings of a run that the words of a command line give, glued or in long form, with the program's own queue, and with
+/// signatures of the length that fits best where `-p` does not stand.
 pub fn settings(alloc: Global, argv: Vec<String>) -> Result<Params, ParamsError>
     ensures answer { let texts = long_forms (map string_bytes argv.items) in MatchResult result
-        (λ r. (is_taken texts ≡ true) × AreGiven (found texts) r × HasProgramQueue r)
+        (λ r. (is_taken texts ≡ true) × AreGiven (found texts) r
+        × HasProgramSignatures (found texts) r × HasProgramQueue r)
         (Explains texts) }
     ensures complete { let texts = long_forms (map string_bytes argv.items) in
         is_taken texts ≡ true → first_out_of_range (found texts) ≡ None
         → IfErr result (λ e. e ≡ Memory) }
 {
     let words = words(alloc, argv)?;
-    let params = params(alloc, words)?;
+    let (asked, is_length_asked) = asked(alloc, words.as_slice())?;
+    let params = with_signatures(asked, is_length_asked);
     match params.with_queue(STORERS, WAITING_PARTS, SPLITTER_READS) {
         Some(params) => Ok(params),
         None => unreachable!(),

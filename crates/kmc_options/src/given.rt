@@ -1,9 +1,9 @@
 //! From the matches of a command line to the settings of a run.
-ghost use Rattle.std.specs.Prelude.{◌≡◌, IfSome, MatchResult, Some, None, option_map};
+ghost use Rattle.std.specs.Prelude.{◌≡◌, IfSome, MatchResult, Some, None, is_some, option_map};
 ghost use Rattle.clap.specs.Words.{first_of, found_of, rows_of};
-ghost use Rattle.kmc_options.specs.CommandLine.{format_of, is_set, strands_of, value_of};
+ghost use Rattle.kmc_options.specs.CommandLine.{format_of, given_text, is_set, strands_of, value_of};
 ghost use Rattle.kmc_options.specs.Options.{AreGiven, Faults, first_out_of_range};
-ghost use Rattle.kmc_options.specs.Kept.{HasUsualQueue};
+ghost use Rattle.kmc_options.specs.Kept.{HasAskedSignatures, HasUsualQueue};
 ghost use Rattle.kmc_options.specs.Settings.{IsFor};
 ghost use Rattle.kmc_options.specs.declared.error.ParamsError.TheVariants.{Usage};
 
@@ -19,7 +19,8 @@ use kmc_reads::Format;
 /// The settings, or the first fault in the order of [`OPTIONS`](crate::named::OPTIONS) after the format's.
 pub fn given(matches: &ArgMatches<'_>) -> Result<Params, ParamsError>
     ensures { MatchResult result
-        (λ r. AreGiven (rows_of (found_of matches.now)) r × HasUsualQueue r)
+        (λ r. AreGiven (rows_of (found_of matches.now)) r × HasAskedSignatures r
+        × HasUsualQueue r)
         (Faults (rows_of (found_of matches.now))) }
 {
     let format = format(matches)?;
@@ -48,6 +49,13 @@ pub fn given(matches: &ArgMatches<'_>) -> Result<Params, ParamsError>
         Some(params) => Ok(params.with_strands(strands(matches))),
         None => unreachable!(),
     }
+}
+
+/// Whether the option stands.
+pub(crate) fn is_given(matches: &ArgMatches<'_>, setting: Setting) -> bool
+    ensures { result ≡ is_some (given_text (rows_of (found_of matches.now)) setting) }
+{
+    given_text(matches, setting.name()).is_some()
 }
 
 /// The first option whose value is out of range.

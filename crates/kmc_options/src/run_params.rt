@@ -1,7 +1,7 @@
 //! The settings of a run.
 ghost use Rattle.std.specs.Prelude.{◌≡◌, ◌↔◌, ◌≤◌, IsTrue, MatchOption};
 ghost use Rattle.kmc_base.specs.declared.strands.Strands.TheVariants.{Joined};
-ghost use Rattle.kmc_options.specs.Ranges.{AreQueueSettings, AreSettings};
+ghost use Rattle.kmc_options.specs.Ranges.{AreQueueSettings, AreSettings, IsSignatureLength};
 
 use crate::setting::Setting;
 use kmc_base::Strands;
@@ -9,21 +9,21 @@ use kmc_count::Limits;
 use kmc_partcore::{MAX_PER_WRITER, MAX_READERS, QueueShape};
 use kmc_reads::Format;
 use kmc_record::Shape;
-use kmc_split::MAX_M;
 
 /// Most reads of a round for each splitter.
 pub const MAX_BATCH: usize = 65536;
 
-/// The symbols of a signature of words of at most `SHORT_WORD` symbols.
-const SHORT_SIGNATURE: usize = 1;
-
+/// Words of so many symbols fit signatures of none.
 const SHORT_WORD: usize = 10;
 
-/// So many more have those of longer words.
-const MIDDLE_MORE: usize = 4;
+/// Longer ones fit signatures of so many symbols.
+const MIDDLE_SIGNATURE: usize = 5;
 
-/// And one more for each symbol above so many.
+/// And of one more for each symbol above so many.
 const MIDDLE_WORD: usize = 14;
+
+/// Up to so many.
+const LONG_SIGNATURE: usize = 8;
 
 const READERS: usize = 1;
 
@@ -43,8 +43,11 @@ pub struct Params {
     pub limits: Limits,
     /// The symbols of a counted word, 1 to 64.
     pub k: usize,
-    /// The most symbols of a signature, 5 to 11; more than 8 are as 8.
+    /// The symbols that signatures are asked to have, 5 to 11.
     pub p: usize,
+    /// The symbols that signatures have, 0 to 11 and at most `k`: with none all words have one. [`Params::new`] makes it the lesser
+    /// of `p` and `k`, and [`Params::with_fitting_signatures`] what fits `k` best.
+    pub signature_length: usize,
     /// The bins, 1 to 2000.
     pub n: usize,
     /// The threads that cut reads, 1 to 16: the writers of the queue.
@@ -57,7 +60,8 @@ pub struct Params {
     pub per_writer: usize,
     /// The reads of a round for each splitter, 1 to 65536.
     pub batch: usize,
-    pub ghost in_range: { AreSettings k p n sp sr × AreQueueSettings readers per_writer batch },
+    pub ghost in_range: { AreSettings k p n sp sr × AreQueueSettings readers per_writer batch
+        × IsSignatureLength k signature_length },
 }
 
 /// Whether the number is at least 1 and at most this.
@@ -68,11 +72,12 @@ fn is_up_to(number: usize, most: usize) -> bool
 }
 
 impl Params {
-    ghost use Rattle.kmc_options.specs.Kept.{HasUsualQueue, IsQueueOf, KeepsOptions, KeepsQueue};
+    ghost use Rattle.kmc_options.specs.Kept.{HasAskedSignatures, HasUsualQueue, IsQueueOf, KeepsOptions, KeepsQueue, KeepsSignatures};
+    ghost use Rattle.kmc_options.specs.Ranges.{fitting_length};
     ghost use Rattle.kmc_options.specs.Shape.{shape_of};
 
-    /// The settings of the command line, where they are in range. The strands are joined, and the
-    /// queue has its usual size.
+    /// The settings of the command line, where they are in range. The strands are joined, signatures have p symbols or those of a
+    /// whole word, and the queue has its usual size.
     pub fn new(
         format: Format,
         k: usize,
@@ -84,7 +89,8 @@ impl Params {
     ) -> Option<Params>
         ensures { MatchOption result (AreSettings k p n sp sr → ⊥)
             (λ r. (r.format ≡ format) × (r.strands ≡ Joined) × (r.limits ≡ limits) × (r.k ≡ k)
-            × (r.p ≡ p) × (r.n ≡ n) × (r.sp ≡ sp) × (r.sr ≡ sr) × HasUsualQueue r) }
+            × (r.p ≡ p) × (r.n ≡ n) × (r.sp ≡ sp) × (r.sr ≡ sr) × HasAskedSignatures r
+            × HasUsualQueue r) }
     {
         let in_range = Setting::K.takes(k as u64)
             && Setting::P.takes(p as u64)
@@ -100,6 +106,7 @@ impl Params {
             limits,
             k,
             p,
+            signature_length: p.min(k),
             n,
             sp,
             sr,
@@ -109,15 +116,11 @@ impl Params {
         })
     }
 
-    /// How the reads of a chunk are cut into parts. Short words have short signatures, so that neighbours share one: one symbol where
-    /// a word has at most 10, which is never allowed, so all of them are of one bin; 5 from 11 to 14, and one more for each symbol
-    /// above, up to the setting and to 8. The dump is the same for every length.
+    /// How the reads of a chunk are cut into parts. The dump is the same for every length of signatures.
     pub fn shape(&self) -> Shape
         ensures { result ≡ shape_of self.now }
     {
-        let middle = MIDDLE_MORE.min(MIDDLE_MORE * self.k.saturating_sub(SHORT_WORD));
-        let most = SHORT_SIGNATURE + middle + self.k.saturating_sub(MIDDLE_WORD);
-        match Shape::new(self.k, self.p.min(most).min(MAX_M), self.n) {
+        match Shape::of_signature_length(self.k, self.signature_length, self.n) {
             Some(shape) => shape,
             None => unreachable!(),
         }
@@ -133,9 +136,25 @@ impl Params {
         }
     }
 
+    /// The same run with signatures of the length that fits words of `k` symbols best. Short words have short ones, so that neighbours
+    /// share one: with none where a word has at most 10 symbols, so all of them are of one bin; 5 from 11 to 14, and one more for
+    /// each symbol above, up to 8. This is what the program does where it is not asked for a length.
+    pub fn with_fitting_signatures(self) -> Params
+        ensures length { result.signature_length ≡ fitting_length self.k }
+        ensures kept { (result.strands ≡ self.strands) × KeepsOptions self result
+            × KeepsQueue self result }
+    {
+        let middle = MIDDLE_SIGNATURE.min(MIDDLE_SIGNATURE * self.k.saturating_sub(SHORT_WORD));
+        let long = middle + self.k.saturating_sub(MIDDLE_WORD);
+        let mut changed = self;
+        changed.signature_length = long.min(LONG_SIGNATURE);
+        changed
+    }
+
     /// The same run with words counted by these strands.
     pub fn with_strands(self, strands: Strands) -> Params
-        ensures { (result.strands ≡ strands) × KeepsOptions self result × KeepsQueue self result }
+        ensures { (result.strands ≡ strands) × KeepsOptions self result × KeepsSignatures self result
+            × KeepsQueue self result }
     {
         let mut changed = self;
         changed.strands = strands;
@@ -146,7 +165,7 @@ impl Params {
     pub fn with_queue(self, readers: usize, per_writer: usize, batch: usize) -> Option<Params>
         ensures { MatchOption result (AreQueueSettings readers per_writer batch → ⊥)
             (λ r. (r.readers ≡ readers) × (r.per_writer ≡ per_writer) × (r.batch ≡ batch)
-            × (r.strands ≡ self.strands) × KeepsOptions self r) }
+            × (r.strands ≡ self.strands) × KeepsOptions self r × KeepsSignatures self r) }
     {
         let in_range = is_up_to(readers, MAX_READERS)
             && is_up_to(per_writer, MAX_PER_WRITER)
@@ -179,6 +198,7 @@ impl Default for Params {
             },
             k: Setting::K.bounds().default as usize,
             p: Setting::P.bounds().default as usize,
+            signature_length: Setting::P.bounds().default.min(Setting::K.bounds().default) as usize,
             n: Setting::N.bounds().default as usize,
             sp: Setting::Sp.bounds().default as usize,
             sr: Setting::Sr.bounds().default as usize,

@@ -5,7 +5,8 @@ use crate::digits::number;
 use kmc_base::MAX_K;
 use kmc_count::GREATEST_COUNT;
 use kmc_partcore::MAX_WRITERS;
-use kmc_record::MOST_BINS;
+use kmc_record::{LEAST_P, MOST_BINS};
+use kmc_split::MAX_M;
 
 /// A range of numbers, both ends included, with the number that stands where none is given.
 #[derive(Clone, Copy)]
@@ -20,7 +21,7 @@ pub struct Bounds {
 pub enum Setting {
     /// The symbols of a counted word.
     K,
-    /// The most symbols of a signature; short words have shorter ones.
+    /// The symbols of a signature; a word of fewer is its own.
     P,
     /// The bins between the two stages.
     N,
@@ -36,8 +37,9 @@ pub enum Setting {
     Sr,
 }
 
-/// The most symbols that a signature may be said to have; the program takes up to 8 of them.
-const MOST_P: u64 = 11;
+const LEAST_SYMBOLS: u64 = LEAST_P as u64;
+
+const MOST_SYMBOLS: u64 = MAX_M as u64;
 
 // each splitter is a writer of the queue, and as many threads may count
 const MOST_THREADS: u64 = MAX_WRITERS as u64;
@@ -64,7 +66,7 @@ impl Setting {
     {
         match self {
             Setting::K => Bounds::new(1, MAX_K as u64, 25),
-            Setting::P => Bounds::new(5, MOST_P, 9),
+            Setting::P => Bounds::new(LEAST_SYMBOLS, MOST_SYMBOLS, 9),
             Setting::N => Bounds::new(1, MOST_BINS as u64, 512),
             Setting::Ci => Bounds::new(0, GREATEST_COUNT, 2),
             Setting::Cx => Bounds::new(0, GREATEST_COUNT, 1_000_000_000),

@@ -6,6 +6,7 @@ mod Filling
 mod Laying
 mod PackedBytes
 mod Parcels
+mod Parts
 mod Quarters
 mod Sliding
 mod Turned

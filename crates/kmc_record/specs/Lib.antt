@@ -4,6 +4,7 @@ pub mod Faults
 pub mod GrowingParts
 pub mod Laws
 pub mod Lemmas
+pub mod PartNumbers
 pub mod Parts
 pub mod RecordKeys
 pub mod RecordWords

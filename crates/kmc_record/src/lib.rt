@@ -26,5 +26,5 @@ pub use parts::parts_of_reads;
 pub use plain::{Chunk, RecordError, decode, encode, parts_of, push_body, push_record_of};
 pub use record::{code_at, first_symbols, push_record};
 pub use record_keys::{MOST_KEY_SYMBOLS, key_bytes, record_key};
-pub use shape::{MOST_BINS, Shape};
+pub use shape::{LEAST_P, MOST_BINS, Shape};
 pub use words::{super_kmer_in_bin, words_in_bin};

@@ -1,21 +1,21 @@
 //! Whether words belong to a bin.
-ghost use Rattle.std.specs.Prelude.{◌≡◌, ℕ, ◌+◌, ◌%◌, ◌<◌, ◌≤◌, ◌↔◌, length, slice_index, IsTrue};
+ghost use Rattle.std.specs.Prelude.{◌≡◌, ℕ, ◌+◌, ◌%◌, ◌^◌, ◌<◌, ◌≤◌, ◌↔◌, length, map, slice_index, IsTrue};
 ghost use Rattle.std.specs.List.{All};
 ghost use Rattle.kmc_base.specs.Words.{windows};
 ghost use Rattle.kmc_split.specs.Signature.{signature_of};
+ghost use Rattle.kmc_split.specs.Offers.{unmarked};
 ghost use Rattle.kmc_split.specs.Minima.{low};
 ghost use Rattle.kmc_split.specs.SuperKmer.{super_kmer_words};
 
 use kmc_base::MAX_K;
-use kmc_split::{MAX_M, SuperKmer, lowest, offers, remainder};
+use kmc_split::{MAX_M, MOST_SHORT, Mmer, Sig, SuperKmer, lowest, offers};
 
 /// The most symbols of a super-k-mer.
 const MOST_SYMBOLS: usize = MAX_K + 255;
 
-/// Whether the signature of each word of a super-k-mer has this bin, of n bins. The signatures are of m symbols, 1 to 8 and at most
-/// as many as a word has.
+/// Whether the signature of each word of a super-k-mer has this bin, of n bins. The signatures are of m symbols, 0 to 11 and at
+/// most as many as a word has.
 pub fn super_kmer_in_bin(super_kmer: &SuperKmer, m: usize, n: usize, bin: usize) -> bool
-    requires some { 1 ≤ m }
     requires most { m ≤ MAX_M }
     requires within { m ≤ super_kmer.now.k }
     requires bins { 1 ≤ n }
@@ -26,9 +26,8 @@ pub fn super_kmer_in_bin(super_kmer: &SuperKmer, m: usize, n: usize, bin: usize)
 }
 
 /// Whether the signature of each word of k codes in a row has this bin, of n bins: what [`super_kmer_in_bin`] says, for codes
-/// that lie anywhere. The codes are 0 to 3, k to k + 255 of them; m is 1 to 8 and at most k. It makes nothing in memory.
+/// that lie anywhere. The codes are 0 to 3, k to k + 255 of them; m is 0 to 11 and at most k. It makes nothing in memory.
 pub fn words_in_bin(codes: &[u8], k: usize, m: usize, n: usize, bin: usize) -> bool
-    requires some { 1 ≤ m }
     requires most { m ≤ MAX_M }
     requires within { m ≤ k }
     requires limit { k ≤ MAX_K }
@@ -38,15 +37,31 @@ pub fn words_in_bin(codes: &[u8], k: usize, m: usize, n: usize, bin: usize) -> b
     requires codes { All (λ c. c < 4) codes.now }
     ensures { IsTrue result ↔ All (λ w. signature_of m w % n ≡ bin) (windows k codes.now) }
 {
-    let mut room = [0; MOST_SYMBOLS];
+    if m == 0 {
+        return bin == 0;
+    }
     let count = codes.len() + 1 - m;
-    offers_in_bin(codes, k, m, n, bin, &mut room[..count])
+    if m <= MOST_SHORT {
+        let mut room = [0_u16; MOST_SYMBOLS];
+        offers_in_bin(codes, k, m, n, bin, &mut room[..count])
+    } else {
+        let mut room = [0_u32; MOST_SYMBOLS];
+        offers_in_bin(codes, k, m, n, bin, &mut room[..count])
+    }
 }
 
 /// Whether the signature of each word has a bin, worked out in room for the offers of all m-mers.
-fn offers_in_bin(codes: &[u8], k: usize, m: usize, n: usize, bin: usize, room: &mut [u16]) -> bool
+fn offers_in_bin<V: Mmer>(
+    codes: &[u8],
+    k: usize,
+    m: usize,
+    n: usize,
+    bin: usize,
+    room: &mut [V],
+) -> bool
     requires some { 1 ≤ m }
     requires most { m ≤ MAX_M }
+    requires held { m ≤ V.most }
     requires within { m ≤ k }
     requires inside { k ≤ length codes.now }
     requires bins { 1 ≤ n }
@@ -55,25 +70,39 @@ fn offers_in_bin(codes: &[u8], k: usize, m: usize, n: usize, bin: usize, room: &
     ensures { IsTrue result ↔ All (λ w. signature_of m w % n ≡ bin) (windows k codes.now) }
 {
     offers(codes, m, room);
-    lows_in_bin(room, k + 1 - m, n, bin)
+    lows_in_bin(room, k + 1 - m, m, n, bin)
 }
 
-/// Whether the least of each `width` values in a row has a bin, of n bins. It divides only where the least one changes.
-fn lows_in_bin(values: &[u16], width: usize, n: usize, bin: usize) -> bool
+/// Whether the signature of a word whose m-mers offer this at the least has a bin, of n bins.
+fn is_in_bin<V: Mmer>(least: V, m: usize, n: usize, bin: usize) -> bool
+    requires most { m ≤ MAX_M }
+    requires fits { V.number least < 4 ^ m }
+    requires bins { 1 ≤ n }
+    ensures { IsTrue result ↔ (unmarked m (V.number least) % n ≡ bin) }
+{
+    Sig::of_least(least.to_u128(), m).bin(n) == bin
+}
+
+/// Whether the signature that the least of each `width` offers in a row is has a bin, of n bins. It divides only where the least
+/// one changes.
+fn lows_in_bin<V: Mmer>(values: &[V], width: usize, m: usize, n: usize, bin: usize) -> bool
     requires some { 1 ≤ width }
-    requires most { width ≤ length values.now }
+    requires within { width ≤ length values.now }
+    requires most { m ≤ MAX_M }
+    requires fit { (i : ℕ) → i < length values.now
+        → slice_index (map V.number values.now) i < 4 ^ m }
     requires bins { 1 ≤ n }
     ensures { IsTrue result
         ↔ ((i : ℕ) → i + width ≤ length values.now
-        → low (slice_index values.now) width i % n ≡ bin) }
+        → unmarked m (low (slice_index (map V.number values.now)) width i) % n ≡ bin) }
 {
     let mut least = lowest(&values[..width]);
-    if remainder(usize::from(least), n) != bin {
+    if !is_in_bin(least, m, n, bin) {
         return false;
     }
     for i in 0..values.len() - width {
         let next = next_low(values, width, i, least);
-        if next != least && remainder(usize::from(next), n) != bin {
+        if !next.is_same(least) && !is_in_bin(next, m, n, bin) {
             return false;
         }
         least = next;
@@ -83,16 +112,16 @@ fn lows_in_bin(values: &[u16], width: usize, n: usize, bin: usize) -> bool
 
 /// The least of `width` values from place i + 1 on, given that of those from place i on. Only where that one leaves, and
 /// what comes is greater, does it look again.
-fn next_low(values: &[u16], width: usize, i: usize, least: u16) -> u16
+fn next_low<V: Mmer>(values: &[V], width: usize, i: usize, least: V) -> V
     requires some { 1 ≤ width }
     requires inside { i + width < length values.now }
-    requires least { least ≡ low (slice_index values.now) width i }
-    ensures { result ≡ low (slice_index values.now) width (i + 1) }
+    requires least { V.number least ≡ low (slice_index (map V.number values.now)) width i }
+    ensures { V.number result ≡ low (slice_index (map V.number values.now)) width (i + 1) }
 {
     let new = values[i + width];
-    if new <= least {
+    if new.to_u128() <= least.to_u128() {
         new
-    } else if least < values[i] {
+    } else if least.to_u128() < values[i].to_u128() {
         least
     } else {
         lowest(&values[i + 1..i + 1 + width])

@@ -1,9 +1,9 @@
 -- What is read of the header of a slice's file.
-use Rattle.std.specs.Prelude.{◌≡◌, ◌≢◌, ℕ, ◌^◌, ◌<◌, min, List, ◌++◌, length, Option}
+use Rattle.std.specs.Prelude.{◌≡◌, ◌≢◌, ℕ, ◌^◌, ◌<◌, List, ◌++◌, length, Option}
 use Rattle.std.specs.Int.{w64, to_le_bytes}
 use Rattle.std.specs.Io.KnownBytes.{Consumes, IsAtEnd}
 use Rattle.kmc_device.specs.Device.{RisesByOne}
-use Rattle.kmc_record.specs.Shapes.{Sizes, AreWithinLimits, IsShape}
+use Rattle.kmc_record.specs.Shapes.{Sizes, IsShape}
 use Rattle.kmc_slice_files.specs.Check.{hashed}
 use Rattle.kmc_slice_files.specs.Files.{LETTERS, VERSION, front_bytes}
 use Rattle.kmc_slice_files.specs.declared.header.HeaderFault.{HeaderFault}
@@ -28,13 +28,11 @@ pub record IsTold (t : Told) (bytes : List ℕ) : Type 0 where
   pub check : t.check < 2 ^ 64
   pub is : bytes ≡ front_of t ++ to_le_bytes w64 t.check
 
--- a shape that settings make
-pub record IsMade (shape : Sizes) : Type 0 where
-  pub p : ℕ
-  pub limits : AreWithinLimits shape.k p shape.n
-  pub m : shape.m ≡ min p shape.k
+-- a shape that reads are cut by
+abbrev pub IsMade : Sizes → Type 0
+IsMade shape = IsShape shape.k shape.m shape.n
 
--- no settings make such a shape, or the slice is none of the slices
+-- reads are cut by no such shape, or the slice is none of the slices
 abbrev pub IsOutOfRange : Told → Type 0
 IsOutOfRange t = IsMade (sizes_of t) → t.slice < t.slices → ⊥
 

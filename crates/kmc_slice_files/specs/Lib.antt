@@ -7,5 +7,6 @@ pub mod Lemmas
 pub mod Messages
 pub mod Opening
 pub mod Reads
+pub mod RefusalNumbers
 pub mod Whole
 pub mod Writes

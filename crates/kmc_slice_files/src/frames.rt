@@ -29,6 +29,21 @@ pub enum FramesFault {
     TooMany,
 }
 
+impl FramesFault {
+    ghost use Rattle.kmc_slice_files.specs.RefusalNumbers.{number_of_frames_fault};
+
+    /// The number of the refusal, as docs/REFUSALS.md lists it.
+    pub fn number(&self) -> u8
+        ensures { result ≡ number_of_frames_fault self.now }
+    {
+        match self {
+            FramesFault::Next(_) => 1,
+            FramesFault::Behind => 2,
+            FramesFault::TooMany => 3,
+        }
+    }
+}
+
 /// Where the first fault is behind the header, and which.
 #[derive(Clone, Copy, Debug, PartialEq, Eq)]
 pub struct FileFault {

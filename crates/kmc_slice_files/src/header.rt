@@ -47,6 +47,24 @@ pub enum HeaderFault {
     OutOfRange,
 }
 
+impl HeaderFault {
+    ghost use Rattle.kmc_slice_files.specs.RefusalNumbers.{number_of_header_fault};
+
+    /// The number of the refusal, as docs/REFUSALS.md lists it.
+    pub fn number(&self) -> u8
+        ensures { result ≡ number_of_header_fault self.now }
+    {
+        match self {
+            HeaderFault::Read => 1,
+            HeaderFault::Short => 2,
+            HeaderFault::NoSliceFile => 3,
+            HeaderFault::OtherVersion(_) => 4,
+            HeaderFault::Damaged => 5,
+            HeaderFault::OutOfRange => 6,
+        }
+    }
+}
+
 impl From<ReadFault> for HeaderFault {
     ghost use Rattle.kmc_slice_files.specs.declared.header.HeaderFault.TheVariants.{Read};
 
@@ -123,9 +141,12 @@ fn numbers_of(bytes: &[u8; HEADER]) -> Told
 fn slicing_of(told: &Told) -> Option<Slicing>
     ensures { MatchOption result (IsOutOfRange told.now) (IsSlicingOf told.now) }
 {
-    let m = usize::from(told.m);
-    let shape = Shape::new(usize::from(told.k), m, usize::from(told.bins))?;
-    if shape.m() == m && told.slice < told.slices {
+    let shape = Shape::of_signature_length(
+        usize::from(told.k),
+        usize::from(told.m),
+        usize::from(told.bins),
+    )?;
+    if told.slice < told.slices {
         Some(Slicing {
             shape,
             slices: told.slices,

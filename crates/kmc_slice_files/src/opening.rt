@@ -7,14 +7,31 @@ use std::alloc::Global;
 use std::fs::File;
 use std::rt::Files;
 use std::{fs, io};
+use thiserror::Error;
 
 /// Why the files were not made.
-#[derive(Clone, Copy, Debug, PartialEq, Eq)]
+#[derive(Clone, Copy, Debug, PartialEq, Eq, Error)]
 pub enum CreateFault {
     /// This one cannot be made.
+    #[error("file {0} cannot be made")]
     File(usize),
     /// A growth was refused.
+    #[error("out of memory")]
     Memory,
+}
+
+impl CreateFault {
+    ghost use Rattle.kmc_slice_files.specs.RefusalNumbers.{number_of_create_fault};
+
+    /// The number of the refusal, as docs/REFUSALS.md lists it.
+    pub fn number(&self) -> u8
+        ensures { result ≡ number_of_create_fault self.now }
+    {
+        match self {
+            CreateFault::File(_) => 1,
+            CreateFault::Memory => 2,
+        }
+    }
 }
 
 /// A file that is there is emptied, or else none may be there.

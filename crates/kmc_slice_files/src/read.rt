@@ -7,21 +7,42 @@ use crate::check::frame_check;
 use crate::frame::{HEAD, MOST_BODY, NO_BIN};
 use kmc_device::{Counted, ReadFault, fill_behind};
 use std::io::Read;
+use thiserror::Error;
 
 /// Memory for a body is asked for in blocks of so many bytes, as they come.
 pub const BLOCK: usize = 65536;
 
 /// Why no frame was read.
-#[derive(Clone, Copy, Debug, PartialEq, Eq)]
+#[derive(Clone, Copy, Debug, PartialEq, Eq, Error)]
 pub enum FrameFault {
     /// A read failed.
+    #[error("it cannot be read")]
     Read,
     /// Memory for its body was refused.
+    #[error("out of memory")]
     Memory,
     /// The bytes end before the frame does.
+    #[error("the file was cut short")]
     Short,
     /// What stands there is no frame of the slice, and not its end.
+    #[error("it is damaged")]
     Damaged,
+}
+
+impl FrameFault {
+    ghost use Rattle.kmc_slice_files.specs.RefusalNumbers.{number_of_frame_fault};
+
+    /// The number of the refusal, as docs/REFUSALS.md lists it.
+    pub fn number(&self) -> u8
+        ensures { result ≡ number_of_frame_fault self.now }
+    {
+        match self {
+            FrameFault::Read => 1,
+            FrameFault::Memory => 2,
+            FrameFault::Short => 3,
+            FrameFault::Damaged => 4,
+        }
+    }
 }
 
 impl From<ReadFault> for FrameFault {

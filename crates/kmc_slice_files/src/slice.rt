@@ -21,6 +21,21 @@ pub enum SliceFault {
     File(FileFault),
 }
 
+impl SliceFault {
+    ghost use Rattle.kmc_slice_files.specs.RefusalNumbers.{number_of_slice_fault};
+
+    /// The number of the refusal, as docs/REFUSALS.md lists it.
+    pub fn number(&self) -> u8
+        ensures { result ≡ number_of_slice_fault self.now }
+    {
+        match self {
+            SliceFault::Header(_) => 1,
+            SliceFault::Other(_) => 2,
+            SliceFault::File(_) => 3,
+        }
+    }
+}
+
 impl From<HeaderFault> for SliceFault {
     ghost use Rattle.kmc_slice_files.specs.declared.slice.SliceFault.TheVariants.{Header};
 

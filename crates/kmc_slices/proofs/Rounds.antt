@@ -8,7 +8,6 @@ use Rattle.kmc_device.specs.Device.{AppendsFront}
 use Rattle.kmc_device.specs.Lemmas.Devices.{front_after, front_of, front_all}
 use Rattle.kmc_reads.specs.declared.format.Format.{Format}
 use Rattle.kmc_record.specs.Shapes.{Sizes, IsShape}
-use Rattle.kmc_options.specs.Shape.{most_symbols}
 use Rattle.kmc_options.specs.declared.run_params.Params.{Params}
 use Rattle.kmc_store.specs.Bins.{AreBins, body_at}
 use Rattle.kmc_store.specs.Holds.{HoldsReads}
@@ -190,5 +189,3 @@ pub left_so : {A B : Type 0} (format : Format) (shape : Sizes) (limit S : ℕ) (
 left_so format shape limit S old new olds news r e q is passed h =
     passed_on (IsLeft format shape limit S old new olds news) q e passed
     (is_left format shape limit S old new olds news e (subst (λ x. OnErr x (AreUnended shape S olds news)) is h))
-
--- the shape of settings

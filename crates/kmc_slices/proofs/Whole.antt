@@ -181,7 +181,7 @@ slices_whole one merged none held apart strands shape every l S parts lists pair
     let holds = whole_holds shape merged none parts are in
     let whole = are_whole shape parts holds in
     let sss = map holds.records (range_with_len 0 shape.n) in
-    let differ = apart strands shape (whole_bodies shape parts) (whole_words shape parts) sss is.some_m is.within
+    let differ = apart strands shape (whole_bodies shape parts) (whole_words shape parts) sss is.within
     (whole_bins shape parts are) whole.zip in
     let again = dump_again (all_count strands shape S some parts holds.records whole.body) (sum_of lists) every l pairs each least most
     (λ x. sum_shown strands shape S some parts holds.records whole.body differ x one l lists many dumps) dump in

@@ -8,9 +8,11 @@ use kmc_record::{PartError, Shape, count_words};
 use kmc_store::Bins;
 use std::alloc::{AllocError, Global};
 use std::thread::{Threads, join_mut};
+use thiserror::Error;
 
 /// The first bin whose body is not records of that bin, and why. Where memory is refused, no bin before it is at fault.
-#[derive(Clone, Copy, Debug, PartialEq, Eq)]
+#[derive(Clone, Copy, Debug, PartialEq, Eq, Error)]
+#[error("bin {bin}: {why}")]
 pub struct BinFault {
     pub bin: usize,
     pub why: PartError,

@@ -3,5 +3,5 @@ mod Kept
 mod Pairs
 mod Rolled
 mod RowEnds
-mod Short
 mod Unique
+mod Whole

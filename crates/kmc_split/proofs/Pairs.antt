@@ -7,7 +7,7 @@ use Rattle.kmc_base.specs.Packed.{unpack}
 use Rattle.std.proofs.Math.Nat.{div-div-eq-div-mul, pow-succ'}
 use Rattle.kmc_base.specs.Lemmas.Packing.{length_unpack}
 use Rattle.kmc_base.specs.Lemmas.Powers.{pow_up, pow_quad}
-use Rattle.kmc_split.specs.Signature.{has_pair, begins, is_short, is_allowed}
+use Rattle.kmc_split.specs.Signature.{has_pair, begins, is_allowed}
 use Rattle.kmc_split.specs.Offers.{pair_marks}
 
 -- 1 for an A
@@ -181,12 +181,6 @@ head_fits (suc j) p h =
     let same : p / 4 / 4 ^ j ≡ p / 4 ^ suc j = div-div-eq-div-mul p 4 (4 ^ j) ∙ ap (λ d. p / d) (sym (pow-succ' 4 j)) in
     omega arith
 
-long_enough : (w : List ℕ) → 3 ≤ length w → is_short w ≡ false
-long_enough [] h = absurd (omega arith)
-long_enough (a ∷ []) h = absurd (omega arith)
-long_enough (a ∷ b ∷ []) h = absurd (omega arith)
-long_enough (a ∷ b ∷ c ∷ w) h = refl
-
 pub allowed_long : (m p marks_given : ℕ) → 3 ≤ m → p < 4 ^ m → marks_given ≡ pair_marks (m - 1)
     → ((not (nat_eq (p / 2 ^ (2 * (m - 3))) 0) && not (nat_eq (p / 2 ^ (2 * (m - 3))) 4)) && nat_eq
     (bit_and (marks_given - bit_and (either p) marks_given) ((marks_given - bit_and (either p) marks_given) / 4)) 0) ≡ is_allowed (unpack m p)
@@ -209,9 +203,7 @@ allowed_long (suc (suc (suc j))) p g some fits e =
     ∙ ap (λ (t : List ℕ). not (has_pair t)) (sym (drop_unpack (suc (suc j)) p)) in
     let ra = sym is_aaa in
     let rc = sym is_aca in
-    let is_long = sym (long_enough w (omega (arith, length_unpack (suc (suc (suc j))) p))) in
     (λ i. (not (nat_eq (head i) 0) && not (nat_eq (head i) 4)) && is_apart i) ∙ (λ i. (not (ra i) && not (rc i)) && not (has_pair (drop 1 w)))
-    ∙ (λ i. not (is_long i) && (not (begins (0 ∷ 0 ∷ 0 ∷ []) w) && not (begins (0 ∷ 1 ∷ 0 ∷ []) w) && not (has_pair (drop 1 w))))
 
 pub pair_marks_fit : (n : ℕ) → pair_marks n < 4 ^ n
 pair_marks_fit zero = omega arith
@@ -220,10 +212,10 @@ pair_marks_fit (suc n) = let h = pair_marks_fit n in omega arith
 pub pair_marks_more : (n : ℕ) → pair_marks (n + 1) ≡ pair_marks n * 4 + 1
 pair_marks_more n = rw add-one refl
 
-pub marks_room : (n : ℕ) → n < 8 → pair_marks n * 4 + 1 < 2 ^ 16
+pub marks_room : (n : ℕ) → n < 11 → pair_marks n * 4 + 1 < 2 ^ 32
 marks_room n less =
-    let parts : (7 - n) + n ≡ 7 = omega arith in
-    let up : 4 ^ n ≤ 4 ^ 7 = rw parts at (pow_up n (7 - n)) in
+    let parts : (10 - n) + n ≡ 10 = omega arith in
+    let up : 4 ^ n ≤ 4 ^ 10 = rw parts at (pow_up n (10 - n)) in
     omega (arith, pair_marks_fit n)
 
 pub none_is : (m : ℕ) → 3 * pair_marks m + 1 ≡ 4 ^ m

@@ -1,9 +1,11 @@
 -- Rows of equal values that grow at their end, and the runs that rows are cut into.
-use Rattle.std.proofs.Common.{◌≡◌, ◌≢◌, ℕ, ◌+◌, ◌-◌, ◌<◌, ◌≤◌, List, [], ◌∷◌, ◌++◌, sym, ap, ◌∙◌, arith, ◌⊎◌, inl, inr, length, take, drop, get_or, set, add-one, subst}
+use Rattle.std.proofs.Common.{◌≡◌, ◌≢◌, ℕ, ◌+◌, ◌-◌, ◌^◌, ◌<◌, ◌≤◌, cond, nat_eq, List, [], ◌∷◌, ◌++◌, sym, ap, ◌∙◌, arith, ◌⊎◌, inl, inr, length, take, drop, get_or, set, add-one, subst}
 use Rattle.std.proofs.Math.Seq.{drop-cons}
 use Rattle.std.proofs.lemmas.List.{take-set, take_more_set}
 use Rattle.kmc_split.specs.declared.runs.Run.{Run}
 use Rattle.kmc_split.specs.Cut.{IsRunAt, AreRuns}
+use Rattle.std.proofs.lemmas.Bool.Decides.{nat_tests}
+use Rattle.kmc_split.specs.Offers.{unmarked}
 use Rattle.kmc_split.specs.Rows.{IsRow, AreRowEnds, Last, MayFollow}
 
 module _ (at : ℕ → ℕ) where
@@ -71,7 +73,7 @@ module _ (at : ℕ → ℕ) where
             (omega (arith, other.0), rw (n, take_more_set ends count i inside) (row_ends_here at 0 i (take count ends) h other.1))
       ]
 
-  before_end : (p end : ℕ) (qs : List ℕ) → AreRowEnds at p end qs → p < end
+  pub before_end : (p end : ℕ) (qs : List ℕ) → AreRowEnds at p end qs → p < end
   before_end p end [] h = h.0
   before_end p end (q ∷ qs) h = omega (arith, h.0, before_end q end qs h.3)
 
@@ -83,3 +85,10 @@ module _ (at : ℕ → ℕ) where
       let split : drop n ends ≡ get_or ends n 0 ∷ drop (n + 1) ends = rw add-one (drop-cons ends n 0 inside) in
       let rows : AreRowEnds at p end (get_or ends n 0 ∷ drop (n + 1) ends) = subst (AreRowEnds at p end) split h in
       (rows.0, omega (arith, before_end (get_or ends n 0) end (drop (n + 1) ends) rows.3), rows.1, rows.2, rows.3)
+
+one_value : (mark top a b : ℕ) → a < top → b < top → cond (nat_eq a mark) top a ≡ cond (nat_eq b mark) top b → a ≡ b
+one_value mark top a b ha hb e = grind (arith, nat_tests)
+
+-- other values are other signatures
+pub unmarked_apart : (m a b : ℕ) → a < 4 ^ m → b < 4 ^ m → a ≢ b → unmarked m a ≢ unmarked m b
+unmarked_apart m a b ha hb apart e = apart (one_value (4 ^ m - 1) (4 ^ m) a b ha hb e)

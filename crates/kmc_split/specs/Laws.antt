@@ -6,18 +6,18 @@ use Rattle.kmc_split.specs.declared.runs.Run.{Run}
 use Rattle.kmc_split.specs.Signature.{signature_of}
 use Rattle.kmc_split.specs.Cut.{IsCut, run_words, IsRunOf}
 
--- each signature is below 4 ^ m
+-- each signature is at most 4 ^ m
 abbrev pub SignatureFits : Type 0
-SignatureFits = (m : ℕ) (w : List ℕ) → signature_of m w < 4 ^ m
+SignatureFits = (m : ℕ) (w : List ℕ) → signature_of m w ≤ 4 ^ m
 
 -- a word and its reverse complement have one signature
 abbrev pub StrandsShareSignature : Type 0
-StrandsShareSignature = (m : ℕ) (w : List ℕ) → 1 ≤ m → m ≤ length w → All (λ c. c < 4) w
+StrandsShareSignature = (m : ℕ) (w : List ℕ) → m ≤ length w → All (λ c. c < 4) w
     → signature_of m (rev_comp w) ≡ signature_of m w
 
 -- words with one canonical form have one signature
 abbrev pub CanonicalFixesSignature : Type 0
-CanonicalFixesSignature = (m : ℕ) (v w : List ℕ) → 1 ≤ m → m ≤ length w → All (λ c. c < 4) v → All (λ c. c < 4) w
+CanonicalFixesSignature = (m : ℕ) (v w : List ℕ) → m ≤ length w → All (λ c. c < 4) v → All (λ c. c < 4) w
     → canonical v ≡ canonical w → signature_of m v ≡ signature_of m w
 
 -- a segment has a cut

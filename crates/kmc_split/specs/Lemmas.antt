@@ -3,4 +3,5 @@ pub mod Allowed
 pub mod BothStrands
 pub mod Least
 pub mod Lowest
+pub mod Numbers
 pub mod Written

@@ -1,17 +1,22 @@
 -- What each m-mer offers as a signature, and how the test on m-mers lies in bits.
-use Rattle.std.specs.Prelude.{ℕ, ◌+◌, ◌-◌, ◌*◌, ◌^◌, cond, List}
+use Rattle.std.specs.Prelude.{ℕ, ◌+◌, ◌-◌, ◌*◌, ◌^◌, cond, nat_eq, List}
 use Rattle.std.proofs.Common.{zero, suc}
 use Rattle.kmc_base.specs.Words.{canonical}
 use Rattle.kmc_base.specs.Packed.{pack, unpack}
 use Rattle.kmc_split.specs.Signature.{is_allowed}
 
--- the value of the canonical form where that is allowed, else 4 ^ m - 1
+-- the value of the canonical form where that is allowed, else the mark 4 ^ m - 1, which is the value of no canonical form of one code
+-- or more: so m codes hold it
 abbrev pub offer : ℕ → List ℕ → ℕ
 offer m v = cond (is_allowed (canonical v)) (pack (canonical v)) (4 ^ m - 1)
 
 -- the same of a packed canonical form
 abbrev pub packed_offer : ℕ → ℕ → ℕ
 packed_offer m p = cond (is_allowed (unpack m p)) p (4 ^ m - 1)
+
+-- the signature that the least of some offers is: 4 ^ m in place of the mark
+abbrev pub unmarked : ℕ → ℕ → ℕ
+unmarked m least = cond (nat_eq least (4 ^ m - 1)) (4 ^ m) least
 
 -- 1 in each of n pairs of bits
 abbrev pub pair_marks : ℕ → ℕ

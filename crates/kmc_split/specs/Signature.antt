@@ -1,5 +1,5 @@
 -- Signatures of words (KMC 2's minimizers; which m-mers are allowed is this project's rule).
-use Rattle.std.specs.Prelude.{ℕ, ◌-◌, ◌^◌, ◌==◌, ◌&&◌, ◌||◌, Bool, true, false, not, nat_eq, min, List, [], ◌∷◌, map, take, drop}
+use Rattle.std.specs.Prelude.{ℕ, ◌^◌, ◌==◌, ◌&&◌, ◌||◌, Bool, false, not, nat_eq, min, List, [], ◌∷◌, map, take, drop}
 use Rattle.std.specs.List.{filter}
 use Rattle.std.specs.Cmp.Lexicographic.{pointwise}
 use Rattle.kmc_base.specs.Words.{canonical, windows}
@@ -15,24 +15,15 @@ has_pair (c ∷ d ∷ w) = ((c == 0) && (d == 0)) || has_pair (d ∷ w)
 abbrev pub begins : List ℕ → List ℕ → Bool
 begins v w = pointwise nat_eq (take 3 w) v
 
--- the word has fewer than three codes
-abbrev pub is_short : List ℕ → Bool
-is_short [] = true
-is_short (a ∷ []) = true
-is_short (a ∷ b ∷ []) = true
-is_short (a ∷ b ∷ c ∷ w) = false
-
--- a canonical m-mer that may be a signature: it has three codes or more, begins neither AAA nor ACA, and has no AA at an index of 1
--- or more
+-- a canonical m-mer that may be a signature: it begins neither AAA nor ACA, and has no AA at an index of 1 or more
 abbrev pub is_allowed : List ℕ → Bool
-is_allowed w = not (is_short w) && (not (begins (0 ∷ 0 ∷ 0 ∷ []) w) && not (begins (0 ∷ 1 ∷ 0 ∷ []) w) && not (has_pair (drop 1 w)))
+is_allowed w = not (begins (0 ∷ 0 ∷ 0 ∷ []) w) && not (begins (0 ∷ 1 ∷ 0 ∷ []) w) && not (has_pair (drop 1 w))
 
 -- the least of some numbers, none of which is above `most`, and `most` where there is none
 abbrev pub least : ℕ → List ℕ → ℕ
 least most [] = most
 least most (x ∷ xs) = min x (least most xs)
 
--- the least value of the allowed canonical forms of the m-mers of a word, and 4 ^ m - 1, which is the value of no canonical form,
--- where there is none
+-- the least value of the allowed canonical forms of the m-mers of a word, and 4 ^ m where there is none
 abbrev pub signature_of : ℕ → List ℕ → ℕ
-signature_of m w = least (4 ^ m - 1) (map pack (filter is_allowed (map canonical (windows m w))))
+signature_of m w = least (4 ^ m) (map pack (filter is_allowed (map canonical (windows m w))))

@@ -1,7 +1,7 @@
 //! Laws over the definitions alone. Each call does nothing: its contract is the law, for the proofs of its callers.
 ghost use Rattle.kmc_split.specs.Laws.{SignatureFits, StrandsShareSignature, CanonicalFixesSignature, CutExists, CutIsUnique, CutKeepsWords, CutHasRuns};
 
-/// Each signature of m-mers is below 4^m.
+/// Each signature of m-mers is at most 4^m.
 pub fn signature_fits()
     ensures { SignatureFits }
 {}

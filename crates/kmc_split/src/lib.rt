@@ -8,6 +8,7 @@ mod cutting;
 mod judge;
 pub mod laws;
 mod minima;
+mod mmer;
 mod plain;
 mod remainders;
 mod rolling;
@@ -16,7 +17,8 @@ mod signatures;
 mod values;
 
 pub use cutting::{Scratch, cut};
-pub use judge::{HEAD, is_allowed_with, marks_for, offers};
+pub use judge::{marks_for, offers};
+pub use mmer::{MOST_SHORT, Mmer};
 pub use plain::{allowed, lowest, signature, super_kmers};
 pub use remainders::remainder;
 pub use runs::Run;

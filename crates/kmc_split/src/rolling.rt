@@ -1,20 +1,22 @@
 //! The canonical forms at all places, from one pass.
-ghost use Rattle.std.specs.Prelude.{◌≡◌, ℕ, ◌+◌, ◌-◌, ◌*◌, ◌/◌, ◌%◌, ◌^◌, ◌<◌, ◌≤◌, length, slice_index};
+ghost use Rattle.std.specs.Prelude.{◌≡◌, ℕ, ◌+◌, ◌-◌, ◌*◌, ◌/◌, ◌%◌, ◌^◌, ◌<◌, ◌≤◌, length, map, slice_index};
 ghost use Rattle.std.specs.List.{All};
 ghost use Rattle.kmc_base.specs.Words.{canonical, window};
 ghost use Rattle.kmc_base.specs.Packed.{unpack};
 
+use crate::mmer::Mmer;
 use crate::signatures::MAX_M;
 
 /// The canonical form, packed, of the m codes at each place: the word and its reverse complement roll along.
-pub(crate) fn canonical_values(codes: &[u8], m: usize, out: &mut [u16])
+pub(crate) fn canonical_values<V: Mmer>(codes: &[u8], m: usize, out: &mut [V])
     requires some { 1 ≤ m }
     requires most { m ≤ MAX_M }
+    requires room { m ≤ V.most }
     requires long { length out.old + m ≡ length codes.now + 1 }
     requires codes { All (λ c. c < 4) codes.now }
-    ensures fit { (i : ℕ) → i < length out.new → slice_index out.new i < 4 ^ m }
+    ensures fit { (i : ℕ) → i < length out.new → slice_index (map V.number out.new) i < 4 ^ m }
     ensures each { (i : ℕ) → i < length out.new
-        → unpack m (slice_index out.new i) ≡ canonical (window m codes.now i) }
+        → unpack m (slice_index (map V.number out.new) i) ≡ canonical (window m codes.now i) }
 {
     let before = m - 1;
     let top = weight(before);
@@ -29,7 +31,7 @@ pub(crate) fn canonical_values(codes: &[u8], m: usize, out: &mut [u16])
         let code = u32::from(codes[j + before]);
         forward = ahead(forward, code, top);
         back = behind(back, code, top);
-        out[j] = forward.min(back) as u16;
+        out[j] = V::of_packed(forward.min(back));
     }
 }
 

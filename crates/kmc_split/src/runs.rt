@@ -1,8 +1,10 @@
 //! Runs of neighbouring words of one signature.
-ghost use Rattle.std.specs.Prelude.{◌≡◌, ℕ, ◌^◌, ◌<◌, ◌≤◌, length, take, slice_index, OnOk};
+ghost use Rattle.std.specs.Prelude.{◌≡◌, ℕ, ◌^◌, ◌<◌, ◌≤◌, length, map, take, slice_index, OnOk};
 ghost use Rattle.kmc_split.specs.Cut.{AreRuns};
+ghost use Rattle.kmc_split.specs.Offers.{unmarked};
 ghost use Rattle.kmc_split.specs.Rows.{IsRow, AreRowEnds, Last, MayFollow};
 
+use crate::mmer::Mmer;
 use crate::signatures::{MAX_M, Sig};
 use std::alloc::AllocError;
 
@@ -21,40 +23,35 @@ const MOST_WORDS: usize = 256;
 
 /// Where the maximal rows of equal values end, but for the last one: at the front of `ends`, and how many they are. Each place
 /// is written, and counted where its value is new, so that there is no branch to be guessed.
-fn row_ends(values: &[u16], ends: &mut [usize]) -> usize
+fn row_ends<V: Mmer>(values: &[V], ends: &mut [usize]) -> usize
     requires some { 0 < length values.now }
     requires long { length ends.old ≡ length values.now }
     ensures within { result ≤ length ends.new }
-    ensures rows { AreRowEnds (λ i. slice_index values.now i) 0 (length values.now)
-        (take result ends.new) }
+    ensures rows { AreRowEnds (λ i. slice_index (map V.number values.now) i) 0
+        (length values.now) (take result ends.new) }
 {
     let mut count = 0;
     for i in 1..values.len() {
         ends[count] = i;
         let before = values[i - 1];
-        count += if values[i] != before { 1 } else { 0 };
+        count += if values[i].is_same(before) { 0 } else { 1 };
     }
     count
 }
 
-/// Appends the runs of a row of equal signatures from one place to before another.
+/// Appends the runs of a row of words of one signature from one place to before another.
 pub(crate) fn push_row(
-    signatures: &[u16],
+    signature: Sig,
     start: usize,
     end: usize,
     runs: &mut Vec<Run>,
 ) -> Result<(), AllocError>
-    requires some { start < end }
-    requires inside { end ≤ length signatures.now }
-    requires row { IsRow (λ i. slice_index signatures.now i) start end }
-    requires fit { (i : ℕ) → i < length signatures.now → slice_index signatures.now i < 4 ^ MAX_M }
-    requires runs { AreRuns (λ i. slice_index signatures.now i) 0 start runs.old.items }
-    requires apart { MayFollow (slice_index signatures.now start) runs.old.items }
-    ensures runs { OnOk result (AreRuns (λ i. slice_index signatures.now i) 0 end runs.new.items) }
-    ensures last { OnOk result (Last
-        (λ r. r.signature ≡ slice_index signatures.now start) runs.new.items) }
+    requires { start < end }
+    ensures runs { (at : ℕ → ℕ) → IsRow at start end → at start ≡ signature
+        → AreRuns at 0 start runs.old.items → MayFollow signature runs.old.items
+        → OnOk result (AreRuns at 0 end runs.new.items) }
+    ensures last { OnOk result (Last (λ r. r.signature ≡ signature) runs.new.items) }
 {
-    let signature = Sig::of_value(signatures[start]);
     let mut place = start;
     while end - place > MOST_WORDS {
         runs.push(Run {
@@ -72,24 +69,32 @@ pub(crate) fn push_row(
     Ok(())
 }
 
-/// The runs of these signatures. `ends` is to be used again.
-pub(crate) fn group(
-    signatures: &[u16],
+/// The runs of words whose m-mers offer these values at the least. `ends` is to be used again.
+pub(crate) fn group<V: Mmer>(
+    values: &[V],
+    m: usize,
     ends: &mut Vec<usize>,
     runs: &mut Vec<Run>,
 ) -> Result<(), AllocError>
-    requires some { 0 < length signatures.now }
-    requires fit { (i : ℕ) → i < length signatures.now → slice_index signatures.now i < 4 ^ MAX_M }
-    ensures { OnOk result (AreRuns (λ i. slice_index signatures.now i) 0
-        (length signatures.now) runs.new.items) }
+    requires some { 0 < length values.now }
+    requires most { m ≤ MAX_M }
+    requires fit { (i : ℕ) → i < length values.now
+        → slice_index (map V.number values.now) i < 4 ^ m }
+    ensures { OnOk result (AreRuns (λ i. unmarked m (slice_index (map V.number values.now) i)) 0
+        (length values.now) runs.new.items) }
 {
     runs.clear();
-    ends.resize(signatures.len(), 0)?;
-    let count = row_ends(signatures, ends);
+    ends.resize(values.len(), 0)?;
+    let count = row_ends(values, ends);
     let mut start = 0;
     for end in &ends[..count] {
-        push_row(signatures, start, *end, runs)?;
+        push_row(Sig::of_least(values[start].to_u128(), m), start, *end, runs)?;
         start = *end;
     }
-    push_row(signatures, start, signatures.len(), runs)
+    push_row(
+        Sig::of_least(values[start].to_u128(), m),
+        start,
+        values.len(),
+        runs,
+    )
 }

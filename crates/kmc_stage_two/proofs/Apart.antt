@@ -61,17 +61,17 @@ key_in strands shape bin ss spelled belong x at = record {
     inside = subst (λ (n : ℕ). q < n) (length-map (all_windows shape.k ss) (key strands)) found.1
 
 -- words with one key have one signature
-one_signature : CanonicalFixesSignature → (strands : Strands) (m k : ℕ) (v w : List ℕ) → 1 ≤ m → m ≤ k → IsWord k v → IsWord k w → key strands v
+one_signature : CanonicalFixesSignature → (strands : Strands) (m k : ℕ) (v w : List ℕ) → m ≤ k → IsWord k v → IsWord k w → key strands v
     ≡ key strands w → signature_of m v ≡ signature_of m w
-one_signature fixes Joined m k v w some within hv hw same =
-    fixes m v w some (omega (arith, hw.0)) (All-from_recursion (λ (c : ℕ). c < 4) v hv.1) (All-from_recursion (λ (c : ℕ). c < 4) w hw.1) same
-one_signature fixes Apart m k v w some within hv hw same = ap (signature_of m) same
+one_signature fixes Joined m k v w within hv hw same =
+    fixes m v w (omega (arith, hw.0)) (All-from_recursion (λ (c : ℕ). c < 4) v hv.1) (All-from_recursion (λ (c : ℕ). c < 4) w hw.1) same
+one_signature fixes Apart m k v w within hv hw same = ap (signature_of m) same
 
 pub keys_apart : BodyHasOneList → CanonicalFixesSignature → (strands : Strands) (shape : Sizes) (bodies : List (List ℕ)) (words : List ℕ)
     (sss : List (List (List ℕ)))
-    → 1 ≤ shape.m → shape.m ≤ shape.k → AreBins shape bodies words → AllZip (IsBodyOf shape.k) sss bodies
+    → shape.m ≤ shape.k → AreBins shape bodies words → AllZip (IsBodyOf shape.k) sss bodies
     → AreApart (map (record_keys strands shape.k) sss)
-keys_apart one fixes strands shape bodies words sss some within are zip i j d less lt x here there = clash
+keys_apart one fixes strands shape bodies words sss within are zip i j d less lt x here there = clash
     (in_bin i inside_i x (moved i inside_i here)) (in_bin j inside_j x (moved j inside_j there))
   where
     f : List (List ℕ) → List (List ℕ)
@@ -99,6 +99,6 @@ keys_apart one fixes strands shape bodies words sss some within are zip i j d le
 
     clash : IsKeyIn strands shape i x → IsKeyIn strands shape j x → ⊥
     clash a b =
-        let same = one_signature fixes strands shape.m shape.k a.word b.word some within a.whole b.whole (a.is ∙ sym b.is) in
+        let same = one_signature fixes strands shape.m shape.k a.word b.word within a.whole b.whole (a.is ∙ sym b.is) in
         let equal : i ≡ j = sym a.belongs ∙ ap (λ (s : ℕ). s % shape.n) same ∙ b.belongs in
         omega (arith, less, equal)

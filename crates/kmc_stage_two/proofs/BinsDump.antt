@@ -61,7 +61,7 @@ module _ (share : BinsShareNoKey) (keyed : DumpsOfBodiesAreOfKeys) (strands : St
         super_kmers = all.0;
         records = all.1;
         dumps = keyed strands shape.k l bodies all.0 lists dumps all.1;
-        apart = share strands shape bodies words all.0 bounds.some_m bounds.within are all.1;
+        apart = share strands shape bodies words all.0 bounds.within are all.1;
       }
 
   -- the lists of bins can be merged, and their whole is the dump of all bins

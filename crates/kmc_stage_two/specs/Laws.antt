@@ -39,5 +39,5 @@ CutReadsAreCounted = (strands : Strands) (k : ℕ) (reads cuts : List (List ℕ)
 -- the keys of different bins differ
 abbrev pub BinsShareNoKey : Type 0
 BinsShareNoKey = (strands : Strands) (shape : Sizes) (bodies : List (List ℕ)) (words : List ℕ) (sss : List (List (List ℕ)))
-    → 1 ≤ shape.m → shape.m ≤ shape.k → AreBins shape bodies words → AllZip (IsBodyOf shape.k) sss bodies
+    → shape.m ≤ shape.k → AreBins shape bodies words → AllZip (IsBodyOf shape.k) sss bodies
     → AreApart (map (record_keys strands shape.k) sss)

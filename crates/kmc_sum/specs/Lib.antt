@@ -9,6 +9,7 @@ pub mod Messages
 pub mod Numbers
 pub mod Pairs
 pub mod Program
+pub mod RefusalNumbers
 pub mod Refusals
 pub mod Request
 pub mod Source

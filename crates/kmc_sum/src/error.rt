@@ -6,6 +6,7 @@ ghost use Rattle.kmc_sum.specs.declared.error.SumError.TheVariants.{Source};
 
 use kmc_device::ReadFault;
 use std::fmt;
+use thiserror::Error;
 
 /// How a line is at fault.
 #[derive(Clone, Copy, Debug, PartialEq, Eq)]
@@ -17,6 +18,21 @@ pub enum LineFault {
     OtherLength,
     /// Its word is not above that of the line before.
     NotRising,
+}
+
+impl LineFault {
+    ghost use Rattle.kmc_sum.specs.RefusalNumbers.{number_of_line_fault};
+
+    /// The number of the refusal, as docs/REFUSALS.md lists it.
+    pub fn number(&self) -> u8
+        ensures { result ≡ number_of_line_fault self.now }
+    {
+        match self {
+            LineFault::Malformed => 1,
+            LineFault::OtherLength => 2,
+            LineFault::NotRising => 3,
+        }
+    }
 }
 
 impl fmt::Display for LineFault {
@@ -40,6 +56,20 @@ pub enum SourceFault {
     Line(u64, LineFault),
 }
 
+impl SourceFault {
+    ghost use Rattle.kmc_sum.specs.RefusalNumbers.{number_of_source_fault};
+
+    /// The number of the refusal, as docs/REFUSALS.md lists it.
+    pub fn number(&self) -> u8
+        ensures { result ≡ number_of_source_fault self.now }
+    {
+        match self {
+            SourceFault::Read => 1,
+            SourceFault::Line(_, _) => 2,
+        }
+    }
+}
+
 impl From<ReadFault> for SourceFault {
     ghost from_gives = { λ _ e. e ≡ Read };
 
@@ -60,23 +90,44 @@ impl fmt::Display for SourceFault {
 }
 
 /// The source at fault, numbered from 0, and how it is.
-#[derive(Clone, Copy, Debug, PartialEq, Eq)]
+#[derive(Clone, Copy, Debug, PartialEq, Eq, Error)]
+#[error("source {source}: {fault}")]
 pub struct SourceError {
     pub source: usize,
     pub fault: SourceFault,
 }
 
 /// Why a merge is given up.
-#[derive(Clone, Copy, Debug, PartialEq, Eq)]
+#[derive(Clone, Copy, Debug, PartialEq, Eq, Error)]
 pub enum SumError {
     /// A source is at fault.
+    #[error("{0}")]
     Source(SourceError),
     /// A write or the flush failed, or a write took nothing.
+    #[error("cannot write")]
     Write,
     /// Memory was refused.
+    #[error("out of memory")]
     Memory,
     /// The sources have 2^64 - 1 lines or more: so many are not counted.
+    #[error("too many lines")]
     TooLong,
+}
+
+impl SumError {
+    ghost use Rattle.kmc_sum.specs.RefusalNumbers.{number_of_sum_error};
+
+    /// The number of the refusal, as docs/REFUSALS.md lists it.
+    pub fn number(&self) -> u8
+        ensures { result ≡ number_of_sum_error self.now }
+    {
+        match self {
+            SumError::Source(_) => 1,
+            SumError::Write => 2,
+            SumError::Memory => 3,
+            SumError::TooLong => 4,
+        }
+    }
 }
 
 impl From<SourceError> for SumError {

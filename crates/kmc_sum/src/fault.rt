@@ -28,6 +28,19 @@ const MISUSED: u8 = 2;
 const FAILED: u8 = 1;
 
 impl Fault {
+    ghost use Rattle.kmc_sum.specs.RefusalNumbers.{number_of_fault};
+
+    /// The number of the refusal, as docs/REFUSALS.md lists it.
+    pub fn number(&self) -> u8
+        ensures { result ≡ number_of_fault self.now }
+    {
+        match self {
+            Fault::Request(_) => 1,
+            Fault::NotOpened(_) => 2,
+            Fault::Sum(_) => 3,
+        }
+    }
+
     /// The exit status: 2 where the command line is at fault, and else 1.
     pub fn status(&self) -> u8
         ensures { result ≡ status_of self.now }

@@ -28,6 +28,20 @@ pub enum RequestError {
     OutOfRange(LimitOption),
 }
 
+impl RequestError {
+    ghost use Rattle.kmc_sum.specs.RefusalNumbers.{number_of_request_error};
+
+    /// The number of the refusal, as docs/REFUSALS.md lists it.
+    pub fn number(&self) -> u8
+        ensures { result ≡ number_of_request_error self.now }
+    {
+        match self {
+            RequestError::Usage => 1,
+            RequestError::OutOfRange(_) => 2,
+        }
+    }
+}
+
 impl fmt::Display for RequestError {
     ghost output = { λ e. Some (text_of_request_error e) };
 

@@ -2,30 +2,26 @@
 use Rattle.std.proofs.Common.{◌≡◌, ℕ, ◌-◌, ◌^◌, ◌≤◌, Bool, true, false, cond, List, length, min, refl, sym, ap, ◌∙◌, arith}
 use Rattle.std.specs.Ordering.{is_lt}
 use Rattle.kmc_base.specs.Words.{rev_comp, canonical, word_cmp, window}
-use Rattle.kmc_base.specs.Packed.{pack}
 use Rattle.kmc_base.specs.Lemmas.Packs.{AreCodes, length_rev_comp, length_canonical, canonical_rev_comp}
 use Rattle.kmc_base.specs.Lemmas.Rolling.{codes_part}
-use Rattle.kmc_split.specs.Signature.{is_allowed, signature_of}
-use Rattle.kmc_split.specs.Offers.{offer}
+use Rattle.kmc_split.specs.Signature.{signature_of}
 use Rattle.kmc_split.specs.Lemmas.Lowest.{low_back}
 use Rattle.kmc_base.specs.Lemmas.Mirrored.{window_back}
-use Rattle.kmc_split.specs.Lemmas.Least.{signature_is}
+use Rattle.kmc_split.specs.Lemmas.Least.{worth, least_form_is}
 
-offer_same : (m : ℕ) (v : List ℕ) → AreCodes v → offer m (rev_comp v) ≡ offer m v
-offer_same m v h =
-    let e = canonical_rev_comp v h in
-    (λ i. cond (is_allowed (e i)) (pack (e i)) (4 ^ m - 1))
+worth_same : (most : ℕ) (v : List ℕ) → AreCodes v → worth most (canonical (rev_comp v)) ≡ worth most (canonical v)
+worth_same most v h = ap (worth most) (canonical_rev_comp v h)
 
 pub strands_share : (m : ℕ) (w : List ℕ) → m ≤ length w → AreCodes w → signature_of m (rev_comp w) ≡ signature_of m w
 strands_share m w within h =
     let n = length w - m in
-    let at : ℕ → ℕ = λ j. min (4 ^ m - 1) (offer m (window m w j)) in
-    let bt : ℕ → ℕ = λ j. min (4 ^ m - 1) (offer m (window m (rev_comp w) j)) in
-    sym (signature_is m n (rev_comp w) bt (omega (arith, length_rev_comp w)) (λ j less. refl))
+    let at : ℕ → ℕ = λ j. min (4 ^ m) (worth (4 ^ m) (canonical (window m w j))) in
+    let bt : ℕ → ℕ = λ j. min (4 ^ m) (worth (4 ^ m) (canonical (window m (rev_comp w) j))) in
+    sym (least_form_is (4 ^ m) m n (rev_comp w) bt (omega (arith, length_rev_comp w)) (λ j less. refl))
     ∙ low_back at bt n
-    (λ j less. ap (λ v. min (4 ^ m - 1) (offer m v)) (window_back m j w (omega arith)) ∙ ap (min (4 ^ m - 1))
-    (offer_same m (window m w (n - j)) (codes_part m (n - j) w h)))
-    ∙ signature_is m n w at (omega arith) (λ j less. refl)
+    (λ j less. ap (λ v. min (4 ^ m) (worth (4 ^ m) (canonical v))) (window_back m j w (omega arith)) ∙ ap (min (4 ^ m))
+    (worth_same (4 ^ m) (window m w (n - j)) (codes_part m (n - j) w h)))
+    ∙ least_form_is (4 ^ m) m n w at (omega arith) (λ j less. refl)
 
 canonical_shares : (m : ℕ) (w : List ℕ) → m ≤ length w → AreCodes w → signature_of m (canonical w) ≡ signature_of m w
 canonical_shares m w within h = go (is_lt (word_cmp (rev_comp w) w))

@@ -95,7 +95,11 @@ low_back at bt n back =
     let low_two : low bt (suc n) 0 ≤ bt (n - two.0) = low_le bt (suc n) 0 (n - two.0) (omega arith) (omega arith) in
     omega (arith, one.3, two.3)
 
-pub fits_most : (m : ℕ) → m ≤ 8 → 4 ^ m ≤ 4 ^ 8
-fits_most m h =
-    let parts : (8 - m) + m ≡ 8 = omega arith in
-    rw parts at (pow_up m (8 - m))
+-- fewer codes take less room
+pub pow_rises : (m n : ℕ) → m ≤ n → 4 ^ m ≤ 4 ^ n
+pow_rises m n h =
+    let parts : (n - m) + m ≡ n = omega arith in
+    rw parts at (pow_up m (n - m))
+
+pub fits_most : (m : ℕ) → m ≤ 11 → 4 ^ m ≤ 4 ^ 11
+fits_most m h = pow_rises m 11 h

@@ -1,10 +1,17 @@
-use Rattle.std.proofs.Common.{arith}
+use Rattle.std.proofs.Common.{ℕ, ◌<◌, map, arith}
+use Rattle.std.proofs.lemmas.List.{length-map}
+use Rattle.std.proofs.lemmas.List.Elements.{recursion_from_All}
 use Rattle.kmc_record.proofs.Bins.{bins_are}
 use Rattle.kmc_record.proofs.words.offers_in_bin.Goals as goal
 
 pub returns : goal.returns
-returns c =
+returns g c =
+    let f = g.V.Mmer.number in
+    let out = c.offers.new.out in
+    let codes = c.args.codes.now in
+    let count = length-map out f in
     let e = c.lows_in_bin.ensures in
-    let b = bins_are c.args.m c.args.k c.args.n c.args.bin c.args.codes.now c.offers.new.out c.requires.some c.requires.within c.requires.inside
-    (omega arith) c.offers.ensures.each c.offers.ensures.fit in
-    ((λ h. b.0 (e.0 h)), (λ all. e.1 (b.1 all)))
+    let b = bins_are c.args.m c.args.k c.args.n c.args.bin codes (map f out) c.requires.some
+    (recursion_from_All (λ (x : ℕ). x < 4) codes c.requires.codes) c.requires.within c.requires.inside (omega arith)
+    (λ i inside. c.offers.ensures.each i (omega arith)) (λ i inside. c.offers.ensures.fit i (omega arith)) in
+    ((λ h. b.0 (λ i inside. e.0 h i (omega arith))), (λ all. e.1 (λ i inside. b.1 all i (omega arith))))

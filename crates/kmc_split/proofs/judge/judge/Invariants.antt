@@ -1,7 +1,8 @@
-use Rattle.std.proofs.Common.{◌≡◌, ℕ, ◌<◌, ◌≤◌, slice_index}
+use Rattle.std.proofs.Common.{◌≡◌, ℕ, ◌<◌, ◌≤◌, map, slice_index}
 use Rattle.kmc_split.specs.Offers.{packed_offer}
 use Rattle.kmc_split.proofs.judge.judge.Given as goal
 
 abbrev pub invariant-loop-i : goal.invariant-loop-i
-invariant-loop-i l = ((j : ℕ) → j < l.i → slice_index l.values j ≡ packed_offer l.m (slice_index l.initial.values j))
-    × ((j : ℕ) → l.i ≤ j → slice_index l.values j ≡ slice_index l.initial.values j)
+invariant-loop-i g l = ((j : ℕ) → j < l.i → slice_index (map g.V.Mmer.number l.values) j
+    ≡ packed_offer l.m (slice_index (map g.V.Mmer.number l.initial.values) j))
+    × ((j : ℕ) → l.i ≤ j → slice_index (map g.V.Mmer.number l.values) j ≡ slice_index (map g.V.Mmer.number l.initial.values) j)

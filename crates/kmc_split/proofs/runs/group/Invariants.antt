@@ -1,12 +1,13 @@
-use Rattle.std.proofs.Common.{length, drop, slice_index}
+use Rattle.std.proofs.Common.{length, map, drop, slice_index}
 use Rattle.kmc_split.specs.Cut.{AreRuns}
+use Rattle.kmc_split.specs.Offers.{unmarked}
 use Rattle.kmc_split.specs.Rows.{AreRowEnds, MayFollow}
 use Rattle.kmc_split.proofs.runs.group.Given as goal
 
 -- the rows that are left, and the runs of those before them
 abbrev pub invariant-loop-end : goal.invariant-loop-end
-invariant-loop-end l = record {
-  rows : AreRowEnds (slice_index l.signatures) l.start (length l.signatures) (drop l.end-index l.end-items);
-  runs : AreRuns (slice_index l.signatures) 0 l.start l.runs.items;
-  apart : MayFollow (slice_index l.signatures l.start) l.runs.items;
+invariant-loop-end g l = record {
+  rows : AreRowEnds (slice_index (map g.V.Mmer.number l.values)) l.start (length l.values) (drop l.end-index l.end-items);
+  runs : AreRuns (λ i. unmarked l.m (slice_index (map g.V.Mmer.number l.values) i)) 0 l.start l.runs.items;
+  apart : MayFollow (unmarked l.m (slice_index (map g.V.Mmer.number l.values) l.start)) l.runs.items;
 }

@@ -1,14 +1,15 @@
-use Rattle.std.proofs.Common.{◌≤◌, ◌<◌, ◌-◌, slice_index}
+use Rattle.std.proofs.Common.{◌≡◌, ℕ, ◌≤◌, ◌<◌, ◌-◌}
 use Rattle.kmc_split.specs.Cut.{AreRuns}
-use Rattle.kmc_split.specs.Rows.{MayFollow}
+use Rattle.kmc_split.specs.Rows.{IsRow, MayFollow}
 use Rattle.kmc_split.proofs.runs.push_row.Given as goal
 
 abbrev pub invariant-loop-place : goal.invariant-loop-place
 invariant-loop-place l = record {
   from : l.start ≤ l.place;
   before : l.place < l.end;
-  runs : AreRuns (slice_index l.signatures) 0 l.place l.runs.items;
-  apart : MayFollow (slice_index l.signatures l.start) l.runs.items;
+  runs : (at : ℕ → ℕ) → IsRow at l.start l.end → at l.start ≡ l.signature → AreRuns at 0 l.start l.initial.runs.items
+      → MayFollow l.signature l.initial.runs.items → AreRuns at 0 l.place l.runs.items;
+  apart : MayFollow l.signature l.initial.runs.items → MayFollow l.signature l.runs.items;
 }
 
 abbrev pub decreases-loop-place : goal.decreases-loop-place

@@ -1,5 +1,6 @@
-use Rattle.std.proofs.Common.{◌≡◌, ℕ, zero, suc, ◌+◌, ◌≤◌, min, slice_index, refl, ap, sym, ◌∙◌, arith, add-one, zero-add}
+use Rattle.std.proofs.Common.{◌≡◌, ℕ, zero, suc, ◌+◌, ◌≤◌, min, map, slice_index, refl, ap, sym, ◌∙◌, arith, add-one, zero-add}
 use Rattle.kmc_split.specs.Minima.{low}
+use Rattle.kmc_split.specs.Lemmas.Numbers.{read_is}
 use Rattle.kmc_split.proofs.plain.minima.lowest.Goals as goal
 
 module _ (at : ℕ → ℕ) where
@@ -16,6 +17,8 @@ module _ (at : ℕ → ℕ) where
           omega arith
 
 pub loop-i-preserved : goal.loop-i-preserved
-loop-i-preserved c =
-    let at : ℕ → ℕ = slice_index c.args.values.now in
-    c.min-least.ensures ∙ ap (λ (l : ℕ). min l (at c.loop-i.i)) c.loop-i.invariant ∙ sym (low_last at c.loop-i.i (omega arith))
+loop-i-preserved g c =
+    let f = g.V.Mmer.number in
+    let at : ℕ → ℕ = slice_index (map f c.args.values.now) in
+    let here = read_is f c.args.values.now c.loop-i.i c.index-values-i.result (omega arith) c.index-values-i.is in
+    c.lesser-least.ensures ∙ (λ t. min (c.loop-i.invariant t) (here t)) ∙ sym (low_last at c.loop-i.i (omega arith))

@@ -6,7 +6,7 @@ use Rattle.kmc_split.specs.Lemmas.Lowest.{fits_most}
 use Rattle.kmc_split.proofs.plain.signatures.packed.Goals as goal
 
 -- there is room for one more code
-room : (i p d : ℕ) → i < 8 → p < 4 ^ i → d < 4 → p * 4 + d < 2 ^ 16
+room : (i p d : ℕ) → i < 11 → p < 4 ^ i → d < 4 → p * 4 + d < 2 ^ 32
 room i p d less h small = omega (arith, fits_most (i + 1) (omega arith), fits_more i p d h small)
 
 pub overflow_mul-number : goal.overflow_mul-number
