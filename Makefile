@@ -20,7 +20,7 @@ LIST_NAME := futoncrane-kmc-list
 BIN = $(DESTDIR)$(PREFIX)/bin
 MAN = $(DESTDIR)$(PREFIX)/share/man/man1
 
-.PHONY: all count check test recipes install uninstall dist fuzz hostile damaged devices limits threads bench results merges clean
+.PHONY: all count check test recipes install uninstall dist fuzz hostile damaged devices limits threads bench results refusals merges clean
 
 # all programs in one call, since most of what they stand on is the same
 all:
@@ -119,6 +119,10 @@ ONLY :=
 
 results: $(PROGRAMS) $(REFUSED) $(BODIES) $(MANY)
 	bench/results.py $(ONLY)
+
+# docs/REFUSALS.md against the code: the number, text and exit status of each refusal
+refusals:
+	bench/refusals.py
 
 # random splits of random reads, against a plain count of all reads; and the time of a merge beside that of sort -m
 merges: $(KMC_MERGE)
