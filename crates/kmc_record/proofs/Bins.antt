@@ -5,7 +5,7 @@ use Rattle.std.proofs.lemmas.List.FromFn.{get_or-map-range_with_len}
 use Rattle.kmc_base.specs.Words.{window, windows}
 use Rattle.kmc_base.specs.Lemmas.Packs.{AreCodes}
 use Rattle.kmc_base.specs.Lemmas.Windows.{length_windows}
-use Rattle.kmc_split.specs.Signature.{signature_of}
+use Rattle.kmc_split.specs.Signature.{signature_of, bin_of, bin_of_signature}
 use Rattle.kmc_split.specs.Offers.{offer, unmarked}
 use Rattle.kmc_split.specs.Minima.{low}
 use Rattle.kmc_split.specs.Lemmas.Least.{signature_at}
@@ -22,14 +22,14 @@ module _ (m k n bin : ℕ) (codes values : List ℕ) (some : 1 ≤ m) (are : Are
       ap (λ w. unmarked m (low (slice_index values) w i)) width
       ∙ signature_at m (k - m) k i codes (slice_index values) some (omega arith) here are (λ j h. is j (omega arith)) (λ j h. fit j (omega arith))
 
-  pub bins_are : ((i : ℕ) → i + (k + 1 - m) ≤ length values → unmarked m (low (slice_index values) (k + 1 - m) i) % n ≡ bin) ↔ All
-      (λ w. signature_of m w % n ≡ bin) (windows k codes)
+  pub bins_are : ((i : ℕ) → i + (k + 1 - m) ≤ length values → bin_of_signature n (unmarked m (low (slice_index values) (k + 1 - m) i)) ≡ bin) ↔ All
+      (λ w. bin_of m n w ≡ bin) (windows k codes)
   bins_are = (
     (λ each i d less.
         let few : i < length codes + 1 - k = omega (arith, length_windows k codes) in
-        ap (λ w. signature_of m w % n) (word_of_windows k codes i d few) ∙ ap (λ s. s % n) (sym (low_signature i (omega arith))) ∙ each i (omega arith)),
+        ap (λ w. bin_of m n w) (word_of_windows k codes i d few) ∙ ap (bin_of_signature n) (sym (low_signature i (omega arith))) ∙ each i (omega arith)),
     (λ all i less.
         let few : i < length codes + 1 - k = omega arith in
-        ap (λ s. s % n) (low_signature i (omega arith)) ∙ ap (λ w. signature_of m w % n) (sym (word_of_windows k codes i [] few)) ∙ all i []
+        ap (bin_of_signature n) (low_signature i (omega arith)) ∙ ap (λ w. bin_of m n w) (sym (word_of_windows k codes i [] few)) ∙ all i []
         (omega (arith, length_windows k codes))),
   )

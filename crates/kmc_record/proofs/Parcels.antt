@@ -9,7 +9,7 @@ use Rattle.kmc_base.specs.Words.{window, windows}
 use Rattle.kmc_base.specs.Stretches.{Stretch}
 use Rattle.kmc_split.specs.declared.runs.Run.{Run}
 use Rattle.kmc_split.specs.Cut.{IsRunOf, run_codes}
-use Rattle.kmc_split.specs.Signature.{signature_of}
+use Rattle.kmc_split.specs.Signature.{signature_of, bin_of, bin_of_signature}
 use Rattle.kmc_base.specs.Lemmas.Windows.{length_windows, length_window, window_front}
 use Rattle.kmc_base.specs.Record.{spelling, IsSpelled}
 use Rattle.kmc_record.specs.Shapes.{Sizes}
@@ -60,21 +60,21 @@ grown_for_bins shape k f a b are h = record {
 -- ---- one run
 
 pub run_grown : (shape : Sizes) (k n b : ℕ) (codes : List ℕ) (r : Run) (parts : List Parcel) (v : Parcel) → AreForBins shape parts → b
-    ≡ r.signature % n → b < length parts
+    ≡ bin_of_signature n r.signature → b < length parts
     → ((d : Parcel) → v ≡ grown k (run_codes k codes r ∷ []) (get_or parts b d)) → HaveGrown k (λ j. bin_runs k n j codes (r ∷ [])) parts (set parts b v)
 run_grown shape k n b codes r parts v are at inside is = record {
   count = length-set parts b v;
-  each = λ j d l. go j d l (nat_eq (r.signature % n) j) refl;
+  each = λ j d l. go j d l (nat_eq (bin_of_signature n r.signature) j) refl;
 }
   where
-    go : (j : ℕ) (d : Parcel) → j < length parts → (t : Bool) → nat_eq (r.signature % n) j ≡ t
+    go : (j : ℕ) (d : Parcel) → j < length parts → (t : Bool) → nat_eq (bin_of_signature n r.signature) j ≡ t
         → get_or (set parts b v) j d ≡ grown k (map (run_codes k codes) (cond t (r ∷ []) [])) (get_or parts j d)
     go j d l true e =
         let same : b ≡ j = at ∙ grind (arith, nat_tests) in
         let here : get_or (set parts b v) b d ≡ grown k (run_codes k codes r ∷ []) (get_or parts b d) = get_or-set_same parts b v d inside ∙ is d in
         ap (λ i. get_or (set parts b v) i d) (sym same) ∙ here ∙ ap (λ i. grown k (run_codes k codes r ∷ []) (get_or parts i d)) same
     go j d l false e =
-        let other : r.signature % n ≢ j = grind (arith, nat_tests) in
+        let other : bin_of_signature n r.signature ≢ j = grind (arith, nat_tests) in
         let ne : j ≢ b = λ s. other (sym at ∙ sym s) in
         get_or-set_other parts b j v d ne ∙ sym (grown_none k (get_or parts j d) (are.most j d (omega (arith, are.count))))
 
@@ -110,12 +110,12 @@ run_spelled k m codes x r some h small is =
       codes = recursion_from_All P x (subst (All P) (sym is) (All-take P (r.words + (k - 1)) (drop r.start codes) (All-drop P r.start codes small)));
     }
 
-pub run_belongs : (k m n b : ℕ) (codes x : List ℕ) (r : Run) → IsRunOf k m codes r → b ≡ r.signature % n → x ≡ run_codes k codes r → All
-    (λ w. signature_of m w % n ≡ b) (windows k x)
+pub run_belongs : (k m n b : ℕ) (codes x : List ℕ) (r : Run) → IsRunOf k m codes r → b ≡ bin_of_signature n r.signature → x ≡ run_codes k codes r → All
+    (λ w. bin_of m n w ≡ b) (windows k x)
 run_belongs k m n b codes x r h at is =
     let one : All (λ w. signature_of m w ≡ r.signature) (windows k x) = subst
     (λ (t : List ℕ). All (λ w. signature_of m w ≡ r.signature) (windows k t)) (sym is) h.one in
-    λ i d l. ap (λ s. s % n) (one i d l) ∙ sym at
+    λ i d l. ap (bin_of_signature n) (one i d l) ∙ sym at
 
 pub packed_run : (k kr : ℕ) (codes : List ℕ) (r : Run) → kr ≡ k → window (r.words + (kr - 1)) codes r.start ≡ run_codes k codes r
 packed_run k kr codes r is = ap (λ n. window (r.words + (n - 1)) codes r.start) is
@@ -144,6 +144,6 @@ map_same f g (r ∷ runs) h =
 pub bin_runs_before : (k m n j : ℕ) (codes more : List ℕ) (runs : List Run) → All (IsRunOf k m codes) runs → bin_runs k n j (codes ++ more) runs
     ≡ bin_runs k n j codes runs
 bin_runs_before k m n j codes more runs h =
-    let kept = filter (λ (r : Run). nat_eq (r.signature % n) j) runs in
+    let kept = filter (λ (r : Run). nat_eq (bin_of_signature n r.signature) j) runs in
     map_same (run_codes k (codes ++ more)) (run_codes k codes) kept
-    (λ i d l. run_before k m codes more _ (All-filter (λ (r : Run). nat_eq (r.signature % n) j) (IsRunOf k m codes) runs h i d l))
+    (λ i d l. run_before k m codes more _ (All-filter (λ (r : Run). nat_eq (bin_of_signature n r.signature) j) (IsRunOf k m codes) runs h i d l))

@@ -6,7 +6,7 @@ use Rattle.kmc_base.specs.Words.{rev_comp, canonical, word_cmp, window, windows}
 use Rattle.kmc_base.specs.Lemmas.Packs.{AreCodes, codes_rev_comp, length_rev_comp, rev_comp_twice}
 use Rattle.kmc_base.specs.Lemmas.Rolling.{codes_part}
 use Rattle.kmc_base.specs.Lemmas.Windows.{length_window, length_windows}
-use Rattle.kmc_split.specs.Signature.{signature_of}
+use Rattle.kmc_split.specs.Signature.{bin_of, bin_of_signature}
 use Rattle.kmc_base.specs.Lemmas.Mirrored.{window_back}
 use Rattle.kmc_split.specs.Lemmas.BothStrands.{strands_share}
 use Rattle.kmc_record.specs.Shapes.{Sizes}
@@ -24,13 +24,13 @@ belong_turned bin shape w within inside codes h = λ i d less.
     let here : get_or (windows k back) i d ≡ rev_comp word =
     get_or-map-range_with_len (window k back) 0 (length back + 1 - k) i i d (omega (arith, place, length_rev_comp w)) (omega arith)
     ∙ window_back k i w place in
-    let there : signature_of shape.m word % shape.n ≡ bin =
-    subst (λ (x : List ℕ). signature_of shape.m x % shape.n ≡ bin)
+    let there : bin_of shape.m shape.n word ≡ bin =
+    subst (λ (x : List ℕ). bin_of shape.m shape.n x ≡ bin)
     (get_or-map-range_with_len (window k w) 0 (length w + 1 - k) n n [] (omega (arith, place)) (omega arith))
     (h n [] (omega (arith, place, length_windows k w))) in
     let long : length word ≡ k = length_window k n w (omega (arith, place)) in
-    ap (λ (x : List ℕ). signature_of shape.m x % shape.n) here
-    ∙ ap (λ s. s % shape.n) (strands_share shape.m word (omega (arith, long, within)) (codes_part k n w codes)) ∙ there
+    ap (λ (x : List ℕ). bin_of shape.m shape.n x) here
+    ∙ ap (bin_of_signature shape.n) (strands_share shape.m word (omega (arith, long, within)) (codes_part k n w codes)) ∙ there
 
 -- a record belongs to the bin where the lesser of it and its reverse complement does, and the other way round
 pub belong_canonical : (bin : ℕ) (shape : Sizes) (w : List ℕ) → shape.m ≤ shape.k → shape.k ≤ length w → AreCodes w

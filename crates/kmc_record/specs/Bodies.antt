@@ -2,7 +2,7 @@
 use Rattle.std.specs.Prelude.{◌≡◌, ℕ, ◌%◌, ◌<◌, ◌++◌, List, length, take, drop}
 use Rattle.std.specs.List.{All}
 use Rattle.kmc_base.specs.Words.{windows}
-use Rattle.kmc_split.specs.Signature.{signature_of}
+use Rattle.kmc_split.specs.Signature.{bin_of}
 use Rattle.kmc_base.specs.Record.{spelling, IsSpelled, IsBodyOf}
 use Rattle.kmc_record.specs.Faults.{HasFault}
 use Rattle.kmc_record.specs.Shapes.{Sizes}
@@ -13,7 +13,7 @@ use Rattle.kmc_record.specs.declared.part_error.PartError.TheVariants.{Damaged, 
 
 -- each of these words has a signature of the bin
 abbrev pub Belong : ℕ → Sizes → List (List ℕ) → Type 0
-Belong bin shape words = All (λ w. signature_of shape.m w % shape.n ≡ bin) words
+Belong bin shape words = All (λ w. bin_of shape.m shape.n w ≡ bin) words
 
 -- the words of the records of these numbers belong to the bin
 abbrev pub AreKnown : ℕ → Sizes → List ℕ → Type 0

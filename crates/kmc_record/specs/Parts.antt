@@ -5,7 +5,7 @@ use Rattle.kmc_base.specs.Words.{windows}
 use Rattle.kmc_base.specs.Stretches.{Stretch, segments_of}
 use Rattle.kmc_split.specs.declared.runs.Run.{Run}
 use Rattle.kmc_split.specs.Cut.{IsCut, run_codes}
-use Rattle.kmc_split.specs.Signature.{signature_of}
+use Rattle.kmc_split.specs.Signature.{bin_of, bin_of_signature}
 use Rattle.kmc_base.specs.Record.{spelling, IsBodyOf}
 use Rattle.kmc_record.specs.Shapes.{Sizes}
 
@@ -30,7 +30,7 @@ pub record IsPart (bin : ℕ) (shape : Sizes) (body : List ℕ) (words : ℕ) : 
   pub within : bin < shape.n
   pub super_kmers : List (List ℕ)
   pub records : IsBodyOf shape.k super_kmers body
-  pub belong : All (λ w. signature_of shape.m w % shape.n ≡ bin) (all_windows shape.k super_kmers)
+  pub belong : All (λ w. bin_of shape.m shape.n w ≡ bin) (all_windows shape.k super_kmers)
   pub count : words ≡ capped (length (all_windows shape.k super_kmers))
 
 -- a part with the records of these super-k-mers behind its own
@@ -42,7 +42,7 @@ empty_part chunk shape bin = record { chunk = chunk; bin = bin; shape = shape; b
 
 -- the super-k-mers of the runs of a bin, of n bins
 abbrev pub bin_runs : ℕ → ℕ → ℕ → List ℕ → List Run → List (List ℕ)
-bin_runs k n bin codes runs = map (run_codes k codes) (filter (λ r. nat_eq (r.signature % n) bin) runs)
+bin_runs k n bin codes runs = map (run_codes k codes) (filter (λ r. nat_eq (bin_of_signature n r.signature) bin) runs)
 
 -- the runs of each segment are its cut
 abbrev pub AreCuts : ℕ → ℕ → List Stretch → List (List Run) → Type 0

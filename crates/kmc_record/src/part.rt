@@ -2,7 +2,7 @@
 ghost use Rattle.std.specs.Prelude.{◌≡◌, ◌+◌, ◌*◌, ◌%◌, ◌<◌, ◌≤◌, nat_lt, [], ◌∷◌, length, OnOk, OnErr};
 ghost use Rattle.std.specs.List.{All};
 ghost use Rattle.kmc_base.specs.Words.{window, windows};
-ghost use Rattle.kmc_split.specs.Signature.{signature_of};
+ghost use Rattle.kmc_split.specs.Signature.{bin_of};
 ghost use Rattle.kmc_base.specs.Record.{IsSpelled, codes_in};
 ghost use Rattle.kmc_record.specs.Parts.{Parcel, grown, empty_part, IsPart};
 
@@ -116,7 +116,7 @@ impl Part {
     ) -> Result<(), AllocError>
         requires inside { start + symbols ≤ 4 * length packed.now }
         requires spelled { IsSpelled self.old.shape.k (window symbols (codes_in packed.now) start) }
-        requires belong { All (λ w. signature_of self.old.shape.m w % self.old.shape.n
+        requires belong { All (λ w. bin_of self.old.shape.m self.old.shape.n w
             ≡ self.old.bin) (windows self.old.shape.k (window symbols (codes_in packed.now) start)) }
         requires words { words
             ≡ length (windows self.old.shape.k (window symbols (codes_in packed.now) start)) }

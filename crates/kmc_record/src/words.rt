@@ -2,7 +2,7 @@
 ghost use Rattle.std.specs.Prelude.{◌≡◌, ℕ, ◌+◌, ◌%◌, ◌^◌, ◌<◌, ◌≤◌, ◌↔◌, length, map, slice_index, IsTrue};
 ghost use Rattle.std.specs.List.{All};
 ghost use Rattle.kmc_base.specs.Words.{windows};
-ghost use Rattle.kmc_split.specs.Signature.{signature_of};
+ghost use Rattle.kmc_split.specs.Signature.{bin_of, bin_of_signature};
 ghost use Rattle.kmc_split.specs.Offers.{unmarked};
 ghost use Rattle.kmc_split.specs.Minima.{low};
 ghost use Rattle.kmc_split.specs.SuperKmer.{super_kmer_words};
@@ -20,7 +20,7 @@ pub fn super_kmer_in_bin(super_kmer: &SuperKmer, m: usize, n: usize, bin: usize)
     requires within { m ≤ super_kmer.now.k }
     requires bins { 1 ≤ n }
     ensures { IsTrue result
-        ↔ All (λ w. signature_of m w % n ≡ bin) (super_kmer_words super_kmer.now) }
+        ↔ All (λ w. bin_of m n w ≡ bin) (super_kmer_words super_kmer.now) }
 {
     words_in_bin(super_kmer.codes(), super_kmer.k(), m, n, bin)
 }
@@ -35,7 +35,7 @@ pub fn words_in_bin(codes: &[u8], k: usize, m: usize, n: usize, bin: usize) -> b
     requires long { length codes.now ≤ k + 255 }
     requires bins { 1 ≤ n }
     requires codes { All (λ c. c < 4) codes.now }
-    ensures { IsTrue result ↔ All (λ w. signature_of m w % n ≡ bin) (windows k codes.now) }
+    ensures { IsTrue result ↔ All (λ w. bin_of m n w ≡ bin) (windows k codes.now) }
 {
     if m == 0 {
         return bin == 0;
@@ -67,7 +67,7 @@ fn offers_in_bin<V: Mmer>(
     requires bins { 1 ≤ n }
     requires long { length room.old + m ≡ length codes.now + 1 }
     requires codes { All (λ c. c < 4) codes.now }
-    ensures { IsTrue result ↔ All (λ w. signature_of m w % n ≡ bin) (windows k codes.now) }
+    ensures { IsTrue result ↔ All (λ w. bin_of m n w ≡ bin) (windows k codes.now) }
 {
     offers(codes, m, room);
     lows_in_bin(room, k + 1 - m, m, n, bin)
@@ -78,7 +78,7 @@ fn is_in_bin<V: Mmer>(least: V, m: usize, n: usize, bin: usize) -> bool
     requires most { m ≤ MAX_M }
     requires fits { V.number least < 4 ^ m }
     requires bins { 1 ≤ n }
-    ensures { IsTrue result ↔ (unmarked m (V.number least) % n ≡ bin) }
+    ensures { IsTrue result ↔ (bin_of_signature n (unmarked m (V.number least)) ≡ bin) }
 {
     Sig::of_least(least.to_u128(), m).bin(n) == bin
 }
@@ -94,7 +94,7 @@ fn lows_in_bin<V: Mmer>(values: &[V], width: usize, m: usize, n: usize, bin: usi
     requires bins { 1 ≤ n }
     ensures { IsTrue result
         ↔ ((i : ℕ) → i + width ≤ length values.now
-        → unmarked m (low (slice_index (map V.number values.now)) width i) % n ≡ bin) }
+        → bin_of_signature n (unmarked m (low (slice_index (map V.number values.now)) width i)) ≡ bin) }
 {
     let mut least = lowest(&values[..width]);
     if !is_in_bin(least, m, n, bin) {

@@ -1,5 +1,5 @@
 -- Signatures of words (KMC 2's minimizers; which m-mers are allowed is this project's rule).
-use Rattle.std.specs.Prelude.{ℕ, ◌^◌, ◌==◌, ◌&&◌, ◌||◌, Bool, false, not, nat_eq, min, List, [], ◌∷◌, map, take, drop}
+use Rattle.std.specs.Prelude.{ℕ, ◌%◌, ◌^◌, ◌==◌, ◌&&◌, ◌||◌, Bool, false, not, nat_eq, min, List, [], ◌∷◌, map, take, drop}
 use Rattle.std.specs.List.{filter}
 use Rattle.std.specs.Cmp.Lexicographic.{pointwise}
 use Rattle.kmc_base.specs.Words.{canonical, windows}
@@ -27,3 +27,11 @@ least most (x ∷ xs) = min x (least most xs)
 -- the least value of the allowed canonical forms of the m-mers of a word, and 4 ^ m where there is none
 abbrev pub signature_of : ℕ → List ℕ → ℕ
 signature_of m w = least (4 ^ m) (map pack (filter is_allowed (map canonical (windows m w))))
+
+-- the bin of a signature, of n bins
+abbrev pub bin_of_signature : ℕ → ℕ → ℕ
+bin_of_signature n signature = signature % n
+
+-- the bin of a word, of n bins, where signatures are made of m-mers: how a bin is chosen is said here alone
+abbrev pub bin_of : ℕ → ℕ → List ℕ → ℕ
+bin_of m n w = bin_of_signature n (signature_of m w)

@@ -1,5 +1,6 @@
 //! Signatures of words.
 ghost use Rattle.std.specs.Prelude.{◌≡◌, ◌^◌, ◌%◌, ◌<◌, ◌≤◌};
+ghost use Rattle.kmc_split.specs.Signature.{bin_of_signature};
 ghost use Rattle.kmc_split.specs.Offers.{unmarked};
 
 use crate::judge::none_of;
@@ -64,7 +65,7 @@ impl Sig {
     /// The bin of the signature, of n bins.
     pub fn bin(self, n: usize) -> usize
         requires { 1 ≤ n }
-        ensures is { result ≡ self % n }
+        ensures is { result ≡ bin_of_signature n self }
         ensures within { result < n }
     {
         remainder(self.value as usize, n)

@@ -9,7 +9,7 @@ use Rattle.kmc_base.specs.declared.strands.Strands.TheVariants.{Joined, Apart}
 use Rattle.kmc_base.specs.Words.{windows}
 use Rattle.kmc_base.specs.Strands.{key}
 use Rattle.kmc_base.specs.Lemmas.Keys.{IsWord, keys_are_words}
-use Rattle.kmc_split.specs.Signature.{signature_of}
+use Rattle.kmc_split.specs.Signature.{signature_of, bin_of, bin_of_signature}
 use Rattle.kmc_split.specs.Laws.{CanonicalFixesSignature}
 use Rattle.kmc_record.specs.Shapes.{Sizes}
 use Rattle.kmc_base.specs.Record.{IsBodyOf, IsSpelled}
@@ -39,10 +39,10 @@ record IsKeyIn (strands : Strands) (shape : Sizes) (bin : ℕ) (x : List ℕ) : 
   word : List ℕ
   is : key strands word ≡ x
   whole : IsWord shape.k word
-  belongs : signature_of shape.m word % shape.n ≡ bin
+  belongs : bin_of shape.m shape.n word ≡ bin
 
 key_in : (strands : Strands) (shape : Sizes) (bin : ℕ) (ss : List (List ℕ)) → AllByRecursion (IsSpelled shape.k) ss
-    → All (λ w. signature_of shape.m w % shape.n ≡ bin) (all_windows shape.k ss) → (x : List ℕ) → Contains (record_keys strands shape.k ss) x
+    → All (λ w. bin_of shape.m shape.n w ≡ bin) (all_windows shape.k ss) → (x : List ℕ) → Contains (record_keys strands shape.k ss) x
     → IsKeyIn strands shape bin x
 key_in strands shape bin ss spelled belong x at = record {
   word = get_or (all_windows shape.k ss) q [];
@@ -94,11 +94,11 @@ keys_apart one fixes strands shape bodies words sss within are zip i j d less lt
         let part = are.each b (omega (arith, inside, wide)) in
         let body = zip_at (IsBodyOf shape.k) sss bodies b [] [] zip inside in
         let same : part.super_kmers ≡ get_or sss b [] = one shape.k part.super_kmers (get_or sss b []) (body_at bodies b) part.records body in
-        key_in strands shape b (get_or sss b []) body.each (subst (λ (ss : List (List ℕ)). All (λ w. signature_of shape.m w % shape.n ≡ b)
+        key_in strands shape b (get_or sss b []) body.each (subst (λ (ss : List (List ℕ)). All (λ w. bin_of shape.m shape.n w ≡ b)
         (all_windows shape.k ss)) same part.belong) x at
 
     clash : IsKeyIn strands shape i x → IsKeyIn strands shape j x → ⊥
     clash a b =
         let same = one_signature fixes strands shape.m shape.k a.word b.word within a.whole b.whole (a.is ∙ sym b.is) in
-        let equal : i ≡ j = sym a.belongs ∙ ap (λ (s : ℕ). s % shape.n) same ∙ b.belongs in
+        let equal : i ≡ j = sym a.belongs ∙ ap (bin_of_signature shape.n) same ∙ b.belongs in
         omega (arith, less, equal)

@@ -26,6 +26,7 @@ use Rattle.kmc_count.specs.Merge.{joined}
 use Rattle.kmc_count.specs.Lemmas.Zips.{zip_at}
 use Rattle.kmc_record.specs.Lemmas.SumPlaces.{sum_places}
 use Rattle.kmc_stage_two.proofs.Summed.{sum_range, sum_once, sum_swap, occurs_flat}
+use Rattle.kmc_split.specs.Signature.{bin_of_signature}
 
 fuse : {A B C : Type 0} (f : B → C) (g : A → B) (xs : List A) → map (λ a. f (g a)) xs ≡ map f (map g xs)
 fuse f g [] = refl
@@ -56,16 +57,16 @@ module _ (strands : Strands) (k : ℕ) (x : List ℕ) where
       → sum_by (λ i. sum_by places (bin_runs k n i codes runs)) (range_with_len 0 n) ≡ sum_by (λ r. places (run_codes k codes r)) runs
   in_one_bin n codes runs some =
       sum_same (λ i. sum_by places (bin_runs k n i codes runs)) (λ i. sum_by (cell i) runs)
-      (λ i. sum_map places (run_codes k codes) (filter (λ r. nat_eq (r.signature % n) i) runs) ∙ sum_filter (λ r. places (run_codes k codes r))
-      (λ r. nat_eq (r.signature % n) i) runs)
+      (λ i. sum_map places (run_codes k codes) (filter (λ r. nat_eq (bin_of_signature n r.signature) i) runs) ∙ sum_filter (λ r. places (run_codes k codes r))
+      (λ r. nat_eq (bin_of_signature n r.signature) i) runs)
       (range_with_len 0 n)
       ∙ sum_swap cell (range_with_len 0 n) runs
       ∙ sum_same (λ r. sum_by (λ i. cell i r) (range_with_len 0 n)) (λ r. places (run_codes k codes r))
-      (λ r. sum_once (r.signature % n) (places (run_codes k codes r)) 0 n (omega arith) (let lt : r.signature % n < n = mod-lt r.signature some in omega arith))
+      (λ r. sum_once (bin_of_signature n r.signature) (places (run_codes k codes r)) 0 n (omega arith) (let lt : bin_of_signature n r.signature < n = mod-lt r.signature some in omega arith))
       runs
     where
       cell : ℕ → Run → ℕ
-      cell i r = cond (nat_eq (r.signature % n) i) (places (run_codes k codes r)) 0
+      cell i r = cond (nat_eq (bin_of_signature n r.signature) i) (places (run_codes k codes r)) 0
 
   module _ (m n : ℕ) (keeps : CutKeepsWords) (some_k : 1 ≤ k) (some : 1 ≤ n) where
     abbrev IsLong : Stretch → Type 0

@@ -14,6 +14,7 @@ use Rattle.kmc_base.specs.Record.{IsSpelled}
 use Rattle.kmc_record.specs.Parts.{bin_runs, all_segments}
 use Rattle.kmc_store.specs.Lemmas.Filling.{all_joined}
 use Rattle.kmc_store.proofs.Cuts.{runs_of, read_records}
+use Rattle.kmc_split.specs.Signature.{bin_of_signature}
 
 -- ---- each member of lists that are made of others
 
@@ -96,11 +97,11 @@ run_spelled k m codes r some h small =
 runs_spelled : (k m n i : ℕ) (codes : List ℕ) (runs : List Run) → 1 ≤ k → AreSmall codes → AllByRecursion (IsRunOf k m codes) runs → AllByRecursion
     (IsSpelled k) (bin_runs k n i codes runs)
 runs_spelled k m n i codes [] some small h = tt
-runs_spelled k m n i codes (r ∷ rs) some small h = go (runs_spelled k m n i codes rs some small h.1) (nat_eq (r.signature % n) i)
+runs_spelled k m n i codes (r ∷ rs) some small h = go (runs_spelled k m n i codes rs some small h.1) (nat_eq (bin_of_signature n r.signature) i)
   where
     go : AllByRecursion (IsSpelled k) (bin_runs k n i codes rs) → (t : Bool)
-        → AllByRecursion (IsSpelled k) (map (run_codes k codes) (cond t (r ∷ filter (λ r. nat_eq (r.signature % n) i) rs)
-        (filter (λ r. nat_eq (r.signature % n) i) rs)))
+        → AllByRecursion (IsSpelled k) (map (run_codes k codes) (cond t (r ∷ filter (λ r. nat_eq (bin_of_signature n r.signature) i) rs)
+        (filter (λ r. nat_eq (bin_of_signature n r.signature) i) rs)))
     go rest true = (run_spelled k m codes r some h.0 small, rest)
     go rest false = rest
 

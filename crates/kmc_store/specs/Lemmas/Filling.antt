@@ -8,7 +8,7 @@ use Rattle.std.specs.List.{All, AllByRecursion}
 use mathlib.Core.Logic.{dite}
 use native.Mathlib.Decide.{ℕ_discrete}
 use Rattle.kmc_base.specs.Words.{windows}
-use Rattle.kmc_split.specs.Signature.{signature_of}
+use Rattle.kmc_split.specs.Signature.{bin_of}
 use Rattle.kmc_base.specs.Record.{spelling, IsSpelled, IsBodyOf}
 use Rattle.kmc_record.specs.Shapes.{Sizes}
 use Rattle.kmc_record.specs.Parts.{Parcel, IsPart, all_windows, capped}
@@ -32,7 +32,7 @@ part_joined bin shape a b v w h g =
     let ss = h.super_kmers in
     let ts = g.super_kmers in
     let all : all_windows shape.k (ss ++ ts) ≡ all_windows shape.k ss ++ all_windows shape.k ts = flat_map-append (windows shape.k) ss ts in
-    let P : List ℕ → Type 0 = λ u. signature_of shape.m u % shape.n ≡ bin in
+    let P : List ℕ → Type 0 = λ u. bin_of shape.m shape.n u ≡ bin in
     record {
       within = h.within;
       super_kmers = ss ++ ts;

@@ -4,7 +4,7 @@ use Rattle.std.proofs.lemmas.List.Elements.{All-from_recursion}
 use Rattle.std.specs.List.{All}
 use Rattle.kmc_base.specs.Words.{window, windows}
 use Rattle.kmc_split.specs.Cut.{run_codes}
-use Rattle.kmc_split.specs.Signature.{signature_of}
+use Rattle.kmc_split.specs.Signature.{bin_of, bin_of_signature}
 use Rattle.kmc_base.specs.Record.{IsSpelled, codes_in}
 use Rattle.kmc_base.specs.Lemmas.Codes.{length_codes, are_codes}
 use Rattle.kmc_record.specs.Shapes.{Sizes}
@@ -15,11 +15,11 @@ use Rattle.kmc_record.proofs.parts.push_run.Goals as goal
 
 -- the part of the run's bin
 of_bin : (c : After-index_mut-part) → let q = c.index_mut-part.result.now in (c.bin-bin.result < c.args.shape.n) × (q.shape ≡ c.args.shape)
-    × (q.bin ≡ c.args.run.signature % c.args.shape.n)
+    × (q.bin ≡ bin_of_signature c.args.shape.n c.args.run.signature)
 of_bin c =
     let q = c.index_mut-part.result.now in
     let below : c.bin-bin.result < c.args.shape.n = omega arith in
-    let at = c.bin-bin.ensures.is ∙ ap (λ n. c.args.run.signature % n) c.n.ensures.is in (
+    let at = c.bin-bin.ensures.is ∙ ap (λ n. bin_of_signature n c.args.run.signature) c.n.ensures.is in (
       below,
       ap (λ (p : Parcel). p.shape) c.index_mut-part.ensures.value ∙ c.requires.bins.shaped c.bin-bin.result q below,
       ap (λ (p : Parcel). p.bin) c.index_mut-part.ensures.value ∙ c.requires.bins.bin c.bin-bin.result q below ∙ at,
@@ -52,7 +52,7 @@ pub push-requires-clause-belong : goal.push-requires-clause-belong
 push-requires-clause-belong c =
     let p = (goal.at.push-requires-clause-belong c).After-index_mut-part in
     let bin = c.index_mut-part.result.now.bin in
-    subst (λ (s : Sizes). All (λ w. signature_of s.m w % s.n ≡ bin) (windows s.k (codes_of p))) (sym (of_bin p).1)
+    subst (λ (s : Sizes). All (λ w. bin_of s.m s.n w ≡ bin) (windows s.k (codes_of p))) (sym (of_bin p).1)
     (run_belongs c.args.shape.k c.args.shape.m c.args.shape.n bin (codes_in c.args.packed.now) _ c.args.run c.requires.run (of_bin p).2 (are_run p))
 
 pub returns : goal.returns
@@ -64,6 +64,6 @@ returns c =
     let within = (of_bin p).0 in
     let inside : b < length parts = omega (arith, c.requires.bins.count) in
     run_grown shape shape.k shape.n b (codes_in c.args.packed.now) c.args.run parts c.push.new.self c.requires.bins
-    (c.bin-bin.ensures.is ∙ ap (λ n. c.args.run.signature % n) c.n.ensures.is) inside
+    (c.bin-bin.ensures.is ∙ ap (λ n. bin_of_signature n c.args.run.signature) c.n.ensures.is) inside
     (λ d. let here = get_or_read parts b c.index_mut-part.result.now inside c.index_mut-part.ensures.value d in c.in_ok-push.ensures.ok
     ∙ (λ i. grown ((of_bin p).1 i).k (are_run p i ∷ []) (here i)))

@@ -1,13 +1,13 @@
 use Rattle.std.proofs.Common.{◌≡◌, ℕ, ◌%◌, List, [], sym, ap, ◌∙◌, arith, eq-eqb, mod-eq_of_lt}
 use Rattle.std.proofs.lemmas.Bool.Decides.{nat_tests}
 use Rattle.kmc_base.specs.Lemmas.Windows.{length_windows}
-use Rattle.kmc_split.specs.Signature.{signature_of}
+use Rattle.kmc_split.specs.Signature.{bin_of, bin_of_signature}
 use Rattle.kmc_split.specs.Lemmas.Least.{no_symbols}
 use Rattle.kmc_record.proofs.words.words_in_bin.Goals as goal
 
 -- without symbols all words are of the first bin
-first_bin : (m n : ℕ) (w : List ℕ) → 0 % n ≡ 0 → m ≡ 0 → signature_of m w % n ≡ 0
-first_bin m n w zero none = ap (λ (j : ℕ). signature_of j w % n) none ∙ ap (λ (s : ℕ). s % n) (no_symbols w) ∙ zero
+first_bin : (m n : ℕ) (w : List ℕ) → 0 % n ≡ 0 → m ≡ 0 → bin_of m n w ≡ 0
+first_bin m n w zero none = ap (λ (j : ℕ). bin_of j n w) none ∙ ap (bin_of_signature n) (no_symbols w) ∙ zero
 
 pub returns-then-m-eq0 : goal.returns-then-m-eq0
 returns-then-m-eq0 c =
