@@ -35,7 +35,7 @@ def value(word):
 
 def is_allowed(mmer):
     """Whether a canonical m-mer may be a signature."""
-    return len(mmer) >= 3 and mmer[:3] not in ((0, 0, 0), (0, 1, 0)) and all(mmer[i:i + 2] != (0, 0) for i in range(1, len(mmer) - 1))
+    return mmer[:3] not in ((0, 0, 0), (0, 1, 0)) and all(mmer[i:i + 2] != (0, 0) for i in range(1, len(mmer) - 1))
 
 
 def windows(codes, length):
@@ -43,9 +43,9 @@ def windows(codes, length):
 
 
 def bin_of(word, m, n):
-    """The bin of the least allowed m-mer of a word; where none is allowed, that of the greatest value that m symbols have."""
+    """The bin of the least allowed m-mer of a word; where none is allowed, that of 4^m."""
     mmers = map(key, windows(word, m))
-    return min(map(value, filter(is_allowed, mmers)), default=4**m - 1) % n
+    return min(map(value, filter(is_allowed, mmers)), default=4**m) % n
 
 
 def record_at(body, offset, k):
@@ -125,7 +125,7 @@ def super_kmer(source, k, m, n, bin):
 def row(source):
     """A row of the program's input."""
     k = source.choice((1, 2, 3, 4, 5, 7, 8, 11, 16, 25, 31, 32, 33, 47, 63, 64))
-    p = source.randint(1, 8)
+    p = source.randint(5, 11)
     n = source.choice((1, 1, 2, 3, 7, 31))
     body, bin = [], None
     for _ in range(source.randrange(6)):
