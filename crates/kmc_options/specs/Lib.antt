@@ -12,6 +12,7 @@ pub mod Requests
 pub mod Settings
 pub mod Shape
 pub mod SliceMessages
+pub mod SliceRequestNumbers
 pub mod SliceWords
 pub mod Spelling
 pub mod Status

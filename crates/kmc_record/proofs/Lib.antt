@@ -1,12 +1,12 @@
 mod Belonging
 mod Bins
 mod Chunks
+mod CountedParts
 mod Faultless
 mod Filling
 mod Laying
 mod PackedBytes
 mod Parcels
-mod Parts
 mod Quarters
 mod Sliding
 mod Turned

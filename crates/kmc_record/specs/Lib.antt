@@ -1,4 +1,5 @@
 pub mod Bodies
+pub mod DecodingNumbers
 pub mod DecodingRefusals
 pub mod Faults
 pub mod GrowingParts

@@ -18,7 +18,7 @@ def canonical(word):
 
 
 def allowed(form):
-    return len(form) >= 3 and not form.startswith("AAA") and not form.startswith("ACA") and "AA" not in form[1:]
+    return not form.startswith("AAA") and not form.startswith("ACA") and "AA" not in form[1:]
 
 
 def value(word):
@@ -27,7 +27,7 @@ def value(word):
 
 def signature(word, m):
     forms = (canonical(word[i:i + m]) for i in range(len(word) - m + 1))
-    return min((value(form) for form in forms if allowed(form)), default=4 ** m - 1)
+    return min((value(form) for form in forms if allowed(form)), default=4 ** m)
 
 
 def record(letters, k):
@@ -81,6 +81,10 @@ def rows():
         reads = [random_read(source) for _ in range(source.randrange(1, 4))]
         yield k, p, n, reads
     yield 25, 8, 512, ["A" * 300]
+    yield 25, 9, 512, ["A" * 300]
+    yield 64, 9, 512, ["T" * 64]
+    for number, (k, p) in enumerate([(25, 9), (11, 11), (31, 10), (12, 9), (64, 11)]):
+        yield k, p, [7, 512][number % 2], [random_read(source) + random_read(source) for _ in range(2)]
 
 
 def main():

@@ -23,7 +23,7 @@ def canonical(word):
 
 def allowed(mmer):
     form = canonical(mmer)
-    return len(form) >= 3 and not form.startswith("AAA") and not form.startswith("ACA") and "AA" not in form[1:]
+    return not form.startswith("AAA") and not form.startswith("ACA") and "AA" not in form[1:]
 
 
 def value(mmer):
@@ -38,7 +38,7 @@ def windows(text, n):
 
 
 def signature(word, m):
-    return min((value(canonical(v)) for v in windows(word, m) if allowed(v)), default=4 ** m - 1)
+    return min((value(canonical(v)) for v in windows(word, m) if allowed(v)), default=4 ** m)
 
 
 def cut(text, k, m):
@@ -68,7 +68,8 @@ def rows():
     source = random.Random(20150512)
     sizes = [(1, 1), (2, 1), (2, 2), (3, 3), (4, 2), (5, 3), (5, 5), (7, 5), (8, 8), (9, 7)]
     sizes += [(12, 8), (16, 3), (25, 8), (25, 5), (31, 7), (32, 8), (32, 6), (33, 8), (64, 8), (64, 1)]
-    for k, m in sizes * 2:
+    longer = [(9, 9), (11, 11), (12, 10), (25, 9), (31, 11), (32, 10), (33, 9), (64, 11), (10, 9), (3, 2), (25, 2), (25, 1)]
+    for k, m in sizes * 2 + longer:
         length = k + source.choice([0, 1, 7, 20, 35])
         yield k, m, random_text(source, length)
 

@@ -45,6 +45,22 @@ pub enum CutRequestError {
     Memory,
 }
 
+impl CutRequestError {
+    ghost use Rattle.kmc_options.specs.SliceRequestNumbers.{number_of_cut_request_error};
+
+    /// The number of the refusal, as docs/REFUSALS.md lists it.
+    pub fn number(&self) -> u8
+        ensures { result ≡ number_of_cut_request_error self.now }
+    {
+        match self {
+            CutRequestError::Usage => 1,
+            CutRequestError::OutOfRange(_) => 2,
+            CutRequestError::Slices => 3,
+            CutRequestError::Memory => 4,
+        }
+    }
+}
+
 impl From<AllocError> for CutRequestError {
     ghost from_gives = { λ _ e. e ≡ Memory };
 

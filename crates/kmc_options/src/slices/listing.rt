@@ -39,6 +39,21 @@ pub enum ListRequestError {
     Memory,
 }
 
+impl ListRequestError {
+    ghost use Rattle.kmc_options.specs.SliceRequestNumbers.{number_of_list_request_error};
+
+    /// The number of the refusal, as docs/REFUSALS.md lists it.
+    pub fn number(&self) -> u8
+        ensures { result ≡ number_of_list_request_error self.now }
+    {
+        match self {
+            ListRequestError::Usage => 1,
+            ListRequestError::OutOfRange(_) => 2,
+            ListRequestError::Memory => 3,
+        }
+    }
+}
+
 impl From<AllocError> for ListRequestError {
     ghost from_gives = { λ _ e. e ≡ Memory };
 

@@ -8,14 +8,31 @@ use crate::record::{code_at, first_symbols};
 use kmc_base::MAX_K;
 use kmc_split::SuperKmer;
 use std::alloc::{AllocError, Global};
+use thiserror::Error;
 
 /// Why a record was not read, in the order of the tests.
-#[derive(Clone, Copy, Debug, PartialEq, Eq)]
+#[derive(Clone, Copy, Debug, PartialEq, Eq, Error)]
 pub enum RecordError {
     /// The bytes begin with no record: what is wrong with them.
+    #[error("{0}")]
     Damaged(RecordFault),
     /// A growth was refused; the bytes begin with a record.
+    #[error("out of memory")]
     Memory,
+}
+
+impl RecordError {
+    ghost use Rattle.kmc_record.specs.DecodingNumbers.{number_of_record_error};
+
+    /// The number of the refusal, as docs/REFUSALS.md lists it.
+    pub fn number(&self) -> u8
+        ensures { result ≡ number_of_record_error self.now }
+    {
+        match self {
+            RecordError::Damaged(fault) => fault.number(),
+            RecordError::Memory => 3,
+        }
+    }
 }
 
 impl From<RecordFault> for RecordError {

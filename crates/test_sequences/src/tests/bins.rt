@@ -122,14 +122,17 @@ fn bins_of_a_run(rt: &impl Abort, alloc: Global) -> Result<Bins, AllocError> {
     for _ in 0..300 {
         read.push('A')?;
     }
-    bins_of(rt, alloc, shape_of(rt, 25, 8, 512), &[read.as_str()])
+    bins_of(rt, alloc, shape_of(rt, 25, 9, 512), &[read.as_str()])
 }
 
 #[test]
 fn a_long_run_is_two_records(rt: HostRuntime) -> Result<(), Fail> {
     let bins = bins_of_a_run(&rt, rt.alloc())?;
+    // 71 bytes of 256 words, and 12 of 20
+    let body = bins.bodies().first().ok_or("a bin")?;
+    assert!(rt; (body.get(0), body.get(71)) == (Some(&0xFF), Some(&0x13)));
     for (bin, body) in bins.bodies().iter().enumerate() {
-        let want = if bin == 511 { (83, 276) } else { (0, 0) };
+        let want = if bin == 0 { (83, 276) } else { (0, 0) };
         assert_number(&rt, body.len(), want.0);
         assert_sizes(&rt, &bins, bin, want);
     }

@@ -122,6 +122,22 @@ fn m_is_the_lesser_of_p_and_k(rt: HostRuntime) {
     assert_shape(&rt, (64, 8, 2000), 8);
     assert_shape(&rt, (4, 8, 7), 4);
     assert_shape(&rt, (25, 5, 1), 5);
+    assert_shape(&rt, (25, 9, 512), 9);
+    assert_shape(&rt, (64, 11, 2000), 11);
+}
+
+#[test]
+fn signatures_of_a_shape_may_have_any_length_up_to_k(rt: HostRuntime) {
+    for (k, m) in [(1, 0), (1, 1), (10, 0), (25, 8), (25, 11), (64, 3)] {
+        let shape = Shape::of_signature_length(k, m, 7).expect(&rt, "a shape");
+        assert!(rt; (shape.k(), shape.m(), shape.n()) == (k, m, 7), "{k}, {m}");
+    }
+    for (k, m, n) in [(0, 0, 7), (65, 8, 7), (4, 5, 7), (25, 12, 7), (25, 8, 0)] {
+        assert!(rt;
+            Shape::of_signature_length(k, m, n).is_none(),
+            "{k}, {m}, {n}"
+        );
+    }
 }
 
 #[test]
@@ -129,7 +145,7 @@ fn refuses_shapes_out_of_range(rt: HostRuntime) {
     for k in [0, 65] {
         assert!(rt; Shape::new(k, 8, 7).is_none(), "{k}");
     }
-    for (p, n) in [(0, 7), (9, 7), (8, 0), (8, 2001)] {
+    for (p, n) in [(4, 7), (12, 7), (8, 0), (8, 2001)] {
         assert!(rt; Shape::new(25, p, n).is_none(), "{p}, {n}");
     }
 }
@@ -180,10 +196,18 @@ fn gives_each_bin_its_records(rt: HostRuntime) -> Result<(), Fail> {
     let alloc = rt.alloc();
     let four = shape_of(&rt, 4, 8, 7);
     let seven = shape_of(&rt, 7, 5, 7);
+    let none = Shape::of_signature_length(4, 0, 7).expect(&rt, "a shape");
+    let long = shape_of(&rt, 64, 9, 512);
     for (reads, shape, want) in [
         ("ACGTACGT", four, "2 1 00b1;3 2 006c00c6;6 2 001b001b;"),
         ("AACCGTTAC", seven, "1 1 0005bc;5 2 0116f1;"),
         ("NNNN,ACG", four, ""),
+        ("ACGTACGT", none, "0 5 041b1b;"),
+        (
+            "TTTTTTTTTTTTTTTTTTTTTTTTTTTTTTTTTTTTTTTTTTTTTTTTTTTTTTTTTTTTTTTT",
+            long,
+            "0 1 00ffffffffffffffffffffffffffffffff;",
+        ),
     ] {
         assert_parts(&rt, alloc, reads, shape, want)?;
     }
@@ -206,7 +230,7 @@ fn assert_row(rt: &impl Abort, alloc: Global, row: &str) -> Result<(), Fail> {
 
 #[test]
 fn agrees_with_the_model_and_with_the_plain_body(rt: HostRuntime) -> Result<(), Fail> {
-    assert_number(&rt, rows().lines().count(), 31);
+    assert_number(&rt, rows().lines().count(), 38);
     for row in rows().lines() {
         assert_row(&rt, rt.alloc(), row)?;
     }

@@ -27,7 +27,7 @@ fn super_kmers_of(
 }
 
 /// The signature of the first word of a super-k-mer.
-fn first_signature(rt: &impl Abort, super_kmer: &SuperKmer, m: usize) -> u16 {
+fn first_signature(rt: &impl Abort, super_kmer: &SuperKmer, m: usize) -> u32 {
     assert!(rt; super_kmer.k() <= super_kmer.codes().len());
     let first = super_kmer.word_at(0);
     assert!(rt; 1 <= m && m <= MAX_M && m <= first.k());
@@ -35,7 +35,7 @@ fn first_signature(rt: &impl Abort, super_kmer: &SuperKmer, m: usize) -> u16 {
 }
 
 /// Writes a number of words and their signature, behind a space where something stands before.
-fn push_run(text: &mut String, alloc: Global, words: usize, signature: u16) -> Result<(), Fail> {
+fn push_run(text: &mut String, alloc: Global, words: usize, signature: u32) -> Result<(), Fail> {
     if !text.is_empty() {
         text.push(' ')?;
     }
@@ -125,16 +125,18 @@ fn judges_mmers_by_their_canonical_form(rt: HostRuntime) -> Result<(), Fail> {
         ("AAACC", false),
         ("ACAGG", false),
         ("CAACG", false),
-        ("A", false),
-        ("C", false),
-        ("AA", false),
-        ("CG", false),
+        ("A", true),
+        ("C", true),
+        ("AA", true),
+        ("CG", true),
         ("AAC", true),
         ("AAA", false),
         ("TTT", false),
         ("ACA", false),
         ("CAA", false),
         ("TTA", false),
+        ("AACCGTACCGT", true),
+        ("AACCGTAACGT", false),
     ] {
         assert_allowed(&rt, rt.alloc(), letters, want)?;
     }
@@ -198,11 +200,38 @@ fn cuts_after_256_words(rt: HostRuntime) -> Result<(), Fail> {
 }
 
 #[test]
+fn cuts_300_equal_symbols_into_256_and_20_words(rt: HostRuntime) -> Result<(), Fail> {
+    let letters = String::from_utf8(same_bytes(rt.alloc(), b'A', 300)?);
+    let letters = letters.ok().ok_or("letters")?;
+    assert_super_kmers(
+        &rt,
+        rt.alloc(),
+        letters.as_str(),
+        25,
+        9,
+        "256:262144 20:262144",
+    )
+}
+
+#[test]
+fn without_symbols_all_words_have_the_signature_0(rt: HostRuntime) -> Result<(), Fail> {
+    let segment = one_segment(&rt, rt.alloc(), b"AACCGTTAC")?;
+    assert!(rt; 7 <= segment.codes.len());
+    let mut scratch = Scratch::new(rt.alloc());
+    let mut runs = Vec::new(rt.alloc());
+    cut(&segment.codes, 7, 0, &mut scratch, &mut runs)?;
+    assert_text(&rt, runs_text(&rt, rt.alloc(), &runs)?.as_str(), "3:0");
+    Ok(())
+}
+
+#[test]
 fn a_word_without_allowed_mmers_has_the_greatest_signature(rt: HostRuntime) -> Result<(), Fail> {
     let word = word_of(&rt, rt.alloc(), b"AAAAAAAAAAAAAAAAAAAAAAAAA")?;
-    assert!(rt; word.k() >= 8);
-    assert!(rt; signature(&word, 8).value() == 65535);
-    assert!(rt; signature(&word, 8).bin(512) == 511);
+    assert!(rt; word.k() >= 11);
+    assert!(rt; signature(&word, 8).value() == 65536);
+    assert!(rt; signature(&word, 9).value() == 262144);
+    assert!(rt; signature(&word, 9).bin(512) == 0);
+    assert!(rt; signature(&word, 11).value() == 4194304);
     Ok(())
 }
 
@@ -262,7 +291,7 @@ fn assert_row(
 #[test]
 fn agrees_with_the_model(rt: HostRuntime) -> Result<(), Fail> {
     let mut scratch = Scratch::new(rt.alloc());
-    assert_number(&rt, rows().lines().count(), 40);
+    assert_number(&rt, rows().lines().count(), 52);
     for row in rows().lines() {
         assert_row(&rt, rt.alloc(), row, &mut scratch)?;
     }
@@ -313,6 +342,24 @@ fn is_in_bin(
     let super_kmer = super_kmer_of(rt, alloc, letters.as_bytes(), 7)?;
     assert!(rt; super_kmer.k() == 7);
     Ok(super_kmer_in_bin(&super_kmer, 5, 7, bin))
+}
+
+#[test]
+fn asks_for_bins_of_signatures_of_no_symbols_and_of_nine(rt: HostRuntime) -> Result<(), Fail> {
+    let super_kmer = super_kmer_of(&rt, rt.alloc(), b"AAAAAAAAAAAAAAAAAAAAAAAAAA", 25)?;
+    assert!(rt; super_kmer.k() == 25);
+    for (m, bin, want) in [
+        (0, 0, true),
+        (0, 1, false),
+        (8, 0, true),
+        (8, 511, false),
+        (9, 0, true),
+        (9, 511, false),
+    ] {
+        let all = super_kmer_in_bin(&super_kmer, m, 512, bin);
+        assert!(rt; all == want, "{m} in {bin}");
+    }
+    Ok(())
 }
 
 #[test]
