@@ -1,5 +1,5 @@
 //! The reads of a text, a round at a time, into bins: a round is cut in threads while the caller's thread reads on.
-ghost use Rattle.std.specs.Prelude.{◌≡◌, ◌≢◌, ℕ, ◌+◌, ◌-◌, ◌*◌, ◌^◌, ◌<◌, ◌≤◌, min, List, [], ◌++◌, Option, false, IfOk, IfErr, OnOk, Ok, Err};
+ghost use Rattle.std.specs.Prelude.{◌≡◌, ◌≢◌, ℕ, ◌+◌, ◌-◌, ◌*◌, ◌^◌, ◌<◌, ◌≤◌, min, List, [], ◌++◌, Option, false, IfOk, IfErr, OnOk, OnErr, Ok, Err};
 ghost use Rattle.std.specs.Io.KnownBytes.{IsAtEnd};
 ghost use Rattle.kmc_reads.specs.declared.format.Format.{Format};
 ghost use Rattle.kmc_reads.specs.Cuts.{AreCut};
@@ -109,11 +109,15 @@ pub fn last_round<T: Threads + Wait + Sync, G: Gate + Sync>(
     Ok(bins)
 }
 
-/// The reads of a round, taken out of the feeder: of an open one all but the k - 1 symbols that its next piece begins with.
+/// The reads of a round, taken out of the feeder: of an open one all but the k - 1 symbols that its next piece begins with. After
+/// want of memory the feeder stands where it stood.
 pub fn take_round(feeder: &mut Feeder, alloc: Global, shape: Shape) -> Result<Reads, AllocError>
     ensures stands { (format : Format) (text : List ℕ) (taken : List (List ℕ))
         → StandsCut (shape.k - 1) format text taken feeder.old
         → IfOk result (λ reads. StandsCut (shape.k - 1) format text (taken ++ reads) feeder.new) }
+    ensures memory { (format : Format) (text : List ℕ) (taken : List (List ℕ))
+        → StandsCut (shape.k - 1) format text taken feeder.old
+        → OnErr result (StandsCut (shape.k - 1) format text taken feeder.new) }
 {
     feeder.take_open(alloc, shape.k() - 1)
 }

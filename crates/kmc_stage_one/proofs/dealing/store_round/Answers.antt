@@ -12,6 +12,7 @@ returns-clause-holds g c = λ held h.
     let cut : List (List ℕ) → List (List ℕ) = flat_map (pieces shape.k dealing.limit) in
     let before = subst (λ (b : BinList). HoldsReads shape (cut held) b.bodies) (sym c.replace-before.ensures.value) h in
     subst (λ reads. HoldsReads shape reads c.in_ok-more.more.bodies)
-    (ap (λ reads. cut held ++ reads) (ap (map (λ (r : Bor (List ℕ)). r.now)) c.deref.ensures.value ∙ c.in_ok-pieces.ensures) ∙ sym
+    (ap (λ reads. cut held ++ reads) (ap (map (λ (r : Bor (List ℕ)). r.now)) c.deref.ensures.value ∙ c.in_ok-pieces.ensures
+    ∙ ap (λ (k : ℕ). flat_map (pieces k dealing.limit) c.args.round.now) c.k.ensures.is) ∙ sym
     (flat_map-append (pieces shape.k dealing.limit) held c.args.round.now))
     (c.in_ok-more.ensures.holds (cut held) before)

@@ -1,8 +1,14 @@
-use Rattle.std.proofs.Common.{ℕ, ◌-◌, List, ◌++◌, IfOk, subst}
+use Rattle.std.proofs.Common.{ℕ, ◌-◌, List, ◌++◌, IfOk, OnErr, subst}
 use Rattle.kmc_reads.specs.declared.format.Format.{Format}
 use Rattle.kmc_reads.specs.Standing.{StandsCut}
 use Rattle.kmc_stage_one.proofs.rounds.take_round.Goals as goal
 
 pub returns-clause-stands : goal.returns-clause-stands
-returns-clause-stands g c = subst (λ (n : ℕ). (format : Format) (text : List ℕ) (taken : List (List ℕ)) → StandsCut (n - 1) format text taken c.args.feeder.now
+returns-clause-stands c = subst (λ (n : ℕ). (format : Format) (text : List ℕ) (taken : List (List ℕ))
+    → StandsCut (n - 1) format text taken c.args.feeder.now
     → IfOk c.take_open.result (λ reads. StandsCut (n - 1) format text (taken ++ reads.now) c.take_open.new.self)) c.k.ensures.is c.take_open.ensures.stands
+
+pub returns-clause-memory : goal.returns-clause-memory
+returns-clause-memory c = subst (λ (n : ℕ). (format : Format) (text : List ℕ) (taken : List (List ℕ))
+    → StandsCut (n - 1) format text taken c.args.feeder.now
+    → OnErr c.take_open.result (StandsCut (n - 1) format text taken c.take_open.new.self)) c.k.ensures.is c.take_open.ensures.memory
