@@ -1,7 +1,7 @@
 mod Belonging
 mod Bins
 mod Chunks
-mod CountedParts
+mod MinimaOfParts
 mod Faultless
 mod Filling
 mod Laying

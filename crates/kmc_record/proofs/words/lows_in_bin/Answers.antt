@@ -2,7 +2,7 @@ use Rattle.std.proofs.Common.{◌≡◌, ℕ, ◌+◌, ◌%◌, ◌<◌, ◌≤�
 use Rattle.kmc_split.specs.Minima.{low}
 use Rattle.kmc_split.specs.Offers.{unmarked}
 use Rattle.kmc_split.specs.Lemmas.Lowest.{low_is}
-use Rattle.kmc_record.proofs.CountedParts.{front_low}
+use Rattle.kmc_record.proofs.MinimaOfParts.{front_low}
 use Rattle.kmc_record.proofs.words.lows_in_bin.Goals as goal
 use Rattle.kmc_record.proofs.words.lows_in_bin.Goals.{else-not-is_same-via-then-not-is_same+else-not-is_in_bin-2, else-not-is_same-via-else-not-is_same}
 

@@ -1,7 +1,7 @@
 use Rattle.std.proofs.Common.{ℕ, ◌+◌, ◌<◌, ◌≤◌, map, slice_index, sym, ◌∙◌, arith}
 use Rattle.kmc_split.specs.Minima.{low}
 use Rattle.kmc_split.specs.Lemmas.Numbers.{read_is}
-use Rattle.kmc_record.proofs.CountedParts.{part_low}
+use Rattle.kmc_record.proofs.MinimaOfParts.{part_low}
 use Rattle.kmc_record.proofs.Sliding.{low_comes, low_stays}
 use Rattle.kmc_record.proofs.words.next_low.Goals as goal
 
