@@ -1,10 +1,10 @@
 mod Belonging
 mod Bins
 mod Chunks
-mod MinimaOfParts
 mod Faultless
 mod Filling
 mod Laying
+mod MinimaOfParts
 mod PackedBytes
 mod Parcels
 mod Quarters

@@ -8,5 +8,7 @@ pub mod ListProgram
 pub mod Listing
 pub mod Messages
 pub mod Outside
+pub mod ProgramNumbers
+pub mod RefusalNumbers
 pub mod Rounds
 pub mod Slices

@@ -11,6 +11,7 @@ use kmc_store::Bins;
 use std::alloc::{AllocError, Global};
 use std::io::Read;
 use std::marker::Model;
+use thiserror::Error;
 
 /// The records of one slice, of as many parts of the reads as files were read. Contracts see the slice's place and the records
 /// of each bin.
@@ -32,12 +33,28 @@ impl Model for SliceRecords {
 }
 
 /// Why the records of a slice's first file were not read.
-#[derive(Clone, Copy, Debug, PartialEq, Eq)]
+#[derive(Clone, Copy, Debug, PartialEq, Eq, Error)]
 pub enum GatherError {
     /// Memory for empty bins was refused.
+    #[error("out of memory")]
     Memory,
     /// The first fault of the file.
+    #[error("{0}")]
     File(SliceFault),
+}
+
+impl GatherError {
+    ghost use Rattle.kmc_slices.specs.RefusalNumbers.{number_of_gather_error};
+
+    /// The number of the refusal, as docs/REFUSALS.md lists it.
+    pub fn number(&self) -> u8
+        ensures { result ≡ number_of_gather_error self.now }
+    {
+        match self {
+            GatherError::Memory => 1,
+            GatherError::File(_) => 2,
+        }
+    }
 }
 
 impl From<AllocError> for GatherError {

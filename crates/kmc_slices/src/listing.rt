@@ -18,16 +18,35 @@ use kmc_stage_two::lists_of_bins;
 use std::alloc::{AllocError, Global};
 use std::io;
 use std::thread::Threads;
+use thiserror::Error;
 
 /// Why a slice was not listed.
-#[derive(Clone, Copy, Debug, PartialEq, Eq)]
+#[derive(Clone, Copy, Debug, PartialEq, Eq, Error)]
 pub enum ListError {
     /// The first bin whose records are none of that bin, and why. Nothing was written.
+    #[error("{0}")]
     Foreign(BinFault),
     /// Memory was refused. Nothing was written.
+    #[error("out of memory")]
     Memory,
     /// A write or the flush failed. A front of the dump is out.
+    #[error("write failed")]
     Write,
+}
+
+impl ListError {
+    ghost use Rattle.kmc_slices.specs.RefusalNumbers.{number_of_list_error};
+
+    /// The number of the refusal, as docs/REFUSALS.md lists it.
+    pub fn number(&self) -> u8
+        ensures { result ≡ number_of_list_error self.now }
+    {
+        match self {
+            ListError::Foreign(_) => 1,
+            ListError::Memory => 2,
+            ListError::Write => 3,
+        }
+    }
 }
 
 impl From<AllocError> for ListError {

@@ -41,7 +41,7 @@ fn read(
 ) -> Result<(Result<(), SliceFault>, [Vec<u8>; 7]), Fail>
     requires { 1 ≤ block }
 {
-    let Some(shape) = Shape::new(4, 3, 7) else {
+    let Some(shape) = Shape::of_signature_length(4, 3, 7) else {
         return Err(Fail::from("there is no such shape"));
     };
     let expected = Slicing {
@@ -65,7 +65,7 @@ fn read(
 
 #[test]
 fn file_has_the_bytes_that_were_worked_out(rt: HostRuntime) -> Result<(), Fail> {
-    let Some(shape) = Shape::new(4, 3, 7) else {
+    let Some(shape) = Shape::of_signature_length(4, 3, 7) else {
         return Err(Fail::from("there is no such shape"));
     };
     let slicing = Slicing {

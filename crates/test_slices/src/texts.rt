@@ -9,12 +9,12 @@ use test_support::Dice;
 
 const LETTERS: [u8; 4] = *b"ACGT";
 
-/// Settings over FASTA for words of k symbols, n bins, rounds of 2 reads for each of two splitters.
+/// Settings over FASTA for words of k symbols, signatures that fit them, n bins, rounds of 2 reads for each of two splitters.
 pub(crate) fn settings(rt: &impl Abort, k: usize, n: usize, strands: Strands, ci: u64) -> Params {
     let limits = Limits::new(ci, 1_000_000_000, 1_000_000).expect(rt, "limits");
-    let params = Params::new(Format::Fasta, k, 7, n, 2, 2, limits).expect(rt, "settings");
+    let params = Params::new(Format::Fasta, k, 9, n, 2, 2, limits).expect(rt, "settings");
     let params = params.with_queue(1, 8, 2).expect(rt, "a queue");
-    params.with_strands(strands)
+    params.with_fitting_signatures().with_strands(strands)
 }
 
 /// So many letters.

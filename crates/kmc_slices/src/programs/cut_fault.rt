@@ -5,6 +5,7 @@ ghost use Rattle.kmc_slices.specs.Messages.{message_of_cut};
 
 use crate::error::CutError;
 use kmc_options::CutRequestError;
+use kmc_reads::ReadsMessage;
 use kmc_slice_files::CreateFault;
 use std::fmt;
 
@@ -26,6 +27,19 @@ const MISUSED: u8 = 2;
 const FAILED: u8 = 1;
 
 impl CutFault {
+    ghost use Rattle.kmc_slices.specs.ProgramNumbers.{number_of_cut_fault};
+
+    /// The number of the refusal, as docs/REFUSALS.md lists it.
+    pub fn number(&self) -> u8
+        ensures { result ≡ number_of_cut_fault self.now }
+    {
+        match self {
+            CutFault::Request(_) => 1,
+            CutFault::NotMade(_) => 2,
+            CutFault::Cut(_) => 3,
+        }
+    }
+
     /// The exit status: 2 where the command line is at fault, and else 1.
     pub fn status(&self) -> u8
         ensures { result ≡ status_of self.now }
@@ -64,7 +78,10 @@ impl fmt::Display for CutMessage<'_> {
             CutFault::Cut(CutError::Write(s)) => {
                 write!(f, "kmc_cut: {prefix}.{s}: cannot be written")
             }
-            CutFault::Cut(CutError::Input(error)) => write!(f, "kmc_cut: {error}"),
+            CutFault::Cut(CutError::Input(error)) => {
+                let why = ReadsMessage(error);
+                write!(f, "kmc_cut: {why}")
+            }
             CutFault::Cut(CutError::TooLong) => write!(f, "kmc_cut: input too long"),
         }
     }

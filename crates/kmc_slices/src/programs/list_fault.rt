@@ -30,6 +30,20 @@ const MISUSED: u8 = 2;
 const FAILED: u8 = 1;
 
 impl ListFault {
+    ghost use Rattle.kmc_slices.specs.ProgramNumbers.{number_of_list_fault};
+
+    /// The number of the refusal, as docs/REFUSALS.md lists it.
+    pub fn number(&self) -> u8
+        ensures { result ≡ number_of_list_fault self.now }
+    {
+        match self {
+            ListFault::Request(_) => 1,
+            ListFault::NotOpened(_) => 2,
+            ListFault::File(_, _) => 3,
+            ListFault::Dump(_) => 4,
+        }
+    }
+
     /// The exit status: 2 where the command line is at fault, and else 1.
     pub fn status(&self) -> u8
         ensures { result ≡ status_of self.now }

@@ -1,6 +1,6 @@
 use crate::tests::texts::words_of;
 use kmc_base::Strands;
-use kmc_options::{Params, ParamsError, Setting, params, words};
+use kmc_options::{Params, ParamsError, Setting, params, settings as program_settings, words};
 use kmc_reads::Format;
 use std::alloc::{AllocError, Global};
 use std::process::Abort;
@@ -126,6 +126,32 @@ fn no_option_means_the_defaults(rt: HostRuntime) {
         numbers_of(&given),
         [25, 9, 512, 2, 1_000_000_000, 255, 2, 2, 1, 8, 1024]
     );
+}
+
+/// The symbols of the signatures of a run of the program by this line.
+fn length_of(rt: &(impl Abort + Alloc<A = Global>), line: &str) -> usize {
+    let words = words_of(rt.alloc(), line).expect(rt, "memory");
+    let params = program_settings(rt.alloc(), words).expect(rt, line);
+    params.shape().m()
+}
+
+#[test]
+fn the_program_chooses_the_length_of_signatures_where_none_is_asked_for(rt: HostRuntime) {
+    for (line, length) in [
+        ("", 8),
+        ("-k8", 0),
+        ("-k8 -p9", 8),
+        ("-k12", 5),
+        ("-k12 -p9", 9),
+        ("-k25 -p5", 5),
+        ("-p9", 9),
+        ("-p10", 10),
+        ("--p 11", 11),
+        ("--p=9 -k64", 9),
+    ] {
+        assert_eq!(rt; length_of(&rt, line), length, "{line}");
+    }
+    assert_eq!(rt; given(&rt, "").shape().m(), 9);
 }
 
 #[test]

@@ -28,6 +28,31 @@ fn settings_in_range_are_kept(rt: HostRuntime) {
     assert_eq!(rt; (limits, queue_of(&made)), ([1, 2, 3], [1, 8, 1024]));
 }
 
+/// The symbols of the signatures of words of k symbols, as p asks for them and as they fit best.
+fn lengths_of(k: usize, p: usize) -> Option<(usize, usize)> {
+    let asked = sized(k, p, 512, 2, 2)?;
+    let fitting = asked.with_fitting_signatures();
+    Some((asked.shape().m(), fitting.shape().m()))
+}
+
+#[test]
+fn signatures_are_as_long_as_is_asked_or_as_fits(rt: HostRuntime) {
+    for (k, p, lengths) in [
+        (1, 5, (1, 0)),
+        (10, 9, (9, 0)),
+        (11, 9, (9, 5)),
+        (14, 5, (5, 5)),
+        (15, 9, (9, 6)),
+        (16, 9, (9, 7)),
+        (17, 9, (9, 8)),
+        (25, 10, (10, 8)),
+        (64, 11, (11, 8)),
+    ] {
+        assert_eq!(rt; lengths_of(k, p), Some(lengths), "{k}, {p}");
+    }
+    assert_eq!(rt; Params::default().shape().m(), 9);
+}
+
 #[test]
 fn settings_out_of_range_are_refused(rt: HostRuntime) {
     assert!(rt; sized(1, 5, 1, 1, 1).is_some());

@@ -6,7 +6,7 @@ use Rattle.kmc_stage_one.proofs.rounds.take_round.Goals as goal
 pub returns-clause-stands : goal.returns-clause-stands
 returns-clause-stands c = subst (λ (n : ℕ). (format : Format) (text : List ℕ) (taken : List (List ℕ))
     → StandsCut (n - 1) format text taken c.args.feeder.now
-    → IfOk c.take_open.result (λ reads. StandsCut (n - 1) format text (taken ++ reads.now) c.take_open.new.self)) c.k.ensures.is c.take_open.ensures.stands
+    → IfOk c.take_open.result (λ reads. StandsCut (n - 1) format text (taken ++ reads) c.take_open.new.self)) c.k.ensures.is c.take_open.ensures.stands
 
 pub returns-clause-memory : goal.returns-clause-memory
 returns-clause-memory c = subst (λ (n : ℕ). (format : Format) (text : List ℕ) (taken : List (List ℕ))
