@@ -93,7 +93,7 @@ def answer(row):
     """The lines for a row of the program's input."""
     k, p, n, bin, body = row.split(" ")
     k, p, n, bin, body = int(k), int(p), int(n), int(bin), bytes.fromhex(body)
-    if not (1 <= k <= 64 and 1 <= p <= 8 and 1 <= n <= 2000 and bin < n):
+    if not (1 <= k <= 64 and 5 <= p <= 11 and 1 <= n <= 2000 and bin < n):
         return ["no body"]
     return count_verdict(k, body) + [part_verdict(k, p, n, bin, body)]
 
