@@ -20,7 +20,7 @@ LIST_NAME := futoncrane-kmc-list
 BIN = $(DESTDIR)$(PREFIX)/bin
 MAN = $(DESTDIR)$(PREFIX)/share/man/man1
 
-.PHONY: all count check recipes install uninstall dist fuzz hostile damaged devices limits threads bench results merges clean
+.PHONY: all count check tests-user install uninstall dist fuzz hostile damaged devices limits threads bench results merges clean
 
 all: count $(PROGRAMS)
 
@@ -66,7 +66,7 @@ check:
 	RT_JOBS=$(CHECKS) MIMALLOC_PURGE_DELAY=-1 rt ci
 
 # the tests of users: the command futoncrane, and the programs, as people call them
-recipes: $(PROGRAMS)
+tests-user: $(PROGRAMS)
 	@tests_user/run.py
 
 # call installed,FILE,PAGE,NAME: the program, and its page, which then speaks of the names of this installation
@@ -79,7 +79,7 @@ define installed
 endef
 
 install: $(PROGRAMS)
-	install -d "$(BIN)" "$(MAN)"
+	build/lay_out.sh --folders "$(DESTDIR)$(PREFIX)"
 	$(call installed,$(KMC),kmc,$(NAME))
 	$(call installed,$(KMC_MERGE),kmc_merge,$(MERGE_NAME))
 	$(call installed,$(KMC_CUT),kmc_cut,$(CUT_NAME))

@@ -3,7 +3,7 @@ import collections
 import gzip
 import os
 
-from room import BIN, MOST, READS, TOP, content, need, plainly, program, wanted_dump
+from room import MOST, READS, TOP, content, need, plainly, program, wanted_dump
 
 
 def histogram_of(dump):
@@ -19,14 +19,16 @@ def test_histogram_is_that_of_the_plain_dump(room):
     room.counts(b"", "histogram", "-o", "histogram.gz", READS)
     assert gzip.decompress(content(room.path("histogram.gz"))) == wanted
     room.refuses(1, "no such".capitalize(), words=["histogram", "missing", "-o", "out"])
-    room.counts(b"", "histogram", text=b"")
+    room.counts(b"", "histogram", text=b"", told="futoncrane: standard input: there are no reads, so no k-mer is listed\n")
 
 
 def test_histogram_is_drawn_with_characters(room):
     ran = room.run("histogram", "--text", READS)
     lines = ran.err.splitlines()
     assert ran.status == 0 and lines[0].split() == ["count", "k-mers"], ran
-    assert len(lines) == 1 + 16 and lines[1].split()[:2] == ["1", "2,669"] and set(lines[9].split()[2]) == {"*"}, ran
+    # the longest bar is that of the peak, 9, and the first one is cut
+    bars = [line.split()[2] for line in lines[1:17]]
+    assert len(lines) == 1 + 16 + 1 and lines[1].split()[:2] == ["1", "2,669"] and bars[0] == bars[8] + ">" == "*" * 50 + ">", ran
 
 
 def test_histogram_is_drawn_by_gnuplot(room):
@@ -197,6 +199,18 @@ def test_doctor_finds_what_is_wrong(room):
     assert room.run("doctor").status == 1
 
 
-def test_cluster_tells_its_words(room):
-    ran = room.run("cluster", "--help")
-    assert ran.status == 0 and b"usage: futoncrane cluster" in ran.out and os.path.isdir(BIN), ran
+def test_jellyfish_writes_the_same(room):
+    import subprocess
+    need("jellyfish")
+    subprocess.run(["jellyfish", "count", "-m", "21", "-C", "-s", "1M", "-o", "counted.jf", READS], cwd=room.folder, check=True)
+    ran = subprocess.run(["jellyfish", "histo", "-f", "-h", "9999", "counted.jf"], cwd=room.folder, stdout=subprocess.PIPE, check=True)
+    room.counts(ran.stdout.partition(b"\n")[2], "genomescope", READS)
+    ran = subprocess.run(["jellyfish", "dump", "-L", "3", "counted.jf"], cwd=room.folder, stdout=subprocess.PIPE, check=True)
+    lines, ours = ran.stdout.splitlines(), room.run("solid", "-k21", "--min", "3", "--jellyfish", READS).out.splitlines()
+    assert ours and sorted(zip(ours[1::2], ours[::2])) == sorted(zip(lines[1::2], lines[::2]))
+
+
+def test_refused_reads_are_refused_by_each(room):
+    room.write("bad", b"@r\nACGT\n+\nII\n")
+    for command in ("count", "histogram", "size", "solid", "genomescope"):
+        room.refuses(1, "bad: line 4: quality length differs", words=[command, "-k3", "bad"])

@@ -1,11 +1,10 @@
 """futoncrane histogram: how many k-mers have which count."""
 import sys
 
-from futoncrane import dumps, picture, shared
+from futoncrane import dumps, picture, run, shared
 from futoncrane.children import Children
 from futoncrane.options import Option
 from futoncrane.output import Output, text_output
-from futoncrane.run import open_inputs, run
 
 USAGE = "[option ..] [FILE ..]"
 TEXT = """
@@ -23,22 +22,24 @@ OPTIONS = [
 EXAMPLES = ["futoncrane histogram -k 21 --png histogram.png reads_1.fastq.gz reads_2.fastq.gz > histogram.txt"]
 
 
-def numbers_of(asked, children):
-    """The number of k-mers of each count in the reads of the files."""
+def numbers_of(asked, setting, children):
+    """The number of k-mers of each count in the reads of the files, or in dumps."""
     found = {}
-    setting = shared.settings(asked)
-    run(open_inputs(asked.files, asked.out), setting, children, None, lambda stream: found.update(dumps.histogram_of(stream, setting.k)))
+    run.read(asked.files, asked.out, setting, children, lambda stream: found.update(dumps.histogram_of(stream, setting.k)))
+    setting.report.take(found)
     return found
 
 
 def main(asked):
+    setting = shared.settings(asked)
     with Children() as children:
-        numbers = numbers_of(asked, children)
+        numbers = numbers_of(asked, setting, children)
         if asked.png:
-            with Output(asked.png, children, is_last=False) as output:
-                picture.draw(numbers, children, output)
-        with text_output(asked.out, children) as lines:
+            with Output(asked.png, children, is_last=False, form="PNG") as output:
+                picture.draw(numbers, children, output, picture.heading(setting, asked.files))
+        with text_output(asked.out, children, setting.threads) as lines:
             lines.writelines(b"%d\t%d\n" % it for it in numbers.items())
         if asked.text:
             print(picture.in_characters(numbers), file=sys.stderr)
+    run.tell("histogram", setting, asked, asked.files)
     return 0
