@@ -10,7 +10,7 @@ from futoncrane.sizes import valley_of
 ROWS = 40
 WIDTH = 50
 # the picture's height above its greatest bar from the valley on, and about how many lines its axis has
-ABOVE, TICKS = 1.12, 5
+ABOVE, TICKS = 1.25, 5
 PLOT = """set terminal png noenhanced size 900,600
 set title "%s"
 set xrange [0.5:%d.5]
@@ -28,7 +28,7 @@ END
 plot $numbers using 1:2 with boxes linecolor rgb "#4060a0"
 """
 MARK = """set arrow from %d, graph 0 to %d, graph 1 nohead dashtype 2 linecolor rgb "#b03020"
-set label "%s" at %d, graph %.2f offset 0.7, 0 noenhanced textcolor rgb "#b03020"
+set label "%s" at %d, graph %.2f offset 0.7, 0 front noenhanced textcolor rgb "#b03020"
 """
 
 
@@ -62,7 +62,7 @@ def in_characters(numbers, valley=None, peak=None):
 def heading(setting, names):
     """What a picture is of: k, and the files."""
     of = ", ".join(shown(os.path.basename(it)) for it in names[:2]) + (" and %d more" % (len(names) - 2) if len(names) > 2 else "")
-    return "%s of %s" % ("k-mers of %d symbols" % setting.k if setting.k else "k-mers", of or "standard input")
+    return "%s in %s" % ("%d-mers" % setting.k if setting.k else "k-mers", of or "standard input")
 
 
 def quoted(text):
@@ -78,8 +78,7 @@ def ticks(most):
 
 def marks(found):
     """The lines at the valley and at the peak, and what they say."""
-    told = (("valley %d: below are errors of reading" % found.valley, found.valley, 0.95),
-            ("peak %d: size %s" % (found.peak, format(found.size, ",")), found.peak, 0.88))
+    told = (("valley %d" % found.valley, found.valley, 0.95), ("peak %d: size %s" % (found.peak, format(found.size, ",")), found.peak, 0.89))
     return "".join(MARK % (count, count, text, count, place) for text, count, place in told)
 
 
@@ -90,7 +89,7 @@ def script(numbers, title, found=None):
     is_cut = any(number > most for number in numbers.values())
     end = max(end_of(numbers), round(1.5 * found.peak) if found else 0)
     lines = "\n".join("%d %d" % it for it in sorted(numbers.items()))
-    return PLOT % (quoted(title), end, most, ticks(most), "; the first bars are cut" if is_cut else "", marks(found) if found else "", lines)
+    return PLOT % (quoted(title), end, most, ticks(most), "; bars up to the edge are cut" if is_cut else "", marks(found) if found else "", lines)
 
 
 def draw(numbers, children, output, title, found=None):

@@ -2,8 +2,9 @@
 import collections
 import gzip
 import os
+import re
 
-from room import MOST, READS, TOP, content, need, plainly, program, wanted_dump
+from room import MOST, NO_NOTE, READS, TOP, content, need, plainly, program, wanted_dump
 
 
 def histogram_of(dump):
@@ -38,6 +39,25 @@ def test_histogram_is_drawn_by_gnuplot(room):
     ran = room.run("size", "--png", "size.png", READS)
     assert ran.status == 0 and content(room.path("size.png"))[:8] == b"\x89PNG\r\n\x1a\n", ran
     room.refuses(1, "none/a.png", words=["histogram", "--png", "none/a.png", READS])
+
+
+def test_the_picture_marks_what_is_found(room):
+    # a gnuplot that writes down what it is told, and draws nothing
+    os.mkdir(room.path("path"))
+    room.write("path/gnuplot", "#!/bin/sh\ncat > told\n")
+    os.chmod(room.path("path/gnuplot"), 0o755)
+    room.environment["PATH"] = room.path("path") + ":" + room.environment["PATH"]
+    # the valley is 3 and the peak 5, the size 30, as below; the bars of 1 and 2 are cut at 1.25 of the peak's 20,000
+    room.write("peaked \"one\"", b"1\t90000\n2\t50000\n3\t2000\n4\t6000\n5\t20000\n10\t2000\n")
+    room.counts(b"valley\t3\npeak\t5\nk-mers read\t340000\nk-mers taken for errors\t190000\nsize\t30000\n", "size", "--png", "a.png", "--histogram", "peaked \"one\"")
+    told = content(room.path("told")).decode()
+    for part in ('set title "k-mers in peaked \\"one\\""', "set yrange [0:25000.0]", '"0" 0, "5,000" 5000, "10,000" 10000', 'set label "valley 3" at 3,',
+                 'set label "peak 5: size 30,000" at 5,', "bars up to the edge are cut", "\n5 20000\n"):
+        assert part in told, (part, told)
+    ran = room.run("histogram", "--png", "a.png", READS)
+    told = content(room.path("told")).decode()
+    # the example's valley and peak, as test_histogram_is_drawn_with_characters has them
+    assert ran.status == 0 and 'set title "21-mers in reads.fastq"' in told and 'set label "valley 2"' in told and 'set label "peak 9: size ' in told, told
 
 
 def test_gnuplot_that_is_missing_is_told(room):
@@ -177,7 +197,8 @@ def test_merge_names_what_is_wrong(room):
     for place in range(2, len(whole), len(whole) // 10):
         room.write("cut.gz", whole[:place])
         ran = room.run("merge", good if place < 20 else "cut.gz", "cut.gz" if place < 20 else room.write("none", b""), "-o", "out")
-        assert ran.status == 1 and ran.err.startswith("futoncrane: cut.gz: ") and ran.err.count("\n") == 1, ran
+        told = re.sub(NO_NOTE, "", ran.err)
+        assert ran.status == 1 and told.startswith("futoncrane: cut.gz: ") and told.count("\n") == 1, ran
         assert not os.path.exists(room.path("out"))
 
 

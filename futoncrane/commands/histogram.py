@@ -1,7 +1,7 @@
 """futoncrane histogram: how many k-mers have which count."""
 import sys
 
-from futoncrane import dumps, picture, run, shared
+from futoncrane import dumps, picture, run, shared, sizes
 from futoncrane.children import Children
 from futoncrane.options import Option
 from futoncrane.output import Output, text_output
@@ -11,7 +11,8 @@ TEXT = """
 Writes one line for each count that occurs: the count, a tab, and the number of k-mers that occur so often. Every k-mer is counted, and no
 count is cut off; no dump is kept.
 
-The picture ends at the count that 995 of 1000 repeated k-mers do not pass. That of --png has a logarithmic axis of k-mers.
+A dump is taken in place of reads. The picture ends at the count that 995 of 1000 repeated k-mers do not pass. In that of --png the valley and
+the peak are marked with the size that futoncrane size finds; the bars before the valley are cut, so that the peak is seen.
 """
 OPTIONS = [
     shared.k_option(21),
@@ -36,7 +37,8 @@ def main(asked):
         numbers = numbers_of(asked, setting, children)
         if asked.png:
             with Output(asked.png, children, is_last=False, form="PNG") as output:
-                picture.draw(numbers, children, output, picture.heading(setting, asked.files))
+                found = sizes.size_of(numbers) if sizes.valley_of(numbers) else None
+                picture.draw(numbers, children, output, picture.heading(setting, asked.files), found)
         with text_output(asked.out, children, setting.threads) as lines:
             lines.writelines(b"%d\t%d\n" % it for it in numbers.items())
         if asked.text:
