@@ -70,7 +70,9 @@ def finish(output, note, report, quiet):
         with contextlib.suppress(OSError):
             os.unlink(path)
     output.finish()
-    report.totals["listed"] = output.lines() if report.totals["listed"] is None else report.totals["listed"]
+    report.totals["listed"] = output.lines()
+    if note and note["min"] <= 1 and note["max"] is None and not note["slices"]:
+        report.totals["distinct"] = report.totals["listed"]
     if path and note:
         write(path, {**report.record(**note), "bytes": os.stat(output.name).st_size}, quiet)
 

@@ -21,12 +21,8 @@ def program(name, path):
         name, os.uname().nodename, path, name.replace("_", "-")))
 
 
-def room_of_worker():
-    """The name of the machine, and the memory that it has, or its container gives."""
-    found = os.sysconf("SC_PAGE_SIZE") * os.sysconf("SC_PHYS_PAGES")
-    with contextlib.suppress(OSError, ValueError), open("/sys/fs/cgroup/memory.max", encoding="ascii") as text:
-        found = min(found, int(text.read()))
-    return os.uname().nodename, found
+def name_of_machine():
+    return os.uname().nodename
 
 
 def open_more():

@@ -1,5 +1,7 @@
 """KMC 3 beside futoncrane: what docs/KMC3.md says of both. KMC 3 is Debian's kmc with kmc_tools."""
+import json
 import random
+import re
 import shutil
 import subprocess
 
@@ -51,6 +53,22 @@ def test_what_one_types_there_and_here(room):
     room.counts(kmc3_dump(room, "c"), "merge", "--min", "1", "--cap", "none", "a.dump", "b.dump")
     quiet(room, "kmc_tools", "-t1", "transform", "a", "reduce", "c", "-ci5")
     room.counts(kmc3_dump(room, "c"), "merge", "--min", "5", "--cap", "none", "a.dump")
+
+
+def test_the_totals_are_kmc_3s(room):
+    need_kmc3()
+    for k in ("21", "40"):
+        ran = subprocess.run(["kmc", "-k" + k, "-fq", "-ci3", "-t1", "-m2", "-r", READS, "a", room.temporary], cwd=room.folder, stdout=subprocess.PIPE,
+                             stderr=subprocess.DEVNULL, check=True)
+        theirs = dict(re.findall(r"^ *(\S[^:\n]*\S) *: +([0-9]+)$", ran.stdout.decode(), re.M))
+        assert room.run("histogram", "-k", k, "--json", "did.json", READS).status == 0
+        all_of_them = json.loads(content(room.path("did.json")))["totals"]
+        assert room.run("count", "-k", k, "--min", "3", "-o", "out", "--json", "did.json", READS).status == 0
+        listed = json.loads(content(room.path("did.json")))["totals"]["listed"]
+        assert room.run("count", "-k", k, "--min", "1", "-o", "out", "--json", "did.json", READS).status == 0
+        distinct = json.loads(content(room.path("did.json")))["totals"]["distinct"]
+        wanted = [int(theirs[it]) for it in ("Total no. of k-mers", "No. of unique k-mers", "No. of unique counted k-mers")]
+        assert [all_of_them["kmers_read"], all_of_them["distinct"], listed] == wanted and distinct == all_of_them["distinct"], (theirs, all_of_them, listed)
 
 
 def test_options_of_kmc_are_taken_or_told(room):

@@ -88,11 +88,11 @@ def room_of_each(client):
     from distributed import TimeoutError as NoneCame
     with contextlib.suppress(NoneCame):
         client.wait_for_workers(1, timeout=WAIT_FOR_WORKER)
-    machines = list(client.run(workers.room_of_worker).values())
+    machines, rooms = client.run(workers.name_of_machine), client.run(memory.of_machine)
     if not machines:
         raise Fault("the scheduler has no worker: start dask-worker on the machines")
-    names = [name for name, _ in machines]
-    return len(machines), min(room // names.count(name) for name, room in machines)
+    names = list(machines.values())
+    return len(names), min(rooms[it] // names.count(name) for it, name in machines.items() if it in rooms)
 
 
 def settled(client, setting, found, format_name, megabytes):
@@ -172,7 +172,8 @@ def main(asked):
     if importlib.util.find_spec("distributed") is None:
         begin_anew()
     import cloudpickle
-    cloudpickle.register_pickle_by_value(workers)
+    for it in (workers, memory):
+        cloudpickle.register_pickle_by_value(it)  # so the workers' machines need not have this package
     setting = shared.settings(asked)
     with Children() as children, Output(asked.out, children, threads=setting.threads) as output:
         found = run.open_inputs(asked.files, asked.out)
