@@ -105,6 +105,8 @@ class Input:
         else:
             text = self._unpacked(first, blocks)
         if is_aligned(text):
+            if self.packing not in (None, "gzip"):
+                raise Fault("%s: it is an alignment packed by %s, which samtools does not read: unpack it first" % (self.shown, self.packing))
             self.packing = "BAM" if text.startswith(b"BAM\x01") else "SAM"
             text = self._by_child(first)
             self.format = "FASTQ"

@@ -9,6 +9,7 @@ import sys
 from futoncrane import leftovers, packing
 from futoncrane.children import TEMPORARY, held_signals, signal_of, told, too_late
 from futoncrane.faults import Fault, Misuse, Quiet, reason, shown
+from futoncrane.memory import of_machine
 
 # ends of names that promise another form than the one that is written; those of FASTA are for `solid`
 OTHERS = {".bz2": "bzip2", ".xz": "xz", ".bgz": "bgzip", ".zip": "zip", ".kff": "KFF", ".jf": "Jellyfish's database", ".kmc_pre": "KMC's database",
@@ -137,12 +138,13 @@ class Output:
             raise Fault("%s: %s" % (self.shown, reason(fault))) from None
 
     def lines(self):
-        """How many lines the answer has, where it is a plain file; else none."""
+        """How many lines the answer has, where it is a plain file that the memory still holds; else none."""
         if self.packing or (self.name and not self.is_made):
             return None
         try:
             with open(self.name or "/proc/self/fd/1", "rb", buffering=0) as file:
-                if not stat.S_ISREG(os.fstat(file.fileno()).st_mode):
+                kind = os.fstat(file.fileno())
+                if not stat.S_ISREG(kind.st_mode) or kind.st_size > of_machine() // 2:
                     return None
                 file.seek(self.start)
                 return sum(block.count(b"\n") for block in iter(lambda: file.read(BLOCK), b""))

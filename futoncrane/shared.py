@@ -3,7 +3,8 @@ import os
 import types
 
 from futoncrane import memory, report
-from futoncrane.faults import Misuse
+from futoncrane.faults import Misuse, shown
+from futoncrane.inputs import is_same_file
 from futoncrane.options import MOST, Option, at_most, file_of_names, number, size
 
 MOST_THREADS = 16
@@ -52,9 +53,23 @@ OLD = [
 ABOUT_RUNS = [BOTH, STRANDS, THREADS, MEMORY, SLICES, DIRECTORY, FILES, JSON, QUIET, *OLD]
 
 
+def check_names(given):
+    """That what is written beside the answer, --json and --png, is neither the answer, nor its note, nor a file that is read."""
+    out = given.get("out")
+    for key in ("json", "png"):
+        path = given.get(key)
+        if path is None:
+            continue
+        if out is not None and os.path.abspath(path) in (os.path.abspath(out), os.path.abspath(out) + ".json"):
+            raise Misuse("%s: -o writes there too: name another file for --%s" % (shown(path), key))
+        if any(is_same_file(name, path) for name in given["files"] if name != "-"):
+            raise Misuse("%s: it is read, and cannot be written at the same time" % shown(path))
+
+
 def settings(asked, least=1, greatest=MOST, cap=MOST):
     """What a run is told, from the words of a command; the limits are those given here where the command has none."""
     given = vars(asked)
+    check_names(given)
     threads = min(MOST_THREADS, given.get("threads") or processors())
     if (given.get("threads") or 0) > MOST_THREADS:
         report.say("--threads %d is taken as %d, the most there are" % (given["threads"], MOST_THREADS), asked.quiet)

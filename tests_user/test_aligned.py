@@ -1,4 +1,6 @@
 """Alignments: BAM, CRAM and SAM are taken as files, by samtools; and programs that are others than they should be."""
+import bz2
+import gzip
 import os
 import shutil
 import subprocess
@@ -41,6 +43,14 @@ def test_records_of_sam_are_reads(room):
     for name, text in (("a.sam", SAM), ("bare.sam", b"".join(SAM.splitlines(keepends=True)[2:]).replace(b"\tc\t", b"\t*\t"))):
         room.write(name, text)
         room.counts(plainly(fastq(READ), 5, 1), "count", "-k5", "--min", "1", name)
+
+
+def test_packed_sam_is_read_or_told(room):
+    need("samtools")
+    room.write("a.sam.gz", gzip.compress(SAM))
+    room.counts(plainly(fastq(READ), 5, 1), "count", "-k5", "--min", "1", "a.sam.gz")
+    room.write("a.sam.bz2", bz2.compress(SAM))
+    room.refuses(1, "a.sam.bz2: it is an alignment packed by bzip2", "unpack it first", words=["count", "a.sam.bz2"])
 
 
 def test_alignments_that_end_early_are_refused(room):

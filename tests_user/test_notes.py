@@ -44,6 +44,16 @@ def test_a_file_that_is_no_note_stays(room):
     assert ran.status == 0 and "one.json is no note of a dump and stays as it is" in ran.err and content(room.path("one.json")) == b'{"mine": 1}', ran
 
 
+def test_names_that_would_be_written_twice_are_refused(room):
+    room.write("reads", content(READS))
+    for words in (["-o", "dump", "--json", "dump.json"], ["-o", "dump", "--json", "dump"]):
+        room.refuses(2, "-o writes there too", words=["count", *words, "reads"])
+    room.refuses(2, "reads: it is read", words=["count", "--json", "reads", "reads"])
+    os.symlink("reads", room.path("picture.png"))
+    room.refuses(2, "picture.png: it is read", words=["histogram", "--png", "picture.png", "reads"])
+    assert content(room.path("reads")) == content(READS)
+
+
 def test_a_note_of_another_dump_is_not_believed(room):
     program("kmc_merge")
     dump(room, "one.dump", "-k25", READS)
