@@ -15,6 +15,7 @@ STRANDS = {JOINED: "strands joined", APART: "--forward"}
 # the first bytes of a file of slices: docs/DEFINITIONS.md
 MAGIC, HEADER = b"KMCSLICE", "<8sIBBHHH"
 NAMES_TOLD = 2
+KEYS = {"k", "strands", "min", "max", "cap", "inputs", "slices", "bytes"}
 
 
 def path_of(dump):
@@ -48,7 +49,7 @@ def read(dump):
         with contextlib.suppress(OSError, ValueError, AttributeError):
             with open(path, encoding="utf-8") as text:
                 note = json.load(text)
-            if note.get("form") == FORM and note.get("bytes") == os.stat(dump).st_size:
+            if note.get("form") == FORM and KEYS <= note.keys() and note["bytes"] == os.stat(dump).st_size:
                 return note
     return None
 
@@ -121,12 +122,12 @@ def check_alike(noted, doing):
                     shown(first), told(other[key]), shown(name), told(note[key]), doing))
 
 
-def check_sum(noted, least, greatest):
-    """That these dumps can be summed, or joined, within the limits."""
+def check_sum(noted, number, least, greatest):
+    """That these dumps, of so many, can be summed, or joined, within the limits."""
     slices = [(name, note) for name, note in noted if note["slices"]]
     is_join = len(slices) == len(noted) and len({note["slices"]["of"] for _, note in slices}) == 1 and no_slice_twice(slices)
     for name, note in noted:
-        if not is_whole(note) and not is_join and len(noted) > 1:
+        if not is_whole(note) and not is_join and number > 1:
             raise Fault("%s was counted with %s, so k-mers that it leaves out would be missing in the sum: count it again with "
                         "--min 1 --max none --cap none" % (shown(name), limits_of(note)))
         check_cap(name, note, least, greatest)
@@ -157,18 +158,14 @@ def check_parts(slices):
 
 
 def of_sum(noted, names, asked, quiet):
-    """The note of a merge, as far as all its dumps have one; slices that are missing are told."""
+    """The note of a merge, where all its dumps have one; slices that are missing are told. Limits of the dumps hold for the merge too."""
     if len(noted) != len(names):
         return None
-    first = noted[0][1]
-    slices = joined(noted, quiet)
-    is_join = all(note["slices"] for _, note in noted)
-    caps = [none_of(asked.cap)] + [note["cap"] for _, note in noted if is_join]
-    most = [none_of(asked.greatest)] + [note["max"] for _, note in noted if is_join]
-    inputs = list(dict.fromkeys(it for _, note in noted for it in note["inputs"]))
-    return {"futoncrane": places.version(), "form": FORM, "k": first["k"], "strands": first["strands"],
-            "min": max([asked.least] + [note["min"] for _, note in noted if is_join]), "max": least_of(most), "cap": least_of(caps),
-            "inputs": inputs, "slices": slices}
+    found = [note for _, note in noted]
+    inputs = list(dict.fromkeys(it for note in found for it in note["inputs"]))
+    return {"futoncrane": places.version(), "form": FORM, "k": found[0]["k"], "strands": found[0]["strands"],
+            "min": max([asked.least] + [note["min"] for note in found]), "max": least_of([none_of(asked.greatest)] + [note["max"] for note in found]),
+            "cap": least_of([none_of(asked.cap)] + [note["cap"] for note in found]), "inputs": inputs, "slices": joined(noted, quiet)}
 
 
 def least_of(limits):
@@ -185,4 +182,4 @@ def joined(noted, quiet):
     if not missing:
         return None
     say("of %d slices these are missing: %s; the dump lacks their k-mers" % (slices[0]["of"], ", ".join(missing[:10]) + (" .." if missing[10:] else "")), quiet)
-    return {"of": slices[0]["of"], "numbers": numbers, "parts": slices[0]["parts"]}
+    return {"of": slices[0]["of"], "numbers": numbers, "parts": sum(one["parts"] for one in slices if numbers[0] in one["numbers"])}

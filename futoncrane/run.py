@@ -62,7 +62,7 @@ def read_dumps(found, setting, children, reader):
     names = [it.name for it in found]
     merging.check_names(names)
     noted = notes.of_dumps(names, "summed", setting.quiet)
-    notes.check_sum(noted, setting.least, setting.greatest)
+    notes.check_sum(noted, len(names), setting.least, setting.greatest)
     for name, note in noted:
         if not notes.is_whole(note):
             report.say("%s was counted with %s: the answer lacks what these leave out" % (shown(name), notes.limits_of(note)), setting.quiet)

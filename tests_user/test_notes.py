@@ -75,6 +75,12 @@ def test_parts_with_limits_are_not_summed(room):
         dump(room, "a.dump", "-k25", *WHOLE, "a.fastq")
         room.refuses(1, "b.dump was counted with ", words=["merge", "a.dump", "b.dump", "-o", "out"])
         room.refuses(1, "b.dump was counted with ", words=["histogram", "a.dump", "b.dump", "-o", "out"])
+    # beside a dump without a note too
+    room.write("other.dump", content(room.path("a.dump")))
+    room.refuses(1, "b.dump was counted with ", words=["merge", "b.dump", "other.dump", "-o", "out"])
+    # one dump alone may be limited further, and keeps its own limits
+    room.counts(b"", "merge", "--min", "1", "-o", "again", "b.dump")
+    assert (note(room, "again")["min"], note(room, "again")["cap"]) == (2, 255), note(room, "again")
     dump(room, "b.dump", "-k25", *WHOLE, "b.fastq")
     room.counts(b"", "merge", "a.dump", "b.dump", "-o", "out")
     assert content(room.path("out")) == wanted_dump()
@@ -147,6 +153,12 @@ def test_slices_of_unlike_parts_are_refused(room):
     room.counts(b"", "list", "-o", "1.dump", "a.1")
     room.refuses(1, "0.dump was listed from 2 files of parts, and 1.dump from 1", words=["merge", "0.dump", "1.dump"])
     room.counts(b"", "list", "-o", "1.dump", "a.1", "b.1")
+    room.counts(wanted_dump(), "merge", "0.dump", "1.dump")
+    # a slice whose parts were listed apart, and summed
+    for it in "ab":
+        room.counts(b"", "list", *WHOLE, "-o", it + "0.dump", it + ".0")
+    room.counts(b"", "merge", *WHOLE, "-o", "0.dump", "a0.dump", "b0.dump", told="futoncrane: of 2 slices these are missing: 1; the dump lacks their k-mers\n")
+    room.counts(b"", "list", *WHOLE, "-o", "1.dump", "a.1", "b.1")
     room.counts(wanted_dump(), "merge", "0.dump", "1.dump")
 
 

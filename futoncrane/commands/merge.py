@@ -41,7 +41,7 @@ def main(asked):
 
     setting = shared.settings(asked)
     noted = notes.of_dumps(names, "summed", asked.quiet)
-    notes.check_sum(noted, asked.least, asked.greatest)
+    notes.check_sum(noted, len(names), asked.least, asked.greatest)
     with Children() as children, Output(asked.out, children, threads=setting.threads) as output:
         limits = ["-ci%d" % asked.least, "-cx%d" % asked.greatest, "-cs%d" % asked.cap]
         merging.merge(names, limits, children, setting, folder, output)
