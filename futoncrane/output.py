@@ -5,10 +5,12 @@ import os
 import select
 import stat
 import sys
+import threading
 
 from futoncrane import leftovers, packing
 from futoncrane.children import TEMPORARY, held_signals, signal_of, told, too_late
 from futoncrane.faults import Fault, Misuse, Quiet, reason, shown
+from futoncrane.feeding import write_all
 from futoncrane.memory import of_machine
 
 # ends of names that promise another form than the one that is written; those of FASTA are for `solid`
@@ -53,6 +55,22 @@ def is_replaced(name):
     return stat.S_ISREG(kind)
 
 
+class Counter(threading.Thread):
+    """Passes the answer on to its packer, and counts the lines."""
+
+    def __init__(self, source, sink):
+        super().__init__(daemon=True)
+        self.source, self.sink, self.lines = source, sink, 0
+
+    def run(self):
+        with contextlib.suppress(OSError):  # a packer that reads no more: its status tells
+            for block in iter(lambda: os.read(self.source, BLOCK), b""):
+                self.lines += block.count(b"\n")
+                write_all(self.sink, block)
+        os.close(self.sink)
+        os.close(self.source)
+
+
 class Output:
     """The answer's file. `descriptor` is what a program writes to; `finish` gives the file its name. Left before, it leaves nothing.
     `is_made` tells whether it is a file of its own, and no device, pipe or standard output."""
@@ -60,7 +78,7 @@ class Output:
     def __init__(self, name, children, is_last=True, threads=1, form="text"):
         self.name, self.children, self.is_last, self.threads, self.form = name, children, is_last, threads, form
         self.shown = "standard output" if name is None else shown(name)
-        self.work = self.packer = self.packing = None
+        self.work = self.packer = self.packing = self.counter = None
         self.is_made, self.start = False, 0
         self.descriptor = self.file = 1
 
@@ -80,10 +98,18 @@ class Output:
         except OSError as fault:
             raise Fault("%s: %s" % (self.shown, reason(fault))) from None
         if command:
-            source, self.descriptor = os.pipe()
-            self.packer = self.children.start(command, stdin=source, stdout=self.file)
-            os.close(source)
+            self._pack(command)
         return self
+
+    def _pack(self, command):
+        """Has the command pack what is written, by way of the counter of its lines."""
+        source, sink = os.pipe()
+        self.packer = self.children.start(command, stdin=source, stdout=self.file)
+        os.close(source)
+        source, self.descriptor = os.pipe()
+        self.counter = Counter(source, sink)
+        with held_signals():  # the thread holds them back for good: they are the main thread's
+            self.counter.start()
 
     def __exit__(self, *fault):
         for descriptor in {self.descriptor, self.file} - {1, None}:
@@ -116,6 +142,7 @@ class Output:
         """Waits until all is on the disk, and gives the file its name."""
         self.let_go()
         if self.packer:
+            self.counter.join()
             status = self.packer.wait()
             if status:
                 raise Fault("%s: it cannot be packed by %s (%s)%s" % (
@@ -138,8 +165,10 @@ class Output:
             raise Fault("%s: %s" % (self.shown, reason(fault))) from None
 
     def lines(self):
-        """How many lines the answer has, where it is a plain file that the memory still holds; else none."""
-        if self.packing or (self.name and not self.is_made):
+        """How many lines the answer has, where it is packed, or a plain file that the memory still holds; else none."""
+        if self.counter:
+            return self.counter.lines
+        if self.name and not self.is_made:
             return None
         try:
             with open(self.name or "/proc/self/fd/1", "rb", buffering=0) as file:

@@ -3,7 +3,7 @@ import gzip
 import json
 import os
 
-from room import READS, content, plainly, program, wanted_dump
+from room import MOST, READS, content, plainly, program, wanted_dump
 
 WHOLE = ("--min", "1", "--max", "none", "--cap", "none")
 
@@ -34,6 +34,7 @@ def test_a_note_says_what_the_dump_was_made_with(room):
     dump(room, "other.dump.gz", "-k", "12", "--forward", "--min", "3", "--max", "9", "--cap", "none", READS)
     other = note(room, "other.dump.gz")
     assert [other[it] for it in ("k", "strands", "min", "max", "cap")] == [12, "apart", 3, 9, None], other
+    assert other["totals"]["listed"] == plainly(content(READS), 12, 3, 9, MOST, "apart").count(b"\n"), other
     room.counts(wanted_dump(), "count", "-k25", "-o", "/dev/stdout", READS)
     assert not os.path.exists("/dev/stdout.json")
 
