@@ -42,6 +42,13 @@ def number(least, most, none=None):
     return read
 
 
+def decimal(name, word):
+    """Reads a number above 0, which may have a fraction."""
+    if not re.fullmatch(r"[0-9]{1,9}(\.[0-9]{1,9})?", word) or float(word) == 0:
+        raise Misuse("value of %s is out of range: %s; it takes a number above 0, as 64 or 0.5" % (name, word or "''"))
+    return float(word)
+
+
 def at_most(most):
     """Reads a whole number from 1 on. One above `most` is taken too: it is the caller's to tell of it."""
     def read(name, word):

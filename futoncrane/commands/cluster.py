@@ -10,7 +10,7 @@ import time
 from futoncrane import doubts, folders, inputs, memory, merging, notes, parts, places, report, run, shared, workers
 from futoncrane.children import Children
 from futoncrane.faults import Fault, Misuse, shown
-from futoncrane.options import Option, number
+from futoncrane.options import Option, decimal, number
 from futoncrane.output import Output
 
 USAGE = "(--workers N | --scheduler ADDRESS --directory DIR) [option ..] FILE .."
@@ -32,7 +32,7 @@ OPTIONS = [
     Option(["--threads", "-t"], "threads", "N", number(1, shared.MOST_THREADS), 1, "threads of one worker, 1 to 16 (1)", glues=True),
     Option(["--memory", "-m"], "memory", "SIZE", shared.MEMORY.read, text="memory of one worker, as 8G (its machine's, shared by the workers there)", glues=True),
     Option(["--slices"], "slices", "N", shared.SLICES.read, text="slices, 1 to 1000 (as many as there are workers, and more where their memory wants it)"),
-    Option(["--megabytes"], "megabytes", "N", number(1, 10**9), text="text of a part, in millions of bytes (eight parts for each worker, of 64 million "
+    Option(["--megabytes"], "megabytes", "N", decimal, text="text of a part, in millions of bytes (eight parts for each worker, of 64 million "
            "at least, and about 1000 at most)"),
     Option(["--directory"], "directory", "DIR", text="where files lie in the meantime, about 1.1 bytes for each symbol: all machines must see it "
            "(with --workers beside -o, else TMPDIR)"),
@@ -100,7 +100,7 @@ def settled(client, setting, found, format_name, megabytes):
     count, room = room_of_each(client)
     room = setting.memory or room
     symbols, listed = shared.size_of(setting, found, format_name)
-    part = megabytes * 10**6 if megabytes else max(LEAST_PART, sum(it.bytes for it in found) // min(USUAL_PARTS, PARTS_OF_A_WORKER * count))
+    part = max(1, int(megabytes * 10**6)) if megabytes else max(LEAST_PART, sum(it.bytes for it in found) // min(USUAL_PARTS, PARTS_OF_A_WORKER * count))
     made = list(parts.of_files(found, format_name == "FASTA", part))
     if len(made) > MOST_PARTS:
         raise Fault("there are %d parts, and %d are taken: give a greater --megabytes" % (len(made), MOST_PARTS))
