@@ -71,7 +71,8 @@ def finish(output, note, report, quiet):
         with contextlib.suppress(OSError):
             os.unlink(path)
     output.finish()
-    report.totals["listed"] = output.lines()
+    if report.is_told or path:
+        report.totals["listed"] = output.lines()
     if note and note["min"] <= 1 and note["max"] is None and not note["slices"]:
         report.totals["distinct"] = report.totals["listed"]
     if path and note:

@@ -28,12 +28,13 @@ def clock(seconds):
 
 
 class Report:
-    """What is known of a run. `steps` are the programs that worked, `written` the bytes of the answer, none where that is not known, and
-    `doubt` says what makes it doubtful, if something does."""
+    """What is known of a run, and whether anybody is told. `steps` are the programs that worked, `written` the bytes of the answer, none where
+    that is not known, `doubt` says what makes it doubtful, if something does, and `is_partial` whether k-mers were left out before."""
 
-    def __init__(self):
+    def __init__(self, is_told):
+        self.is_told = is_told
         self.begun, self.steps, self.bytes_read, self.written = time.monotonic(), [], None, None
-        self.doubt = None
+        self.doubt, self.is_partial = None, False
         self.totals = dict.fromkeys(TOTALS)
 
     def step(self, name):
@@ -42,7 +43,10 @@ class Report:
             self.steps.append(name)
 
     def take(self, numbers):
-        """Takes the totals of a histogram of all k-mers."""
+        """Takes the totals of a histogram, of all k-mers or of those of a dump that has not all."""
+        if self.is_partial:
+            self.totals["listed"] = sum(numbers.values())
+            return
         self.totals.update(kmers_read=sum(count * number for count, number in numbers.items()), distinct=sum(numbers.values()),
                            met_once=numbers.get(1, 0), max_count=max(numbers, default=0))
 

@@ -63,6 +63,7 @@ def read_dumps(found, setting, children, reader):
     merging.check_names(names)
     noted = notes.of_dumps(names, "summed", setting.quiet)
     notes.check_sum(noted, len(names), setting.least, setting.greatest)
+    setting.report.is_partial = len(noted) < len(names) or not all(notes.is_whole(note) for _, note in noted)
     for name, note in noted:
         if not notes.is_whole(note):
             report.say("%s was counted with %s: the answer lacks what these leave out" % (shown(name), notes.limits_of(note)), setting.quiet)

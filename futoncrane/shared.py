@@ -78,7 +78,7 @@ def settings(asked, least=1, greatest=MOST, cap=MOST):
         splitters=given.get("splitters") or threads, counters=given.get("counters") or threads, signature=given.get("signature"),
         bins=given.get("bins"), slices=given.get("slices"), directory=given.get("directory"), keep=given.get("keep", False), out=given.get("out"),
         least=given.get("least", least), greatest=given.get("greatest", greatest), cap=given.get("cap", cap),
-        report=report.Report())
+        report=report.Report(not asked.quiet or given.get("json") is not None))
 
 
 def words(told, format_name):

@@ -183,8 +183,10 @@ def test_a_dump_is_read_in_place_of_reads(room):
         room.counts(wanted.out, command, "whole.gz")
     room.counts(room.run("solid", "-k21", "--min", "4", READS).out, "solid", "--min", "4", "whole")
     dump(room, "part", "-k21", READS)
-    ran = room.run("histogram", "part")
+    ran = room.run("histogram", "part", "--json", "did.json")
     assert ran.status == 0 and "part was counted with --min 2 --max none --cap 255: the answer lacks what these leave out" in ran.err, ran
+    totals = json.loads(content(room.path("did.json")))["totals"]
+    assert totals["kmers_read"] is None and totals["distinct"] is None and totals["listed"] == content(room.path("part")).count(b"\n"), totals
     room.refuses(1, "whole is a dump of k-mers, and", words=["histogram", "whole", READS])
     room.refuses(1, "whole is a dump of k-mers and has no reads", words=["count", "whole", "-o", "out"])
     room.refuses(1, "taken from a file", words=["histogram", "-"], text=content(room.path("whole")))
