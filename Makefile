@@ -20,7 +20,7 @@ LIST_NAME := futoncrane-kmc-list
 BIN = $(DESTDIR)$(PREFIX)/bin
 MAN = $(DESTDIR)$(PREFIX)/share/man/man1
 
-.PHONY: all count check test recipes install uninstall dist fuzz hostile damaged devices limits threads bench results refusals merges clean
+.PHONY: all count check test tests-user install uninstall dist fuzz hostile damaged devices limits threads bench results refusals merges clean
 
 # all programs in one call, since most of what they stand on is the same
 all:
@@ -53,12 +53,12 @@ check:
 	RT_JOBS=$(CHECKS) MIMALLOC_PURGE_DELAY=-1 rt ci
 
 # the tests of users: the command futoncrane, and the programs, as people call them
-recipes: $(PROGRAMS)
+tests-user: $(PROGRAMS)
 	@tests_user/run.py
 
 # what a newcomer runs behind `make`, in some minutes: the tests of users, and a thousand random texts and options, each answer against a
 # plain count. It shows that these programs do on this machine what they are said to; that they do so always is what `make check` proves
-test: recipes
+test: tests-user
 	KMC="$(abspath $(KMC))" bench/fuzz.py --seed $(SEED) --tries 1000
 
 # call installed,FILE,PAGE,NAME: the program, and its page, which then speaks of the names of this installation
@@ -71,7 +71,7 @@ define installed
 endef
 
 install: $(PROGRAMS)
-	install -d "$(BIN)" "$(MAN)"
+	build/lay_out.sh --folders "$(DESTDIR)$(PREFIX)"
 	$(call installed,$(KMC),kmc,$(NAME))
 	$(call installed,$(KMC_MERGE),kmc_merge,$(MERGE_NAME))
 	$(call installed,$(KMC_CUT),kmc_cut,$(CUT_NAME))

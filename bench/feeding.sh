@@ -16,7 +16,7 @@ threads=$(nproc)
 kmc="$top/kmc -k31 -cx9223372036854775808 -sp$threads -sr$threads"
 # the interpreter itself is first in PATH: what stands before it may be a script that looks for it
 PATH=$(python3 -c 'import os, sys; print(os.path.dirname(os.path.realpath(sys.executable)))'):$PATH
-futoncrane="$top/futoncrane/futoncrane count -k 31"
+futoncrane="$top/futoncrane/futoncrane count --quiet -k 31"
 work=$(mktemp -d)
 trap 'rm -rf "$work"' EXIT
 cd "$work"

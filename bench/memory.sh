@@ -1,5 +1,5 @@
 #!/bin/sh
-# The peak memory of ./kmc on simulated inputs, beside the formula of README's "Limits". Prints a Markdown table.
+# The peak memory of ./kmc on simulated inputs, beside the formula of docs/kmc.1, MEMORY. Prints a Markdown table.
 #
 # usage: bench/memory.sh
 #

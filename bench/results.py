@@ -1,5 +1,5 @@
 #!/usr/bin/env python3
-"""Runs the scripts that measure, and writes what they print: bench/RESULTS.md, and the tables of figures in README.md and docs/DESIGN.md.
+"""Runs the scripts that measure, and writes what they print: bench/RESULTS.md, and the figures in README.md, docs/KMC3.md and docs/DESIGN.md.
 
 usage: make results    (or bench/results.py [SECTION ..], to measure some sections and keep the others)
 
@@ -110,18 +110,28 @@ def told_of(sections, name):
     return found.group(1) if found else "not measured"
 
 
+def of_four_threads(sections):
+    """The cells of the rows of the comparison with KMC 3 that have four threads."""
+    rows = [[cell.strip() for cell in row.strip("|").split("|")] for row in rows_of(sections, "kmc3")[2:]]
+    return [cells for cells in rows if cells[2] == "4"]
+
+
 def headline(sections):
-    """README's table: short, deep, hifi, long reads and the genome with four threads."""
+    """README's sentence: how much of KMC 3's time and memory is taken."""
+    time_parts, memory_parts = (sorted(float(cells[it]) for cells in of_four_threads(sections)) for it in (10, 11))
+    return ["Beside KMC 3.2.1, with four threads and k 25, it takes %.2f to %.2f of the time and %.2f to %.2f of the memory, on five kinds of reads" % (
+                time_parts[0], time_parts[-1], memory_parts[0], memory_parts[-1]),
+            "(measured %s; [bench/RESULTS.md](bench/RESULTS.md), [docs/KMC3.md](docs/KMC3.md))." % told_of(sections, "kmc3")]
+
+
+def table(sections):
+    """The table of docs/KMC3.md: short, deep, hifi, long reads and the genome with four threads."""
     lines = ["| four threads, k 25 | ours: wall s | user s | MB | KMC 3: wall s | user s | MB | wall, ours / KMC 3 | memory |", "|---|---|---|---|---|---|---|---|---|"]
-    for row in rows_of(sections, "kmc3")[2:]:
-        cells = [cell.strip() for cell in row.strip("|").split("|")]
-        if cells[2] == "4":
-            lines.append("| " + " | ".join([cells[0]] + cells[3:9] + cells[10:]) + " |")
+    lines += ["| " + " | ".join([cells[0]] + cells[3:9] + cells[10:]) + " |" for cells in of_four_threads(sections)]
     lines.append("")
     lines.append("KMC 3.2.1 in the faster of its two modes (in memory, with files), its sorted dump included; dumps equal byte for byte. Short reads: 1.5 million")
     lines.append("of 100, 30-fold; deep: 88-fold; hifi: 10,000 of 15,000, 2 errors in 1000; long: 5 in 100; genome: 100 million symbols, `-ci1`. Measured")
-    lines.append("%s (`make results`), on %s;" % (told_of(sections, "kmc3"), machine()))
-    lines.append("[bench/RESULTS.md](bench/RESULTS.md) has more.")
+    lines.append("%s (`make results`), on %s." % (told_of(sections, "kmc3"), machine()))
     return lines
 
 
@@ -136,7 +146,9 @@ def main():
             with open(RESULTS, "w") as file:
                 file.write(head + "\n".join(sections[each] for each, _, _, _ in SECTIONS if each in sections))
     put(os.path.join(TOP, "README.md"), "headline", headline(sections))
+    put(os.path.join(TOP, "docs", "KMC3.md"), "table", table(sections))
     put(os.path.join(TOP, "docs", "DESIGN.md"), "figures", ["%s, on %s." % (told_of(sections, "kmc3"), machine()), ""] + rows_of(sections, "kmc3"))
 
 
-main()
+if __name__ == "__main__":
+    main()

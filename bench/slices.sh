@@ -121,7 +121,7 @@ done
 
 in_cluster() {
     watch cluster
-    timed cluster "FUTONCRANE_BIN=$top $dask $top/futoncrane/cluster.py --workers $threads --slices $slices --directory cluster -k$k reads > cluster.dump 2> log"
+    timed cluster "FUTONCRANE_BIN=$top $dask $top/futoncrane/futoncrane cluster --workers $threads --slices $slices --directory cluster -k$k reads > cluster.dump 2> log"
     unwatch
     cmp one.dump cluster.dump
     rm -rf cluster

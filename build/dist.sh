@@ -28,23 +28,33 @@ for slice in 0 1; do "$work/built/kmc_list" "$work/reads.$slice" > "$work/slice.
 # laid_out ROOT: the programs, the command, pages, completions and the example below ROOT
 laid_out() {
     make -s install DESTDIR="$1" PREFIX= KMC="$work/built/kmc" KMC_MERGE="$work/built/kmc_merge" KMC_CUT="$work/built/kmc_cut" KMC_LIST="$work/built/kmc_list"
+    rm "$1/share/futoncrane/folders" # which folders are new is seen where it is unpacked
+}
+
+# documents FOLDER: README.md and what it links, under the names that it has for them
+documents() {
+    mkdir -p "$1/docs" "$1/bench"
+    cp README.md CHANGELOG.md CONTRIBUTING.md CITATION.cff "$1"
+    cp docs/*.md "$1/docs"
+    cp bench/RESULTS.md "$1/bench"
+    cp -R examples "$1"
 }
 
 # the archive
 name=futoncrane-$version-x86_64
 laid_out "$work/$name"
-mkdir -p "$work/$name/share/doc/futoncrane"
-cp README.md CHANGELOG.md "$work/$name/share/doc/futoncrane"
-cp README.md CHANGELOG.md build/install.sh "$work/$name"
+documents "$work/$name"
+documents "$work/$name/share/doc/futoncrane"
+cp build/install.sh "$work/$name"
 (cd "$work/$name" && find . -type f ! -name SHA256SUMS | LC_ALL=C sort | sed 's|^\./||' | xargs sha256sum > "$work/sums" && mv "$work/sums" SHA256SUMS)
 tar -C "$work" --sort=name --owner=0 --group=0 --numeric-owner --mtime="@$when" -czf "dist/$name.tar.gz" "$name"
 
 # the package
 root=$work/package
 laid_out "$root/usr"
-mkdir -p "$root/usr/share/doc/futoncrane" "$root/DEBIAN"
+mkdir -p "$root/DEBIAN"
+documents "$root/usr/share/doc/futoncrane"
 mv "$root/usr/share/zsh/site-functions" "$root/usr/share/zsh/vendor-completions"
-cp README.md CHANGELOG.md "$root/usr/share/doc/futoncrane"
 cat > "$root/DEBIAN/control" << CONTROL
 Package: futoncrane
 Version: $version
@@ -53,11 +63,11 @@ Maintainer: The authors of futoncrane <futoncrane@localhost>
 Installed-Size: $(du -sk "$root/usr" | cut -f 1)
 Depends: python3 (>= 3.9)
 Recommends: pigz | gzip, bzip2, xz-utils, zstd
-Suggests: gnuplot-nox, python3-distributed
+Suggests: gnuplot-nox, python3-distributed, samtools
 Section: science
 Priority: optional
 Description: counts the k-mers of sequencing reads
- futoncrane counts the k-mers of FASTQ and FASTA files, plain or packed, by
+ futoncrane counts the k-mers of FASTQ, FASTA and BAM files, plain or packed, by
  programs whose answer is proved: the dump is exactly the count of the reads.
 CONTROL
 printf '#!/bin/sh\npy3compile -p futoncrane || true\n' > "$root/DEBIAN/postinst"

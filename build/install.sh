@@ -3,12 +3,29 @@
 #
 # usage: ./install.sh [PREFIX]            (/usr/local; the files go to PREFIX/bin and PREFIX/share)
 #        ./install.sh --remove [PREFIX]
+#        ./install.sh --help
+#
+# Without an installation the command runs from the archive as it is unpacked: bin/futoncrane.
 set -eu
 cd "$(dirname "$0")"
 action=install
-if [ "${1:-}" = --remove ]; then
-    action=remove
-    shift
+case ${1:-} in
+    --help | -h)
+        sed -n '2,/^set /{s/^# \{0,1\}//p;}' install.sh
+        exit
+        ;;
+    --remove)
+        action=remove
+        shift
+        ;;
+    -*)
+        echo "install.sh: no option $1 (see ./install.sh --help)" >&2
+        exit 2
+        ;;
+esac
+if [ $# -gt 1 ]; then
+    echo "install.sh: one folder is taken (see ./install.sh --help)" >&2
+    exit 2
 fi
 prefix=${1:-/usr/local}
 noted=$prefix/share/futoncrane/folders

@@ -3,8 +3,8 @@
 #
 # usage: build/try_dist.sh [ROOT]      (ROOT: an empty root that `debootstrap --variant=minbase --include=python3 bookworm ROOT` made; else it is made)
 #
-# Each is installed, `futoncrane doctor` is run, the example is counted, plain and packed, and what was installed is removed. The files of
-# the root must then be those of before.
+# The lines of README that begin with '$' are run, and the files that it links are looked for. Then each is installed, `futoncrane doctor` is
+# run, the example is counted, plain and packed, and what was installed is removed. The files of the root must then be those of before.
 set -eu
 cd "$(dirname "$0")/.."
 version=$(cat VERSION)
@@ -40,10 +40,24 @@ trial='
     gzip -c "$example/reads.fastq" > /tmp/reads.gz
     futoncrane count -k25 -o /tmp/dump /tmp/reads.gz
     cmp /tmp/dump "$example/reads.dump"
-    rm /tmp/dump /tmp/reads.gz
+    rm /tmp/dump /tmp/dump.json /tmp/reads.gz
     futoncrane count -k25 "$example/missing" && exit 1
     echo "the example is counted"
 '
+echo "== README"
+files > "$work/before"
+cp "dist/$archive.tar.gz" "$root/tmp"
+lines=$(sed -n 's/^    \$ //p' README.md)
+printf '%s\n' "$lines" > "$root/tmp/lines"
+inside "cd /tmp; . /tmp/lines"
+rm -f "$root/tmp/lines"
+for link in $(grep -o '\](\([^)#:]*\))' README.md | sed 's/^](//; s/)$//'); do
+    [ -e "$root/tmp/$archive/$link" ] || { echo "try_dist.sh: README links $link, which is not in the archive" >&2; exit 1; }
+done
+inside "/tmp/$archive/install.sh --help" | grep -q '^usage: ./install.sh'
+rm -rf "$root/tmp/$archive" "$root/tmp/$archive.tar.gz"
+files > "$work/after"
+diff "$work/before" "$work/after"
 for kind in archive package; do
     echo "== $kind"
     files > "$work/before"

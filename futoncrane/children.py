@@ -132,9 +132,24 @@ class Children:
         RUNNING.remove(child)
 
 
+def ended(child):
+    """Waits for a child's end: its status, and how many bytes it wrote, as the system has counted them; none where it does not tell."""
+    written = None
+    with contextlib.suppress(OSError, ValueError, StopIteration):
+        os.waitid(os.P_PID, child.pid, os.WEXITED | os.WNOWAIT)
+        with open("/proc/%d/io" % child.pid, encoding="ascii") as lines:
+            written = next(int(line.split()[1]) for line in lines if line.startswith("wchar:"))
+    return child.wait(), written
+
+
+def all_told(child):
+    """What a program that ended said on standard error."""
+    return child.stderr.read().decode(errors="replace")
+
+
 def told(child):
-    """What a program that ended said on standard error, in one line."""
-    return " ".join(child.stderr.read().decode(errors="replace").split())
+    """The same in one line."""
+    return " ".join(all_told(child).split())
 
 
 def signal_of(status):

@@ -5,7 +5,7 @@ import os
 import signal
 
 from futoncrane import packing
-from futoncrane.children import signal_of, told
+from futoncrane.children import all_told, signal_of
 from futoncrane.faults import Fault, reason
 
 BLOCK = 1 << 20
@@ -153,14 +153,14 @@ class Feed:
 
 def judge_unpacker(name, kind, child):
     """The fault that an unpacker did not unpack the whole file, if so."""
-    status, said = child.wait(), packing.cleaned(told(child))
-    if status != 0 or "trailing" in said:
+    status, said = child.wait(), all_told(child)
+    if status != 0 or packing.is_suspect(said):
         raise Fault(not_unpacked(name, kind, child, said))
 
 
 def not_unpacked(name, kind, child, said=None):
     """The text of the fault that an unpacker did not come to a good end."""
-    status, said = child.returncode, packing.cleaned(told(child)) if said is None else said
+    status, said = child.returncode, packing.cleaned(all_told(child) if said is None else said)
     said = said or "%s %s" % (os.path.basename(child.args[0]), signal_of(status) or "ended with status %d" % status)
     return "%s: the %s data ends early, is damaged or cannot be read (%s)" % (name, kind, said)
 

@@ -6,6 +6,7 @@ import os
 import shutil
 import tempfile
 
+from futoncrane import leftovers
 from futoncrane.children import EMPTIED, FOLDERS, held_signals
 from futoncrane.faults import Fault, reason, shown
 from futoncrane.memory import human
@@ -30,7 +31,7 @@ def made(place):
     """A new folder, which is gone when the command ends."""
     with held_signals():
         try:
-            path = tempfile.mkdtemp(prefix=".futoncrane-", dir=place)
+            path = leftovers.new_folder(place)
         except OSError as fault:
             raise Fault("%s: %s" % (shown(place), reason(fault))) from None
         FOLDERS.add(path)
@@ -44,12 +45,11 @@ def dropped(path):
         FOLDERS.discard(path)
 
 
-def check_room(place, wanted):
+def check_room(place, wanted, advice="name another folder by --directory"):
     """Refuses what is estimated not to fit the disk."""
     free = shutil.disk_usage(place).free
     if wanted > free:
-        raise Fault("%s: the slices are estimated to take %s on its disk, and %s are free: name another folder by --directory" % (
-            shown(place), human(wanted), human(free)))
+        raise Fault("%s: the slices are estimated to take %s on its disk, and %s are free: %s" % (shown(place), human(wanted), human(free), advice))
 
 
 class Kept:

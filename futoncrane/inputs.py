@@ -2,6 +2,7 @@
 import contextlib
 import errno
 import os
+import re
 import stat
 import subprocess
 
@@ -13,6 +14,15 @@ SAMPLE = 1 << 18
 # of a compressed file that cannot be sampled: bytes of text for each of its bytes
 USUAL_RATIO = 4.0
 FORMATS = {b">": "FASTA", b"@": "FASTQ"}
+# a file that is none of reads, by its first bytes or those behind so many, and what it is
+FOREIGN = (
+    (0, b"PK\x03\x04", "a zip archive: unpack it first"), (0, b"7z\xbc\xaf", "a 7z archive: unpack it first"), (257, b"ustar", "a tar archive: unpack it first"),
+    (0, b"\x89HDF", "an HDF5 file, as FAST5 is: make FASTQ of it first"), (0, b"NCBI.sra", "an SRA archive: make FASTQ of it by fasterq-dump first"),
+    (0, b"KMCSLICE", "a file of slices, which 'futoncrane list' takes"), (0, b"KMCP", "a database of KMC: 'kmc_tools transform DB dump -s DUMP' makes a dump of it"),
+    (0, b"KMCS", "a database of KMC: 'kmc_tools transform DB dump -s DUMP' makes a dump of it"), (0, b"<", "a page of a web site or XML, and no reads"),
+    (0, b"##fileformat=VCF", "a VCF file, and no reads"), (0, b"LOCUS ", "a GenBank file: make FASTA of it first"))
+DUMP_LINE, SAM_HEADER = rb"[ACGT]{1,64}\t[0-9]+(?:\n|$)", rb"@(?:HD|SQ|RG|PG|CO)\t"
+SAM_LINE = rb"[^\t\n]+\t[0-9]+\t[^\t\n]+\t[0-9]+\t(?:[^\t\n]*\t){6}[^\t\n]+"
 
 
 class Input:
@@ -22,9 +32,10 @@ class Input:
     def __init__(self, name):
         self.name, self.shown = name, shown(name)
         self.is_stream, self.head, self.descriptor = False, b"", None
-        self.packing = self.format = None
+        self.packing = self.format = self.k = None
         self.start = self.bytes = 0
         self.ratio, self.share = 1.0, 0.5
+        self.sample = Sample()
         try:
             self._look()
         except OSError as fault:
@@ -78,7 +89,10 @@ class Input:
             first += block
             if len(first) >= packing.LONGEST_MAGIC:
                 break
-        self.packing = packing.kind_of(first)
+        self.packing = "CRAM" if first.startswith(b"CRAM") else packing.kind_of(first)
+        if self.packing == "CRAM":
+            self.format = "FASTQ"
+            return
         if self.packing is None:
             if packing.is_cut_before_text(self.name, first):
                 raise Fault("%s: the compressed file ends early" % self.shown)
@@ -90,6 +104,12 @@ class Input:
                 text = block
         else:
             text = self._unpacked(first, blocks)
+        if is_aligned(text):
+            if self.packing not in (None, "gzip"):
+                raise Fault("%s: it is an alignment packed by %s, which samtools does not read: unpack it first" % (self.shown, self.packing))
+            self.packing = "BAM" if text.startswith(b"BAM\x01") else "SAM"
+            text = self._by_child(first)
+            self.format = "FASTQ"
         self._judge(text.lstrip(b"\r\n"))
 
     def _unpacked(self, first, blocks):
@@ -132,17 +152,17 @@ class Input:
         """Takes the format from the first byte of the text, and the share of symbols from its lines."""
         if not text:
             return
-        if text.startswith(b"BAM\x01"):
-            raise Fault("%s: it is a BAM file; count it by 'samtools fastq FILE | futoncrane count -'" % self.shown)
+        if re.match(DUMP_LINE, text):
+            self.format, self.k = "DUMP", text.index(b"\t")
+            return
+        told = next((told for place, magic, told in FOREIGN if text[place:].startswith(magic)), None)
+        if told:
+            raise Fault("%s: it is %s" % (self.shown, told))
         self.format = FORMATS.get(text[:1])
         if self.format is None:
             raise Fault("%s: it is neither FASTA nor FASTQ: its text begins with %r" % (self.shown, chr(text[0])))
-        lines = text.split(b"\n")
-        if self.format == "FASTQ":
-            symbols = sum(map(len, lines[1::4]))
-        else:
-            symbols = sum(len(line) for line in lines if not line.startswith(b">"))
-        self.share = symbols / len(text)
+        self.sample = Sample(text, self.format)
+        self.share = self.sample.symbols / len(text)
 
     def identity(self):
         """What tells a regular file from another one, and from itself once it was written to."""
@@ -158,6 +178,30 @@ class Input:
         return int(self.bytes * self.ratio * self.share)
 
 
+class Sample:
+    """What the first lines of an input show: how many symbols there are, the longest read, and the letters that stand for no base."""
+
+    def __init__(self, text=b"", format_name=None):
+        lines = text.split(b"\n")
+        reads = lines[1::4] if format_name == "FASTQ" else [line for line in lines if not line.startswith(b">")]
+        reads = [it.rstrip(b"\r") for it in reads]
+        letters = b"".join(reads)
+        self.symbols = len(letters)
+        self.longest = max(map(len, reads), default=0) if format_name == "FASTQ" else max(map(len, b"".join(
+            b">" if it.startswith(b">") else it.rstrip(b"\r") for it in lines).split(b">")), default=0)
+        foreign = letters.translate(None, b"ACGTNacgtn").upper()
+        self.foreign, self.kinds = len(foreign), {chr(it) for it in foreign}
+
+
+def is_aligned(text):
+    """Whether a text is BAM or SAM. A FASTQ header that begins as SAM does has a line of '+' two lines below."""
+    if text.startswith(b"BAM\x01"):
+        return True
+    text = text.lstrip(b"\r\n")
+    lines = text.split(b"\n", 3)
+    return bool(re.match(SAM_LINE, text) or re.match(SAM_HEADER, text) and not (len(lines) > 2 and lines[2].startswith(b"+")))
+
+
 def format_of_all(inputs, wanted=None):
     """The one format of all inputs, FASTQ where none has any text. A mixture is a fault that names both files."""
     first = None
@@ -167,6 +211,8 @@ def format_of_all(inputs, wanted=None):
         first = first or it
         if it.format != first.format:
             raise Fault("%s is %s, and %s is %s: count them apart" % (first.shown, first.format, it.shown, it.format))
+    if first and first.format == "DUMP":
+        raise Fault("%s is a dump of k-mers and has no reads: histogram, size, genomescope, solid, compare and merge take it" % first.shown)
     if first and wanted and first.format != wanted:
         raise Fault("%s is %s, and the option says %s" % (first.shown, first.format, wanted))
     return first.format if first else wanted or "FASTQ"

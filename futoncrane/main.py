@@ -1,7 +1,6 @@
 """The words behind `futoncrane`: which command they name, and the status that it ends with."""
 import importlib
 import os
-import sys
 
 from futoncrane import options, places
 from futoncrane.children import catch_signals, sweep, too_late
@@ -47,8 +46,6 @@ def obey(words):
     if name not in COMMANDS:
         raise Misuse("no command %s%s" % (name, options.nearest(name, [*COMMANDS, "--help", "--version"])))
     command = importlib.import_module("futoncrane.commands." + name)
-    if not command.OPTIONS:
-        return command.main(rest)
     asked = options.parse(rest, command.OPTIONS)
     if asked.help:
         say(options.help_of(name, command))
@@ -82,6 +79,10 @@ def answered(words):
         tell("%s%s" % (fault.filename + ": " if isinstance(fault.filename, str) else "", reason(fault)))
     except MemoryError:
         tell("out of memory")
+    except Exception as fault:  # what is not foreseen is a line too
+        if os.environ.get("FUTONCRANE_DEBUG"):
+            raise
+        tell("something went wrong that was not foreseen (%s: %s): FUTONCRANE_DEBUG=1 shows where" % (type(fault).__name__, fault))
     return 1
 
 

@@ -1,5 +1,6 @@
-"""How much memory a run takes, and whether it fits: the figures are README's, 'Limits', which were measured."""
+"""How much memory a run takes, and whether it fits: the figures are those of docs/kmc.1, MEMORY, which were measured."""
 import collections
+import contextlib
 import math
 import os
 
@@ -83,8 +84,13 @@ def plan(symbols, listed, k, cap, threads, room):
 
 
 def disk(symbols):
-    """The bytes that the records of slices take on the disk. Their dumps come besides; how long they are is not known before."""
+    """The bytes that the records of slices take on the disk."""
     return int(DISK_OF_A_SYMBOL * symbols)
+
+
+def disk_of_dumps(listed, k):
+    """The bytes that the dumps of slices take on the disk, as far as it can be guessed how many k-mers are listed."""
+    return (k + len("\t12\n")) * listed
 
 
 def addresses(room, threads):
@@ -92,15 +98,31 @@ def addresses(room, threads):
     return ADDRESSES_OF_A_BYTE * room + ADDRESSES_OF_A_THREAD * (2 * threads + 2)
 
 
+def of_groups(lines, root="/sys/fs/cgroup"):
+    """The least limit of memory of the control groups in which a process is, and of those around them; `lines` are its /proc/self/cgroup.
+    None where there is no limit."""
+    found = []
+    for line in lines:
+        number, controllers, path = line.rstrip("\n").split(":", 2)
+        if number == "0":
+            top, name = root, "memory.max"
+        elif "memory" in controllers.split(","):
+            top, name = os.path.join(root, "memory"), "memory.limit_in_bytes"
+        else:
+            continue
+        folders = [it for it in path.split("/") if it]
+        # where the path is that of the host, the container's own limit stands at the top
+        for depth in range(len(folders) + 1):
+            with contextlib.suppress(OSError, ValueError), open(os.path.join(top, *folders[:depth], name), encoding="ascii") as text:
+                found.append(int(text.read()))
+    return min(found, default=None)
+
+
 def of_machine():
-    """The bytes of memory that the machine has, or its container gives."""
+    """The bytes of memory that the machine has, or that its container or its job gives."""
     found = os.sysconf("SC_PAGE_SIZE") * os.sysconf("SC_PHYS_PAGES")
-    for path in ("/sys/fs/cgroup/memory.max", "/sys/fs/cgroup/memory/memory.limit_in_bytes"):
-        try:
-            with open(path, encoding="ascii") as text:
-                found = min(found, int(text.read()))
-        except (OSError, ValueError):
-            pass
+    with contextlib.suppress(OSError, ValueError), open("/proc/self/cgroup", encoding="utf-8") as lines:
+        found = min(found, of_groups(lines) or found)
     return found
 
 

@@ -6,10 +6,11 @@ import stat
 import subprocess
 
 from futoncrane import packing, places
-from futoncrane.children import open_more, signal_of
-from futoncrane.faults import Fault, Misuse, Quiet, reason, shown
+from futoncrane.children import ended, open_more, signal_of
+from futoncrane.faults import Fault, Misuse, reason, shown
 from futoncrane.feeding import judge_unpacker
 from futoncrane.options import MOST
+from futoncrane.programs import judge_silence
 from futoncrane.progress import Watch, merging, read_by
 
 # what kmc_merge takes at once; and what else a process has open
@@ -106,8 +107,8 @@ def at_once(names):
     return MOST_DUMPS
 
 
-def merged(names, limits, children, quiet, output=None, reader=None, sink=None, begun=None):
-    """Merges these dumps at once, into the output, the file `sink`, or what `reader` reads. Tells how long all took since `begun`."""
+def merged(names, limits, children, setting, output=None, reader=None, sink=None):
+    """Merges these dumps at once, into the output, the file `sink`, or what `reader` reads."""
     parts = Parts(names, children)
     command = [places.find("kmc_merge"), *limits, *parts.given]
     out = subprocess.PIPE if reader else output.descriptor if output else sink
@@ -115,19 +116,19 @@ def merged(names, limits, children, quiet, output=None, reader=None, sink=None, 
     parts.let_go()
     if output:
         output.let_go()
-    with Watch(parts, merger, not quiet, step=merging) as watch:
+    with Watch(parts, merger, not setting.quiet, step=merging):
         if reader:
             reader(merger.stdout)
-        status = merger.wait()
-        if sink is None:
-            watch.last(status, begun)
+        status, written = ended(merger)
     parts.judge()
     if status:
         judge(merger, status, parts, output)
+    setting.report.step("kmc_merge")
+    setting.report.written = written
     children.forget(merger)
 
 
-def merge(names, limits, children, quiet, folder, output=None, reader=None, begun=None):
+def merge(names, limits, children, setting, folder, output=None, reader=None):
     """Merges dumps, however many: where there are too many, the first of them first, whole, into a dump in the folder that `folder` gives."""
     names, made = list(names), 0
     most = at_once(names)
@@ -135,14 +136,14 @@ def merge(names, limits, children, quiet, folder, output=None, reader=None, begu
         some = names[:min(most, len(names) - most + 1)]
         path = os.path.join(folder(), "level.%d" % made)
         with open(path, "wb") as sink:
-            merged(some, WHOLE, children, quiet, sink=sink)
+            merged(some, WHOLE, children, setting, sink=sink)
         for it in some:
             if it.startswith(folder() + os.sep):
                 with contextlib.suppress(OSError):
                     os.unlink(it)
         names, made = names[len(some):] + [path], made + 1
         most = at_once(names)
-    merged(names, limits, children, quiet, output, reader, begun=begun)
+    merged(names, limits, children, setting, output, reader)
 
 
 def judge(merger, status, parts, output):
@@ -155,6 +156,4 @@ def judge(merger, status, parts, output):
         raise Fault("%s: it cannot be written%s" % (shown_name, output.why() if output else ": no space left on its disk"))
     if text:
         raise Fault(parts.named(text.replace("kmc_merge: ", "", 1)))
-    if output and output.packer:
-        output.finish()
-    raise Quiet
+    judge_silence("kmc_merge", text, status, output)

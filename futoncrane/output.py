@@ -1,22 +1,45 @@
 """Where the answer goes: standard output, or a file that has its name only once it is whole."""
 import contextlib
+import fcntl
 import os
+import select
 import stat
 import sys
+import threading
 
-from futoncrane import packing
+from futoncrane import leftovers, packing
 from futoncrane.children import TEMPORARY, held_signals, signal_of, told, too_late
 from futoncrane.faults import Fault, Misuse, Quiet, reason, shown
+from futoncrane.feeding import write_all
+from futoncrane.memory import of_machine
 
-OTHERS = {end: kind for kind, (_, ends, _, _) in packing.KINDS.items() for end in ends if kind != "gzip"}
+# ends of names that promise another form than the one that is written; those of FASTA are for `solid`
+OTHERS = {".bz2": "bzip2", ".xz": "xz", ".bgz": "bgzip", ".zip": "zip", ".kff": "KFF", ".jf": "Jellyfish's database", ".kmc_pre": "KMC's database",
+          ".kmc_suf": "KMC's database", ".bam": "BAM", ".sam": "SAM", ".cram": "CRAM", ".fastq": "FASTQ", ".fq": "FASTQ", ".h5": "HDF5",
+          ".json": "JSON", ".png": "a picture", ".pdf": "a picture", ".svg": "a picture", ".xlsx": "a table of Excel"}
+FASTA = (".fa", ".fasta", ".fna")
+BLOCK = 1 << 20
 
 
-def is_packed(name):
-    """Whether the name asks for gzip. Those of other compressions are refused, before they hold plain text."""
-    for end, kind in OTHERS.items():
-        if name.endswith(end):
-            raise Misuse("%s: %s is not written; name a file .gz, or one without such an end" % (shown(name), kind))
-    return name.endswith(".gz")
+def packed_by(name):
+    """What packs an answer of this name, or none."""
+    return next((kind for end, kind in packing.PACKED.items() if name.lower().endswith(end)), None)
+
+
+def check_end(name, form="text"):
+    """Refuses a name whose end promises another form than `form`: 'text', 'FASTA' or 'PNG'."""
+    plain = name.lower()
+    for end in packing.PACKED:
+        plain = plain[:-len(end)] if plain.endswith(end) else plain
+    end = os.path.splitext(plain)[1]
+    if form == "PNG":
+        if end != ".png":
+            raise Misuse("%s: the picture is a PNG: name a file .png" % shown(name))
+        return
+    other = OTHERS.get(end) or ("FASTA" if end in FASTA and form != "FASTA" else None)
+    if other:
+        raise Misuse("%s: %s is not written here, but %s, packed where the name ends in .gz or .zst: name it otherwise" % (
+            shown(name), other, "FASTA" if form == "FASTA" else "lines of text"))
 
 
 def is_replaced(name):
@@ -32,31 +55,61 @@ def is_replaced(name):
     return stat.S_ISREG(kind)
 
 
-class Output:
-    """The answer's file. `descriptor` is what a program writes to; `finish` gives the file its name. Left before, it leaves nothing."""
+class Counter(threading.Thread):
+    """Passes the answer on to its packer, and counts the lines."""
 
-    def __init__(self, name, children, is_last=True):
-        self.name, self.children, self.is_last = name, children, is_last
+    def __init__(self, source, sink):
+        super().__init__(daemon=True)
+        self.source, self.sink, self.lines = source, sink, 0
+
+    def run(self):
+        with contextlib.suppress(OSError):  # a packer that reads no more: its status tells
+            for block in iter(lambda: os.read(self.source, BLOCK), b""):
+                self.lines += block.count(b"\n")
+                write_all(self.sink, block)
+        os.close(self.sink)
+        os.close(self.source)
+
+
+class Output:
+    """The answer's file. `descriptor` is what a program writes to; `finish` gives the file its name. Left before, it leaves nothing.
+    `is_made` tells whether it is a file of its own, and no device, pipe or standard output."""
+
+    def __init__(self, name, children, is_last=True, threads=1, form="text"):
+        self.name, self.children, self.is_last, self.threads, self.form = name, children, is_last, threads, form
         self.shown = "standard output" if name is None else shown(name)
-        self.work = self.packer = None
+        self.work = self.packer = self.packing = self.counter = None
+        self.is_made, self.start = False, 0
         self.descriptor = self.file = 1
 
     def __enter__(self):
         if self.name is None:
+            self.start = place_of(1)
             return self
-        is_gzip = is_packed(self.name)
+        self.packing = packed_by(self.name)
+        command = packing.packer(self.packing, self.shown, self.threads) if self.packing else None
         try:
             if is_replaced(self.name):
+                check_end(self.name, self.form)
                 self._make()
+                self.is_made = True
             else:
                 self.descriptor = self.file = os.open(self.name, os.O_WRONLY | os.O_CLOEXEC)
         except OSError as fault:
             raise Fault("%s: %s" % (self.shown, reason(fault))) from None
-        if is_gzip:
-            source, self.descriptor = os.pipe()
-            self.packer = self.children.start(packing.packer(), stdin=source, stdout=self.file)
-            os.close(source)
+        if command:
+            self._pack(command)
         return self
+
+    def _pack(self, command):
+        """Has the command pack what is written, by way of the counter of its lines."""
+        source, sink = os.pipe()
+        self.packer = self.children.start(command, stdin=source, stdout=self.file)
+        os.close(source)
+        source, self.descriptor = os.pipe()
+        self.counter = Counter(source, sink)
+        with held_signals():  # the thread holds them back for good: they are the main thread's
+            self.counter.start()
 
     def __exit__(self, *fault):
         for descriptor in {self.descriptor, self.file} - {1, None}:
@@ -73,9 +126,8 @@ class Output:
         mask = os.umask(0)
         os.umask(mask)
         mode = stat.S_IMODE(os.stat(final).st_mode) if os.path.exists(final) else 0o666 & ~mask
-        import tempfile  # read only where it is wanted
         with held_signals():
-            self.file, self.work = tempfile.mkstemp(prefix=".futoncrane-", dir=os.path.dirname(final))
+            self.file, self.work = leftovers.new_file(os.path.dirname(final))
             TEMPORARY.add(self.work)
         self.descriptor = self.file
         os.fchmod(self.file, mode)
@@ -90,10 +142,11 @@ class Output:
         """Waits until all is on the disk, and gives the file its name."""
         self.let_go()
         if self.packer:
+            self.counter.join()
             status = self.packer.wait()
             if status:
-                raise Fault("%s: it cannot be packed by gzip (%s)%s" % (
-                    self.shown, signal_of(status) or told(self.packer) or "status %d" % status, self.why()))
+                raise Fault("%s: it cannot be packed by %s (%s)%s" % (
+                    self.shown, self.packing, signal_of(status) or told(self.packer) or "status %d" % status, self.why()))
         if self.work is None:
             return
         try:
@@ -111,6 +164,31 @@ class Output:
         except OSError as fault:
             raise Fault("%s: %s" % (self.shown, reason(fault))) from None
 
+    def lines(self):
+        """How many lines the answer has, where it is packed, or a plain file that the memory still holds; else none."""
+        if self.counter:
+            return self.counter.lines
+        if self.name and not self.is_made:
+            return None
+        try:
+            with open(self.name or "/proc/self/fd/1", "rb", buffering=0) as file:
+                kind = os.fstat(file.fileno())
+                if not stat.S_ISREG(kind.st_mode) or kind.st_size > of_machine() // 2:
+                    return None
+                file.seek(self.start)
+                return sum(block.count(b"\n") for block in iter(lambda: file.read(BLOCK), b""))
+        except OSError:
+            return None
+
+    def is_closed(self):
+        """Whether nobody reads any more what is written."""
+        try:
+            asked = select.poll()
+            asked.register(self.file, select.POLLOUT)
+            return any(event & (select.POLLERR | select.POLLHUP) for _, event in asked.poll(0))
+        except OSError:
+            return False
+
     def why(self):
         """': no space left on the disk' where that is so, else nothing."""
         try:
@@ -120,10 +198,21 @@ class Output:
         return ": no space left on its disk" if room.f_blocks and room.f_bavail * room.f_frsize < 1 << 16 else ""
 
 
+def place_of(descriptor):
+    """Where the next byte goes, of a regular file; else 0."""
+    try:
+        kind = os.fstat(descriptor)
+        if not stat.S_ISREG(kind.st_mode):
+            return 0
+        return kind.st_size if fcntl.fcntl(descriptor, fcntl.F_GETFL) & os.O_APPEND else os.lseek(descriptor, 0, os.SEEK_CUR)
+    except OSError:
+        return 0
+
+
 @contextlib.contextmanager
-def text_output(name, children):
+def text_output(name, children, threads=1, form="text"):
     """A stream that this command itself writes the answer to."""
-    with Output(name, children) as output:
+    with Output(name, children, threads=threads, form=form) as output:
         stream = open(output.descriptor, "wb", buffering=1 << 18, closefd=False)
         try:
             yield stream

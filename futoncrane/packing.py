@@ -12,6 +12,14 @@ KINDS = {
     "xz": (b"\xfd7zXZ\x00", (".xz",), ("xz",), "xz-utils"),
     "zstd": (b"\x28\xb5\x2f\xfd", (".zst",), ("zstd",), "zstd"),
 }
+# alignments, which samtools makes FASTQ of
+ALIGNED = ("BAM", "CRAM", "SAM")
+# what of samtools' lines tells of no fault
+OF_SAMTOOLS = "[M::"
+# a file is told to end early by these words of programs, also where their status is 0
+SUSPECT = ("trailing", "EOF marker is absent", "truncated")
+# how an answer is packed: by the end of its name
+PACKED = {".gz": "gzip", ".zst": "zstd"}
 LONGEST_MAGIC = max(len(magic) for magic, _, _, _ in KINDS.values())
 # what Python unpacks where no program is installed
 BY_PYTHON = ("gzip", "bzip2", "xz")
@@ -41,6 +49,11 @@ def is_cut_before_text(name, first):
 
 def unpacker(kind, name):
     """The command that unpacks standard input to standard output."""
+    if kind in ALIGNED:
+        found = in_path("samtools")
+        if found is None:
+            raise Fault("%s: it is a %s file, and samtools, which reads it, is not installed (Debian's package samtools)" % (name, kind))
+        return [found, "fastq", "-F", "0x900", "-"]  # without what is aligned a second time
     for program in KINDS[kind][2]:
         found = in_path(program)
         if found:
@@ -52,17 +65,28 @@ def unpacker(kind, name):
 
 
 def cleaned(said):
-    """What an unpacker said, without what pigz says in any case."""
-    return said.replace("<stdin> to <stdout>", "").strip()
+    """What an unpacker said, in short: without what pigz and samtools say in any case, and up to its first fault."""
+    lines = [line.strip().rstrip(";:") for line in said.replace("<stdin> to <stdout>", "").splitlines()]
+    return next((line for line in lines if line and not line.startswith(OF_SAMTOOLS)), "")
 
 
-def packer():
-    """The command that packs standard input by gzip."""
-    for program in ("pigz", "gzip"):
-        found = in_path(program)
-        if found:
-            return [found, "-c"]
-    return [sys.executable, os.path.join(HERE, "unpack.py"), "pack"]
+def is_suspect(said):
+    """Whether an unpacker told that the file is not whole, be its status 0."""
+    return any(it in said for it in SUSPECT)
+
+
+def packer(kind, name, threads):
+    """The command that packs standard input, at the level that takes the least time."""
+    if kind == "zstd":
+        found = in_path("zstd")
+        if found is None:
+            raise Fault("%s: zstd is not installed (Debian's package zstd)" % name)
+        return [found, "-q", "-1", "-c", "-T%d" % threads]
+    found = in_path("pigz")
+    if found:
+        return [found, "-1", "-c", "-p", "%d" % threads]
+    found = in_path("gzip")
+    return [found, "-1", "-c"] if found else [sys.executable, os.path.join(HERE, "unpack.py"), "pack"]
 
 
 def maker(kind):

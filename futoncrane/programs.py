@@ -3,7 +3,7 @@ import re
 import subprocess
 
 from futoncrane import memory, packing, places
-from futoncrane.children import signal_of, told
+from futoncrane.children import ended, signal_of, told
 from futoncrane.faults import Fault, Quiet
 from futoncrane.feeding import BLOCK, Feed, GaveUp
 from futoncrane.progress import Watch, one_run
@@ -29,11 +29,11 @@ def fed(command, found, setting, children, output, reader=None, text=None, step=
         feed.close()
         if reader:
             reader(program.stdout)
-        status = program.wait()
-        if text:
-            watch.last(status)
+        status, written = ended(program)
     if status:
         judge(program, watch, found, setting, output or disk)
+    setting.report.step(name_of(program))
+    setting.report.written = written
     children.forget(program)
 
 
@@ -49,11 +49,25 @@ def judge(program, watch, found, setting, output):
         raise Fault("%s: it cannot be written%s" % (output.shown if output else "the pipe", output.why() if output else ""))
     if ": cannot be made" in text and output:
         raise Fault("%s: a file cannot be made there" % output.shown)
-    if not text and output and output.packer:
-        output.finish()  # tells why the packer read no more
-    if not text:
-        raise Quiet
+    judge_silence(name, text, status, output)
     raise Fault(text)
+
+
+def judge_silence(name, text, status, output):
+    """Tells of a program that ended without a word. It may do so where nobody reads what it writes."""
+    if text:
+        return
+    if output and output.packer:
+        output.finish()  # tells why the packer read no more
+    if status == 1 and (output is None or output.is_closed()):
+        raise Quiet
+    raise Fault("%s ended with status %d and told nothing: 'futoncrane doctor' tries it" % (name, status))
+
+
+def name_of(program):
+    """The name that a program has here, whatever it is called where it is installed."""
+    own = program.args[0].rpartition("/")[2]
+    return next((it for it, installed in places.INSTALLED.items() if own in (it, installed)), own)
 
 
 def name_and_text(program, said):
@@ -61,8 +75,7 @@ def name_and_text(program, said):
     name, colon, text = said.partition(": ")
     if colon and name in places.INSTALLED:
         return name, text
-    own = program.args[0].rpartition("/")[2]
-    return next((it for it, installed in places.INSTALLED.items() if own in (it, installed)), own), said
+    return name_of(program), said
 
 
 def judge_memory(name, text, status, is_over, setting):

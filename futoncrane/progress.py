@@ -1,13 +1,13 @@
 """What a terminal is shown while a run works, and the watch over its memory."""
 import contextlib
 import os
-import resource
 import sys
 import threading
 import time
 
 from futoncrane.children import held_signals
 from futoncrane.memory import human
+from futoncrane.report import clock
 
 EVERY = 0.2
 
@@ -35,12 +35,6 @@ def read_by(program):
 def resident(program):
     """The bytes of memory that a program holds now."""
     return 1024 * number_of("/proc/%d/status" % program.pid, "VmRSS:")
-
-
-def clock(seconds):
-    seconds = int(seconds)
-    hours, seconds = divmod(seconds, 3600)
-    return "%d:%02d:%02d" % (hours, *divmod(seconds, 60)) if hours else "%d:%02d" % divmod(seconds, 60)
 
 
 def moved(doing, place, total, seconds):
@@ -132,12 +126,3 @@ class Watch:
         """A line that stays."""
         if self.is_shown:
             self._line("futoncrane: %s\n" % text)
-
-    def last(self, status, begun=None):
-        """How much was read, how long it took and the most memory of one program, where all went well. `begun` is when the first of
-        several steps began; then it is not told what the last one read."""
-        if self.is_shown and status == 0:
-            read = self.feed.total() if begun is None else None
-            peak = 1024 * resource.getrusage(resource.RUSAGE_CHILDREN).ru_maxrss
-            self.say("%sdone in %s, at most %s of memory" % (
-                "%s read, " % human(read) if read is not None else "", clock(time.monotonic() - (begun or self.begun)), human(peak)))

@@ -1,8 +1,8 @@
 """A run over inputs, whole or in slices."""
 import sys
 
-from futoncrane import inputs, memory, places, shared
-from futoncrane.faults import Misuse, shown
+from futoncrane import doubts, inputs, memory, notes, places, report, shared
+from futoncrane.faults import Fault, Misuse, shown
 from futoncrane.programs import fed
 
 
@@ -25,12 +25,59 @@ def run(found, setting, children, output, reader=None):
     format_name = inputs.format_of_all(found, setting.format)
     symbols, listed = shared.size_of(setting, found, format_name)
     plan = shared.plan(setting, symbols, listed)
+    if not any(it.is_stream for it in found):
+        setting.report.bytes_read = sum(it.bytes for it in found)
+    work = None
     if plan.slices != 1 or setting.slices:
         from futoncrane import slices  # read only where it is wanted
         work = slices.Work(setting, found, format_name, plan.slices, children)
-        work.begin(plan.wanted, memory.disk(symbols))
+        work.begin(plan.wanted, memory.disk(symbols) + memory.disk_of_dumps(listed, setting.k))
         work.count(output, reader)
-        return work
-    command = [places.find("kmc"), *shared.words(setting, format_name)]
-    fed(command, found, setting, children, output, reader, "one run of kmc, estimated to take at most %s of memory" % memory.human(plan.wanted))
-    return None
+    else:
+        command = [places.find("kmc"), *shared.words(setting, format_name)]
+        fed(command, found, setting, children, output, reader, "one run of kmc, estimated to take at most %s of memory" % memory.human(plan.wanted))
+    setting.report.doubt = doubts.of(found, setting)
+    return work
+
+
+def read(names, out, setting, children, reader):
+    """Has `reader` read the dump of these files: of reads, which are counted, or of dumps, which are summed."""
+    found = open_inputs(names, out)
+    if any(it.format == "DUMP" for it in found):
+        read_dumps(found, setting, children, reader)
+    else:
+        run(found, setting, children, None, reader)
+
+
+def read_dumps(found, setting, children, reader):
+    """Has `reader` read the sum of dumps."""
+    from futoncrane import folders, merging  # read only where they are wanted
+    other = next((it for it in found if it.format != "DUMP"), None)
+    if other:
+        dump = next(it for it in found if it.format == "DUMP")
+        raise Fault("%s is a dump of k-mers, and %s is none: count them apart" % (dump.shown, other.shown))
+    stream = next((it for it in found if it.is_stream), None)
+    if stream:
+        raise Fault("%s: it is a dump of k-mers, which is taken from a file and not from a pipe" % stream.shown)
+    names = [it.name for it in found]
+    merging.check_names(names)
+    noted = notes.of_dumps(names, "summed", setting.quiet)
+    notes.check_sum(noted, len(names), setting.least, setting.greatest)
+    setting.report.is_partial = len(noted) < len(names) or not all(notes.is_whole(note) for _, note in noted)
+    for name, note in noted:
+        if not notes.is_whole(note):
+            report.say("%s was counted with %s: the answer lacks what these leave out" % (shown(name), notes.limits_of(note)), setting.quiet)
+    setting.k, setting.report.bytes_read = found[0].k, sum(it.bytes for it in found)
+    limits = ["-ci%d" % setting.least, "-cx%d" % setting.greatest, "-cs%d" % setting.cap]
+    merging.merge(names, limits, children, setting, lambda: folders.made(folders.place_for(setting.directory, setting.out)), None, reader)
+
+
+def tell(command, setting, asked, names):
+    """Tells what was done, once the answer is there."""
+    if asked.json:
+        report.write_json(asked.json, setting.report.record(
+            futoncrane=places.version(), command=command, k=setting.k, strands=notes.APART if setting.forward else notes.JOINED, min=setting.least,
+            max=notes.none_of(setting.greatest), cap=notes.none_of(setting.cap), inputs=names or ["-"]))
+    if setting.report.doubt:
+        report.say(setting.report.doubt, setting.quiet)
+    report.say(setting.report.line(), setting.quiet)

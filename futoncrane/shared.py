@@ -2,9 +2,10 @@
 import os
 import types
 
-from futoncrane import memory
-from futoncrane.faults import Misuse
-from futoncrane.options import MOST, Option, number, size
+from futoncrane import memory, report
+from futoncrane.faults import Misuse, shown
+from futoncrane.inputs import is_same_file
+from futoncrane.options import MOST, Option, at_most, file_of_names, number, size
 
 MOST_THREADS = 16
 MOST_BINS = 2000
@@ -18,7 +19,7 @@ def processors():
 
 
 def k_option(default):
-    return Option(["-k"], "k", "LENGTH", number(1, 64), default, "symbols of a k-mer, 1 to 64 (%d)" % default, ["--k"])
+    return Option(["-k"], "k", "LENGTH", number(1, 64), default, "symbols of a k-mer, 1 to 64 (%d)" % default, ["--k"], glues=True)
 
 
 LIMITS = [
@@ -28,11 +29,14 @@ LIMITS = [
 CAP = Option(["--cap"], "cap", "COUNT", number(1, MOST, MOST), 255, "the greatest count that is shown, or none (255)", ["-cs", "--cs"])
 STRANDS = Option(["--forward"], "forward", text="counts words as they are read, each strand apart", default=False, hidden=["-b"])
 BOTH = Option(["--both-strands"], "forward", text="counts a k-mer together with its reverse complement (so it is)", default=False, constant=False)
-OUT = Option(["-o", "--output"], "out", "FILE", text="writes to this file, by gzip where it ends in .gz; it has its name only once it is "
-             "whole (standard output)")
-QUIET = Option(["--quiet", "-q"], "quiet", default=False, text="shows no progress; it is shown only where standard error is a terminal")
-THREADS = Option(["--threads", "-t"], "threads", "N", number(1, MOST_THREADS), text="threads, 1 to 16 (as many as there are processors)")
-MEMORY = Option(["--memory", "-m"], "memory", "SIZE", size(64 << 20), text="memory that the run may take, as 8G or 500M: what is estimated to "
+OUT = Option(["-o", "--output"], "out", "FILE", text="writes to this file, packed where it ends in .gz or .zst; it has its name only once it "
+             "is whole (standard output)")
+QUIET = Option(["--quiet", "-q"], "quiet", default=False, text="tells nothing but faults: no progress, no warning and not what was done")
+JSON = Option(["--json"], "json", "FILE", text="writes what was done into this file: k, limits, inputs, k-mers, time and memory")
+FILES = Option(["--files"], "lists", "LIST", file_of_names, text="a file with the names of files of reads, one a line; @LIST is the same")
+THREADS = Option(["--threads", "-t"], "threads", "N", at_most(MOST_THREADS), glues=True,
+                 text="threads, 1 to 16 (as many as there are processors)")
+MEMORY = Option(["--memory", "-m"], "memory", "SIZE", size(64 << 20), glues=True, text="memory that the run may take, as 8G or 500M: what is estimated to "
                 "want more is done in slices, and a program that takes more is ended (none: the machine's memory)")
 SLICES = Option(["--slices"], "slices", "N", number(1, memory.MOST_SLICES), text="so many slices, one after the other, 1 to 1000 (as many as the "
                 "memory wants)")
@@ -46,18 +50,35 @@ OLD = [
     Option([], "signature", "N", number(5, 11), hidden=["-p", "--p"]),
     Option([], "bins", "N", number(1, MOST_BINS), hidden=["-n", "--n"]),
 ]
-ABOUT_RUNS = [BOTH, STRANDS, THREADS, MEMORY, SLICES, DIRECTORY, QUIET, *OLD]
+ABOUT_RUNS = [BOTH, STRANDS, THREADS, MEMORY, SLICES, DIRECTORY, FILES, JSON, QUIET, *OLD]
+
+
+def check_names(given):
+    """That what is written beside the answer, --json and --png, is neither the answer, nor its note, nor a file that is read."""
+    out = given.get("out")
+    for key in ("json", "png"):
+        path = given.get(key)
+        if path is None:
+            continue
+        if out is not None and os.path.abspath(path) in (os.path.abspath(out), os.path.abspath(out) + ".json"):
+            raise Misuse("%s: -o writes there too: name another file for --%s" % (shown(path), key))
+        if any(is_same_file(name, path) for name in given["files"] if name != "-"):
+            raise Misuse("%s: it is read, and cannot be written at the same time" % shown(path))
 
 
 def settings(asked, least=1, greatest=MOST, cap=MOST):
     """What a run is told, from the words of a command; the limits are those given here where the command has none."""
     given = vars(asked)
-    threads = asked.threads or min(MOST_THREADS, processors())
+    check_names(given)
+    threads = min(MOST_THREADS, given.get("threads") or processors())
+    if (given.get("threads") or 0) > MOST_THREADS:
+        report.say("--threads %d is taken as %d, the most there are" % (given["threads"], MOST_THREADS), asked.quiet)
     return types.SimpleNamespace(
-        k=given.get("k"), forward=given.get("forward", False), quiet=asked.quiet, memory=asked.memory, format=given.get("format"), threads=threads,
+        k=given.get("k"), forward=given.get("forward", False), quiet=asked.quiet, memory=given.get("memory"), format=given.get("format"), threads=threads,
         splitters=given.get("splitters") or threads, counters=given.get("counters") or threads, signature=given.get("signature"),
         bins=given.get("bins"), slices=given.get("slices"), directory=given.get("directory"), keep=given.get("keep", False), out=given.get("out"),
-        least=given.get("least", least), greatest=given.get("greatest", greatest), cap=given.get("cap", cap))
+        least=given.get("least", least), greatest=given.get("greatest", greatest), cap=given.get("cap", cap),
+        report=report.Report(not asked.quiet or given.get("json") is not None))
 
 
 def words(told, format_name):

@@ -8,6 +8,9 @@ import collections
 
 from futoncrane.faults import Fault
 
+# a second peak: how near half or twice the first it is, how much it is above its sides, and its share of the first
+NEAR, STANDS_OUT, LEAST_SHARE = 0.2, 1.1, 0.02
+
 Size = collections.namedtuple("Size", "valley peak words errors size")
 
 
@@ -29,6 +32,36 @@ def size_of(numbers, peak=None):
     words_kept = sum(count * number for count, number in kept.items())
     words = sum(count * number for count, number in numbers.items())
     return Size(valley, peak, words, words - words_kept, (words_kept + peak // 2) // peak)
+
+
+def smoothed(numbers, count):
+    return sum(numbers.get(it, 0) for it in range(count - 1, count + 2))
+
+
+def others(numbers, found):
+    """A line for each second peak that stands near half or twice the count of the one taken: one of the two is that of heterozygous k-mers,
+    or of repeated ones, and which one cannot be told from the numbers."""
+    told = []
+    for factor, word in ((0.5, "half"), (2, "twice")):
+        second = second_peak(numbers, found, factor)
+        if second:
+            told.append("there is a second peak at %d, about %s %d: if it is the genome's, as where two copies of each chromosome are unlike, the "
+                        "size is %d; --peak %d takes it" % (second, word, found.peak, size_of(numbers, second).size, second))
+    return told
+
+
+def second_peak(numbers, found, factor):
+    """The count of the greatest number within an eighth of so many times the peak, where it stands out from what is between; none else."""
+    middle = found.peak * factor
+    near = [it for it in range(round(middle * (1 - NEAR)), round(middle * (1 + NEAR)) + 1) if it > found.valley]
+    if not near:
+        return None
+    second = max(near, key=lambda count: (smoothed(numbers, count), -count))
+    between = min((smoothed(numbers, it) for it in range(min(second, found.peak) + 1, max(second, found.peak))), default=0)
+    edge = smoothed(numbers, second + (1 if second > found.peak else -1) * max(2, round(found.peak * NEAR)))
+    height = smoothed(numbers, second)
+    is_peak = height >= STANDS_OUT * max(between, edge, 1) and height >= LEAST_SHARE * smoothed(numbers, found.peak)
+    return second if is_peak else None
 
 
 def read(stream, name):

@@ -1,30 +1,26 @@
 """Counting in slices: the reads are cut once into files of records, a file for each slice; slice after slice is listed within the limits; and
 the dumps, which share no word, are merged. kmc_cut, kmc_list and kmc_merge do it."""
-import contextlib
 import os
 import subprocess
-import sys
-import time
 
 from futoncrane import folders, memory, merging, places, progress, shared
-from futoncrane.children import TEMPORARY, held_signals, told
-from futoncrane.faults import Fault, Misuse, Quiet, shown
+from futoncrane.children import TEMPORARY, ended, held_signals, told
+from futoncrane.faults import Fault, Misuse, shown
 from futoncrane.memory import human
-from futoncrane.programs import fed, judge_memory, name_and_text
-
-
-def say(text, quiet):
-    """A line on standard error, also where that is no terminal."""
-    if not quiet and sys.stderr is not None:
-        with contextlib.suppress(OSError):
-            os.write(2, ("futoncrane: %s\n" % text).encode(errors="backslashreplace"))
+from futoncrane.programs import fed, judge_memory, judge_silence, name_and_text, name_of
+from futoncrane.report import say
 
 
 class Disk:
-    """The files of the meantime, as a fault tells of them in the place of an output."""
+    """The files of the meantime, as a fault tells of them in the place of an output. Their own folder is gone by then: what is told is
+    the one that it stood in."""
+    packer = None
 
     def __init__(self, path):
-        self.path, self.shown, self.packer = path, shown(os.path.dirname(path)), None
+        self.path, self.shown = path, shown(os.path.dirname(os.path.dirname(path)))
+
+    def is_closed(self):
+        return False
 
     def why(self):
         room = os.statvfs(os.path.dirname(self.path))
@@ -51,11 +47,10 @@ def listed(names, setting, children, step, output=None, file=None):
     if output:
         output.let_go()
     with progress.Watch(parts, program, not setting.quiet, setting.memory, step) as watch:
-        status = program.wait()
-        if output:
-            watch.last(status)
+        status, setting.report.written = ended(program)
     parts.judge()
     if status == 0:
+        setting.report.step(name_of(program))
         children.forget(program)
         return
     name, text = name_and_text(program, told(program))
@@ -63,11 +58,15 @@ def listed(names, setting, children, step, output=None, file=None):
     if text == "cannot write":
         written = output or Disk(file.name)
         raise Fault("%s: it cannot be written%s" % (written.shown, written.why()))
-    if not text and output and output.packer:
-        output.finish()
-    if not text:
-        raise Quiet
-    raise Fault(parts.named(text))
+    judge_silence(name, text, status, output or Disk(file.name))
+    raise Fault(advised(parts.named(text)))
+
+
+def advised(text):
+    """The fault of a file of slices, with what to do about it."""
+    if text.endswith(("cannot be opened", "stands twice")):
+        return text
+    return text + ("; the file is damaged: make it again by futoncrane cut" if ": behind frame " in text or ": bin " in text else "")
 
 
 class Work:
@@ -75,7 +74,7 @@ class Work:
 
     def __init__(self, setting, found, format_name, slices, children):
         self.setting, self.found, self.format, self.slices, self.children = setting, found, format_name, slices, children
-        self.begun, self.kept = time.monotonic(), None
+        self.kept = None
         self.directory = folders.place_for(setting.directory, setting.out)
         if setting.keep and setting.directory is None:
             raise Misuse("--keep wants a --directory")
@@ -102,7 +101,7 @@ class Work:
         if not self._is_cut():
             self._cut()
         dumps = [self._list(number) for number in range(self.slices)]
-        merging.merge(dumps, merging.WHOLE, self.children, self.setting.quiet, lambda: self.path, output, reader, self.begun)
+        merging.merge(dumps, merging.WHOLE, self.children, self.setting, lambda: self.path, output, reader)
         if not self.kept:
             folders.dropped(self.path)
 

@@ -16,7 +16,7 @@ def main(kind):
     source, sink = sys.stdin.buffer, sys.stdout.buffer
     try:
         if kind == "pack":
-            with gzip.GzipFile(fileobj=sink, mode="wb", compresslevel=6, mtime=0) as packed:
+            with gzip.GzipFile(fileobj=sink, mode="wb", compresslevel=1, mtime=0) as packed:
                 shutil.copyfileobj(source, packed, BLOCK)
         else:
             opened = {"gzip": gzip.open, "bzip2": bz2.open, "xz": lzma.open}[kind](source)

@@ -1,10 +1,12 @@
 """What the tests of users share: a folder of its own for each, the command, and plain programs to compare with."""
 import os
+import re
 import shutil
 import subprocess
 import sys
 import tempfile
 import time
+import unittest
 
 TOP = os.path.dirname(os.path.dirname(os.path.abspath(__file__)))
 BIN = os.path.abspath(os.environ.get("FUTONCRANE_BIN") or TOP)
@@ -13,11 +15,14 @@ COMMAND = [sys.executable, "-S", os.path.join(TOP, "futoncrane", "futoncrane")]
 READS = os.path.join(TOP, "examples", "reads.fastq")
 DUMP = os.path.join(TOP, "examples", "reads.dump")
 MOST = 1 << 63
+# the last line of a run, which tells what it did; and one that tells that a dump has no note beside it
+SUMMARY = r"futoncrane: (?:\S+ \S+ read, )?done in \S+, at most \S+ \S+ of memory(?:: .*)?\n\Z"
+NO_NOTE = r"\Afutoncrane: .*: no note \(DUMP.json\) tells what was counted there, .*\n"
 # seconds that nothing takes, however slow the machine is
 LONG = 300
 
 
-class Skipped(Exception):
+class Skipped(unittest.SkipTest):
     """Why a test cannot be made here."""
 
 
@@ -80,10 +85,13 @@ class Room:
         return name
 
     def stand_in(self, text, name="kmc"):
-        """A program of our own in the place of kmc."""
+        """A program of our own in the place of kmc. A script before it answers who it is, as the program itself does."""
         os.makedirs(self.path("bin"), exist_ok=True)
-        self.write("bin/" + name, text)
-        os.chmod(self.path("bin/" + name), 0o755)
+        own = self.path("bin/%s.script" % name)
+        self.write(own, text)
+        self.write("bin/" + name, '#!/bin/sh\nif [ "$*" = --who-is-it ]; then echo "usage: %s [..]" >&2; exit 2; fi\nexec \'%s\' "$@"\n' % (name, own))
+        for it in (own, self.path("bin/" + name)):
+            os.chmod(it, 0o755)
         self.environment["FUTONCRANE_BIN"] = self.path("bin")
 
     def run(self, *words, text=None, source=None, **others):
@@ -93,10 +101,11 @@ class Room:
                              timeout=LONG, **given, **others)
         return Told(ran.returncode, ran.stdout, ran.stderr.decode(errors="replace"))
 
-    def counts(self, wanted, *words, **others):
-        """That a run writes this dump and tells nothing."""
+    def counts(self, wanted, *words, told="", **others):
+        """That a run writes this dump and tells nothing but these lines and what it did, in its last line. Other dumps than those of
+        futoncrane have no note, which may be told too."""
         ran = self.run(*words, **others)
-        assert (ran.status, ran.err) == (0, ""), ran
+        assert ran.status == 0 and re.sub(SUMMARY, "", re.sub(NO_NOTE, "", ran.err)) == told, ran
         assert ran.out == wanted, "another dump: %r" % ran
 
     def refuses(self, status, *parts, words, **others):
@@ -104,7 +113,8 @@ class Room:
         before = self.files()
         ran = self.run(*words, **others)
         assert ran.status == status and ran.out == b"", ran
-        assert ran.err.startswith("futoncrane: ") and ran.err.count("\n") == 1 and ran.err.endswith("\n"), ran
+        told = re.sub(NO_NOTE, "", ran.err)
+        assert told.startswith("futoncrane: ") and told.count("\n") == 1 and told.endswith("\n"), ran
         for part in parts:
             assert part in ran.err, "not told: %s\n%r" % (part, ran)
         assert self.files() == before, "files are left: %s" % (self.files() - before)

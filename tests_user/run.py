@@ -1,22 +1,22 @@
 #!/usr/bin/env python3
 """The tests of users: futoncrane as people call it, on examples/reads.fastq and on reads of Debian's packages.
 
-usage: make recipes, or tests_user/run.py [WORD ..]      (WORD: tests with this word in their name, or of this file)
+usage: make tests-user, or tests_user/run.py [WORD ..]      (WORD: tests with this word in their name, or of this file)
 
-The programs kmc, kmc_cut, kmc_list and kmc_merge are those at the top, or in the folder FUTONCRANE_BIN. A test whose tools are not installed is skipped, and says
-what is missing. The tests of tests_user/shell.sh are run and counted too. The last line is 'N passed, M failed, K skipped', and the status
-is 1 where a test failed.
+The programs kmc, kmc_cut, kmc_list and kmc_merge are those at the top, or in the folder FUTONCRANE_BIN. A test is a function test_NAME(room) in
+a file test_FILE.py, which unittest runs. One whose tools are not installed is skipped, and says what is missing. The last line is
+'N passed, M failed, K skipped', and the status is 1 where a test failed.
 """
+import collections
 import importlib
-import os
 import multiprocessing
+import os
 import shutil
 import signal
-import subprocess
 import sys
 import tempfile
 import time
-import traceback
+import unittest
 from concurrent.futures import ProcessPoolExecutor
 
 sys.dont_write_bytecode = True
@@ -25,10 +25,23 @@ sys.path[:0] = [HERE, os.path.dirname(HERE)]
 
 import room  # noqa: E402
 
-FILES = ("programs", "words", "reading", "packed", "writing", "commands", "limits", "slices", "slice_files", "terminal", "signals", "real_reads")
 AT_ONCE = 2
 # what a test may send to the command; whoever starts the tests may have had them ignored, as nohup does
 SIGNALS = (signal.SIGINT, signal.SIGTERM, signal.SIGHUP, signal.SIGQUIT)
+
+
+class UserTest(unittest.TestCase):
+    """A test in a folder of its own, where it must leave no temporary file."""
+
+    def __init__(self, function, base):
+        super().__init__()
+        self.function, self.base = function, base
+
+    def runTest(self):
+        here = room.Room(self.base)
+        self.addCleanup(here.gone)
+        self.function(here)
+        self.assertEqual(os.listdir(here.temporary), [], "temporary files are left")
 
 
 def heed_signals():
@@ -40,62 +53,35 @@ def heed_signals():
 
 
 def tests(wanted):
-    """Pairs of a file's name and the name of a test in it."""
-    for name in FILES:
-        for key, it in vars(importlib.import_module("test_" + name)).items():
-            is_own = key.startswith("test_") and callable(it) and it.__module__ == "test_" + name
-            if is_own and (not wanted or any(word in key or word == name for word in wanted)):
-                yield name, key[len("test_"):]
+    """Pairs of a module's name and the name of a test in it."""
+    for module in sorted(it[:-len(".py")] for it in os.listdir(HERE) if it.startswith("test_") and it.endswith(".py")):
+        for key, it in vars(importlib.import_module(module)).items():
+            is_own = key.startswith("test_") and callable(it) and it.__module__ == module
+            if is_own and (not wanted or any(word in key or "test_" + word == module for word in wanted)):
+                yield module, key
 
 
-def attempt(file, name, base):
-    """Runs one test: 'passed', 'FAILED' or 'skipped', and what there is to say."""
-    here, begun = room.Room(base), time.monotonic()
-    try:
-        getattr(importlib.import_module("test_" + file), "test_" + name)(here)
-        result, text = "passed", ""
-        left = os.listdir(here.temporary)
-        if left:
-            result, text = "FAILED", "temporary files are left: %s" % left
-    except room.Skipped as fault:
-        result, text = "skipped", str(fault)
-    except Exception:
-        result, text = "FAILED", traceback.format_exc()
-    finally:
-        here.gone()
-    return result, name, text, time.monotonic() - begun
-
-
-def shell_tests(base, numbers):
-    """Runs the tests in bash and adds their numbers."""
-    environment = dict(os.environ, FUTONCRANE_BIN=room.BIN, TMPDIR=base, PYTHONDONTWRITEBYTECODE="1")
-    with subprocess.Popen([os.path.join(HERE, "shell.sh")], stdout=subprocess.PIPE, text=True, env=environment) as child:
-        last = ""
-        for line in child.stdout:
-            last = line
-            if not line[:1].isdigit():
-                print(line, end="", flush=True)
-    words = last.split()
-    if len(words) != 6:
-        numbers["FAILED"] += 1
-        return
-    for key, word in (("passed", 0), ("FAILED", 2), ("skipped", 4)):
-        numbers[key] += int(words[word])
+def attempt(module, name, base):
+    """Runs one test: 'passed', 'FAILED' or 'skipped', its name, what there is to say, and the seconds that it took."""
+    begun, result = time.monotonic(), unittest.TestResult()
+    UserTest(getattr(importlib.import_module(module), name), base).run(result)
+    faults = [text for _, text in result.errors + result.failures]
+    skips = [why for _, why in result.skipped]
+    how = "FAILED" if faults else "skipped" if skips else "passed"
+    return how, name[len("test_"):], "\n".join(faults or skips), time.monotonic() - begun
 
 
 def main(wanted):
     heed_signals()
-    numbers, found = {"passed": 0, "FAILED": 0, "skipped": 0}, list(tests(wanted))
+    numbers, found = collections.Counter(), list(tests(wanted))
     base = tempfile.mkdtemp(prefix="tests-user-")
     try:
         # processes, and not threads: a child of one test never has the files and pipes of another one, be it for a moment
         with ProcessPoolExecutor(AT_ONCE, multiprocessing.get_context("fork")) as pool:
-            for result, name, text, seconds in pool.map(attempt, [it for it, _ in found], [it for _, it in found], [base] * len(found)):
-                numbers[result] += 1
-                print("%-8s %s%s%s" % (result, name, ": " + text.replace("\n", "\n         ").rstrip() if text else "",
+            for how, name, text, seconds in pool.map(attempt, [it for it, _ in found], [it for _, it in found], [base] * len(found)):
+                numbers[how] += 1
+                print("%-8s %s%s%s" % (how, name, ": " + text.replace("\n", "\n         ").rstrip() if text else "",
                                        " (%.0f s)" % seconds if seconds > 10 else ""), flush=True)
-        if not wanted:
-            shell_tests(base, numbers)
     finally:
         shutil.rmtree(base, ignore_errors=True)
     print("%d passed, %d failed, %d skipped" % (numbers["passed"], numbers["FAILED"], numbers["skipped"]))

@@ -2,8 +2,9 @@
 import collections
 import gzip
 import os
+import re
 
-from room import BIN, MOST, READS, TOP, content, need, plainly, program, wanted_dump
+from room import MOST, NO_NOTE, READS, TOP, content, need, plainly, program, wanted_dump
 
 
 def histogram_of(dump):
@@ -19,14 +20,16 @@ def test_histogram_is_that_of_the_plain_dump(room):
     room.counts(b"", "histogram", "-o", "histogram.gz", READS)
     assert gzip.decompress(content(room.path("histogram.gz"))) == wanted
     room.refuses(1, "no such".capitalize(), words=["histogram", "missing", "-o", "out"])
-    room.counts(b"", "histogram", text=b"")
+    room.counts(b"", "histogram", text=b"", told="futoncrane: standard input: there are no reads, so no k-mer is listed\n")
 
 
 def test_histogram_is_drawn_with_characters(room):
     ran = room.run("histogram", "--text", READS)
     lines = ran.err.splitlines()
     assert ran.status == 0 and lines[0].split() == ["count", "k-mers"], ran
-    assert len(lines) == 1 + 16 and lines[1].split()[:2] == ["1", "2,669"] and set(lines[9].split()[2]) == {"*"}, ran
+    # the longest bar is that of the peak, 9, and the first one is cut
+    bars = [line.split()[2] for line in lines[1:17]]
+    assert len(lines) == 1 + 16 + 1 and lines[1].split()[:2] == ["1", "2,669"] and bars[0] == bars[8] + ">" == "*" * 50 + ">", ran
 
 
 def test_histogram_is_drawn_by_gnuplot(room):
@@ -36,6 +39,25 @@ def test_histogram_is_drawn_by_gnuplot(room):
     ran = room.run("size", "--png", "size.png", READS)
     assert ran.status == 0 and content(room.path("size.png"))[:8] == b"\x89PNG\r\n\x1a\n", ran
     room.refuses(1, "none/a.png", words=["histogram", "--png", "none/a.png", READS])
+
+
+def test_the_picture_marks_what_is_found(room):
+    # a gnuplot that writes down what it is told, and draws nothing
+    os.mkdir(room.path("path"))
+    room.write("path/gnuplot", "#!/bin/sh\ncat > told\n")
+    os.chmod(room.path("path/gnuplot"), 0o755)
+    room.environment["PATH"] = room.path("path") + ":" + room.environment["PATH"]
+    # the valley is 3 and the peak 5, the size 30, as below; the bars of 1 and 2 are cut at 1.25 of the peak's 20,000
+    room.write("peaked \"one\"", b"1\t90000\n2\t50000\n3\t2000\n4\t6000\n5\t20000\n10\t2000\n")
+    room.counts(b"valley\t3\npeak\t5\nk-mers read\t340000\nk-mers taken for errors\t190000\nsize\t30000\n", "size", "--png", "a.png", "--histogram", "peaked \"one\"")
+    told = content(room.path("told")).decode()
+    for part in ('set title "k-mers in peaked \\"one\\""', "set yrange [0:25000.0]", '"0" 0, "5,000" 5000, "10,000" 10000', 'set label "valley 3" at 3,',
+                 'set label "peak 5: size 30,000" at 5,', "bars up to the edge are cut", "\n5 20000\n"):
+        assert part in told, (part, told)
+    ran = room.run("histogram", "--png", "a.png", READS)
+    told = content(room.path("told")).decode()
+    # the example's valley and peak, as test_histogram_is_drawn_with_characters has them
+    assert ran.status == 0 and 'set title "21-mers in reads.fastq"' in told and 'set label "valley 2"' in told and 'set label "peak 9: size ' in told, told
 
 
 def test_gnuplot_that_is_missing_is_told(room):
@@ -175,7 +197,8 @@ def test_merge_names_what_is_wrong(room):
     for place in range(2, len(whole), len(whole) // 10):
         room.write("cut.gz", whole[:place])
         ran = room.run("merge", good if place < 20 else "cut.gz", "cut.gz" if place < 20 else room.write("none", b""), "-o", "out")
-        assert ran.status == 1 and ran.err.startswith("futoncrane: cut.gz: ") and ran.err.count("\n") == 1, ran
+        told = re.sub(NO_NOTE, "", ran.err)
+        assert ran.status == 1 and told.startswith("futoncrane: cut.gz: ") and told.count("\n") == 1, ran
         assert not os.path.exists(room.path("out"))
 
 
@@ -197,6 +220,18 @@ def test_doctor_finds_what_is_wrong(room):
     assert room.run("doctor").status == 1
 
 
-def test_cluster_tells_its_words(room):
-    ran = room.run("cluster", "--help")
-    assert ran.status == 0 and b"usage: futoncrane cluster" in ran.out and os.path.isdir(BIN), ran
+def test_jellyfish_writes_the_same(room):
+    import subprocess
+    need("jellyfish")
+    subprocess.run(["jellyfish", "count", "-m", "21", "-C", "-s", "1M", "-o", "counted.jf", READS], cwd=room.folder, check=True)
+    ran = subprocess.run(["jellyfish", "histo", "-f", "-h", "9999", "counted.jf"], cwd=room.folder, stdout=subprocess.PIPE, check=True)
+    room.counts(ran.stdout.partition(b"\n")[2], "genomescope", READS)
+    ran = subprocess.run(["jellyfish", "dump", "-L", "3", "counted.jf"], cwd=room.folder, stdout=subprocess.PIPE, check=True)
+    lines, ours = ran.stdout.splitlines(), room.run("solid", "-k21", "--min", "3", "--jellyfish", READS).out.splitlines()
+    assert ours and sorted(zip(ours[1::2], ours[::2])) == sorted(zip(lines[1::2], lines[::2]))
+
+
+def test_refused_reads_are_refused_by_each(room):
+    room.write("bad", b"@r\nACGT\n+\nII\n")
+    for command in ("count", "histogram", "size", "solid", "genomescope"):
+        room.refuses(1, "bad: line 4: quality length differs", words=[command, "-k3", "bad"])

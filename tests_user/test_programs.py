@@ -1,4 +1,4 @@
-"""The two proved programs by their words and devices: what no contract can say of a process."""
+"""The proved programs by their words and devices: what no contract can say of a process."""
 import os
 import subprocess
 
@@ -16,6 +16,28 @@ def ended(room, name, *words, text=b"", out=subprocess.PIPE):
 
 def test_no_word_gives_the_defaults(room):
     assert ended(room, "kmc", text=content(READS)) == (0, plainly(content(READS), 25), b"")
+    read = b"@r\nGATTACAGATTACAGATTACACCGGT\n+\n" + b"I" * 26 + b"\n"
+    wanted = b"ACCGGTGTAATCTGTAATCTGTAAT\t2\nCCGGTGTAATCTGTAATCTGTAATC\t2\n"
+    assert ended(room, "kmc", text=read + read) == (0, wanted, b"")
+
+
+def test_what_is_refused_is_told_in_one_line(room):
+    bad = b"@r\nACGTACGT\n-\nIIIIIIII\n"
+    for words, text, status, told in ((["-k4"], bad, 1, b"line 3"), (["-fa"], bad, 1, b"line 1"), (["-k31", "-cs0"], content(READS), 2, b"-cs"),
+                                      (["-k65"], content(READS), 2, b"-k")):
+        found = ended(room, "kmc", *words, text=text)
+        assert found[:2] == (status, b"") and told in found[2] and found[2].count(b"\n") == 1, (words, found)
+
+
+def test_a_reader_that_has_enough_is_passed_over(room):
+    # the dump is longer than a pipe holds
+    wanted = plainly(content(READS), 31, 1)
+    assert len(wanted) > 150000
+    with open(READS, "rb") as reads, subprocess.Popen([program("kmc"), "-k31", "-ci1"], stdin=reads, stdout=subprocess.PIPE, stderr=subprocess.PIPE) as child:
+        first = child.stdout.readline()
+        child.stdout.close()
+        told = child.stderr.read()
+    assert (child.returncode, told, first) == (1, b"", wanted.splitlines(keepends=True)[0]), (child.returncode, told)
 
 
 def test_a_word_that_is_not_utf8_is_wrong_usage(room):
@@ -88,3 +110,34 @@ def test_a_run_of_many_rounds_is_counted(room):
     once = [line.split(b"\t") for line in plainly(content(READS), 25, 1, MOST, MOST).splitlines()]
     wanted = b"".join(b"%b\t%d\n" % (word, int(count) * copies) for word, count in once)
     assert ended(room, "kmc", "-ci1", "-cx%d" % MOST, "-cs%d" % MOST, "-sp1", text=content(READS) * copies) == (0, wanted, b"")
+
+
+def dealt(parts):
+    """The example's records in so many texts."""
+    lines = content(READS).splitlines(keepends=True)
+    records = [b"".join(lines[place:place + 4]) for place in range(0, len(lines), 4)]
+    return [b"".join(records[part::parts]) for part in range(parts)]
+
+
+def test_merged_parts_are_the_dump_of_all(room):
+    program("kmc_merge")
+    whole = ("-ci1", "-cx%d" % MOST, "-cs%d" % MOST)
+    for k in (25, 31, 32, 33, 64):
+        wanted, everything = plainly(content(READS), k), plainly(content(READS), k, 1, MOST, MOST)
+        for parts in (1, 2, 3, 7, 100):
+            names = [room.write("dump-%d" % number, ended(room, "kmc", "-k%d" % k, *whole, text=text)[1]) for number, text in enumerate(dealt(parts))]
+            names.append(room.write("dump-empty", b""))
+            assert ended(room, "kmc_merge", *names) == (0, wanted, b""), (k, parts)
+            assert ended(room, "kmc_merge", *whole, *names) == (0, everything, b""), (k, parts)
+
+
+def test_a_merge_names_the_first_fault(room):
+    program("kmc_merge")
+    room.write("good", b"AC\t2\nCA\t5\n")
+    for name, second in (("twice", b"AC\t5\n"), ("longer", b"CAA\t5\n"), ("zero", b"CA\t05\n"), ("none", b"CA\t0\n"), ("lower", b"Ca\t5\n"),
+                         ("unended", b"CA\t5"), ("space", b"CA 5\n"), ("great", b"CA\t18446744073709551616\n")):
+        status, _, told = ended(room, "kmc_merge", "good", room.write(name, b"AC\t2\n" + second))
+        assert status == 1 and told.count(b"\n") == 1 and told.startswith(b"kmc_merge: %b: line 2 " % name.encode()), (name, told)
+    # a sum above 2^64 - 1 stays there, and no limit lists it
+    room.write("most", b"AC\t18446744073709551615\n")
+    assert ended(room, "kmc_merge", "-ci1", "-cx%d" % MOST, "good", "most") == (0, b"CA\t5\n", b"")

@@ -1,9 +1,8 @@
 """Files as they come: plain ones, several, many, missing ones, odd names, pipes, and what is wrong in them."""
 import os
-import subprocess
 import threading
 
-from room import DUMP, READS, content, plainly, wanted_dump
+from room import READS, content, plainly, wanted_dump
 
 
 def thirds():
@@ -47,6 +46,14 @@ def test_fasta_of_several_lines(room):
     room.counts(wanted_dump(), "count", "-k25", "a.fa", "b.fa")
 
 
+def test_a_sequence_ends_with_its_file(room):
+    room.write("a.fa", b">a\nACGTA\nCGT")
+    room.write("b.fa", b">b\nACGTACG")
+    # the words of ACGTACGT and ACGTACG, strands joined, by hand: ACG with CGT, GTA with TAC
+    room.counts(b"ACG\t7\nGTA\t4\n", "count", "-k3", "--min", "1", "a.fa", "b.fa")
+    room.refuses(1, "a.fa is FASTA, and the option says FASTQ", words=["count", "-fq", "a.fa"])
+
+
 def test_names_may_be_odd(room):
     names = ["a b", " ", "it's", 'two "quotes"', "line\nfeed", "-leading", "*", "$HOME", "tab\there", "ümlaut", os.fsdecode(b"not\xffutf8"), "a;b|c", "--"]
     lines = content(READS).splitlines(keepends=True)
@@ -80,7 +87,7 @@ def test_standard_input_may_be_a_file_or_a_pipe(room):
     with open(READS, "rb") as source:
         source.seek(len(texts[0]))
         room.counts(plainly(texts[1] + b"\n" + texts[2], 25), "count", "-k25", source=source)
-    room.counts(b"", "count", text=b"")
+    room.counts(b"", "count", text=b"", told="futoncrane: standard input: there are no reads, so no k-mer is listed\n")
 
 
 def test_a_named_pipe_is_read_once(room):
@@ -105,12 +112,6 @@ def test_what_cannot_be_read_is_named(room):
     room.refuses(1, "good is FASTQ, and a.fa is FASTA", words=["count", "good", "a.fa", "-o", "out"])
 
 
-def test_bam_is_told_how_to_count(room):
-    import gzip
-    room.write("reads.bam", gzip.compress(b"BAM\x01" + bytes(100)))
-    room.refuses(1, "reads.bam: it is a BAM file", "samtools", words=["count", "reads.bam"])
-
-
 def test_a_fault_of_a_record_is_told_by_file_and_line(room):
     import gzip
     good = room.write("good", content(READS))
@@ -130,13 +131,6 @@ def test_a_fault_of_a_record_is_told_by_file_and_line(room):
     room.write("short.fastq", content(READS)[:-2])
     room.counts(wanted_dump(), "count", "-k25", "cut.fastq")
     room.refuses(1, "short.fastq: line %d: quality length differs" % lines, words=["count", "short.fastq", "cut.fastq"])
-
-
-def test_the_old_names_work(room):
-    from room import TOP
-    old = os.path.join(TOP, "recipes", "many-files")
-    ran = subprocess.run([old, READS], stdout=subprocess.PIPE, env=room.environment)
-    assert ran.stdout == content(DUMP)
 
 
 def test_programs_that_are_not_there_are_told(room):

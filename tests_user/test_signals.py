@@ -2,12 +2,13 @@
 import gzip
 import os
 import random
+import re
 import signal
 import subprocess
 import threading
 import time
 
-from room import COMMAND, LONG, READS, alive, content, descendants, program, wait_for, wait_until
+from room import COMMAND, LONG, READS, SUMMARY, alive, content, descendants, program, wait_for, wait_until
 
 MOMENTS = 20
 
@@ -40,8 +41,9 @@ def test_control_c_at_twenty_moments(room):
     source = random.Random(7)
     kinds = (["count", "packed.gz", "plain", "packed.gz", "-o", "dump.gz"], ["count", "plain", "-o", "dump"], ["histogram", "packed.gz", "-o", "dump"])
     times = [seconds_of(room, words) for words in kinds]
-    os.remove(room.path("dump"))
-    os.remove(room.path("dump.gz"))
+    for name in ("dump", "dump.json", "dump.gz", "dump.gz.json"):
+        if os.path.exists(room.path(name)):
+            os.remove(room.path(name))
     before = room.files()
     for number in range(MOMENTS):
         which = number % len(kinds)
@@ -51,9 +53,9 @@ def test_control_c_at_twenty_moments(room):
         assert left == set(), "%s still run" % left
         # before Python has come to the command, a signal ends it as it ends Python; and it may be done before
         assert status in (0, 130, -signal.SIGINT), status
-        assert told == "" or status == -signal.SIGINT and told.endswith("KeyboardInterrupt\n"), told
+        assert re.fullmatch(SUMMARY, told) if status == 0 else told == "" or status == -signal.SIGINT and told.endswith("KeyboardInterrupt\n"), told
         if status == 0:
-            for name in ("dump", "dump.gz"):
+            for name in ("dump", "dump.json", "dump.gz", "dump.gz.json"):
                 if os.path.exists(room.path(name)):
                     os.remove(room.path(name))
         assert room.files() == before, (status, room.files() - before)
@@ -126,7 +128,7 @@ def test_a_signal_that_is_ignored_stays_so(room):
         wait_for(room, "begun")
         child.send_signal(number)
         room.write("sent", b"")
-        assert child.communicate(timeout=LONG)[1] == b"" and child.returncode == 0
+        assert re.fullmatch(SUMMARY, child.communicate(timeout=LONG)[1].decode()) and child.returncode == 0
         assert content(room.path("dump")) == b"ACGT\t2\n"
-        for name in ("begun", "sent", "dump"):
+        for name in ("begun", "sent", "dump", "dump.json"):
             os.remove(room.path(name))

@@ -6,7 +6,7 @@ import struct
 import subprocess
 import sys
 
-from room import LONG, READS, TOP, content, plainly, program
+from room import LONG, READS, TOP, content, program
 
 # bytes: what kmc_cut takes at most by one splitter and by four, and what a file that lies is refused within
 MOST_OF_CUT, MOST_OF_A_LIE = {1: 50 * 10**6, 4: 150 * 10**6}, 50 * 10**6

@@ -128,7 +128,8 @@ def test_the_steps_by_themselves(room):
         room.counts(content(room.path("both.dump.%d" % number)), "list", "-t", "1", "first.%d" % number, "packed.gz")
     room.counts(wanted, "merge", "--min", "1", "--cap", "none", *("both.dump.%d" % number for number in range(3)))
     assert set(os.listdir(room.folder)) == {"tmp", "packed.gz", "first lane.fastq", "second.gz"} | {
-        "%s.%d" % (name, number) for name in ("both", "first", "second", "both.dump") for number in range(3)}
+        "%s.%d" % (name, number) for name in ("both", "first", "second", "both.dump") for number in range(3)} | {
+        "both.dump.%d.json" % number for number in range(3)}
 
 
 def test_count_in_slices_is_one_run(room):
@@ -141,25 +142,14 @@ def test_count_in_slices_is_one_run(room):
         room.counts(plainly(text, k, 2, MOST, 255, "apart"), "count", "-k%d" % k, "--forward", "--slices", slices, "-q", READS)
     told = room.run("count", "-k25", "--slices", "3", READS)
     assert told.status == 0 and told.out == plainly(text, 25, 2, MOST), told
-    assert told.err.startswith("futoncrane: 3 slices, one after the other; files in ") and told.err.count("\n") == 1, told
+    assert told.err.startswith("futoncrane: 3 slices, one after the other; files in ") and told.err.count("\n") == 2, told
     room.counts(plainly(text, 25, 2, MOST), "count", "-k25", "--slices", "100", "--quiet", text=text)
     room.counts(b"", "count", "-k25", "--slices", "2", "--quiet", "-o", "dump.gz", "a.gz")
     assert gzip.decompress(content(room.path("dump.gz"))) == plainly(text, 25, 2, MOST)
-    assert set(os.listdir(room.folder)) == {"tmp", "a.gz", "dump.gz"}
+    assert set(os.listdir(room.folder)) == {"tmp", "a.gz", "dump.gz", "dump.gz.json"}
     one = room.run("histogram", READS)
     room.counts(one.out, "histogram", "--slices", "2", "--quiet", READS)
     room.refuses(2, "-n says 2 bins", words=["count", "--slices", "3", "-n2", READS])
-
-
-def test_the_recipe_is_the_command(room):
-    need_programs()
-    os.mkdir(room.path("disk"))
-    recipe = os.path.join(os.path.dirname(os.path.dirname(READS)), "recipes", "slices")
-    with open(READS, "rb") as reads:
-        done = subprocess.run([recipe, "--slices", "2", "--directory", "disk", "-ci3"], cwd=room.folder, env=room.environment, stdin=reads,
-                              stdout=subprocess.PIPE, stderr=subprocess.PIPE, check=False)
-    assert done.returncode == 0 and done.stdout == plainly(content(READS), 25, 3, MOST) and b"2 slices" in done.stderr, done
-    assert os.listdir(room.path("disk")) == []
 
 
 def refused(room, name, *files):
@@ -233,7 +223,7 @@ def test_the_memory_chooses_slices(room):
     assert done.status == 0 and "one run would take " in done.err and " slices, one after the other; files in " in done.err and "GB" in done.err, done
     slices = int(content(room.path("told")).split()[-2][len("-slices"):])
     assert 4 <= slices <= 16 and "%d slices" % slices in done.err, (slices, done)
-    assert content(room.path("dump")) == b"" and set(os.listdir(room.folder)) == {"tmp", "bin", "told", "big.fastq", "dump"}, os.listdir(room.folder)
+    assert content(room.path("dump")) == b"" and set(os.listdir(room.folder)) == {"tmp", "bin", "told", "big.fastq", "dump", "dump.json"}, os.listdir(room.folder)
 
 
 def hanging(room, name):
@@ -273,15 +263,16 @@ def test_control_c_at_random_moments(room):
     assert room.run(*words).status == 0
     seconds, source = time.monotonic() - begun, random.Random(11)
     for _ in range(10):
-        if os.path.exists(room.path("dump")):
-            os.remove(room.path("dump"))
+        for name in ("dump", "dump.json"):
+            if os.path.exists(room.path(name)):
+                os.remove(room.path(name))
         child = subprocess.Popen([*COMMAND, *words], cwd=room.folder, env=room.environment, stderr=subprocess.DEVNULL)
         time.sleep(source.uniform(0.2, 0.95) * seconds)
         family = descendants(child.pid)
         child.send_signal(signal.SIGINT)
         status = child.wait(timeout=LONG)
         assert status in (0, 130, -signal.SIGINT) and alive(family) == set(), (status, alive(family))
-        assert set(os.listdir(room.folder)) - {"dump"} == {"tmp", "reads.gz"} and ("dump" in os.listdir(room.folder)) == (status == 0)
+        assert set(os.listdir(room.folder)) - {"dump", "dump.json"} == {"tmp", "reads.gz"} and ("dump" in os.listdir(room.folder)) == (status == 0)
 
 
 def test_a_full_disk_is_told(room):
@@ -358,6 +349,6 @@ def test_refused_memory_is_told(room):
     room.refuses(1, "out of memory: kmc_list got no more within --memory 1 GB", "more --slices",
                  words=["count", "-q", "--memory", "1G", "--slices", "2", READS, "-o", "out"])
     stand_in(room, "kmc_cut", "#!/bin/sh\nshift $(($# - 1)); echo \"kmc_cut: $1.1: cannot be written\" >&2; exit 1\n")
-    room.refuses(1, "%s/.futoncrane-" % room.folder, "it cannot be written", words=["count", "-q", "--slices", "2", READS, "-o", "out"])
+    room.refuses(1, "crane: %s: it cannot be written" % room.folder, words=["count", "-q", "--slices", "2", READS, "-o", "out"])
     stand_in(room, "kmc_cut", "#!/bin/sh\necho 'kmc_cut: line 7: bad plus line' >&2; exit 1\n")
     room.refuses(1, "reads.fastq: line 7: bad plus line", words=["count", "-q", "--slices", "2", READS, "-o", "out"])

@@ -1,11 +1,12 @@
 """What a terminal shows: progress, and only there."""
 import os
 import pty
+import re
 import select
 import subprocess
 import sys
 
-from room import COMMAND, LONG, READS, content, program, wanted_dump
+from room import COMMAND, LONG, READS, SUMMARY, content, program, wanted_dump
 
 
 # what kmc is to wait for at each of its steps, in the slow one below: that the terminal was shown this
@@ -85,7 +86,7 @@ def test_no_progress_elsewhere(room):
     room.stand_in("#!/bin/sh\ncat > /dev/null; sleep 0.7; printf 'ACGT\\t2\\n'\n")
     for words in (["count", READS, "-o", "dump"], ["histogram", READS]):
         ran = room.run(*words)
-        assert (ran.status, ran.err) == (0, ""), ran
+        assert ran.status == 0 and re.fullmatch(SUMMARY, ran.err), ran
         status, _, shown = on_terminal(room, *words, "--quiet")
         assert (status, shown) == (0, ""), shown
 

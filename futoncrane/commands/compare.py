@@ -3,24 +3,25 @@ import bisect
 
 from futoncrane.children import Children
 from futoncrane.dumps import Dump
-from futoncrane.faults import Fault, Misuse
+from futoncrane.faults import Fault, Misuse, shown
 from futoncrane.options import Option
 from futoncrane.output import text_output
-from futoncrane import shared
+from futoncrane import notes, report, shared
 
 USAGE = "[--common | --first | --second | --same] [-o FILE] FIRST.dump SECOND.dump"
 TEXT = """
 Writes how many k-mers are in both dumps, in the first alone and in the second alone, and their Jaccard index: the number of k-mers in both
 over the number of those in one or both; of two empty dumps it is 1.
 
-Both dumps must have been made with the same -k, and with or without --forward alike. They may be packed, and are read once, side by side.
+Both dumps must have been made with the same -k, and with or without --forward alike: where DUMP.json stands beside a dump that is looked
+at. They may be packed, and are read once, side by side.
 """
 OPTIONS = [
     Option(["--common"], "what", constant="common", text="writes the k-mers of both, each with its two counts"),
     Option(["--first"], "what", constant="first", text="writes the lines of the first dump whose k-mers are not in the second"),
     Option(["--second"], "what", constant="second", text="writes the lines of the second dump whose k-mers are not in the first"),
     Option(["--same"], "what", constant="same", text="writes the lines that stand in both: k-mers with equal counts"),
-    shared.OUT,
+    shared.QUIET, shared.OUT,
 ]
 EXAMPLES = ["futoncrane compare mother.dump child.dump", "futoncrane compare --second -o new.dump mother.dump child.dump.gz"]
 
@@ -57,9 +58,22 @@ def lines_of(what, one, other):
     return [b"%b\t%b\n" % (word, count) for word, count in kept.items() if word not in dropped]
 
 
+def check(noted, quiet):
+    """Refuses dumps of unlike slices, and tells of unlike limits: then a k-mer may be in one alone since it is left out of the other."""
+    if len(noted) < 2:
+        return
+    (first, one), (second, other) = noted
+    if one["slices"] != other["slices"]:
+        raise Fault("%s and %s are not of the same slices: they cannot be compared" % (shown(first), shown(second)))
+    if notes.limits_of(one) != notes.limits_of(other):
+        report.say("%s was counted with %s, and %s with %s: k-mers that one leaves out count as not in it" % (
+            shown(first), notes.limits_of(one), shown(second), notes.limits_of(other)), quiet)
+
+
 def main(asked):
     if len(asked.files) != 2 or asked.files == ["-", "-"]:
         raise Misuse("two dumps are wanted")
+    check(notes.of_dumps(asked.files, "compared", asked.quiet), asked.quiet)
     both = in_first = in_second = 0
     with Children() as children, text_output(asked.out, children) as lines:
         first, second = (Dump(name, children) for name in asked.files)

@@ -1,17 +1,18 @@
 """futoncrane count: k-mers of any number of files."""
-from futoncrane import shared
+from futoncrane import notes, run, shared
 from futoncrane.children import Children
 from futoncrane.options import Option
 from futoncrane.output import Output
-from futoncrane.run import open_inputs, run
 
 USAGE = "[option ..] [FILE ..]"
 TEXT = """
 Counts the k-mers of the reads in the files, all together. A line of the dump is a k-mer, a tab and its count; the lines are in the order of
 the letters.
 
-A file is FASTQ or FASTA, plain or packed by gzip, bzip2, xz or zstd: both are seen from its first bytes. - is standard input, which is also
-read where no file is given.
+A file is FASTQ or FASTA, plain or packed by gzip, bzip2, xz or zstd, or BAM, CRAM or SAM, which samtools reads: all is seen from its first
+bytes. @LIST names a file that lists files, one a line. - is standard input, which is also read where no file is given.
+
+Beside -o DUMP stands DUMP.json, which tells what the dump was made with: merge and compare refuse what is unlike.
 
 What is estimated to fit the memory is one run of kmc. What is not is counted in slices: the reads are cut once into files of records, which
 take about 1.1 bytes of the disk for each symbol; slice after slice is listed; and the dumps are merged. The dump is the same. A line tells
@@ -27,15 +28,17 @@ EXAMPLES = [
     "futoncrane count -k 21 -o dump.txt reads_1.fastq.gz reads_2.fastq.gz",
     "futoncrane count --min 1 --max none --cap none -o genome.dump.gz genome.fa",
     "futoncrane count --memory 12G --directory /scratch -o human.dump human_*.fastq.gz",
-    "samtools fastq reads.bam | futoncrane count - > dump.txt",
+    "futoncrane count -o dump.txt reads.bam",
+    "futoncrane count -o dump.txt --files lanes.txt",
 ]
 
 
 def main(asked):
-    with Children() as children, Output(asked.out, children) as output:
-        work = run(open_inputs(asked.files, asked.out), shared.settings(asked), children, output)
-        output.finish()
+    setting = shared.settings(asked)
+    with Children() as children, Output(asked.out, children, threads=setting.threads) as output:
+        work = run.run(run.open_inputs(asked.files, asked.out), setting, children, output)
+        notes.finish(output, notes.of_run(setting, asked.files or ["-"]), setting.report, setting.quiet)
         if work:
             work.drop()
+    run.tell("count", setting, asked, asked.files)
     return 0
-

@@ -1,11 +1,10 @@
 """futoncrane cut: reads as the records of slices, which are listed apart."""
 import os
 
-from futoncrane import folders, inputs, memory, shared, slices
+from futoncrane import doubts, folders, inputs, memory, report, run, shared, slices
 from futoncrane.children import TEMPORARY, Children, held_signals
 from futoncrane.faults import Fault, Misuse, reason, shown
 from futoncrane.options import Option
-from futoncrane.run import open_inputs
 
 USAGE = "[option ..] -o PREFIX [FILE ..]"
 TEXT = """
@@ -23,7 +22,7 @@ OPTIONS = [
     shared.k_option(31), shared.SLICES,
     Option(["-o", "--output"], "prefix", "PREFIX", text="how the files' names begin; they have their names only once all are whole"),
     Option(["--force"], "force", default=False, text="writes over files that are there"),
-    shared.THREADS, shared.MEMORY, shared.QUIET, *[it for it in shared.OLD if it.key != "counters"],
+    shared.THREADS, shared.MEMORY, shared.FILES, shared.JSON, shared.QUIET, *[it for it in shared.OLD if it.key != "counters"],
 ]
 EXAMPLES = [
     "futoncrane cut -k 31 --slices 8 -o lane_a lane_a.fastq.gz",
@@ -46,7 +45,7 @@ def main(asked):
     if not asked.prefix:
         raise Misuse("no name is given for the files: -o PREFIX")
     with Children() as children:
-        found, setting = open_inputs(asked.files), shared.settings(asked)
+        found, setting = run.open_inputs(asked.files), shared.settings(asked)
         format_name = inputs.format_of_all(found, setting.format)
         symbols, listed = shared.size_of(setting, found, format_name)
         number = shared.plan(setting, symbols, listed).slices
@@ -56,10 +55,13 @@ def main(asked):
             if any(inputs.is_same_file(name, final) for name in asked.files if name != "-"):
                 raise Misuse("%s: it is read, and cannot be written at the same time" % shown(final))
         directory = os.path.dirname(os.path.abspath(finals[0]))
-        folders.check_room(directory, memory.disk(symbols))
+        if not os.path.isdir(directory):
+            raise Fault("%s: there is no such folder" % shown(os.path.dirname(asked.prefix)))
+        folders.check_room(directory, memory.disk(symbols), "name files on another disk by -o, or cut fewer reads at once")
         if not setting.slices:
-            slices.say("%d slice%s" % (number, "" if number == 1 else "s"), setting.quiet)
+            report.say("%d slice%s" % (number, "" if number == 1 else "s"), setting.quiet)
         made = slices.cut(found, setting, format_name, number, os.path.join(folders.made(directory), "part"), children)
+        setting.report.doubt = doubts.of(found, setting)
         with held_signals():
             try:
                 for path, final in zip(made, finals):
@@ -67,4 +69,7 @@ def main(asked):
             except OSError as fault:
                 raise Fault("%s: %s" % (shown(final), reason(fault))) from None
             TEMPORARY.difference_update(made)
+    if not any(it.is_stream for it in found):
+        setting.report.bytes_read = sum(it.bytes for it in found)
+    run.tell("cut", setting, asked, asked.files)
     return 0

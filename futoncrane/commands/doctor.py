@@ -29,7 +29,7 @@ EXAMPLES = ["futoncrane doctor"]
 
 # programs that are used where they are installed, and what for
 HELPERS = [("pigz", "gzip, faster"), ("gzip", "gzip"), ("lbzip2", "bzip2, faster"), ("bzip2", "bzip2"), ("xz", "xz"), ("zstd", "zstd"),
-           ("gnuplot", "pictures by --png")]
+           ("samtools", "BAM, CRAM and SAM"), ("gnuplot", "pictures by --png")]
 
 
 def version_of(path):

@@ -1,5 +1,5 @@
 """futoncrane genomescope: the histogram as GenomeScope reads it."""
-from futoncrane import shared
+from futoncrane import run, shared
 from futoncrane.children import Children
 from futoncrane.commands.histogram import numbers_of
 from futoncrane.options import Option, number
@@ -21,11 +21,13 @@ EXAMPLES = ["futoncrane genomescope -k 21 -o reads.histo reads_1.fastq.gz reads_
 
 
 def main(asked):
+    setting = shared.settings(asked)
     with Children() as children:
-        numbers = numbers_of(asked, children)
+        numbers = numbers_of(asked, setting, children)
         last = sum(number for count, number in numbers.items() if count >= asked.top)
-        with text_output(asked.out, children) as lines:
+        with text_output(asked.out, children, setting.threads) as lines:
             for count in range(1, asked.top):
                 lines.write(b"%d %d\n" % (count, numbers.get(count, 0)))
             lines.write(b"%d %d\n" % (asked.top, last))
+    run.tell("genomescope", setting, asked, asked.files)
     return 0

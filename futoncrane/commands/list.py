@@ -1,5 +1,5 @@
 """futoncrane list: the dump of one slice."""
-from futoncrane import merging, shared, slices
+from futoncrane import merging, notes, run, shared, slices
 from futoncrane.children import Children
 from futoncrane.faults import Misuse, shown
 from futoncrane.inputs import is_same_file
@@ -16,7 +16,7 @@ counted, and nothing tells so. A file that was cut short or changed is refused. 
 
 The work is done by kmc_list, whose answer is proved. It takes the memory of a run over the reads of the slice.
 """
-OPTIONS = [*shared.LIMITS, shared.CAP, shared.BOTH, shared.STRANDS, shared.THREADS, shared.MEMORY, shared.QUIET, shared.OUT,
+OPTIONS = [*shared.LIMITS, shared.CAP, shared.BOTH, shared.STRANDS, shared.THREADS, shared.MEMORY, shared.JSON, shared.QUIET, shared.OUT,
            *[it for it in shared.OLD if it.key == "counters"]]
 EXAMPLES = ["futoncrane list --min 3 -o slice.0.dump lane_a.0 lane_b.0", "futoncrane list --min 1 --cap none --forward -o all.0.dump lane_a.0 lane_b.0"]
 
@@ -28,7 +28,18 @@ def main(asked):
     if asked.out is not None and any(is_same_file(name, asked.out) for name in names if name != "-"):
         raise Misuse("%s: it is read, and cannot be written at the same time" % shown(asked.out))
     merging.check_names(names)
-    with Children() as children, Output(asked.out, children) as output:
-        slices.listed(names, shared.settings(asked), children, listing(0, 1), output)
-        output.finish()
+    setting = shared.settings(asked)
+    with Children() as children, Output(asked.out, children, threads=setting.threads) as output:
+        slices.listed(names, setting, children, listing(0, 1), output)
+        notes.finish(output, note_of(names, setting), setting.report, setting.quiet)
+    run.tell("list", setting, asked, names)
     return 0
+
+
+def note_of(names, setting):
+    """What is known of the dump: of packed files the number of the slice is not, and then nothing is noted."""
+    header = notes.of_header(names[0])
+    if header is None:
+        return None
+    setting.k, of, number = header
+    return notes.of_run(setting, names, {"of": of, "numbers": [number], "parts": len(names)} if of > 1 else None)

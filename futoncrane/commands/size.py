@@ -1,7 +1,7 @@
 """futoncrane size: a genome's size from the histogram of its reads' k-mers."""
 import sys
 
-from futoncrane import picture, shared, sizes
+from futoncrane import picture, report, run, shared, sizes
 from futoncrane.children import Children
 from futoncrane.commands.histogram import numbers_of
 from futoncrane.faults import Fault, Misuse, reason, shown
@@ -43,15 +43,32 @@ def read_histogram(name):
 def main(asked):
     if asked.histogram and asked.files:
         raise Misuse("--histogram takes the place of the files of reads")
+    setting = shared.settings(asked)
     with Children() as children:
-        numbers = read_histogram(asked.histogram) if asked.histogram else numbers_of(asked, children)
+        numbers = numbers_in(asked, setting, children)
+        if not numbers:
+            raise Fault("there is no size: %s" % (setting.report.doubt or "%s has no count" % shown(asked.histogram or "the dump")))
         found = sizes.size_of(numbers, asked.peak)
         if asked.png:
-            with Output(asked.png, children, is_last=False) as output:
-                picture.draw(numbers, children, output, found.peak)
-        with text_output(asked.out, children) as lines:
+            with Output(asked.png, children, is_last=False, form="PNG") as output:
+                picture.draw(numbers, children, output, picture.heading(setting, asked.files or [asked.histogram or "-"]), found)
+        with text_output(asked.out, children, setting.threads) as lines:
             for name, value in zip(("valley", "peak", "k-mers read", "k-mers taken for errors", "size"), found):
                 lines.write(b"%s\t%d\n" % (name.encode(), value))
         if asked.text or (sys.stderr.isatty() and not asked.quiet):
             print(picture.in_characters(numbers, found.valley, found.peak), file=sys.stderr)
+    if not asked.peak:
+        for it in sizes.others(numbers, found):
+            report.say(it, asked.quiet)
+    run.tell("size", setting, asked, asked.files)
     return 0
+
+
+def numbers_in(asked, setting, children):
+    """The histogram: that of a file, or of the reads."""
+    if not asked.histogram:
+        return numbers_of(asked, setting, children)
+    numbers = read_histogram(asked.histogram)
+    setting.report.take(numbers)
+    setting.k = None
+    return numbers

@@ -1,11 +1,8 @@
 """futoncrane solid: k-mers within limits, as FASTA."""
-import itertools
-
-from futoncrane import dumps, shared
+from futoncrane import dumps, run, shared
 from futoncrane.children import Children
 from futoncrane.options import Option
 from futoncrane.output import text_output
-from futoncrane.run import open_inputs, run
 
 USAGE = "[option ..] [FILE ..]"
 TEXT = """
@@ -21,16 +18,21 @@ EXAMPLES = ["futoncrane solid -k 31 --min 3 -o solid.fa reads.fastq.gz"]
 
 
 def main(asked):
-    numbers = itertools.count(1)
+    listed = 0
 
     def pass_on(stream):
+        nonlocal listed
         for block in dumps.blocks(stream):
             pairs = [line.split(b"\t") for line in block.split(b"\n")[:-1]]
             if asked.bare:
                 lines.write(b"".join([b">%b\n%b\n" % (count, word) for word, count in pairs]))
             else:
-                lines.write(b"".join([b">%d count=%b\n%b\n" % (next(numbers), count, word) for word, count in pairs]))
+                lines.write(b"".join([b">%d count=%b\n%b\n" % (number, count, word) for number, (word, count) in enumerate(pairs, listed + 1)]))
+            listed += len(pairs)
 
-    with Children() as children, text_output(asked.out, children) as lines:
-        run(open_inputs(asked.files, asked.out), shared.settings(asked), children, None, pass_on)
+    setting = shared.settings(asked)
+    with Children() as children, text_output(asked.out, children, setting.threads, "FASTA") as lines:
+        run.read(asked.files, asked.out, setting, children, pass_on)
+    setting.report.totals["listed"] = listed
+    run.tell("solid", setting, asked, asked.files)
     return 0

@@ -1,0 +1,107 @@
+"""What a worker of `futoncrane cluster` does. These functions are sent to it by value, so they use nothing of this package: a worker's machine
+has the programs, and need not have the command."""
+import contextlib
+import os
+import resource
+import shutil
+import signal
+import subprocess
+import uuid
+
+BLOCK = 1 << 20
+MOST_OPEN = 4096
+
+
+def program(name, path):
+    """The program that the client found, else the one in the worker's PATH."""
+    for it in (path, shutil.which("futoncrane-" + name.replace("_", "-"))):
+        if it and os.access(it, os.X_OK):
+            return it
+    raise RuntimeError("the program %s is not on %s, neither as %s nor as futoncrane-%s in PATH" % (
+        name, os.uname().nodename, path, name.replace("_", "-")))
+
+
+def name_of_machine():
+    return os.uname().nodename
+
+
+def open_more():
+    """Has this process and its children open as many files as they may: a program has one for each slice."""
+    now, most = resource.getrlimit(resource.RLIMIT_NOFILE)
+    wanted = MOST_OPEN if most == resource.RLIM_INFINITY else min(most, MOST_OPEN)
+    if now != resource.RLIM_INFINITY and now < wanted:
+        resource.setrlimit(resource.RLIMIT_NOFILE, (wanted, most))
+
+
+def feed(child, path, start, end):
+    """Writes the bytes of the file from start to end to the program's standard input, and closes that."""
+    with open(path, "rb") as file, contextlib.suppress(BrokenPipeError), child.stdin as sink:
+        file.seek(start)
+        while start < end:
+            block = file.read(min(BLOCK, end - start))
+            if not block:
+                raise RuntimeError("%s: it became shorter" % path)
+            sink.write(block)
+            start += len(block)
+
+
+def unpack(child, command, path):
+    """Unpacks the file into the program's standard input, and closes that."""
+    name = os.path.basename(command[0])
+    with open(path, "rb") as packed:
+        ran = subprocess.run([shutil.which(name) or command[0], *command[1:]], stdin=packed, stdout=child.stdin, stderr=subprocess.PIPE)
+    child.stdin.close()
+    if ran.returncode == -signal.SIGPIPE:
+        child.wait()
+    is_cut = any(it in ran.stderr for it in (b"trailing", b"EOF marker is absent", b"truncated"))
+    if is_cut or ran.returncode not in (0, -signal.SIGPIPE) or (ran.returncode and child.returncode == 0):
+        raise RuntimeError("%s: %s cannot unpack it: it ends early, is damaged or cannot be read" % (path, name))
+
+
+def run_cut(part, command):
+    """Cuts a part by the command."""
+    path, packing, start, end = part
+    child = subprocess.Popen(command, stdin=subprocess.PIPE, stdout=subprocess.DEVNULL, stderr=subprocess.PIPE)
+    try:
+        if packing is None:
+            feed(child, path, start, end)
+        else:
+            unpack(child, packing, path)
+        message = child.stderr.read().decode(errors="replace").strip()
+        if child.wait() != 0:
+            raise RuntimeError("%s, lines counted from byte %d on: %s" % (
+                path, start, message.replace("kmc_cut: ", "", 1) or "kmc_cut was ended by signal %d" % -child.returncode))
+    finally:
+        child.kill()
+        child.wait()
+        child.stderr.close()
+
+
+def cut_part(number, part, path, options, slices, directory):
+    """Cuts a part into a file in the folder of each slice, unless an earlier try did. A file has its name once all are whole."""
+    done = os.path.join(directory, "cut", str(number))
+    if not os.path.exists(done):
+        work = os.path.join(directory, "work", uuid.uuid4().hex)
+        open_more()
+        run_cut(part, [program("kmc_cut", path), *options, "-slices%d" % slices, work])
+        for it in range(slices):
+            os.replace("%s.%d" % (work, it), os.path.join(directory, "slice-%d" % it, str(number)))
+        with open(done, "wb"):
+            pass
+    return number
+
+
+def list_slice(number, parts, path, options, directory):
+    """Lists a slice from the files of all parts, unless an earlier try did. The names are short, since so many are one command line."""
+    dump = os.path.join(directory, "dump", str(number))
+    if not os.path.exists(dump):
+        work = os.path.join(directory, "work", uuid.uuid4().hex)
+        names = [str(it) for it in range(parts)]
+        with open(work, "wb") as out:
+            ran = subprocess.run([program("kmc_list", path), *options, *names], cwd=os.path.join(directory, "slice-%d" % number),
+                                 stdin=subprocess.DEVNULL, stdout=out, stderr=subprocess.PIPE)
+        if ran.returncode != 0:
+            message = ran.stderr.decode(errors="replace").strip().replace("kmc_list: ", "", 1)
+            raise RuntimeError("slice %d: %s" % (number, message or "kmc_list was ended by signal %d" % -ran.returncode))
+        os.replace(work, dump)
+    return number
