@@ -21,6 +21,13 @@ def test_no_word_gives_the_defaults(room):
     assert ended(room, "kmc", text=read + read) == (0, wanted, b"")
 
 
+def test_options_of_each_kind_on_a_long_text(room):
+    # the dump was made by bench/count_plainly.py
+    stored = os.path.join(os.path.dirname(os.path.abspath(__file__)), "data", "stored_run")
+    words = content(os.path.join(stored, "args")).decode().split()
+    assert ended(room, "kmc", *words, text=content(os.path.join(stored, "stdin"))) == (0, content(os.path.join(stored, "stdout")), b"")
+
+
 def test_what_is_refused_is_told_in_one_line(room):
     bad = b"@r\nACGTACGT\n-\nIIIIIIII\n"
     for words, text, status, told in ((["-k4"], bad, 1, b"line 3"), (["-fa"], bad, 1, b"line 1"), (["-k31", "-cs0"], content(READS), 2, b"-cs"),

@@ -119,7 +119,7 @@ def test_one_version_stands_everywhere(room):
     version = text_of("VERSION").strip()
     assert re.fullmatch(r"[0-9]+\.[0-9]+\.[0-9]+", version)
     places = {("CITATION.cff",): r"^version: (\S+)$", ("packaging", "docker", "Dockerfile"): r"^ARG VERSION=(\S+)$",
-              ("packaging", "bioconda", "meta.yaml"): r'version = "([^"]+)"', ("CHANGELOG.md",): r"\A# v?([0-9.]+)", ("docs", "futoncrane.1"): r"describes version (\S+)\.$",
+              ("packaging", "bioconda", "meta.yaml"): r'version = "([^"]+)"', ("CHANGELOG.md",): r"^# v?([0-9.]+)", ("docs", "futoncrane.1"): r"describes version (\S+)\.$",
               **{("docs", name): r"describes version (\S+)\.$" for name in ("kmc.1", "kmc_cut.1", "kmc_list.1", "kmc_merge.1")}}
     for path, pattern in places.items():
         found = re.search(pattern, text_of(*path), re.MULTILINE)
