@@ -1,6 +1,7 @@
-//! Tests of slices, by public calls alone: the bytes of a worked file, each changed byte of it, each front, devices that fail,
-//! refused memory, the command lines of the programs, and random reads whose slices, merged, are one run. Nothing stands on this
-//! crate.
+//! Tests of slices and of sums, by public calls alone: the bytes of a worked file, each changed byte of it, each front, devices that
+//! fail, refused memory, the command lines of the programs, and random reads whose slices, merged, are one run; dumps at fault in
+//! each field, and bytes read behind others. Nothing stands on this crate. Random splits of random reads are tried by
+//! bench/merge.py.
 #![tactic(auto)]
 
 #[cfg(test)]
@@ -17,6 +18,10 @@ mod judged;
 mod others;
 #[cfg(test)]
 mod refused;
+#[cfg(test)]
+mod rooms;
+#[cfg(test)]
+mod sums;
 #[cfg(test)]
 mod texts;
 #[cfg(test)]
