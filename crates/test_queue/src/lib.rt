@@ -1,5 +1,5 @@
-//! Tests of the queue of parts, as a pure object and between threads, by public calls alone. It stands on `kmc_partcore`,
-//! `kmc_plain_queue`, `kmc_partqueue` and `kmc_waiting_queue`, and nothing stands on it. What each call answers is taken from a
+//! Tests of the queue of parts, as a pure object and between threads, by public calls alone. It stands on `kmc_partcore` and
+//! `kmc_partqueue`, and nothing stands on it. What each call answers is taken from a
 //! plain model of the queue (`tests_model/queue_model.py`) or from the description of the queue.
 #![tactic(auto)]
 
