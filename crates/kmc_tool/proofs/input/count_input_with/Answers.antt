@@ -22,8 +22,8 @@ pub returns : goal.returns
 returns g c =
     let params = c.args.params.now in
     let of_bins = c.in_ok-stage_two.ensures.all in
-    let told : (c.round_settings.result.format, c.round_settings.result.shape) ≡ (params.format, shape_of params) =
-    λ i. (c.round_settings.ensures.0 i, c.round_settings.ensures.1 i) in
+    let told : (c.round_settings-settings.result.format, c.round_settings-settings.result.shape) ≡ (params.format, shape_of params) =
+    λ i. (c.round_settings-settings.ensures.0 i, c.round_settings-settings.ensures.1 i) in
     let input = subst (λ (t : Format × Sizes). HoldsInput t.0 t.1 PIECE_SYMBOLS (g.R.Read.remaining c.args.reader.now.inner)
     (g.R.Read.remaining c.bins_of_input.new.reader.inner) c.in_ok-bins.bins) told c.in_ok-bins.ensures.ok in
     record {
