@@ -1,5 +1,5 @@
 //! The program `kmc_cut`: reads on standard input, cut into the records of slices, in files. On a fault it writes one line to
-//! standard error and ends with the fault's status. All of it is `kmc_slice_programs`'.
+//! standard error and ends with the fault's status. All of it is `kmc_slices`'.
 #![tactic(auto)]
 
 use kmc_device::Counted;

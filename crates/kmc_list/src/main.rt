@@ -1,5 +1,5 @@
 //! The program `kmc_list`: the dump of the files of one slice, on standard output. On a fault it writes one line to standard
-//! error and ends with the fault's status. All of it is `kmc_slice_programs`'.
+//! error and ends with the fault's status. All of it is `kmc_slices`'.
 #![tactic(auto)]
 
 use kmc_device::Counted;

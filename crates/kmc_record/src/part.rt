@@ -33,7 +33,7 @@ impl Model for Part {
 
 impl Part {
     /// The part of a body that is whole records whose words belong to the bin, with how many words they have, or 2^64 - 1 where
-    /// they are more. `kmc_judging` makes one of a body that is not known to be so.
+    /// they are more. `part_of_body` makes one of a body that is not known to be so.
     pub fn of_body(chunk: u64, bin: usize, shape: Shape, body: Vec<u8>, words: u64) -> Part
         requires { IsPart bin shape body.items words }
         ensures { result ≡ record { chunk = chunk; bin = bin; shape = shape; body = body.items; words = words } }

@@ -45,7 +45,7 @@ impl Bins {
     }
 
     /// Bins of a shape with these bodies, one for each bin: each is whole records whose words belong to its bin, with how many words
-    /// they have, or 2^64 - 1 where they are more. `kmc_judging` makes bins of bodies that are not known to be so.
+    /// they have, or 2^64 - 1 where they are more. Who has bodies from outside judges them first.
     pub fn of_bodies(shape: Shape, bodies: Vec<Vec<u8>>, words: Vec<u64>) -> Bins
         requires { AreBins shape (map (λ v. v.items) bodies.items) words.items }
         ensures { result ≡ record { shape = shape; bodies = map (λ v. v.items) bodies.items; words = words.items } }
