@@ -1,4 +1,6 @@
 //! Inputs in rounds.
+ghost use Rattle.std.specs.Prelude.{None};
+
 use crate::given::settings;
 use kmc_device::Counted;
 use kmc_options::Params;
@@ -8,6 +10,8 @@ use kmc_stage_one::{PIECE_SYMBOLS, bins_of_input};
 use kmc_store::Bins;
 use kmc_tool::{round_settings, stage_one};
 use std::alloc::Global;
+use std::io;
+use std::io::Read;
 use std::process::Abort;
 use std::sync::Wait;
 use std::test::Fail;
@@ -198,5 +202,52 @@ fn a_faulty_text_is_refused_where_its_line_ends(rt: HostRuntime) {
         ("ACGT\n", ReadsError::BadHeader(1)),
     ] {
         assert_refused(&rt, rt.alloc(), &params, text.as_bytes(), fault);
+    }
+}
+
+/// A reader of which each read gives a line feed, without an end.
+#[derive(Drop)]
+struct Endless;
+
+impl Read for Endless {
+    ghost remaining = { λ _. None };
+
+    fn read(&mut self, buf: &mut [u8]) -> io::Result<usize> {
+        match buf.first_mut() {
+            Some(byte) => {
+                *byte = b'\n';
+                Ok(1)
+            }
+            None => Ok(0),
+        }
+    }
+}
+
+#[test]
+fn an_endless_input_is_too_long(rt: HostRuntime) {
+    let settings = round_settings(&settings(&rt, Format::Fastq, 4, 1, 1));
+    let mut reader = Counted::new(Endless);
+    let answer = bins_of_input(
+        &rt,
+        rt.alloc(),
+        &mut reader,
+        &settings,
+        &NoGate,
+        10,
+        PIECE_SYMBOLS,
+    );
+    assert_eq!(rt;
+        (answer.err(), reader.reads()),
+        (Some(InputError::TooLong), 10)
+    );
+}
+
+#[test]
+fn the_last_read_of_so_many_gives_nothing(rt: HostRuntime) {
+    let text = b"@r\nACGTACGT\n+\nIIIIIIII\n";
+    let params = settings(&rt, Format::Fastq, 4, 1, 1);
+    for (most, refusal) in [(24, None), (23, Some(InputError::TooLong))] {
+        let (answer, _, reads) = bins_of(&rt, rt.alloc(), text, 1, 0, &params, most);
+        assert_eq!(rt; (answer.err(), reads), (refusal, 23));
     }
 }

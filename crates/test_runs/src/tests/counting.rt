@@ -2,7 +2,7 @@ mod bins;
 
 ghost use Rattle.std.specs.Prelude.{◌≤◌};
 
-use crate::tests::texts::vectors_of;
+use crate::tests::texts::{assert_bytes, text_of, vectors_of};
 use kmc_base::{Kmer, Strands};
 use kmc_count::{Limits, count_direct};
 use std::alloc::Global;
@@ -42,6 +42,17 @@ fn tests_the_limits_before_the_cap(rt: HostRuntime) {
         limits.keep(201),
     ];
     assert_eq!(rt; kept, [None, Some(2), Some(100), Some(100), None]);
+}
+
+#[test]
+fn counts_two_equal_reads_directly(rt: HostRuntime) {
+    let alloc = rt.alloc();
+    let read: &[u8] = b"GATTACAGATTACAGATTACACCGGT";
+    let reads = vectors_of(alloc, &[read, read]).expect(&rt, "memory");
+    let limits = Limits::new(2, 1_000_000_000, 255).expect(&rt, "in range");
+    let pairs = count_direct(alloc, &reads, 25, Strands::Joined, &limits).expect(&rt, "memory");
+    let dump = b"ACCGGTGTAATCTGTAATCTGTAAT\t2\nCCGGTGTAATCTGTAATCTGTAATC\t2\n";
+    assert_bytes(&rt, &text_of(&rt, alloc, &pairs), dump);
 }
 
 /// Whether the word has k symbols, all of this code.

@@ -114,16 +114,30 @@ fn run_through<R: Threads + Wait + Sync, G: Gate + Sync>(
     run_with_gate(rt, alloc, &mut reader, &mut writer, params, gate)
 }
 
-/// Two reads, each a chunk of its own, give two parts each: the signature of the first three words is that of AACCC, 21, which is of
-/// bin 0, and that of the last one is that of AACCG, 22, which is of bin 1.
+/// Two equal reads of five words, each read a chunk of its own.
+const TWICE: [&[u8]; 2] = [b"ACGTACGT", b"ACGTACGT"];
+
+/// Their words of four symbols are their own signatures: 27, 108 and 177, which are of the bins 6, 3 and 2 of 7. So each chunk gives
+/// three parts.
 #[test]
 fn a_run_tells_its_gate_of_each_part(rt: HostRuntime) {
-    let text = fastq(&rt, rt.alloc(), &[b"GGAACCCGAACCGT", b"GGAACCCGAACCGT"]);
-    let params = queued(&rt, 11, 5, 7, Sizes(2, 2, 8, 1));
+    let text = fastq(&rt, rt.alloc(), &TWICE);
+    let params = queued(&rt, 4, 9, 7, Sizes(2, 2, 8, 1));
     let passes = Passes::new();
     let made = run_through(&rt, rt.alloc(), &text, &params, &passes);
-    assert_eq!(rt; made, Ok(4));
-    passes.assert_each(&rt, 4);
+    assert_eq!(rt; made, Ok(3));
+    passes.assert_each(&rt, 6);
+}
+
+#[test]
+fn any_number_of_counting_threads_gives_the_dump(rt: HostRuntime) {
+    let alloc = rt.alloc();
+    let text = fastq(&rt, alloc, &TWICE);
+    for threads in [1, 2, 16] {
+        let params = sized(&rt, 4, 9, 7, 2, threads, Limits::new(1, BILLION, 255));
+        let made = dump_of(&rt, alloc, &text, &params);
+        assert_whole(&rt, &made, b"ACGT\t4\nCGTA\t4\nGTAC\t2\n");
+    }
 }
 
 /// Two workers of a run see each other, of two splitters and so many storers.
@@ -132,11 +146,11 @@ fn assert_meeting<R: Abort + Threads + Wait + Sync + Alloc<A = Global>>(
     pair: Pair,
     storers: usize,
 ) {
-    let text = fastq(rt, rt.alloc(), &[b"GGAACCCGAACCGT", b"GGAACCCGAACCGT"]);
-    let params = queued(rt, 11, 5, 7, Sizes(2, storers, 8, 1));
+    let text = fastq(rt, rt.alloc(), &TWICE);
+    let params = queued(rt, 4, 9, 7, Sizes(2, storers, 8, 1));
     let gate = Meets::new(pair);
     let made = run_through(rt, rt.alloc(), &text, &params, &gate);
-    assert_eq!(rt; made, Ok(4));
+    assert_eq!(rt; made, Ok(3));
     assert!(rt; gate.is_held());
 }
 
