@@ -164,11 +164,11 @@ def help_of(name, command):
     """The help of one command, by its module."""
     import textwrap
     lines = ["usage: futoncrane %s %s" % (name, command.USAGE), ""]
-    lines += [textwrap.fill(" ".join(text.split()), 100) for text in command.TEXT.strip().split("\n\n")] + [""]
+    lines += [textwrap.fill(" ".join(text.split()), 100, break_on_hyphens=False) for text in command.TEXT.strip().split("\n\n")] + [""]
     for option in command.OPTIONS:
         if option.names:
             head = ", ".join(option.names) + (" " + option.value if option.value else "")
-            text = textwrap.wrap(option.text, 74)
+            text = textwrap.wrap(option.text, 74, break_on_hyphens=False)
             lines.append("  %-22s  %s" % (head, text[0]) if len(head) <= 22 else "  %s\n%26s%s" % (head, "", text[0]))
             lines += ["%26s%s" % ("", it) for it in text[1:]]
     lines += ["  %-22s  %s" % ("--help", "shows this text"), ""]
