@@ -3,6 +3,7 @@ import contextlib
 import ctypes
 import os
 import resource
+import shutil
 import signal
 import subprocess
 
@@ -97,7 +98,6 @@ def sweep():
                 os.unlink(it)
         TEMPORARY.clear()
         for it in FOLDERS:
-            import shutil  # what a run does not want is read only where it is wanted: a run begins the sooner
             shutil.rmtree(it, ignore_errors=True)
         FOLDERS.clear()
         for it in EMPTIED:

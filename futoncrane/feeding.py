@@ -1,6 +1,8 @@
 """How the text of the inputs comes to a program's standard input: one plain file is handed over, anything else goes through one pipe,
 without being copied here where the system can do it."""
+import contextlib
 import errno
+import fcntl
 import os
 import signal
 
@@ -18,11 +20,8 @@ class GaveUp(Exception):
 
 def widened(pipe):
     """Makes a pipe as wide as the system lets us. It is only the slower where that is refused."""
-    try:
-        import fcntl
+    with contextlib.suppress(OSError):
         fcntl.fcntl(pipe, F_SETPIPE_SZ, BLOCK)
-    except (OSError, ImportError):
-        pass
 
 
 def write_all(sink, text):

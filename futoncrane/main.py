@@ -5,6 +5,7 @@ import os
 from futoncrane import options, places
 from futoncrane.children import catch_signals, sweep, too_late
 from futoncrane.faults import Ended, Fault, Misuse, Quiet, reason
+from futoncrane.output import say
 
 COMMANDS = {
     "count": "counts the k-mers of files of reads",
@@ -33,7 +34,6 @@ def overview():
 
 def obey(words):
     """Does what the words ask for, and gives the status."""
-    from futoncrane.output import say
     if not words:
         raise Misuse("no command is given")
     name, rest = words[0], words[1:]

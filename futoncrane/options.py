@@ -1,6 +1,8 @@
 """The words of a command: its options, their values and ranges, and the help that tells them."""
+import difflib
 import os
 import re
+import textwrap
 import types
 
 from futoncrane.faults import Fault, Misuse, reason, shown
@@ -101,7 +103,6 @@ def nearest(word, words):
     """'; did you mean X?' with the nearest of the words, or nothing where none is near."""
     if word.startswith("-o"):
         return "; a file for the answer is named as in -o FILE"
-    import difflib  # what a run does not want is read only where it is wanted: a run begins the sooner
     found = difflib.get_close_matches(word, words, 1, 0.7)
     return "; did you mean %s?" % found[0] if found else ""
 
@@ -162,13 +163,12 @@ def parse(words, options):
 
 def help_of(name, command):
     """The help of one command, by its module."""
-    import textwrap
     lines = ["usage: futoncrane %s %s" % (name, command.USAGE), ""]
-    lines += [textwrap.fill(" ".join(text.split()), 100) for text in command.TEXT.strip().split("\n\n")] + [""]
+    lines += [textwrap.fill(" ".join(text.split()), 100, break_on_hyphens=False) for text in command.TEXT.strip().split("\n\n")] + [""]
     for option in command.OPTIONS:
         if option.names:
             head = ", ".join(option.names) + (" " + option.value if option.value else "")
-            text = textwrap.wrap(option.text, 74)
+            text = textwrap.wrap(option.text, 74, break_on_hyphens=False)
             lines.append("  %-22s  %s" % (head, text[0]) if len(head) <= 22 else "  %s\n%26s%s" % (head, "", text[0]))
             lines += ["%26s%s" % ("", it) for it in text[1:]]
     lines += ["  %-22s  %s" % ("--help", "shows this text"), ""]

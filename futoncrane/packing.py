@@ -1,6 +1,7 @@
 """How files are compressed, and the programs that unpack them and pack the dump."""
 import os
 import sys
+import zlib
 
 from futoncrane.faults import Fault
 from futoncrane.places import in_path
@@ -92,10 +93,9 @@ def packer(kind, name, threads):
 def maker(kind):
     """What makes an object that unpacks one stream of this kind, and what such an object raises over damaged data."""
     if kind == "gzip":
-        import zlib  # these are read only where they are wanted
         return lambda: zlib.decompressobj(31), zlib.error
     if kind == "bzip2":
-        import bz2
+        import bz2  # a Python may have been built without it, and without lzma
         return bz2.BZ2Decompressor, OSError
     import lzma
     return lzma.LZMADecompressor, lzma.LZMAError

@@ -1,7 +1,7 @@
 """A run over inputs, whole or in slices."""
 import sys
 
-from futoncrane import doubts, inputs, memory, notes, places, report, shared
+from futoncrane import doubts, folders, inputs, memory, merging, notes, places, report, shared, slices
 from futoncrane.faults import Fault, Misuse, shown
 from futoncrane.programs import fed
 
@@ -29,7 +29,6 @@ def run(found, setting, children, output, reader=None):
         setting.report.bytes_read = sum(it.bytes for it in found)
     work = None
     if plan.slices != 1 or setting.slices:
-        from futoncrane import slices  # read only where it is wanted
         work = slices.Work(setting, found, format_name, plan.slices, children)
         work.begin(plan.wanted, memory.disk(symbols) + memory.disk_of_dumps(listed, setting.k))
         work.count(output, reader)
@@ -51,7 +50,6 @@ def read(names, out, setting, children, reader):
 
 def read_dumps(found, setting, children, reader):
     """Has `reader` read the sum of dumps."""
-    from futoncrane import folders, merging  # read only where they are wanted
     other = next((it for it in found if it.format != "DUMP"), None)
     if other:
         dump = next(it for it in found if it.format == "DUMP")

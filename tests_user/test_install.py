@@ -1,6 +1,7 @@
 """The installation, what it takes away again, and that scripts have no fault."""
 import glob
 import os
+import shutil
 import subprocess
 import sys
 
@@ -70,6 +71,16 @@ def test_python_has_no_fault(room):
     files = [it for pattern in ("futoncrane/*.py", "futoncrane/commands/*.py", "futoncrane/futoncrane", "tests_user/*.py", "build/*.py") for it in glob.glob(os.path.join(TOP, pattern))]
     ran = subprocess.run(["pyflakes3", *files], stdout=subprocess.PIPE)
     assert ran.returncode == 0, ran.stdout.decode()
+
+
+def test_the_archives_script_tells_its_words(room):
+    script = os.path.join(TOP, "build", "install.sh")
+    shutil.copy(script, room.path("install.sh"))
+    for words, status, told in ((["--help"], 0, b"usage: ./install.sh [PREFIX]"), (["--prefix"], 2, b"no option --prefix (see ./install.sh --help)"),
+                                (["a", "b"], 2, b"one folder is taken")):
+        ran = subprocess.run([room.path("install.sh"), *words], stdout=subprocess.PIPE, stderr=subprocess.STDOUT)
+        assert ran.returncode == status and told in ran.stdout, ran
+    assert room.files() == {room.path("install.sh")}
 
 
 def test_an_older_python_is_told(room):
