@@ -11,9 +11,9 @@ use Rattle.kmc_slices.specs.declared.error.CutError.TheVariants.{Memory}
 use Rattle.kmc_slices.proofs.Rounds.{none_unended}
 use Rattle.kmc_slices.proofs.slicing.cut_slices_with.Goals as goal
 
-one_more : {A E : Type 0} {P Q R S : Type 0} (r : Result A E) → OnOk r (P × Q × R) → OnOk r S → OnOk r (P × Q × R × S)
-one_more (Ok x) h last = (h.0, h.1, h.2, last)
-one_more (Err e) h last = tt
+one_more : {A E : Type 0} (P Q R S : Type 0) (r : Result A E) → OnOk r (P × Q × R) → OnOk r S → OnOk r (P × Q × R × S)
+one_more P Q R S (Ok x) h last = (h.0, h.1, h.2, last)
+one_more P Q R S (Err e) h last = tt
 
 pub returns-in_err-counts : goal.returns-in_err-counts
 returns-in_err-counts g c =
@@ -38,7 +38,7 @@ returns g c =
     let told : (s.format, s.shape) ≡ (p.format, shape_of p) = λ i. (c.round_settings.ensures.0 i, c.round_settings.ensures.1 i) in
     record {
       ok = subst (λ (t : Format × Sizes). OnOk cut.result (WroteSlices t.0 t.1 PIECE_SYMBOLS S old new olds news)) told cut.ensures.ok;
-      sound = one_more cut.result cut.ensures.sound cut.ensures.kept;
+      sound = one_more _ _ _ _ cut.result cut.ensures.sound cut.ensures.kept;
       cause = subst (λ (t : Format × Sizes). IfErr cut.result (IsCutError t.0 c.args.max_reads old new)) told cut.ensures.cause;
       read_counts = cut.ensures.read_counts;
       write_counts = cut.ensures.write_counts;
