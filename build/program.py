@@ -3,10 +3,9 @@
 
 usage: build/program.py PROGRAM.., at the top of the repository. Each program is left as crates/PROGRAM/out/PROGRAM.
 
-It asks the kit's compiler for each library as `rt ci` does: from nothing, and what stands above a library reads its statements and not
-its proofs. A crate is begun once those that it names are done; of several the one behind which the longest chain of crates waits,
-measured in lines. Each gets one process, since several for one check take up to twice the processor seconds, and two where processors
-are free. What was built before from the same files is kept. `rt` in a crate's folder makes libraries of its own, beside these.
+Each library is proved from nothing, and what stands above it reads its statements, as with `rt ci`. A crate is begun once those that it
+names are done; of several the one behind which the longest chain of lines waits. It gets one process, since several take up to twice
+the processor seconds, and two where processors are free. What was built before from the same files is kept.
 """
 import fcntl
 import functools
@@ -21,13 +20,6 @@ from concurrent.futures import FIRST_COMPLETED, ThreadPoolExecutor, wait
 
 # the memory that a check takes at most, and the room in memory in which the copies of one check hand on what they checked
 MEMORY_OF_A_CHECK, ROOM_TO_HAND_ON = 4 << 30, 2 << 30
-
-
-def listed():
-    """The crates of crates.txt, each with what it names."""
-    with open("crates.txt", encoding="utf-8") as lines:
-        pairs = [line.partition("#")[0].partition(":") for line in lines]
-    return {name.strip(): names.split() for name, colon, names in pairs if colon}
 
 
 @functools.cache
@@ -108,8 +100,9 @@ def build(name, jobs):
 
 def build_all():
     """Builds the crates side by side, each after those that it names."""
-    room = os.sysconf("SC_AVPHYS_PAGES") * os.sysconf("SC_PAGE_SIZE") // MEMORY_OF_A_CHECK
-    at_once = max(1, min(len(os.sched_getaffinity(0)), room))
+    with open("/proc/meminfo", encoding="ascii") as lines:
+        room = next(int(it.split()[1]) << 10 for it in lines if it.startswith("MemAvailable:"))
+    at_once = max(1, min(len(os.sched_getaffinity(0)), room // MEMORY_OF_A_CHECK))
     left, running, done = sorted(ORDER, key=chain, reverse=True), {}, set()
     with ThreadPoolExecutor(at_once) as pool:
         while left or running:
@@ -123,7 +116,9 @@ def build_all():
 
 
 if __name__ == "__main__":
-    CRATES, PROGRAMS = listed(), sys.argv[1:]
+    with open("crates.txt", encoding="utf-8") as listed:
+        pairs = [line.partition("#")[0].partition(":") for line in listed]
+    CRATES, PROGRAMS = {name.strip(): names.split() for name, colon, names in pairs if colon}, sys.argv[1:]
     if not PROGRAMS or not set(PROGRAMS) <= set(CRATES):
         sys.exit("usage: build/program.py PROGRAM..")
     ORDER = set(PROGRAMS).union(*map(below, PROGRAMS))
