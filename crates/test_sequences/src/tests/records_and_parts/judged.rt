@@ -10,7 +10,7 @@ use std::test::Fail;
 fn belongs(rt: &impl Abort, super_kmer: &SuperKmer, shape: Shape, bin: usize) -> bool {
     for i in 0..super_kmer.words() {
         let word = super_kmer.word_at(i);
-        assert!(rt; word.k() >= shape.m());
+        assert!(rt; 1 <= shape.m() && shape.m() <= word.k());
         if signature(&word, shape.m()).bin(shape.n()) != bin {
             return false;
         }
