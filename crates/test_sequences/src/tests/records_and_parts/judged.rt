@@ -8,10 +8,11 @@ use std::test::Fail;
 
 /// Whether the signature of each word has the bin.
 fn belongs(rt: &impl Abort, super_kmer: &SuperKmer, shape: Shape, bin: usize) -> bool {
+    let m = shape.m();
     for i in 0..super_kmer.words() {
         let word = super_kmer.word_at(i);
-        assert!(rt; 1 <= shape.m() && shape.m() <= word.k());
-        if signature(&word, shape.m()).bin(shape.n()) != bin {
+        assert!(rt; 1 <= m && m <= word.k());
+        if signature(&word, m).bin(shape.n()) != bin {
             return false;
         }
     }

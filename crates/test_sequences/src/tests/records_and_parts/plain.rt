@@ -37,8 +37,9 @@ fn gather(bin: &mut Gathered, super_kmer: &SuperKmer) -> Result<(), AllocError> 
 fn bin_of_first_word(rt: &impl Abort, super_kmer: &SuperKmer, shape: Shape) -> usize {
     assert!(rt; super_kmer.words() > 0);
     let first = super_kmer.word_at(0);
-    assert!(rt; first.k() >= shape.m());
-    signature(&first, shape.m()).bin(shape.n())
+    let m = shape.m();
+    assert!(rt; 1 <= m && m <= first.k());
+    signature(&first, m).bin(shape.n())
 }
 
 /// Writes the super-k-mers of a segment behind the records of their bins.
@@ -49,8 +50,9 @@ fn gather_segment(
     segment: &Segment,
     shape: Shape,
 ) -> Result<(), AllocError> {
-    assert!(rt; segment.codes.len() >= shape.k());
-    for super_kmer in &super_kmers(alloc, segment, shape.k(), shape.m())? {
+    let m = shape.m();
+    assert!(rt; segment.codes.len() >= shape.k() && 1 <= m);
+    for super_kmer in &super_kmers(alloc, segment, shape.k(), m)? {
         let bin = bin_of_first_word(rt, super_kmer, shape);
         assert!(rt; bin < bins.len());
         gather(&mut bins[bin], super_kmer)?;
