@@ -60,7 +60,7 @@ fn gather_keys<W: PackedKmer + Drop, C: CountWidth + Drop>(
     let end = list.below(shift, to);
     for i in begin..end {
         let (word, count) = list.get(i);
-        let _ = keys.push(key_of(word.to_u128(), count.to_u128(), least, bits));
+        let _ = keys.push(key_of(word.to_u128(), count.to_u64(), least, bits));
     }
 }
 

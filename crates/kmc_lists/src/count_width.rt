@@ -17,7 +17,7 @@ pub trait CountWidth: Copy {
         requires { shown ≤ greatest }
         ensures { count result ≡ shown };
 
-    fn to_u128(self) -> u64
+    fn to_u64(self) -> u64
         ensures is { result ≡ count self }
         ensures short { length (decimal result) ≤ most_digits }
         ensures fits { result < 2 ^ bits };
@@ -47,7 +47,7 @@ impl CountWidth for u64 {
         shown
     }
 
-    fn to_u128(self) -> u64 {
+    fn to_u64(self) -> u64 {
         self
     }
 
@@ -73,7 +73,7 @@ impl CountWidth for u32 {
         shown as u32
     }
 
-    fn to_u128(self) -> u64 {
+    fn to_u64(self) -> u64 {
         u64::from(self)
     }
 
@@ -99,7 +99,7 @@ impl CountWidth for u8 {
         shown as u8
     }
 
-    fn to_u128(self) -> u64 {
+    fn to_u64(self) -> u64 {
         u64::from(self)
     }
 

@@ -1,4 +1,4 @@
--- The words of a super-k-mer in a bin, by what its m-mers offer.
+-- The words of a super-k-mer in a bin, by the candidates of its m-mers.
 use Rattle.std.proofs.Common.{◌≡◌, ℕ, suc, ◌+◌, ◌-◌, ◌%◌, ◌^◌, ◌<◌, ◌≤◌, ◌↔◌, slice_index, List, [], length, get_or, sym, ap, ◌∙◌, arith}
 use Rattle.std.specs.List.{All}
 use Rattle.std.proofs.lemmas.List.FromFn.{get_or-map-range_with_len}
@@ -6,7 +6,7 @@ use Rattle.kmc_base.specs.Words.{window, windows}
 use Rattle.kmc_base.specs.Lemmas.Packs.{AreCodes}
 use Rattle.kmc_base.specs.Lemmas.Windows.{length_windows}
 use Rattle.kmc_split.specs.Signature.{signature_of, bin_of, bin_of_signature}
-use Rattle.kmc_split.specs.Offers.{offer, unmarked}
+use Rattle.kmc_split.specs.Candidates.{candidate, unmarked}
 use Rattle.kmc_split.specs.Minima.{low}
 use Rattle.kmc_split.specs.Lemmas.Least.{signature_at}
 
@@ -14,7 +14,7 @@ pub word_of_windows : (k : ℕ) (codes : List ℕ) (i : ℕ) (d : List ℕ) → 
 word_of_windows k codes i d inside = get_or-map-range_with_len (window k codes) 0 (length codes + 1 - k) i i d inside (omega arith)
 
 module _ (m k n bin : ℕ) (codes values : List ℕ) (some : 1 ≤ m) (are : AreCodes codes) (within : m ≤ k) (inside : k ≤ length codes) (long : length values + m ≡ length codes + 1)
-    (is : (i : ℕ) → i < length values → slice_index values i ≡ offer m (window m codes i))
+    (is : (i : ℕ) → i < length values → slice_index values i ≡ candidate m (window m codes i))
     (fit : (i : ℕ) → i < length values → slice_index values i < 4 ^ m) where
   low_signature : (i : ℕ) → i + k ≤ length codes → unmarked m (low (slice_index values) (k + 1 - m) i) ≡ signature_of m (window k codes i)
   low_signature i here =

@@ -3,12 +3,12 @@ ghost use Rattle.std.specs.Prelude.{◌≡◌, ℕ, ◌+◌, ◌%◌, ◌^◌, �
 ghost use Rattle.std.specs.List.{All};
 ghost use Rattle.kmc_base.specs.Words.{windows};
 ghost use Rattle.kmc_split.specs.Signature.{bin_of, bin_of_signature};
-ghost use Rattle.kmc_split.specs.Offers.{unmarked};
+ghost use Rattle.kmc_split.specs.Candidates.{unmarked};
 ghost use Rattle.kmc_split.specs.Minima.{low};
 ghost use Rattle.kmc_split.specs.SuperKmer.{super_kmer_words};
 
 use kmc_base::MAX_K;
-use kmc_split::{MAX_M, MOST_SHORT, Mmer, Sig, SuperKmer, lowest, offers};
+use kmc_split::{MAX_M, MOST_SHORT, Mmer, Sig, SuperKmer, lowest, candidates};
 
 /// The most symbols of a super-k-mer.
 const MOST_SYMBOLS: usize = MAX_K + 255;
@@ -43,15 +43,15 @@ pub fn words_in_bin(codes: &[u8], k: usize, m: usize, n: usize, bin: usize) -> b
     let count = codes.len() + 1 - m;
     if m <= MOST_SHORT {
         let mut room = [0_u16; MOST_SYMBOLS];
-        offers_in_bin(codes, k, m, n, bin, &mut room[..count])
+        candidates_in_bin(codes, k, m, n, bin, &mut room[..count])
     } else {
         let mut room = [0_u32; MOST_SYMBOLS];
-        offers_in_bin(codes, k, m, n, bin, &mut room[..count])
+        candidates_in_bin(codes, k, m, n, bin, &mut room[..count])
     }
 }
 
-/// Whether the signature of each word has a bin, worked out in room for the offers of all m-mers.
-fn offers_in_bin<V: Mmer>(
+/// Whether the signature of each word has a bin, worked out in room for the candidates of all m-mers.
+fn candidates_in_bin<V: Mmer>(
     codes: &[u8],
     k: usize,
     m: usize,
@@ -69,23 +69,23 @@ fn offers_in_bin<V: Mmer>(
     requires codes { All (λ c. c < 4) codes.now }
     ensures { IsTrue result ↔ All (λ w. bin_of m n w ≡ bin) (windows k codes.now) }
 {
-    offers(codes, m, room);
-    lows_in_bin(room, k + 1 - m, m, n, bin)
+    candidates(codes, m, room);
+    minima_in_bin(room, k + 1 - m, m, n, bin)
 }
 
-/// Whether the signature of a word whose m-mers offer this at the least has a bin, of n bins.
+/// Whether the signature of a word whose least candidate is this has a bin, of n bins.
 fn is_in_bin<V: Mmer>(least: V, m: usize, n: usize, bin: usize) -> bool
     requires most { m ≤ MAX_M }
     requires fits { V.number least < 4 ^ m }
     requires bins { 1 ≤ n }
     ensures { IsTrue result ↔ (bin_of_signature n (unmarked m (V.number least)) ≡ bin) }
 {
-    Sig::of_least(least.to_u128(), m).bin(n) == bin
+    Sig::of_least(least.to_u32(), m).bin(n) == bin
 }
 
-/// Whether the signature that the least of each `width` offers in a row is has a bin, of n bins. It divides only where the least
+/// Whether the signature that the least of each `width` candidates in a row is has a bin, of n bins. It divides only where the least
 /// one changes.
-fn lows_in_bin<V: Mmer>(values: &[V], width: usize, m: usize, n: usize, bin: usize) -> bool
+fn minima_in_bin<V: Mmer>(values: &[V], width: usize, m: usize, n: usize, bin: usize) -> bool
     requires some { 1 ≤ width }
     requires within { width ≤ length values.now }
     requires most { m ≤ MAX_M }
@@ -119,9 +119,9 @@ fn next_low<V: Mmer>(values: &[V], width: usize, i: usize, least: V) -> V
     ensures { V.number result ≡ low (slice_index (map V.number values.now)) width (i + 1) }
 {
     let new = values[i + width];
-    if new.to_u128() <= least.to_u128() {
+    if new.to_u32() <= least.to_u32() {
         new
-    } else if least.to_u128() < values[i].to_u128() {
+    } else if least.to_u32() < values[i].to_u32() {
         least
     } else {
         lowest(&values[i + 1..i + 1 + width])

@@ -8,7 +8,7 @@ use Rattle.std.proofs.Math.Nat.{div-div-eq-div-mul, pow-succ'}
 use Rattle.kmc_base.specs.Lemmas.Packing.{length_unpack}
 use Rattle.kmc_base.specs.Lemmas.Powers.{pow_up, pow_quad}
 use Rattle.kmc_split.specs.Signature.{has_pair, begins, is_allowed}
-use Rattle.kmc_split.specs.Offers.{pair_marks}
+use Rattle.kmc_split.specs.Candidates.{pair_marks}
 
 -- 1 for an A
 abbrev pub is_a : ℕ → ℕ
@@ -217,7 +217,3 @@ marks_room n less =
     let parts : (10 - n) + n ≡ 10 = omega arith in
     let up : 4 ^ n ≤ 4 ^ 10 = rw parts at (pow_up n (10 - n)) in
     omega (arith, pair_marks_fit n)
-
-pub none_is : (m : ℕ) → 3 * pair_marks m + 1 ≡ 4 ^ m
-none_is zero = omega arith
-none_is (suc m) = let h = none_is m in omega arith

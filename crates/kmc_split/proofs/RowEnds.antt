@@ -5,7 +5,7 @@ use Rattle.std.proofs.lemmas.List.{take-set, take_more_set}
 use Rattle.kmc_split.specs.declared.runs.Run.{Run}
 use Rattle.kmc_split.specs.Cut.{IsRunAt, AreRuns}
 use Rattle.std.proofs.lemmas.Bool.Decides.{nat_tests}
-use Rattle.kmc_split.specs.Offers.{unmarked}
+use Rattle.kmc_split.specs.Candidates.{unmarked}
 use Rattle.kmc_split.specs.Rows.{IsRow, AreRowEnds, Last, MayFollow}
 
 module _ (at : ℕ → ℕ) where

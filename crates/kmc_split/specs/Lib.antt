@@ -1,9 +1,9 @@
+pub mod Candidates
 pub mod Cut
 pub mod CutSuperKmers
 pub mod Laws
 pub mod Lemmas
 pub mod Minima
-pub mod Offers
 pub mod Rows
 pub mod Signature
 pub mod SuperKmer

@@ -4,8 +4,8 @@ ghost use Rattle.std.specs.List.{All};
 ghost use Rattle.kmc_base.specs.Words.{windows};
 ghost use Rattle.kmc_split.specs.Cut.{IsCut, IsRunOf, run_words};
 
-use crate::judge::offers;
-use crate::minima::lows;
+use crate::marking::candidates;
+use crate::minima::window_minima;
 use crate::mmer::{MOST_SHORT, Mmer};
 use crate::runs::{Run, group, push_row};
 use crate::signatures::{MAX_M, Sig};
@@ -63,8 +63,8 @@ fn cut_by<V: Mmer + Drop>(
     ensures { OnOk result (IsCut k m codes.now runs.new.items) }
 {
     values.resize(codes.len() - (m - 1), V::of_packed(0))?;
-    offers(codes, m, values);
-    lows(values, spare, k - (m - 1))?;
+    candidates(codes, m, values);
+    window_minima(values, spare, k - (m - 1))?;
     group(values, m, ends, runs)
 }
 

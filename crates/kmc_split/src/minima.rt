@@ -18,7 +18,7 @@ fn lower<V: Mmer>(values: &[V], d: usize, out: &mut [V])
 }
 
 /// The least of each w values in a row takes their place: windows double, so that each pass is vector code.
-pub(crate) fn lows<V: Mmer + Drop>(
+pub(crate) fn window_minima<V: Mmer + Drop>(
     values: &mut Vec<V>,
     spare: &mut Vec<V>,
     w: usize,

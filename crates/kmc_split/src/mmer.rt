@@ -2,7 +2,7 @@
 ghost use Rattle.std.specs.Prelude.{◌≡◌, ◌-◌, ◌^◌, ◌<◌, ◌≤◌, ◌↔◌, ℕ, IsTrue, min};
 ghost use Rattle.kmc_base.specs.Packed.{unpack};
 ghost use Rattle.kmc_split.specs.Signature.{is_allowed};
-ghost use Rattle.kmc_split.specs.Offers.{pair_marks};
+ghost use Rattle.kmc_split.specs.Candidates.{pair_marks};
 
 /// The most symbols of an m-mer that 16 bits hold.
 pub const MOST_SHORT: usize = 8;
@@ -11,9 +11,23 @@ pub const MOST_SHORT: usize = 8;
 const HEAD: usize = 3;
 
 /// The forbidden beginnings, packed.
-const AAA: u16 = 0;
+const AAA: u8 = 0;
 
-const ACA: u16 = 4;
+const ACA: u8 = 4;
+
+/// Whether a canonical form of m codes may be a signature, given a mark for each code but the first: alike for each width.
+macro_rules! allowed {
+    ($packed:expr, $m:expr, $marks:expr, $number:ty) => {{
+        if $m < HEAD {
+            return true;
+        }
+        // a mark at each A but the first code: where both bits of its pair are zero
+        let a = $marks - (($packed | ($packed >> 1)) & $marks);
+        let apart = (a & (a >> 2)) == 0;
+        let head = $packed >> (2 * ($m - HEAD));
+        (head != <$number>::from(AAA)) & (head != <$number>::from(ACA)) & apart
+    }};
+}
 
 /// An unsigned number in which the m codes of an m-mer lie, two bits each, the last one lowest.
 pub trait Mmer: Copy {
@@ -26,7 +40,7 @@ pub trait Mmer: Copy {
         requires { packed < 4 ^ most }
         ensures { number result ≡ packed };
 
-    fn to_u128(self) -> u32
+    fn to_u32(self) -> u32
         ensures { result ≡ number self };
 
     fn lesser(self, other: Self) -> Self
@@ -55,7 +69,7 @@ impl Mmer for u16 {
         packed as u16
     }
 
-    fn to_u128(self) -> u32 {
+    fn to_u32(self) -> u32 {
         u32::from(self)
     }
 
@@ -68,14 +82,7 @@ impl Mmer for u16 {
     }
 
     fn is_allowed_with(self, m: usize, marks: u16) -> bool {
-        if m < HEAD {
-            return true;
-        }
-        // a mark at each A but the first code: where both bits of its pair are zero
-        let a = marks - ((self | (self >> 1)) & marks);
-        let apart = (a & (a >> 2)) == 0;
-        let head = self >> (2 * (m - HEAD));
-        (head != AAA) & (head != ACA) & apart
+        allowed!(self, m, marks, u16)
     }
 }
 
@@ -88,7 +95,7 @@ impl Mmer for u32 {
         packed
     }
 
-    fn to_u128(self) -> u32 {
+    fn to_u32(self) -> u32 {
         self
     }
 
@@ -101,13 +108,6 @@ impl Mmer for u32 {
     }
 
     fn is_allowed_with(self, m: usize, marks: u32) -> bool {
-        if m < HEAD {
-            return true;
-        }
-        // a mark at each A but the first code: where both bits of its pair are zero
-        let a = marks - ((self | (self >> 1)) & marks);
-        let apart = (a & (a >> 2)) == 0;
-        let head = self >> (2 * (m - HEAD));
-        (head != u32::from(AAA)) & (head != u32::from(ACA)) & apart
+        allowed!(self, m, marks, u32)
     }
 }

@@ -1,7 +1,7 @@
 //! Runs of neighbouring words of one signature.
 ghost use Rattle.std.specs.Prelude.{◌≡◌, ℕ, ◌^◌, ◌<◌, ◌≤◌, length, map, take, slice_index, OnOk};
 ghost use Rattle.kmc_split.specs.Cut.{AreRuns};
-ghost use Rattle.kmc_split.specs.Offers.{unmarked};
+ghost use Rattle.kmc_split.specs.Candidates.{unmarked};
 ghost use Rattle.kmc_split.specs.Rows.{IsRow, AreRowEnds, Last, MayFollow};
 
 use crate::mmer::Mmer;
@@ -69,7 +69,7 @@ pub(crate) fn push_row(
     Ok(())
 }
 
-/// The runs of words whose m-mers offer these values at the least. `ends` is to be used again.
+/// The runs of words whose least candidates are these. `ends` is to be used again.
 pub(crate) fn group<V: Mmer>(
     values: &[V],
     m: usize,
@@ -88,11 +88,11 @@ pub(crate) fn group<V: Mmer>(
     let count = row_ends(values, ends);
     let mut start = 0;
     for end in &ends[..count] {
-        push_row(Sig::of_least(values[start].to_u128(), m), start, *end, runs)?;
+        push_row(Sig::of_least(values[start].to_u32(), m), start, *end, runs)?;
         start = *end;
     }
     push_row(
-        Sig::of_least(values[start].to_u128(), m),
+        Sig::of_least(values[start].to_u32(), m),
         start,
         values.len(),
         runs,

@@ -1,9 +1,9 @@
 //! Signatures of words.
 ghost use Rattle.std.specs.Prelude.{◌≡◌, ◌^◌, ◌%◌, ◌<◌, ◌≤◌};
 ghost use Rattle.kmc_split.specs.Signature.{bin_of_signature};
-ghost use Rattle.kmc_split.specs.Offers.{unmarked};
+ghost use Rattle.kmc_split.specs.Candidates.{unmarked};
 
-use crate::judge::none_of;
+use crate::marking::none_of;
 use crate::remainders::remainder;
 use std::marker::Model;
 
@@ -40,7 +40,7 @@ impl Sig {
         Sig { value }
     }
 
-    /// The signature of a word whose m-mers offer this at the least: 4^m where that is the mark 4^m - 1 of none that is allowed.
+    /// The signature of a word whose least candidate is this: 4^m where that is the mark 4^m - 1 of none that is allowed.
     pub fn of_least(least: u32, m: usize) -> Sig
         requires most { m ≤ MAX_M }
         requires fits { least < 4 ^ m }

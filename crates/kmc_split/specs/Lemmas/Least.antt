@@ -1,4 +1,4 @@
--- The signature of a word as the least of what its m-mers offer.
+-- The signature of a word as the least candidate of its m-mers.
 use Rattle.std.proofs.Common.{◌≡◌, ℕ, suc, zero, ◌+◌, ◌-◌, ◌*◌, ◌^◌, ◌<◌, ◌≤◌, ◌⊎◌, inl, inr, Bool, true, false, cond, nat_eq, slice_index, List, [], ◌∷◌, length, drop, take, map, min, refl, sym, ap, subst, ◌∙◌, arith, add-zero, le_refl}
 use Rattle.std.specs.List.{filter, range_with_len}
 use Rattle.std.proofs.lemmas.List.{drop-drop}
@@ -13,7 +13,7 @@ use Rattle.kmc_base.specs.Lemmas.Powers.{pow_some}
 use Rattle.kmc_split.specs.declared.runs.Run.{Run}
 use Rattle.kmc_split.specs.Cut.{AreRuns, IsCut}
 use Rattle.kmc_split.specs.Signature.{is_allowed, least, signature_of}
-use Rattle.kmc_split.specs.Offers.{offer, packed_offer, unmarked}
+use Rattle.kmc_split.specs.Candidates.{value_or, candidate, packed_candidate, unmarked}
 use Rattle.kmc_split.specs.Minima.{low}
 use Rattle.kmc_base.specs.Lemmas.Windows.{length_window}
 use Rattle.kmc_split.specs.Lemmas.Lowest.{low_shift}
@@ -29,12 +29,8 @@ signature_fits m w = least_le (4 ^ m) (map pack (filter is_allowed (map canonica
 abbrev pub least_form : ℕ → ℕ → List ℕ → ℕ
 least_form most m w = least most (map pack (filter is_allowed (map canonical (windows m w))))
 
--- the value of a canonical form, or `most`
-abbrev pub worth : ℕ → List ℕ → ℕ
-worth most v = cond (is_allowed v) (pack v) most
-
 least_one : (most : ℕ) (v : List ℕ) (vs : List (List ℕ))
-    → least most (map pack (filter is_allowed (v ∷ vs))) ≡ min (min most (worth most v)) (least most (map pack (filter is_allowed vs)))
+    → least most (map pack (filter is_allowed (v ∷ vs))) ≡ min (min most (value_or most v)) (least most (map pack (filter is_allowed vs)))
 least_one most v vs = go (is_allowed v)
   where
     go : (b : Bool) → least most (map pack (cond b (v ∷ filter is_allowed vs) (filter is_allowed vs))) ≡ min (min most (cond b (pack v) most))
@@ -43,19 +39,19 @@ least_one most v vs = go (is_allowed v)
     go false = omega (arith, least_le most (map pack (filter is_allowed vs)))
 
 module _ (most : ℕ) (f : ℕ → List ℕ) (at : ℕ → ℕ) where
-  -- n + 1 words from place a on, whose offers stand from place i on
-  least_is : (n a i : ℕ) → ((j : ℕ) → j ≤ n → at (i + j) ≡ min most (worth most (canonical (f (a + j)))))
+  -- n + 1 words from place a on, whose candidates stand from place i on
+  least_is : (n a i : ℕ) → ((j : ℕ) → j ≤ n → at (i + j) ≡ min most (value_or most (canonical (f (a + j)))))
       → least most (map pack (filter is_allowed (map canonical (map f (range_with_len a (suc n)))))) ≡ low at (suc n) i
   least_is zero a i each =
-      let here : at i ≡ min most (worth most (canonical (f a))) = ap at (sym (add-zero i)) ∙ each 0 (omega arith) ∙ ap
-      (λ (j : ℕ). min most (worth most (canonical (f j)))) (add-zero a) in
+      let here : at i ≡ min most (value_or most (canonical (f a))) = ap at (sym (add-zero i)) ∙ each 0 (omega arith) ∙ ap
+      (λ (j : ℕ). min most (value_or most (canonical (f j)))) (add-zero a) in
       least_one most (canonical (f a)) [] ∙ omega (arith, here)
   least_is (suc n) a i each =
-      let here : at i ≡ min most (worth most (canonical (f a))) = ap at (sym (add-zero i)) ∙ each 0 (omega arith) ∙ ap
-      (λ (j : ℕ). min most (worth most (canonical (f j)))) (add-zero a) in
+      let here : at i ≡ min most (value_or most (canonical (f a))) = ap at (sym (add-zero i)) ∙ each 0 (omega arith) ∙ ap
+      (λ (j : ℕ). min most (value_or most (canonical (f j)))) (add-zero a) in
       let rest = least_is n (a + 1) (i + 1)
       (λ j h. let e : i + 1 + j ≡ i + (j + 1) = omega arith in let d : a + (j + 1) ≡ a + 1 + j = omega arith in ap at e ∙ each (j + 1) (omega arith)
-      ∙ ap (λ (x : ℕ). min most (worth most (canonical (f x)))) d) in
+      ∙ ap (λ (x : ℕ). min most (value_or most (canonical (f x)))) d) in
       least_one most (canonical (f a)) (map canonical (map f (range_with_len (a + 1) (suc n))))
       ∙ (λ t. min (sym here t) (rest t))
 
@@ -78,21 +74,21 @@ window_window m k i j xs h = window_take m k j (drop i xs) h ∙ ap (take m) (dr
 
 -- ---- the signature of a word
 
--- a packed canonical form offers what the word does
-pub packed_offer_is : (m x : ℕ) (v : List ℕ) → x < 4 ^ m → unpack m x ≡ canonical v → packed_offer m x ≡ offer m v
-packed_offer_is m x v fits is =
+-- the candidate of a packed canonical form is the word's
+pub packed_candidate_is : (m x : ℕ) (v : List ℕ) → x < 4 ^ m → unpack m x ≡ canonical v → packed_candidate m x ≡ candidate m v
+packed_candidate_is m x v fits is =
     let number : x ≡ pack (canonical v) = sym (pack_of_unpack m x fits) ∙ ap pack is in
     (λ i. cond (is_allowed (is i)) (number i) (4 ^ m - 1))
 
--- of a whole word, whose m-mers are worth what stands at their places, capped
+-- of a whole word, whose m-mers have the values that stand at their places, capped
 pub least_form_is : (most m n : ℕ) (w : List ℕ) (at : ℕ → ℕ) → length w ≡ m + n
-    → ((j : ℕ) → j ≤ n → at j ≡ min most (worth most (canonical (window m w j))))
+    → ((j : ℕ) → j ≤ n → at j ≡ min most (value_or most (canonical (window m w j))))
     → low at (suc n) 0 ≡ least_form most m w
 least_form_is most m n w at long each =
     let count : length w + 1 - m ≡ suc n = omega arith in
     sym (ap (λ (c : ℕ). least most (map pack (filter is_allowed (map canonical (map (window m w) (range_with_len 0 c)))))) count
     ∙ least_is most (window m w) at n 0 0
-    (λ j h. let e : 0 + j ≡ j = omega arith in ap at e ∙ each j h ∙ ap (λ (x : ℕ). min most (worth most (canonical (window m w x)))) (sym e)))
+    (λ j h. let e : 0 + j ≡ j = omega arith in ap at e ∙ each j h ∙ ap (λ (x : ℕ). min most (value_or most (canonical (window m w x)))) (sym e)))
 
 below_last : {a b : ℕ} → a < b → a ≤ b - 1
 below_last h = omega arith
@@ -167,25 +163,25 @@ unmarked_is m w some within h =
     unmark_least (4 ^ m - 1) (4 ^ m) below (window m w) (length w + 1 - m) 0
     (λ j inside. form_below m (window m w (0 + j)) some (length_window m (0 + j) w (omega arith)) (codes_part m (0 + j) w h))
 
--- ---- from what the m-mers offer
+-- ---- from the candidates of the m-mers
 
 -- of a whole word
 pub signature_low : (m n : ℕ) (w : List ℕ) (at : ℕ → ℕ) → 1 ≤ m → length w ≡ m + n → AreCodes w
-    → ((j : ℕ) → j ≤ n → at j ≡ offer m (window m w j)) → ((j : ℕ) → j ≤ n → at j < 4 ^ m)
+    → ((j : ℕ) → j ≤ n → at j ≡ candidate m (window m w j)) → ((j : ℕ) → j ≤ n → at j < 4 ^ m)
     → unmarked m (low at (suc n) 0) ≡ signature_of m w
 signature_low m n w at some long h is fit =
     ap (unmarked m) (least_form_is (4 ^ m - 1) m n w at long
-    (λ j inside. min_is (at j) (4 ^ m - 1) (offer m (window m w j)) (is j inside) (below_last (fit j inside))))
+    (λ j inside. min_is (at j) (4 ^ m - 1) (candidate m (window m w j)) (is j inside) (below_last (fit j inside))))
     ∙ unmarked_is m w some (omega arith) h
 
--- of the word at place i, by what the m-mers of the whole list offer
+-- of the word at place i, by the candidates of the whole list
 pub signature_at : (m n k i : ℕ) (xs : List ℕ) (at : ℕ → ℕ) → 1 ≤ m → m + n ≡ k → i + k ≤ length xs → AreCodes xs
-    → ((j : ℕ) → j + m ≤ length xs → at j ≡ offer m (window m xs j)) → ((j : ℕ) → j + m ≤ length xs → at j < 4 ^ m)
+    → ((j : ℕ) → j + m ≤ length xs → at j ≡ candidate m (window m xs j)) → ((j : ℕ) → j + m ≤ length xs → at j < 4 ^ m)
     → unmarked m (low at (suc n) i) ≡ signature_of m (window k xs i)
 signature_at m n k i xs at some whole inside h is fit =
     ap (unmarked m) (low_shift at (λ (j : ℕ). at (i + j)) n i 0 (λ d h. let e : i + d ≡ i + (0 + d) = omega arith in ap at e))
     ∙ signature_low m n (window k xs i) (λ (j : ℕ). at (i + j)) some (omega (arith, length_window k i xs inside)) (codes_part k i xs h)
-    (λ j less. is (i + j) (omega arith) ∙ sym (ap (offer m) (window_window m k i j xs (omega arith))))
+    (λ j less. is (i + j) (omega arith) ∙ sym (ap (candidate m) (window_window m k i j xs (omega arith))))
     (λ j less. fit (i + j) (omega arith))
 
 -- m-mers of no symbols
@@ -207,11 +203,11 @@ module _ (at bt : ℕ → ℕ) (end : ℕ) (same : (i : ℕ) → i < end → at 
       let inside = starts_within at end (p + r.words) rs h.3 in
       (h.0, record { some = h.1.some; most = h.1.most; one = λ i from to. sym (same i (omega arith)) ∙ h.1.one i from to }, h.2, same_runs (p + r.words) rs h.3)
 
--- ---- the cut, from offers, least values and runs
+-- ---- the cut, from candidates, least values and runs
 
 pub cut_is : (m k : ℕ) (codes values lowest : List ℕ) (runs : List Run) → 1 ≤ m → m ≤ k → k ≤ length codes → AreCodes codes
     → length values + m ≡ length codes + 1
-    → ((i : ℕ) → i < length values → slice_index values i ≡ offer m (window m codes i)) → ((i : ℕ) → i < length values → slice_index values i < 4 ^ m)
+    → ((i : ℕ) → i < length values → slice_index values i ≡ candidate m (window m codes i)) → ((i : ℕ) → i < length values → slice_index values i < 4 ^ m)
     → length lowest + (k - (m - 1)) ≡ length values + 1 → ((i : ℕ) → i < length lowest → slice_index lowest i ≡ low (slice_index values) (k - (m - 1)) i)
     → AreRuns (λ i. unmarked m (slice_index lowest i)) 0 (length lowest) runs → IsCut k m codes runs
 cut_is m k codes values lowest runs some within long are_codes values_long is fit lowest_long least_each h =

@@ -55,16 +55,16 @@ module _ (at : ℕ → ℕ) where
           ]
 
 -- the least values of a list's windows are below what its values are below
-pub lows_fit : (most w : ℕ) (values lows : List ℕ) → 1 ≤ w → length lows + w ≡ length values + 1
-    → ((i : ℕ) → i < length lows → slice_index lows i ≡ low (slice_index values) w i) → ((i : ℕ) → i < length values → slice_index values i ≤ most)
-    → (i : ℕ) → i < length lows → slice_index lows i ≤ most
-lows_fit most w values lows some long is fit i inside =
+pub minima_fit : (most w : ℕ) (values minima : List ℕ) → 1 ≤ w → length minima + w ≡ length values + 1
+    → ((i : ℕ) → i < length minima → slice_index minima i ≡ low (slice_index values) w i) → ((i : ℕ) → i < length values → slice_index values i ≤ most)
+    → (i : ℕ) → i < length minima → slice_index minima i ≤ most
+minima_fit most w values minima some long is fit i inside =
     let found = low_is (slice_index values) w i some in
     let below : slice_index values found.0 ≤ most = fit found.0 (omega arith) in
-    let here : slice_index lows i ≡ slice_index values found.0 = is i inside ∙ found.3 in
+    let here : slice_index minima i ≡ slice_index values found.0 = is i inside ∙ found.3 in
     omega arith
 
--- the offers of two rows of places agree
+-- the candidates of two rows of places agree
 pub low_shift : (at bt : ℕ → ℕ) (w i j : ℕ) → ((d : ℕ) → d ≤ w → at (i + d) ≡ bt (j + d)) → low at (suc w) i ≡ low bt (suc w) j
 low_shift at bt zero i j same = ap at (sym (add-zero i)) ∙ same 0 (omega arith) ∙ ap bt (add-zero j)
 low_shift at bt (suc w) i j same =

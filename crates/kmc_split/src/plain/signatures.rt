@@ -5,7 +5,7 @@ ghost use Rattle.kmc_base.specs.Words.{canonical};
 ghost use Rattle.kmc_base.specs.Packed.{unpack};
 ghost use Rattle.kmc_split.specs.Signature.{is_allowed, signature_of};
 
-use crate::judge::{marks_for, offers};
+use crate::marking::{candidates, marks_for};
 use crate::mmer::Mmer;
 use crate::plain::minima::lowest;
 use crate::signatures::{MAX_M, Sig};
@@ -49,7 +49,7 @@ pub fn signature(w: &Kmer, m: usize) -> Sig
     signature_in(&codes[..k], m, &mut room[..k + 1 - m])
 }
 
-/// The signature of a word, worked out in room for the offers of its m-mers.
+/// The signature of a word, worked out in room for the candidates of its m-mers.
 fn signature_in(codes: &[u8], m: usize, room: &mut [u32]) -> Sig
     requires some { 1 ≤ m }
     requires most { m ≤ MAX_M }
@@ -59,7 +59,7 @@ fn signature_in(codes: &[u8], m: usize, room: &mut [u32]) -> Sig
     ensures is { result ≡ signature_of m codes.now }
     ensures most { result ≤ 4 ^ m }
 {
-    offers(codes, m, room);
+    candidates(codes, m, room);
     Sig::of_least(lowest(room), m)
 }
 

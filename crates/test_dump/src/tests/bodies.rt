@@ -75,7 +75,7 @@ pub(crate) fn has_pairs<W: PackedKmer + Drop, C: CountWidth + Drop>(
             return false;
         }
         let pair = list.get(i);
-        if pair.0.to_u128() != packed(word) || pair.1.to_u128() != *count {
+        if pair.0.to_u128() != packed(word) || pair.1.to_u64() != *count {
             return false;
         }
     }

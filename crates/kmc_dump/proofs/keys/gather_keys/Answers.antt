@@ -59,7 +59,7 @@ loop-i-preserved g c =
     let next : i + 1 - b ≡ (i - b) + 1 = omega (arith, c.loop-i.auto.i) in
     let place : b + (i - b) ≡ i = omega (arith, c.loop-i.auto.i) in
     let pair : f key ≡ (g.W.PackedKmer.number c.get-word.result.0, g.C.CountWidth.count c.get-word.result.1) = ap (λ t. key_pair c.args.least t key)
-    (sym c.bits-bits.ensures.is) ∙ c.key_of.ensures ∙ (λ j. (c.to_u128.ensures j, c.to_u128-in-loop-i.ensures.is j)) in
+    (sym c.bits-bits.ensures.is) ∙ c.key_of.ensures ∙ (λ j. (c.to_u128.ensures j, c.to_u64.ensures.is j)) in
     record {
       capacity = omega (arith, c.loop-i.invariant.capacity, c.push.ensures.capacity);
       pairs = ap (map f) items ∙ map-append f now (key ∷ [])

@@ -1,7 +1,7 @@
 use Rattle.std.proofs.Common.{◌≡◌, ℕ, ◌<◌, List, length, map, take, slice_index, sym, ap, subst, ◌∙◌, refl, arith}
 use Rattle.std.proofs.lemmas.List.{with_items_is}
 use Rattle.kmc_split.specs.Cut.{AreRuns}
-use Rattle.kmc_split.specs.Offers.{unmarked}
+use Rattle.kmc_split.specs.Candidates.{unmarked}
 use Rattle.kmc_split.specs.Rows.{AreRowEnds, Last, MayFollow}
 use Rattle.kmc_split.specs.Lemmas.Numbers.{read_is}
 use Rattle.kmc_split.proofs.RowEnds.{next_row, before_end, other_may_follow, unmarked_apart}
@@ -39,7 +39,7 @@ of_least-requires-clause-fits g c =
     let next = next_row (slice_index (map f values)) start (length values) c.loop-end.end-index
     (take c.row_ends-count.result c.deref.result.now) c.loop-end-test.true c.loop-end.invariant.rows in
     let inside : start < length values = omega (arith, next.0, next.1) in
-    let is : c.to_u128.result ≡ slice_index (map f values) start = c.to_u128.ensures
+    let is : c.to_u32.result ≡ slice_index (map f values) start = c.to_u32.ensures
     ∙ read_is f values start c.index-values-start.result inside c.index-values-start.is in
     omega (arith, is, c.requires.fit start inside)
 
@@ -54,7 +54,7 @@ loop-end-preserved g c =
     (take c.row_ends-count.result c.deref.result.now) c.loop-end-test.true c.loop-end.invariant.rows in
     let inside : start < length values = omega (arith, next.0, next.1) in
     let signature : c.of_least.result ≡ unmarked m (at start) = c.of_least.ensures
-    ∙ ap (unmarked m) (c.to_u128.ensures ∙ read_is f values start c.index-values-start.result inside c.index-values-start.is) in
+    ∙ ap (unmarked m) (c.to_u32.ensures ∙ read_is f values start c.index-values-start.result inside c.index-values-start.is) in
     let end_inside = before_end at _ (length values) _ next.4 in
     record {
       rows = next.4;

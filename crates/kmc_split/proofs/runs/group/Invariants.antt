@@ -1,6 +1,6 @@
 use Rattle.std.proofs.Common.{length, map, drop, slice_index}
 use Rattle.kmc_split.specs.Cut.{AreRuns}
-use Rattle.kmc_split.specs.Offers.{unmarked}
+use Rattle.kmc_split.specs.Candidates.{unmarked}
 use Rattle.kmc_split.specs.Rows.{AreRowEnds, MayFollow}
 use Rattle.kmc_split.proofs.runs.group.Given as goal
 

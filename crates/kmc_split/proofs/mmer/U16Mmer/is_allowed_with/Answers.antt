@@ -9,4 +9,4 @@ pub returns-then-m-lt-HEAD : goal.returns-then-m-lt-HEAD
 returns-then-m-lt-HEAD c = sym (short_is_allowed (unpack c.args.m c.args.self) (omega (arith, length_unpack c.args.m c.args.self)))
 
 pub returns : goal.returns
-returns c = allowed_long c.args.m c.args.self c.args.marks (omega arith) c.requires.fits c.requires.marks
+returns c = rw (c.from.ensures, c.from-2.ensures) (allowed_long c.args.m c.args.self c.args.marks (omega arith) c.requires.fits c.requires.marks)

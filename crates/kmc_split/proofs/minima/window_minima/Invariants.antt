@@ -1,6 +1,6 @@
 use Rattle.std.proofs.Common.{◌-◌, ◌≡◌, ℕ, ◌+◌, ◌<◌, ◌≤◌, length, map, slice_index}
 use Rattle.kmc_split.specs.Minima.{low}
-use Rattle.kmc_split.proofs.minima.lows.Given as goal
+use Rattle.kmc_split.proofs.minima.window_minima.Given as goal
 
 -- each value is the least of `width` in a row
 abbrev pub invariant-loop-width : goal.invariant-loop-width

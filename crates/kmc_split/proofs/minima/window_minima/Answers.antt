@@ -2,7 +2,7 @@ use Rattle.std.proofs.Common.{◌≡◌, ℕ, ◌+◌, ◌<◌, length, map, sli
 use Rattle.std.proofs.lemmas.List.{with_items_is}
 use Rattle.kmc_base.specs.Lemmas.Powers.{pow_some}
 use Rattle.kmc_split.specs.Lemmas.Lowest.{low_join}
-use Rattle.kmc_split.proofs.minima.lows.Goals as goal
+use Rattle.kmc_split.proofs.minima.window_minima.Goals as goal
 
 pub of_packed-requires : goal.of_packed-requires
 of_packed-requires g c = omega (arith, pow_some g.V.Mmer.most)

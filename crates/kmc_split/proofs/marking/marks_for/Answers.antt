@@ -1,6 +1,6 @@
 use Rattle.std.proofs.Common.{◌+◌, ◌*◌, arith, ap, ◌∙◌, sym, ℕ}
 use Rattle.kmc_split.proofs.Pairs.{marks_room, pair_marks_more}
-use Rattle.kmc_split.proofs.judge.marks_for.Goals as goal
+use Rattle.kmc_split.proofs.marking.marks_for.Goals as goal
 
 pub overflow_mul-marks : goal.overflow_mul-marks
 overflow_mul-marks c = omega (arith, marks_room c.loop-i._i (omega arith))

@@ -1,6 +1,6 @@
 use Rattle.std.proofs.Common.{rules}
 use Rattle.std.proofs.lemmas.Fmt.{length-decimal-le}
-use Rattle.kmc_lists.proofs.count_width.U64CountWidth.to_u128.Goals as goal
+use Rattle.kmc_lists.proofs.count_width.U64CountWidth.to_u64.Goals as goal
 
 pub returns-clause-short : goal.returns-clause-short
 returns-clause-short c = search (rules, length-decimal-le 20)

@@ -1,20 +1,24 @@
--- What each m-mer offers as a signature, and how the test on m-mers lies in bits.
+-- The candidates for a signature, and how the test on m-mers lies in bits.
 use Rattle.std.specs.Prelude.{ℕ, ◌+◌, ◌-◌, ◌*◌, ◌^◌, cond, nat_eq, List}
 use Rattle.std.proofs.Common.{zero, suc}
 use Rattle.kmc_base.specs.Words.{canonical}
 use Rattle.kmc_base.specs.Packed.{pack, unpack}
 use Rattle.kmc_split.specs.Signature.{is_allowed}
 
+-- the value of a canonical form where that is allowed, else another number
+abbrev pub value_or : ℕ → List ℕ → ℕ
+value_or other v = cond (is_allowed v) (pack v) other
+
 -- the value of the canonical form where that is allowed, else the mark 4 ^ m - 1, which is the value of no canonical form of one code
 -- or more: so m codes hold it
-abbrev pub offer : ℕ → List ℕ → ℕ
-offer m v = cond (is_allowed (canonical v)) (pack (canonical v)) (4 ^ m - 1)
+abbrev pub candidate : ℕ → List ℕ → ℕ
+candidate m v = value_or (4 ^ m - 1) (canonical v)
 
 -- the same of a packed canonical form
-abbrev pub packed_offer : ℕ → ℕ → ℕ
-packed_offer m p = cond (is_allowed (unpack m p)) p (4 ^ m - 1)
+abbrev pub packed_candidate : ℕ → ℕ → ℕ
+packed_candidate m p = cond (is_allowed (unpack m p)) p (4 ^ m - 1)
 
--- the signature that the least of some offers is: 4 ^ m in place of the mark
+-- the signature that the least of some candidates is: 4 ^ m in place of the mark
 abbrev pub unmarked : ℕ → ℕ → ℕ
 unmarked m least = cond (nat_eq least (4 ^ m - 1)) (4 ^ m) least
 
