@@ -4,7 +4,7 @@
 usage: damaged.py [--seed N] [--tries N] [--answers]
 
 A body is made of the records of super-k-mers of one bin, then one byte of it is changed, left out or added, or its end cut off,
-or nothing is done to it. The program tells for each body what `count_bin` and `part_of_body` answer: the dump and the number of
+or nothing is done to it. The program tells for each body what `count_bin` and `Part::from_body` answer: the dump and the number of
 words, or the first fault and where the record begins that has it. The decoder below is written from the rules of records,
 signatures and bins. The variable BODIES names another program. With --answers no program is run: the rows of standard input are
 answered.

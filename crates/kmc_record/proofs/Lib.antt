@@ -1,12 +1,9 @@
 mod Belonging
-mod Bins
 mod Chunks
 mod Faultless
 mod Filling
 mod Laying
-mod MinimaOfParts
 mod PackedBytes
 mod Parcels
 mod Quarters
-mod Sliding
 mod Turned

@@ -7,13 +7,12 @@ ghost use Rattle.kmc_record.specs.RecordKeys.{codes_of};
 ghost use Rattle.kmc_record.specs.Bodies.{AreKnown, Belong, IsFirstError};
 ghost use Rattle.kmc_record.specs.declared.record_keys.TheConstants.{MOST_KEY_SYMBOLS};
 
-use crate::part::Part;
 use crate::part_error::PartError;
 use crate::record::first_symbols;
 use crate::record_keys::{MOST_KEY_SYMBOLS, record_key};
 use crate::shape::Shape;
-use crate::words::words_in_bin;
 use kmc_base::{MAX_K, Strands};
+use kmc_split::words_in_bin;
 
 /// The most codes that the bytes of a record have, with those behind its last symbol.
 const MOST_CODES: usize = (MAX_K + 258) / 4 * 4;
@@ -136,7 +135,12 @@ fn is_of_bin(
 
 /// How many words the body has, and 2^64 - 1 where they are more, if it is whole records of the bin. It makes nothing in
 /// memory: the symbols of one record after the other are unpacked into the same room. Records that are known are not judged.
-fn count_known(body: &[u8], bin: usize, shape: Shape, known: &mut [u128]) -> Result<u64, PartError>
+pub(crate) fn count_known(
+    body: &[u8],
+    bin: usize,
+    shape: Shape,
+    known: &mut [u128],
+) -> Result<u64, PartError>
     requires bin { bin < shape.n }
     requires known { AreKnown bin shape known.old }
     ensures ok { IfOk result (λ words. IsPart bin shape body.now words) }
@@ -182,27 +186,4 @@ pub fn count_words(
     room.clear();
     let _ = room.resize(body.len() / BYTES_OF_A_PLACE, 0);
     count_known(body, bin, shape, room.as_mut_slice())
-}
-
-/// The part of a body, where that is whole records whose words belong to the bin; else the first fault in the order
-/// of the body, damage before a wrong bin within one record, with the same body.
-pub fn part_of_body(
-    chunk: u64,
-    bin: usize,
-    shape: Shape,
-    body: Vec<u8>,
-) -> Result<Part, (PartError, Vec<u8>)>
-    requires { bin < shape.n }
-    ensures chunk { IfOk result (λ p. p.chunk ≡ chunk) }
-    ensures bin { IfOk result (λ p. p.bin ≡ bin) }
-    ensures shape { IfOk result (λ p. p.shape ≡ shape) }
-    ensures body { IfOk result (λ p. p.body ≡ body.items) }
-    ensures part { IfOk result (λ p. IsPart bin shape body.items p.words) }
-    ensures first { IfErr result (λ e. IsFirstError bin shape e.0 body.items) }
-    ensures back { IfErr result (λ e. e.1.items ≡ body.items) }
-{
-    match count_known(&body, bin, shape, &mut []) {
-        Ok(words) => Ok(Part::of_body(chunk, bin, shape, body, words)),
-        Err(e) => Err((e, body)),
-    }
 }

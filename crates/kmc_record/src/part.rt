@@ -1,11 +1,14 @@
 //! The records of one chunk for one bin.
-ghost use Rattle.std.specs.Prelude.{◌≡◌, ◌+◌, ◌*◌, ◌%◌, ◌<◌, ◌≤◌, nat_lt, [], ◌∷◌, length, OnOk, OnErr};
+ghost use Rattle.std.specs.Prelude.{◌≡◌, ◌+◌, ◌*◌, ◌%◌, ◌<◌, ◌≤◌, nat_lt, [], ◌∷◌, length, OnOk, OnErr, IfOk, IfErr};
 ghost use Rattle.std.specs.List.{All};
 ghost use Rattle.kmc_base.specs.Words.{window, windows};
 ghost use Rattle.kmc_split.specs.Signature.{bin_of};
 ghost use Rattle.kmc_base.specs.Record.{IsSpelled, codes_in};
+ghost use Rattle.kmc_record.specs.Bodies.{IsFirstError};
 ghost use Rattle.kmc_record.specs.Parts.{Parcel, grown, empty_part, IsPart};
 
+use crate::belong::count_known;
+use crate::part_error::PartError;
 use crate::shape::Shape;
 use kmc_base::push_record_from;
 use std::alloc::{AllocError, Global};
@@ -33,7 +36,7 @@ impl Model for Part {
 
 impl Part {
     /// The part of a body that is whole records whose words belong to the bin, with how many words they have, or 2^64 - 1 where
-    /// they are more. `part_of_body` makes one of a body that is not known to be so.
+    /// they are more. [`Part::from_body`] makes one of a body that is not known to be so.
     pub fn of_body(chunk: u64, bin: usize, shape: Shape, body: Vec<u8>, words: u64) -> Part
         requires { IsPart bin shape body.items words }
         ensures { result ≡ record { chunk = chunk; bin = bin; shape = shape; body = body.items; words = words } }
@@ -44,6 +47,29 @@ impl Part {
             shape,
             body,
             words,
+        }
+    }
+
+    /// The part of a body, where that is whole records whose words belong to the bin; else the first fault in the order
+    /// of the body, damage before a wrong bin within one record, with the same body.
+    pub fn from_body(
+        chunk: u64,
+        bin: usize,
+        shape: Shape,
+        body: Vec<u8>,
+    ) -> Result<Part, (PartError, Vec<u8>)>
+        requires { bin < shape.n }
+        ensures chunk { IfOk result (λ p. p.chunk ≡ chunk) }
+        ensures bin { IfOk result (λ p. p.bin ≡ bin) }
+        ensures shape { IfOk result (λ p. p.shape ≡ shape) }
+        ensures body { IfOk result (λ p. p.body ≡ body.items) }
+        ensures part { IfOk result (λ p. IsPart bin shape body.items p.words) }
+        ensures first { IfErr result (λ e. IsFirstError bin shape e.0 body.items) }
+        ensures back { IfErr result (λ e. e.1.items ≡ body.items) }
+    {
+        match count_known(&body, bin, shape, &mut []) {
+            Ok(words) => Ok(Part::of_body(chunk, bin, shape, body, words)),
+            Err(e) => Err((e, body)),
         }
     }
 

@@ -1,7 +1,10 @@
+mod Bins
 mod Grouping
 mod Kept
+mod MinimaOfParts
 mod Pairs
 mod Rolled
 mod RowEnds
+mod Sliding
 mod Unique
 mod Whole

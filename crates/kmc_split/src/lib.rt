@@ -4,6 +4,7 @@
 //! signature, that a segment has one cut, and that the cut loses and doubles no word. [`SuperKmer`] holds one as a value.
 #![tactic(auto)]
 
+mod belonging;
 mod cutting;
 pub mod laws;
 mod marking;
@@ -16,6 +17,7 @@ mod runs;
 mod signatures;
 mod values;
 
+pub use belonging::words_in_bin;
 pub use cutting::{Scratch, cut};
 pub use marking::{candidates, marks_for};
 pub use mmer::{MOST_SHORT, Mmer};

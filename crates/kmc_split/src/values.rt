@@ -1,11 +1,14 @@
 //! Super-k-mers.
-ghost use Rattle.std.specs.Prelude.{◌≡◌, ◌+◌, ◌-◌, ◌<◌, ◌≤◌, length, MatchOption, IfOk};
+ghost use Rattle.std.specs.Prelude.{◌≡◌, ◌+◌, ◌-◌, ◌<◌, ◌≤◌, ◌↔◌, length, MatchOption, IfOk, IsTrue};
 ghost use Rattle.std.specs.List.{All};
 ghost use Rattle.kmc_base.specs.Words.{window};
+ghost use Rattle.kmc_split.specs.Signature.{bin_of};
 ghost use Rattle.kmc_split.specs.SuperKmer.{IsSuperKmer, super_kmer_words};
 ghost use Rattle.kmc_split.specs.SuperKmers.{super_kmer_of_run};
 
+use crate::belonging::words_in_bin;
 use crate::runs::Run;
+use crate::signatures::MAX_M;
 use kmc_base::{Kmer, MAX_K};
 use std::alloc::{AllocError, Global};
 use std::marker::Model;
@@ -71,6 +74,17 @@ impl SuperKmer {
         ensures most { result ≤ 256 }
     {
         self.codes.len() - self.k + 1
+    }
+
+    /// Whether the signature of each of its words has this bin, of n bins. The signatures are of m symbols, 0 to 11 and at most as
+    /// many as a word has. It makes nothing in memory.
+    pub fn in_bin(&self, m: usize, n: usize, bin: usize) -> bool
+        requires most { m ≤ MAX_M }
+        requires within { m ≤ self.now.k }
+        requires bins { 1 ≤ n }
+        ensures { IsTrue result ↔ All (λ w. bin_of m n w ≡ bin) (super_kmer_words self.now) }
+    {
+        words_in_bin(self.codes(), self.k(), m, n, bin)
     }
 
     /// The word at a place.

@@ -1,5 +1,5 @@
 //! Judges bodies from outside. Each line of standard input has the sizes k, p and n of a shape, a bin, and a body in hex, which may
-//! be empty. For each line one line tells what `count_bin` answers, with the dump behind it, and one what `part_of_body` does.
+//! be empty. For each line one line tells what `count_bin` answers, with the dump behind it, and one what `Part::from_body` does.
 //! bench/damaged.py compares all of them with a decoder of its own.
 #![tactic(auto)]
 

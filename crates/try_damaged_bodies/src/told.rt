@@ -5,7 +5,7 @@ use kmc_base::{Kmer, Strands};
 use kmc_count::{Limits, count_bin};
 use kmc_device::Counted;
 use kmc_dump::write_dump;
-use kmc_record::{BodyError, PartError, RecordFault, Shape, part_of_body};
+use kmc_record::{Part, BodyError, PartError, RecordFault, Shape};
 use std::alloc::Global;
 use std::io;
 use std::io::ErrorKind;
@@ -62,7 +62,7 @@ fn tell_no_part(rt: &impl Print, error: PartError) -> io::Result<()> {
 pub fn tell_part(rt: &impl Print, shape: Shape, bin: usize, body: Vec<u8>) -> io::Result<()>
     requires { bin < shape.n }
 {
-    match part_of_body(0, bin, shape, body) {
+    match Part::from_body(0, bin, shape, body) {
         Ok(part) => println!(rt; "part: {}", part.words()),
         Err((error, _)) => tell_no_part(rt, error),
     }

@@ -1,6 +1,6 @@
-//! Records: `encode` and `part_of_body`.
+//! Records: `encode` and `Part::from_body`.
 use crate::tell;
-use kmc_record::{Part, PartError, Shape, encode, part_of_body};
+use kmc_record::{Part, PartError, Shape, encode};
 use kmc_split::SuperKmer;
 use std::alloc::{AllocError, Global};
 
@@ -74,7 +74,7 @@ pub fn judge_bodies(rt: &impl Print, alloc: Global) -> Result<(), AllocError> {
     }
     let own = [0, 0x1B, 0, 0x1B].to_vec(alloc)?;
     let other = [0, 0x1B, 0, 0x6C].to_vec(alloc)?;
-    print_part(rt, &part_of_body(0, 6, shape, own));
-    print_part(rt, &part_of_body(0, 6, shape, other));
+    print_part(rt, &Part::from_body(0, 6, shape, own));
+    print_part(rt, &Part::from_body(0, 6, shape, other));
     Ok(())
 }

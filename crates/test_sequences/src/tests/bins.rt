@@ -1,6 +1,6 @@
 //! Bins filled part by part, and merged.
 use crate::tests::given::{assert_number, assert_text, chunk_of, long_read, push_bin, shape_of};
-use kmc_record::{Chunk, Part, Shape, part_of_body, parts_of};
+use kmc_record::{Chunk, Part, Shape, parts_of};
 use kmc_store::{Bins, laws};
 use std::alloc::{AllocError, Global};
 use std::process::Abort;
@@ -143,7 +143,7 @@ fn a_long_run_is_two_records(rt: HostRuntime) -> Result<(), Fail> {
 fn part_from_outside(rt: &impl Abort, alloc: Global, shape: Shape) -> Result<Part, AllocError> {
     assert!(rt; 6 < shape.n());
     let body = [0, 0x1B, 0, 0x1B].to_vec(alloc)?;
-    let part = part_of_body(9, 6, shape, body).ok();
+    let part = Part::from_body(9, 6, shape, body).ok();
     Ok(part.expect(rt, "a part"))
 }
 

@@ -10,7 +10,7 @@ use crate::tests::given::{
 use kmc_base::laws::{body_has_one_list, no_spelling_begins_another};
 use kmc_record::laws::{spelling_has_no_fault, whole_body_has_no_fault};
 use kmc_record::{
-    Part, PartError, RecordError, RecordFault, Shape, decode, part_of_body, parts_of,
+    Part, PartError, RecordError, RecordFault, Shape, decode, parts_of,
 };
 use plain::plain_text;
 use rows::rows;
@@ -258,7 +258,7 @@ fn words_of_body(
     bytes: &[u8],
 ) -> Result<Result<u64, PartError>, AllocError> {
     assert!(rt; bin < shape.n());
-    match part_of_body(0, bin, shape, bytes.to_vec(alloc)?) {
+    match Part::from_body(0, bin, shape, bytes.to_vec(alloc)?) {
         Ok(part) => Ok(Ok(part.words())),
         Err((e, back)) => {
             assert_bytes(rt, &back, bytes);

@@ -6,7 +6,6 @@ use crate::tests::given::{
     super_kmer_of, word_of,
 };
 use kmc_base::MAX_K;
-use kmc_record::super_kmer_in_bin;
 use kmc_split::{MAX_M, Run, Scratch, SuperKmer, allowed, cut, laws, signature, super_kmers};
 use rows::rows;
 use std::alloc::{AllocError, Global};
@@ -341,7 +340,7 @@ fn is_in_bin(
 ) -> Result<bool, AllocError> {
     let super_kmer = super_kmer_of(rt, alloc, letters.as_bytes(), 7)?;
     assert!(rt; super_kmer.k() == 7);
-    Ok(super_kmer_in_bin(&super_kmer, 5, 7, bin))
+    Ok(super_kmer.in_bin(5, 7, bin))
 }
 
 #[test]
@@ -356,7 +355,7 @@ fn asks_for_bins_of_signatures_of_no_symbols_and_of_nine(rt: HostRuntime) -> Res
         (9, 0, true),
         (9, 511, false),
     ] {
-        let all = super_kmer_in_bin(&super_kmer, m, 512, bin);
+        let all = super_kmer.in_bin(m, 512, bin);
         assert!(rt; all == want, "{m} in {bin}");
     }
     Ok(())

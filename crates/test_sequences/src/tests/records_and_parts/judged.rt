@@ -1,6 +1,6 @@
 //! Bodies with wrong bytes, judged as a plain body does it: record by record and word by word.
 use crate::tests::given::{chunk_of, mixed_reads, shape_of};
-use kmc_record::{PartError, RecordError, Shape, decode, part_of_body, parts_of};
+use kmc_record::{Part, PartError, RecordError, Shape, decode, parts_of};
 use kmc_split::{SuperKmer, signature};
 use std::alloc::{AllocError, Global};
 use std::process::Abort;
@@ -58,7 +58,7 @@ fn assert_judged(
 ) -> Result<(), AllocError> {
     assert!(rt; bin < shape.n());
     let want = plain_words(rt, alloc, shape, bin, body);
-    let made = match part_of_body(0, bin, shape, body.to_vec(alloc)?) {
+    let made = match Part::from_body(0, bin, shape, body.to_vec(alloc)?) {
         Ok(part) => Ok(part.words()),
         Err((fault, _body)) => Err(fault),
     };

@@ -3,7 +3,7 @@ use Rattle.std.proofs.lemmas.Bool.Decides.{nat_tests}
 use Rattle.kmc_base.specs.Lemmas.Windows.{length_windows}
 use Rattle.kmc_split.specs.Signature.{bin_of, bin_of_signature}
 use Rattle.kmc_split.specs.Lemmas.Least.{no_symbols}
-use Rattle.kmc_record.proofs.words.words_in_bin.Goals as goal
+use Rattle.kmc_split.proofs.belonging.words_in_bin.Goals as goal
 
 -- without symbols all words are of the first bin
 first_bin : (m n : ℕ) (w : List ℕ) → 0 % n ≡ 0 → m ≡ 0 → bin_of m n w ≡ 0

@@ -1,5 +1,5 @@
 use Rattle.std.proofs.Common.{rules}
-use Rattle.kmc_record.proofs.belong.part_of_body.Goals as goal
+use Rattle.kmc_record.proofs.part.Part.from_body.Goals as goal
 
 pub returns-in-Ok-clause-body : goal.returns-in-Ok-clause-body
 returns-in-Ok-clause-body c = search rules

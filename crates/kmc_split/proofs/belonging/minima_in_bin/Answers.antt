@@ -2,9 +2,9 @@ use Rattle.std.proofs.Common.{◌≡◌, ℕ, ◌+◌, ◌%◌, ◌<◌, ◌≤�
 use Rattle.kmc_split.specs.Minima.{low}
 use Rattle.kmc_split.specs.Candidates.{unmarked}
 use Rattle.kmc_split.specs.Lemmas.Lowest.{low_is}
-use Rattle.kmc_record.proofs.MinimaOfParts.{front_low}
-use Rattle.kmc_record.proofs.words.minima_in_bin.Goals as goal
-use Rattle.kmc_record.proofs.words.minima_in_bin.Goals.{else-not-is_same-via-then-not-is_same+else-not-is_in_bin-2, else-not-is_same-via-else-not-is_same}
+use Rattle.kmc_split.proofs.MinimaOfParts.{front_low}
+use Rattle.kmc_split.proofs.belonging.minima_in_bin.Goals as goal
+use Rattle.kmc_split.proofs.belonging.minima_in_bin.Goals.{else-not-is_same-via-then-not-is_same+else-not-is_in_bin-2, else-not-is_same-via-else-not-is_same}
 
 -- the least of some values fits where they do
 low_fits : (xs : ℕ → ℕ) (top n w i r : ℕ) → 1 ≤ w → i + w ≤ n → ((j : ℕ) → j < n → xs j < top) → r ≡ low xs w i → r < top

@@ -1,9 +1,9 @@
 use Rattle.std.proofs.Common.{ℕ, ◌+◌, ◌<◌, ◌≤◌, map, slice_index, sym, ◌∙◌, arith}
 use Rattle.kmc_split.specs.Minima.{low}
 use Rattle.kmc_split.specs.Lemmas.Numbers.{read_is}
-use Rattle.kmc_record.proofs.MinimaOfParts.{part_low}
-use Rattle.kmc_record.proofs.Sliding.{low_comes, low_stays}
-use Rattle.kmc_record.proofs.words.next_low.Goals as goal
+use Rattle.kmc_split.proofs.MinimaOfParts.{part_low}
+use Rattle.kmc_split.proofs.Sliding.{low_comes, low_stays}
+use Rattle.kmc_split.proofs.belonging.next_low.Goals as goal
 
 pub returns-then-to_u32 : goal.returns-then-to_u32
 returns-then-to_u32 g c =

@@ -5,27 +5,18 @@ ghost use Rattle.kmc_base.specs.Words.{windows};
 ghost use Rattle.kmc_split.specs.Signature.{bin_of, bin_of_signature};
 ghost use Rattle.kmc_split.specs.Candidates.{unmarked};
 ghost use Rattle.kmc_split.specs.Minima.{low};
-ghost use Rattle.kmc_split.specs.SuperKmer.{super_kmer_words};
 
+use crate::marking::candidates;
+use crate::mmer::{MOST_SHORT, Mmer};
+use crate::plain::lowest;
+use crate::signatures::{MAX_M, Sig};
 use kmc_base::MAX_K;
-use kmc_split::{MAX_M, MOST_SHORT, Mmer, Sig, SuperKmer, lowest, candidates};
 
 /// The most symbols of a super-k-mer.
 const MOST_SYMBOLS: usize = MAX_K + 255;
 
-/// Whether the signature of each word of a super-k-mer has this bin, of n bins. The signatures are of m symbols, 0 to 11 and at
-/// most as many as a word has.
-pub fn super_kmer_in_bin(super_kmer: &SuperKmer, m: usize, n: usize, bin: usize) -> bool
-    requires most { m ≤ MAX_M }
-    requires within { m ≤ super_kmer.now.k }
-    requires bins { 1 ≤ n }
-    ensures { IsTrue result
-        ↔ All (λ w. bin_of m n w ≡ bin) (super_kmer_words super_kmer.now) }
-{
-    words_in_bin(super_kmer.codes(), super_kmer.k(), m, n, bin)
-}
-
-/// Whether the signature of each word of k codes in a row has this bin, of n bins: what [`super_kmer_in_bin`] says, for codes
+/// Whether the signature of each word of k codes in a row has this bin, of n bins: what
+/// [`SuperKmer::in_bin`](crate::values::SuperKmer::in_bin) says, for codes
 /// that lie anywhere. The codes are 0 to 3, k to k + 255 of them; m is 0 to 11 and at most k. It makes nothing in memory.
 pub fn words_in_bin(codes: &[u8], k: usize, m: usize, n: usize, bin: usize) -> bool
     requires most { m ≤ MAX_M }

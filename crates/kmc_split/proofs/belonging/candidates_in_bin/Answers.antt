@@ -1,8 +1,8 @@
 use Rattle.std.proofs.Common.{ℕ, ◌<◌, map, arith}
 use Rattle.std.proofs.lemmas.List.{length-map}
 use Rattle.std.proofs.lemmas.List.Elements.{recursion_from_All}
-use Rattle.kmc_record.proofs.Bins.{bins_are}
-use Rattle.kmc_record.proofs.words.candidates_in_bin.Goals as goal
+use Rattle.kmc_split.proofs.Bins.{bins_are}
+use Rattle.kmc_split.proofs.belonging.candidates_in_bin.Goals as goal
 
 pub returns : goal.returns
 returns g c =

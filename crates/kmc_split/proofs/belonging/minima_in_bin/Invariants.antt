@@ -1,7 +1,7 @@
 use Rattle.std.proofs.Common.{◌≡◌, ℕ, ◌≤◌, ◌%◌, map, slice_index}
 use Rattle.kmc_split.specs.Minima.{low}
 use Rattle.kmc_split.specs.Candidates.{unmarked}
-use Rattle.kmc_record.proofs.words.minima_in_bin.Given as goal
+use Rattle.kmc_split.proofs.belonging.minima_in_bin.Given as goal
 
 -- the least one here, and all up to here have the bin
 abbrev pub invariant-loop-i : goal.invariant-loop-i
