@@ -1,5 +1,5 @@
-//! Sixteen writers and eight readers, each in a thread of its own, pass a hundred parts of each writer through a queue whose lanes have
-//! one slot. It tells whether each part came once, in the order of its writer, and whether the totals are right. bench/hostile_threads.sh
+//! Sixteen writers and eight readers, each in a thread of its own, pass a hundred parts of each writer, part n of chunk n, through a queue
+//! whose lanes have one slot. It tells whether each part came once, in the order of its writer, and whether the totals are right. bench/hostile_threads.sh
 //! runs it again and again beside other work.
 #![tactic(auto)]
 
@@ -10,6 +10,7 @@ use crate::many::pass_all;
 use crate::seen::{Seen, WRITERS};
 use kmc_partcore::QueueShape;
 use kmc_partqueue::Lanes;
+use kmc_record::Part;
 use std::io;
 
 const READERS: usize = 8;
@@ -29,9 +30,9 @@ fn main(rt: HostRuntime) -> io::Result<()> {
         per_writer: 1,
         readers: READERS,
     };
-    let (lanes, writers, readers) = Lanes::<u64>::new(rt.alloc(), shape)?;
+    let (lanes, writers, readers) = Lanes::<Part>::new(rt.alloc(), shape)?;
     let seen = Seen::new(rt.alloc())?;
-    match pass_all(&rt, lanes, writers, readers, &seen) {
+    match pass_all(&rt, rt.alloc(), lanes, writers, readers, &seen) {
         Some(totals) => seen.ended(&totals),
         None => seen.note_strange(),
     }

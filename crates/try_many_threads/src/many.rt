@@ -4,10 +4,11 @@ ghost use Rattle.kmc_partqueue.specs.Counts.{Each, total_of, same};
 ghost use Rattle.kmc_partqueue.specs.Dealing.{row_from};
 ghost use Rattle.kmc_partqueue.specs.Seats.{IsWriterOf, IsReaderOf, new_writer, new_reader};
 
-use crate::seen::{EACH, Seen, WRITERS, item_of};
+use crate::seen::{EACH, Seen, WRITERS, part_of};
 use kmc_partcore::{Taken, Totals};
 use kmc_partqueue::{DoneSeat, Lanes, NoGate, ReaderSeat, WriterSeat, put, take};
-use std::alloc::AllocError;
+use kmc_record::Part;
+use std::alloc::{AllocError, Global};
 use std::sync::Wait;
 use std::thread;
 use std::thread::Threads;
@@ -16,17 +17,21 @@ use test_support::gathered;
 /// Puts all parts of a writer, and completes.
 fn put_all<R: Wait>(
     rt: &R,
-    lanes: &Lanes<u64>,
-    mut seat: WriterSeat<u64>,
+    alloc: Global,
+    lanes: &Lanes<Part>,
+    mut seat: WriterSeat<Part>,
     seen: &Seen,
-) -> DoneSeat<u64>
+) -> DoneSeat<Part>
     requires { IsWriterOf lanes.now.table.shared.table_id lanes.now.shape seat }
     ensures { IsWriterOf lanes.now.table.shared.table_id lanes.now.shape result
         × (result.number ≡ seat.number) }
 {
     for number in 0..EACH {
-        let item = item_of(seat.number(), number);
-        if put(lanes, rt, &mut seat, item, &NoGate).ok() != Some(number) {
+        let Some(part) = part_of(alloc, number) else {
+            seen.note_strange();
+            break;
+        };
+        if put(lanes, rt, &mut seat, part, &NoGate).ok() != Some(number) {
             seen.note_strange();
         }
     }
@@ -36,10 +41,10 @@ fn put_all<R: Wait>(
 /// Takes until it is told that the queue is finished, at most once more than there are parts.
 fn take_all<R: Wait>(
     rt: &R,
-    lanes: &Lanes<u64>,
-    mut seat: ReaderSeat<u64>,
+    lanes: &Lanes<Part>,
+    mut seat: ReaderSeat<Part>,
     seen: &Seen,
-) -> ReaderSeat<u64>
+) -> ReaderSeat<Part>
     requires { IsReaderOf lanes.now.table.shared.table_id lanes.now.shape seat }
     ensures { IsReaderOf lanes.now.table.shared.table_id lanes.now.shape result
         × (result.number ≡ seat.number) }
@@ -62,10 +67,11 @@ fn take_all<R: Wait>(
 /// A thread for each writer.
 fn write<R: Threads + Wait + Sync>(
     rt: &R,
-    lanes: &Lanes<u64>,
-    seats: Vec<WriterSeat<u64>>,
+    alloc: Global,
+    lanes: &Lanes<Part>,
+    seats: Vec<WriterSeat<Part>>,
     seen: &Seen,
-) -> Result<Vec<DoneSeat<u64>>, AllocError>
+) -> Result<Vec<DoneSeat<Part>>, AllocError>
     requires { seats.items ≡ row_from
         (new_writer lanes.now.table.shared.table_id lanes.now.shape) 0 lanes.now.shape.writers }
     ensures queue { IfOk result (λ v. Each
@@ -76,21 +82,21 @@ fn write<R: Threads + Wait + Sync>(
     thread::map_vec(
         rt,
         seats,
-        &|seat| -> DoneSeat<u64>
+        &|seat| -> DoneSeat<Part>
             requires { IsWriterOf lanes.now.table.shared.table_id lanes.now.shape seat }
             ensures { IsWriterOf lanes.entry.now.table.shared.table_id lanes.entry.now.shape result
                 × (result.number ≡ seat.number) }
-        { put_all(rt, lanes, seat, seen) },
+        { put_all(rt, alloc, lanes, seat, seen) },
     )
 }
 
 /// A thread for each reader.
 fn read<R: Threads + Wait + Sync>(
     rt: &R,
-    lanes: &Lanes<u64>,
-    seats: Vec<ReaderSeat<u64>>,
+    lanes: &Lanes<Part>,
+    seats: Vec<ReaderSeat<Part>>,
     seen: &Seen,
-) -> Result<Vec<ReaderSeat<u64>>, AllocError>
+) -> Result<Vec<ReaderSeat<Part>>, AllocError>
     requires { seats.items ≡ row_from
         (new_reader lanes.now.table.shared.table_id lanes.now.shape) 0 lanes.now.shape.readers }
     ensures queue { IfOk result (λ v. Each
@@ -101,7 +107,7 @@ fn read<R: Threads + Wait + Sync>(
     thread::map_vec(
         rt,
         seats,
-        &|seat| -> ReaderSeat<u64>
+        &|seat| -> ReaderSeat<Part>
             requires { IsReaderOf lanes.now.table.shared.table_id lanes.now.shape seat }
             ensures { IsReaderOf lanes.entry.now.table.shared.table_id lanes.entry.now.shape result
                 × (result.number ≡ seat.number) }
@@ -113,9 +119,10 @@ fn read<R: Threads + Wait + Sync>(
 /// lane at its end.
 pub fn pass_all<R: Threads + Wait + Sync>(
     rt: &R,
-    lanes: Lanes<u64>,
-    writers: Vec<WriterSeat<u64>>,
-    readers: Vec<ReaderSeat<u64>>,
+    alloc: Global,
+    lanes: Lanes<Part>,
+    writers: Vec<WriterSeat<Part>>,
+    readers: Vec<ReaderSeat<Part>>,
     seen: &Seen,
 ) -> Option<Totals>
     requires writers { writers.items
@@ -126,15 +133,15 @@ pub fn pass_all<R: Threads + Wait + Sync>(
     let queue = &lanes;
     let (written, read) = thread::join(
         rt,
-        move || -> Result<Vec<DoneSeat<u64>>, AllocError>
+        move || -> Result<Vec<DoneSeat<Part>>, AllocError>
             requires { writers.items
                 ≡ row_from (new_writer queue.now.table.shared.table_id queue.now.shape) 0 queue.now.shape.writers }
             ensures queue { IfOk result (λ v. Each
                 (IsWriterOf queue.entry.now.table.shared.table_id queue.entry.now.shape) v.items) }
             ensures numbers { IfOk result (λ v. (w : ℕ) → w < queue.entry.now.shape.writers
                 → total_of (λ s. same s.number w) v.items ≡ 1) }
-        { write(rt, queue, writers, seen) },
-        move || -> Result<Vec<ReaderSeat<u64>>, AllocError>
+        { write(rt, alloc, queue, writers, seen) },
+        move || -> Result<Vec<ReaderSeat<Part>>, AllocError>
             requires { readers.items
                 ≡ row_from (new_reader queue.now.table.shared.table_id queue.now.shape) 0 queue.now.shape.readers }
             ensures queue { IfOk result (λ v. Each

@@ -2,6 +2,7 @@
 ghost use Rattle.std.specs.Prelude.{◌<◌};
 
 use kmc_partcore::{Received, Totals};
+use kmc_record::{Part, Shape};
 use std::alloc::{AllocError, Global};
 use std::sync::atomic::{AtomicBool, AtomicU64, Ordering};
 
@@ -11,11 +12,14 @@ pub const WRITERS: usize = 16;
 /// The parts of each writer.
 pub const EACH: u64 = 100;
 
-/// The part of this number of a writer, told apart from all others.
-pub fn item_of(writer: usize, number: u64) -> u64
-    requires { (writer < 16) × (number < 100) }
-{
-    writer as u64 * 1000 + number
+/// The bin of all parts, of the 7 bins of words of 4 symbols.
+const BIN: usize = 6;
+
+/// Part n of a writer: the records of two words, ACGT twice, as they come from chunk n.
+pub fn part_of(alloc: Global, number: u64) -> Option<Part> {
+    let shape = Shape::new(4, 9, 7)?;
+    let body = [0x00, 0x1b, 0x00, 0x1b].to_vec(alloc).ok()?;
+    Part::from_body(number, BIN, shape, body).ok()
 }
 
 /// How often each part came, the parts of one writer side by side, and whether anything else was seen.
@@ -69,7 +73,7 @@ impl Seen {
     }
 
     /// A reader got the part. Of each writer it has got no part from `least[writer]` on.
-    pub fn came(&self, least: &mut [u64], part: Received<u64>) {
+    pub fn came(&self, least: &mut [u64], part: Received<Part>) {
         let Received {
             writer,
             number,
@@ -79,7 +83,7 @@ impl Seen {
             self.note_strange();
             return;
         }
-        if item != item_of(writer, number) {
+        if item.chunk() != number || item.bin() != BIN || item.words() != 2 {
             self.note_strange();
         }
         self.note_order(least, writer, number);

@@ -9,9 +9,7 @@ use crate::tests::given::{
 };
 use kmc_base::laws::{body_has_one_list, no_spelling_begins_another};
 use kmc_record::laws::{spelling_has_no_fault, whole_body_has_no_fault};
-use kmc_record::{
-    Part, PartError, RecordError, RecordFault, Shape, decode, parts_of,
-};
+use kmc_record::{Part, PartError, RecordError, RecordFault, Shape, decode, parts_of};
 use plain::plain_text;
 use rows::rows;
 use std::alloc::{AllocError, Global};
