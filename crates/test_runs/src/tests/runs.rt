@@ -1,5 +1,6 @@
 //! Runs from text to dump, over devices in memory.
 mod failing;
+mod pieces;
 mod queues;
 mod random_rows;
 mod random_texts;

@@ -8,7 +8,7 @@ mod nothing;
 mod one_thread;
 mod outcome;
 mod points;
-mod records;
+pub mod records;
 mod refused;
 pub mod side_by_side;
 

@@ -1,8 +1,10 @@
 //! Small texts with the dumps that they must give.
 use super::*;
-use crate::tests::settings::{BILLION, settings};
+use crate::tests::settings::{BILLION, settings, sized};
 use crate::tests::texts::{assert_bytes, direct_dump, line_of_a, vectors_of};
+use crate::tests::workers::records::assert_twice_in;
 use kmc_base::Strands;
+use kmc_count::Limits;
 
 const TWICE: &[u8] = b"GATTACAGATTACAGATTACACCGGT";
 
@@ -102,4 +104,15 @@ fn long_runs_of_one_symbol_lie_in_the_first_bin(rt: HostRuntime) {
     assert!(rt; bodies.len() == 512 && bodies.iter().skip(1).all(|body| body.is_empty()));
     // 71 bytes of 256 words, and 12 of 20
     assert!(rt; bodies.first().is_some_and(|body| body.len() == 83));
+}
+
+/// Bins hold words of both strands alike: strands are told apart only where words are counted.
+#[test]
+fn bins_are_the_same_with_strands_apart(rt: HostRuntime) {
+    let reads = vectors_of(rt.alloc(), &[b"ACGTACGT", b"ACGTACGT"]).expect(&rt, "memory");
+    let joined = sized(&rt, 4, 9, 7, 2, 2, Limits::new(1, BILLION, 255));
+    for params in [joined, joined.with_strands(Strands::Apart)] {
+        let bins = filled(&rt, rt.alloc(), &reads, &params);
+        assert_twice_in(&rt, rt.alloc(), &bins).expect(&rt, "memory");
+    }
 }

@@ -49,11 +49,7 @@ pub(super) fn assert_twice(
 }
 
 /// Asserts that the bins hold the records of `TWICE`.
-pub(super) fn assert_twice_in(
-    rt: &impl Abort,
-    alloc: Global,
-    bins: &Bins,
-) -> Result<(), AllocError> {
+pub fn assert_twice_in(rt: &impl Abort, alloc: Global, bins: &Bins) -> Result<(), AllocError> {
     assert_eq!(rt; bins.shape().n(), 7);
     for bin in [0, 1, 4, 5] {
         assert_bin(rt, alloc, bins, bin, &[], 0)?;
