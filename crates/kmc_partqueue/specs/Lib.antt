@@ -9,6 +9,7 @@ pub mod Laws
 pub mod Lemmas
 pub mod PartPlaces
 pub mod Plays
+pub mod Queue
 pub mod Reached
 pub mod RefusalNumbers
 pub mod Refusals

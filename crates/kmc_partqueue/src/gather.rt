@@ -10,6 +10,7 @@ ghost use Rattle.kmc_partqueue.specs.Gathered.{Pairs, WriterPairs, IsGathered};
 ghost use Rattle.kmc_partqueue.specs.Told.{IsHistoryOf};
 ghost use Rattle.kmc_partqueue.specs.Dealing.{both};
 ghost use Rattle.kmc_partcore.specs.History.{History};
+ghost use Rattle.kmc_partqueue.specs.Queue.{identity};
 
 use crate::done::DoneSeat;
 use crate::lanes::Lanes;
@@ -49,7 +50,7 @@ fn first_finished<T>(readers: &[ReaderSeat<T>]) -> usize
 impl<T: Drop> Lanes<T> {
     /// What the last state shows beside the seat's view.
     fn close(self, seat: Seat<Option<T>, View<T>>)
-        requires { seat.table_id ≡ self.table.shared.table_id }
+        requires { seat.table_id ≡ identity self }
         ensures { (s : State (Option T) (View T))
             × Seen (IsReached self.table.shared.key) seat.id seat.me.0 s }
     {
@@ -59,8 +60,8 @@ impl<T: Drop> Lanes<T> {
 
     /// All that a seat has goes to another.
     fn join_one(&self, seat: &mut Seat<Option<T>, View<T>>, other: Seat<Option<T>, View<T>>)
-        requires { (seat.old.table_id ≡ self.now.table.shared.table_id)
-            × (other.table_id ≡ self.now.table.shared.table_id) × (other.me.1 ≡ []) }
+        requires { (seat.old.table_id ≡ identity self.now)
+            × (other.table_id ≡ identity self.now) × (other.me.1 ≡ []) }
         ensures { (seat.new.table_id ≡ seat.old.table_id) × (seat.new.id ≡ seat.old.id)
             × (seat.new.me ≡ (both seat.old.me.0 other.me.0, seat.old.me.1)) }
     {
@@ -74,9 +75,9 @@ impl<T: Drop> Lanes<T> {
         mut readers: Vec<ReaderSeat<T>>,
         mut writers: Vec<DoneSeat<T>>,
     )
-        requires queue { seat.old.table_id ≡ self.now.table.shared.table_id }
-        requires readers { Each (IsReaderOf self.now.table.shared.table_id self.now.shape) readers.items }
-        requires writers { Each (IsWriterOf self.now.table.shared.table_id self.now.shape) writers.items }
+        requires queue { seat.old.table_id ≡ identity self.now }
+        requires readers { Each (IsReaderOf (identity self.now) self.now.shape) readers.items }
+        requires writers { Each (IsWriterOf (identity self.now) self.now.shape) writers.items }
         ensures queue { (seat.new.table_id ≡ seat.old.table_id) × (seat.new.id ≡ seat.old.id) }
         ensures readers { (bs : List _) × (seat.new.me.0.readers ≡ bs ++ seat.old.me.0.readers)
             × Pairs bs readers.items }
@@ -96,8 +97,8 @@ impl<T: Drop> Lanes<T> {
     /// to the reader that got it, at its number, and each reader that saw all lanes at their ends was told once that the queue is
     /// finished. It answers how many parts each writer put.
     pub fn gather(self, writers: Vec<DoneSeat<T>>, mut readers: Vec<ReaderSeat<T>>) -> Totals
-        requires queue { Each (IsWriterOf self.table.shared.table_id self.shape) writers.items
-            × Each (IsReaderOf self.table.shared.table_id self.shape) readers.items }
+        requires queue { Each (IsWriterOf (identity self) self.shape) writers.items
+            × Each (IsReaderOf (identity self) self.shape) readers.items }
         requires writers { (w : ℕ) → w < self.shape.writers
             → total_of (λ s. same s.number w) writers.items ≡ 1 }
         requires readers { (q : ℕ) → q < self.shape.readers

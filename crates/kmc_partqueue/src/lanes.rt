@@ -44,6 +44,7 @@ impl<T> Lanes<T> {
 
 impl<T: Drop> Lanes<T> {
     ghost use Rattle.kmc_partqueue.specs.Dealing.{row_from, fresh_writer, fresh_reader};
+    ghost use Rattle.kmc_partqueue.specs.Queue.{identity};
     ghost use Rattle.kmc_partqueue.specs.Seats.{new_writer, new_reader};
 
     /// Splits off a seat for each writer.
@@ -61,7 +62,7 @@ impl<T: Drop> Lanes<T> {
           },
           [],
         ) }
-        requires queue { seat.old.table_id ≡ self.now.table.shared.table_id }
+        requires queue { seat.old.table_id ≡ identity self.now }
         ensures queue { IfOk result (λ _. seat.new.table_id ≡ seat.old.table_id) }
         ensures left { IfOk result (λ _. seat.new.me
             ≡ (
@@ -73,7 +74,7 @@ impl<T: Drop> Lanes<T> {
               [],
             )) }
         ensures seats { IfOk result (λ v. v.items
-            ≡ row_from (new_writer self.now.table.shared.table_id self.now.shape) 0 self.now.shape.writers) }
+            ≡ row_from (new_writer (identity self.now) self.now.shape) 0 self.now.shape.writers) }
     {
         let mut seats = Vec::new(alloc);
         for number in 0..self.shape.writers {
@@ -91,9 +92,9 @@ impl<T: Drop> Lanes<T> {
     ) -> Result<Vec<ReaderSeat<T>>, AllocError>
         requires fresh { seat.old.me
             ≡ (record { writers = []; readers = row_from (fresh_reader self.now.table.shared.key) 0 self.now.shape.readers }, []) }
-        requires queue { seat.old.table_id ≡ self.now.table.shared.table_id }
+        requires queue { seat.old.table_id ≡ identity self.now }
         ensures seats { IfOk result (λ v. v.items
-            ≡ row_from (new_reader self.now.table.shared.table_id self.now.shape) 0 self.now.shape.readers) }
+            ≡ row_from (new_reader (identity self.now) self.now.shape) 0 self.now.shape.readers) }
     {
         let mut seats = Vec::new(alloc);
         for number in 0..self.shape.readers {
@@ -109,7 +110,7 @@ impl<T: Drop> Lanes<T> {
         shape: QueueShape,
     ) -> Result<(Lanes<T>, Seat<Option<T>, View<T>>), AllocError>
         ensures shape { IfOk result (λ q. q.0.shape ≡ shape) }
-        ensures queue { IfOk result (λ q. q.1.table_id ≡ q.0.table.shared.table_id) }
+        ensures queue { IfOk result (λ q. q.1.table_id ≡ identity q.0) }
         ensures seat { IfOk result (λ q. q.1.me
             ≡ (
               record {
@@ -134,9 +135,9 @@ impl<T: Drop> Lanes<T> {
     ) -> Result<(Lanes<T>, Vec<WriterSeat<T>>, Vec<ReaderSeat<T>>), AllocError>
         ensures shape { IfOk result (λ q. q.0.shape ≡ shape) }
         ensures writers { IfOk result (λ q. q.1.items
-            ≡ row_from (new_writer q.0.table.shared.table_id shape) 0 shape.writers) }
+            ≡ row_from (new_writer (identity q.0) shape) 0 shape.writers) }
         ensures readers { IfOk result (λ q. q.2.items
-            ≡ row_from (new_reader q.0.table.shared.table_id shape) 0 shape.readers) }
+            ≡ row_from (new_reader (identity q.0) shape) 0 shape.readers) }
     {
         let (lanes, mut seat) = Lanes::opened(alloc, shape)?;
         let writer_seats = lanes.deal_writers(alloc, &mut seat)?;

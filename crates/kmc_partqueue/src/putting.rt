@@ -3,6 +3,7 @@ ghost use Rattle.std.specs.Prelude.{◌≡◌, ◌↔◌, ◌<◌, ◌∷◌, �
 ghost use Rattle.kmc_partcore.specs.declared.shape.TheConstants.{MAX_ITEMS};
 ghost use Rattle.kmc_partqueue.specs.Seats.{IsWriterOf};
 ghost use Rattle.kmc_partqueue.specs.SameSeats.{IsSameWriter};
+ghost use Rattle.kmc_partqueue.specs.Queue.{identity};
 
 use crate::gate::{Gate, Point};
 use crate::pause::Pause;
@@ -20,7 +21,7 @@ fn put_part<T: Drop, R: Wait, G: Gate>(
     part: T,
     gate: &G,
 ) -> Result<(), GivenUp>
-    requires { IsWriterOf way.now.lanes.table.shared.table_id way.now.lanes.shape s.old }
+    requires { IsWriterOf (identity way.now.lanes) way.now.lanes.shape s.old }
     ensures seat { IsSameWriter s.old s.new }
     ensures put { OnOk result (s.new.sent ≡ s.old.sent ++ part ∷ []) }
     ensures spent { (result ≡ Err GivenUp.NumbersSpent) ↔ (length s.old.sent ≡ MAX_ITEMS) }
@@ -53,7 +54,7 @@ pub fn put_all<T: Drop, R: Wait, G: Gate>(
     parts: Vec<T>,
     gate: &G,
 ) -> Result<(), GivenUp>
-    requires { IsWriterOf way.now.lanes.table.shared.table_id way.now.lanes.shape s.old }
+    requires { IsWriterOf (identity way.now.lanes) way.now.lanes.shape s.old }
     ensures seat { IsSameWriter s.old s.new }
     ensures put { OnOk result (s.new.sent ≡ s.old.sent ++ parts.items) }
     ensures spent { IsErrOf result GivenUp.NumbersSpent

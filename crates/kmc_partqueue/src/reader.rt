@@ -7,6 +7,7 @@ ghost use Rattle.kmc_partqueue.specs.Gathered.{Tells};
 ghost use Rattle.kmc_partqueue.specs.Plays.{looking, seeing, taking, freeing, ending};
 ghost use Rattle.kmc_partqueue.specs.Ends.{SawAllEnds};
 ghost use Rattle.kmc_partqueue.specs.Answers.{Answers, IsFinished};
+ghost use Rattle.kmc_partqueue.specs.Queue.{identity};
 
 use crate::gate::{Gate, Point};
 use crate::lanes::Lanes;
@@ -143,7 +144,7 @@ fn lane_after(lane: usize, writers: usize) -> usize
 impl<T> Lanes<T> {
     /// Moves the part out of the slot that the seat holds.
     fn move_out(&self, seat: &mut Seat<Option<T>, View<T>>, slot: usize) -> T
-        requires queue { seat.old.table_id ≡ self.now.table.shared.table_id }
+        requires queue { seat.old.table_id ≡ identity self.now }
         requires holds { (x : T) × (seat.old.me.1 ≡ (slot, Some x) ∷ []) }
         ensures { (seat.new.table_id ≡ seat.old.table_id) × (seat.new.id ≡ seat.old.id)
             × (seat.old.me.1 ≡ (slot, Some result) ∷ [])
@@ -157,7 +158,7 @@ impl<T> Lanes<T> {
 
     /// Reads the head of a lane, and whether the part at it was published.
     fn look(&self, seat: &mut Seat<Option<T>, View<T>>, lane: usize) -> (u64, bool)
-        requires queue { seat.old.table_id ≡ self.now.table.shared.table_id }
+        requires queue { seat.old.table_id ≡ identity self.now }
         requires lane { lane < self.now.shape.writers }
         requires rests { (b : Reading T) × Rests self.now.shape seat.old.me b }
         ensures queue { seat.new.table_id ≡ seat.old.table_id }
@@ -186,7 +187,7 @@ impl<T> Lanes<T> {
         head: u64,
         gate: &G,
     ) -> Option<T>
-        requires queue { seat.old.table_id ≡ self.now.table.shared.table_id }
+        requires queue { seat.old.table_id ≡ identity self.now }
         requires lane { (lane < self.now.shape.writers) × (head ≤ MAX_ITEMS) }
         requires seen { (b : Reading T) × Rests self.now.shape seat.old.me b
             × (b.lane ≡ lane) × (b.head ≡ head) × (b.ready ≡ true) }
@@ -210,7 +211,7 @@ impl<T> Lanes<T> {
 
     /// Whether the lane ends at the head that was read.
     fn sees_end(&self, seat: &mut Seat<Option<T>, View<T>>, lane: usize, head: u64) -> bool
-        requires queue { seat.old.table_id ≡ self.now.table.shared.table_id }
+        requires queue { seat.old.table_id ≡ identity self.now }
         requires lane { (lane < self.now.shape.writers) × (head ≤ MAX_ITEMS) }
         requires open { (b : Reading T) × (seat.old.me ≡ (one_of_readers b, []))
             × (b.lane ≡ lane) × ¬ SawAllEnds self.now.shape.writers b.ends }
@@ -229,7 +230,7 @@ impl<T> Lanes<T> {
 
     /// Tries the head of one lane, once.
     fn try_lane<G: Gate>(&self, s: &mut ReaderSeat<T>, lane: usize, gate: &G) -> Option<Received<T>>
-        requires queue { IsReaderOf self.now.table.shared.table_id self.now.shape s.old }
+        requires queue { IsReaderOf (identity self.now) self.now.shape s.old }
         requires lane { (lane < self.now.shape.writers)
             × (slice_get s.old.totals lane ≡ Some None) }
         ensures seat { (s.new.table ≡ s.old.table) × (s.new.number ≡ s.old.number)
@@ -262,7 +263,7 @@ impl<T> Lanes<T> {
     /// Takes a part, if it finds one, at once. It goes once round the lanes, from the one after that it last took from, and tries each
     /// head once; a lane that it has seen at its end is passed over.
     pub fn try_take<G: Gate>(&self, s: &mut ReaderSeat<T>, gate: &G) -> TryTaken<T>
-        requires { IsReaderOf self.now.table.shared.table_id self.now.shape s.old }
+        requires { IsReaderOf (identity self.now) self.now.shape s.old }
         ensures seat { (s.new.table ≡ s.old.table) × (s.new.number ≡ s.old.number)
             × (s.new.per_writer ≡ s.old.per_writer) × (s.new.writers ≡ s.old.writers) }
         ensures answer { Answers s.old s.new result }

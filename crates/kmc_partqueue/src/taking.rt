@@ -4,6 +4,7 @@ ghost use Rattle.kmc_partqueue.specs.Seats.{IsReaderOf};
 ghost use Rattle.kmc_partqueue.specs.SameSeats.{IsSameReader};
 ghost use Rattle.kmc_partqueue.specs.Taken.{IsNext};
 ghost use Rattle.kmc_partqueue.specs.declared.refusal.GivenUp.TheVariants.{Stopped};
+ghost use Rattle.kmc_partqueue.specs.Queue.{identity};
 
 use crate::gate::{Gate, Point};
 use crate::pause::Pause;
@@ -20,7 +21,7 @@ pub fn take_part<T: Drop, R: Wait, G: Gate>(
     s: &mut ReaderSeat<T>,
     gate: &G,
 ) -> Result<Option<T>, GivenUp>
-    requires { IsReaderOf way.now.lanes.table.shared.table_id way.now.lanes.shape s.old }
+    requires { IsReaderOf (identity way.now.lanes) way.now.lanes.shape s.old }
     ensures seat { IsSameReader s.old s.new }
     ensures next { IfOk result (IsNext s.old s.new) }
     ensures stopped { IfErr result (λ e. (e ≡ Stopped) × (s.new.got ≡ s.old.got)) }

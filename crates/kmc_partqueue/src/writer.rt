@@ -4,6 +4,7 @@ ghost use Rattle.kmc_partqueue.specs.Dealing.{one_of_writers};
 ghost use Rattle.kmc_partqueue.specs.Seats.{IsWriterOf, open_writer};
 ghost use Rattle.kmc_partqueue.specs.Refusals.{Refused};
 ghost use Rattle.kmc_partqueue.specs.declared.writer.TryPutError.TheVariants.{NumbersSpent};
+ghost use Rattle.kmc_partqueue.specs.Queue.{identity};
 
 use crate::done::DoneSeat;
 use crate::gate::{Gate, Point};
@@ -99,7 +100,7 @@ pub type PutResult<T> = Result<u64, (TryPutError, T)>;
 impl<T> Lanes<T> {
     /// Moves a part into the slot that the seat holds.
     fn move_in(&self, seat: &mut Seat<Option<T>, View<T>>, slot: usize, part: T)
-        requires { (seat.old.table_id ≡ self.now.table.shared.table_id)
+        requires { (seat.old.table_id ≡ identity self.now)
             × (seat.old.me.1 ≡ (slot, None) ∷ []) }
         ensures { (seat.new.table_id ≡ seat.old.table_id) × (seat.new.id ≡ seat.old.id)
             × (seat.new.me ≡ (seat.old.me.0, (slot, Some part) ∷ [])) }
@@ -113,7 +114,7 @@ impl<T> Lanes<T> {
     /// Puts a part, or hands it back, at once: it answers the number that the part got among the writer's.
     /// The first `per_writer` puts of a seat are never refused as Full.
     pub fn try_put<G: Gate>(&self, s: &mut WriterSeat<T>, part: T, gate: &G) -> PutResult<T>
-        requires { IsWriterOf self.now.table.shared.table_id self.now.shape s.old }
+        requires { IsWriterOf (identity self.now) self.now.shape s.old }
         ensures seat { (s.new.table ≡ s.old.table) × (s.new.number ≡ s.old.number)
             × (s.new.per_writer ≡ s.old.per_writer) }
         ensures put { MatchResult result
@@ -142,7 +143,7 @@ impl<T> Lanes<T> {
 
     /// The writer puts no more: its seat is consumed.
     pub fn complete(&self, mut s: WriterSeat<T>) -> DoneSeat<T>
-        requires { IsWriterOf self.now.table.shared.table_id self.now.shape s }
+        requires { IsWriterOf (identity self.now) self.now.shape s }
         ensures { result ≡ s }
     {
         self.table

@@ -7,6 +7,7 @@ ghost use Rattle.kmc_partqueue.specs.Seats.{new_writer, new_reader};
 ghost use Rattle.kmc_stage_one.specs.Splitters.{IsDone, IsFreshWriter};
 ghost use Rattle.kmc_stage_one.specs.Causes.{IsCause, IsWorkersCause};
 ghost use Rattle.kmc_stage_one.specs.Shards.{IsShard, IsFreshShard, begun};
+ghost use Rattle.kmc_partqueue.specs.Queue.{identity};
 
 use crate::beginning::with_bins;
 use crate::plan::Plan;
@@ -30,14 +31,14 @@ fn open_way(
 ) -> Result<(SharedQueue<Part>, Seats), AllocError>
     ensures shape { IfOk result (λ q. q.0.lanes.shape ≡ queue) }
     ensures writers { IfOk result (λ q. q.1.writers.items
-        ≡ row_from (new_writer q.0.lanes.table.shared.table_id queue) 0 queue.writers) }
+        ≡ row_from (new_writer (identity q.0.lanes) queue) 0 queue.writers) }
     ensures shards { IfOk result (λ q. q.1.shards.items
         ≡ begun bins
-        (row_from (new_reader q.0.lanes.table.shared.table_id queue) 0 queue.readers)) }
+        (row_from (new_reader (identity q.0.lanes) queue) 0 queue.readers)) }
     ensures open { IfOk result (λ q. Each
-        (IsFreshWriter q.0.lanes.table.shared.table_id q.0.lanes.shape) q.1.writers.items) }
+        (IsFreshWriter (identity q.0.lanes) q.0.lanes.shape) q.1.writers.items) }
     ensures fresh { IfOk result (λ q. Each
-        (IsFreshShard q.0.lanes.table.shared.table_id q.0.lanes.shape bins.shape) q.1.shards.items) }
+        (IsFreshShard (identity q.0.lanes) q.0.lanes.shape bins.shape) q.1.shards.items) }
 {
     let (lanes, writers, readers) = Lanes::new(alloc, queue)?;
     let way = SharedQueue::new(lanes, queue.writers, alloc);
@@ -63,10 +64,10 @@ pub fn pass_parts<R: Threads + Wait + Sync, G: Gate + Sync>(
     ensures queue { IfOk result (λ q. q.0.shape ≡ queue) }
     ensures done { IfOk result (λ q. AllZip
         (IsDone plan.shape plan.batch (map (λ r. r.now) reads.now) queue.writers)
-        (row_from (new_writer q.0.table.shared.table_id queue) 0 queue.writers) q.1.items) }
+        (row_from (new_writer (identity q.0) queue) 0 queue.writers) q.1.items) }
     ensures shards { IfOk result (λ q. AllZip IsShard
         (begun bins (row_from
-        (new_reader q.0.table.shared.table_id queue) 0 queue.readers)) q.2.items) }
+        (new_reader (identity q.0) queue) 0 queue.readers)) q.2.items) }
     ensures cause { IfErr result
         (IsCause plan.shape plan.batch (map (λ r. r.now) reads.now) queue.writers) }
 {
@@ -77,8 +78,8 @@ pub fn pass_parts<R: Threads + Wait + Sync, G: Gate + Sync>(
         rt,
         move |scope| -> Result<(Vec<DoneSeat<Part>>, Vec<Shard>), GivenUp>
             requires shards { Each
-                (IsFreshShard shared.now.lanes.table.shared.table_id shared.now.lanes.shape plan.shape) seats.shards.items }
-            requires writers { Each (IsFreshWriter shared.now.lanes.table.shared.table_id shared.now.lanes.shape) seats.writers.items }
+                (IsFreshShard (identity shared.now.lanes) shared.now.lanes.shape plan.shape) seats.shards.items }
+            requires writers { Each (IsFreshWriter (identity shared.now.lanes) shared.now.lanes.shape) seats.writers.items }
         { store_all(rt, scope, shared, seats, reads, plan, gate) },
     );
     match back {

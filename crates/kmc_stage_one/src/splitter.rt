@@ -3,6 +3,7 @@ ghost use Rattle.std.specs.Prelude.{◌≡◌, ◌+◌, ◌*◌, ◌<◌, ◌≤
 ghost use Rattle.kmc_store.specs.Deals.{chunk_at};
 ghost use Rattle.kmc_stage_one.specs.Splitters.{chunks_of, IsFreshWriter, IsDone};
 ghost use Rattle.kmc_stage_one.specs.Causes.{IsWorkersCause};
+ghost use Rattle.kmc_partqueue.specs.Queue.{identity};
 
 use crate::plan::Plan;
 use kmc_partqueue::{DoneSeat, Gate, GivenUp, SharedQueue, WriterSeat, put_all};
@@ -39,7 +40,7 @@ pub(crate) fn split<R: Wait, G: Gate>(
     plan: Plan,
     gate: &G,
 ) -> Result<DoneSeat<Part>, GivenUp>
-    requires { IsFreshWriter way.now.lanes.table.shared.table_id way.now.lanes.shape s }
+    requires { IsFreshWriter (identity way.now.lanes) way.now.lanes.shape s }
     ensures done { IfOk result (λ d. IsDone plan.shape plan.batch
         (map (λ r. r.now) reads.now) way.now.writers s d) }
     ensures cause { IfErr result

@@ -5,6 +5,7 @@ ghost use Rattle.kmc_partqueue.specs.Counts.{Each};
 ghost use Rattle.kmc_stage_one.specs.Splitters.{IsDone, IsFreshWriter};
 ghost use Rattle.kmc_stage_one.specs.Causes.{IsWorkersCause};
 ghost use Rattle.kmc_partqueue.specs.declared.refusal.GivenUp.TheVariants.{Memory};
+ghost use Rattle.kmc_partqueue.specs.Queue.{identity};
 
 use crate::plan::Plan;
 use crate::splitter::split;
@@ -39,7 +40,7 @@ fn split_one<R: Wait, G: Gate>(
     plan: Plan,
     gate: &G,
 ) -> Result<DoneSeat<Part>, GivenUp>
-    requires { IsFreshWriter way.now.lanes.table.shared.table_id way.now.lanes.shape seat }
+    requires { IsFreshWriter (identity way.now.lanes) way.now.lanes.shape seat }
     ensures { MatchResult result
         (λ d. IsDone plan.shape plan.batch (map (λ v. v.now) reads.now) way.now.writers seat d)
         (IsWorkersCause plan.shape plan.batch (map (λ v. v.now) reads.now) way.now.writers) }
@@ -61,7 +62,7 @@ fn start_splitter<'s, E, R: Threads + Wait + Sync, G: Gate + Sync>(
     plan: Plan,
     gate: &'s G,
 ) -> Result<PromisedHandle<Result<DoneSeat<Part>, GivenUp>, Puts<'s>>, GivenUp>
-    requires { IsFreshWriter way.now.lanes.table.shared.table_id way.now.lanes.shape seat }
+    requires { IsFreshWriter (identity way.now.lanes) way.now.lanes.shape seat }
     ensures puts { IfOk result (λ h. (h.promise.seat.value ≡ seat) × (h.promise.shape ≡ plan.shape)
         × (h.promise.batch ≡ plan.batch)
         × (map (λ v. v.now) h.promise.reads.now ≡ map (λ v. v.now) reads.now)
@@ -81,7 +82,7 @@ fn start_splitter<'s, E, R: Threads + Wait + Sync, G: Gate + Sync>(
     let started = scope.spawn_with(
         promise,
         move || -> Result<DoneSeat<Part>, GivenUp>
-            requires { IsFreshWriter way.now.lanes.table.shared.table_id way.now.lanes.shape seat }
+            requires { IsFreshWriter (identity way.now.lanes) way.now.lanes.shape seat }
         { split_one(rt, way, seat, reads, plan, gate) },
     );
     match started {
@@ -103,7 +104,7 @@ pub fn split_all<'s, E, R: Threads + Wait + Sync, G: Gate + Sync>(
     plan: Plan,
     gate: &'s G,
 ) -> Result<Vec<DoneSeat<Part>>, GivenUp>
-    requires { Each (IsFreshWriter way.now.lanes.table.shared.table_id way.now.lanes.shape) seats.items }
+    requires { Each (IsFreshWriter (identity way.now.lanes) way.now.lanes.shape) seats.items }
     ensures { MatchResult result
         (λ v. AllZip
         (IsDone plan.shape plan.batch

@@ -3,6 +3,7 @@ ghost use Rattle.std.specs.Prelude.{IfOk, IfErr, OnOk};
 ghost use Rattle.kmc_store.specs.Bins.{Absorbed};
 ghost use Rattle.kmc_stage_one.specs.Shards.{IsFreshReader, IsShard};
 ghost use Rattle.kmc_stage_one.specs.StorerCauses.{IsStorersCause};
+ghost use Rattle.kmc_partqueue.specs.Queue.{identity};
 
 use crate::shard::Shard;
 use kmc_partqueue::{Gate, GivenUp, SharedQueue, take_part};
@@ -33,7 +34,7 @@ pub(crate) fn store<R: Wait, G: Gate>(
     shard: Shard,
     gate: &G,
 ) -> Result<Shard, GivenUp>
-    requires { IsFreshReader way.now.lanes.table.shared.table_id way.now.lanes.shape shard.seat }
+    requires { IsFreshReader (identity way.now.lanes) way.now.lanes.shape shard.seat }
     ensures done { IfOk result (λ h. IsShard shard h) }
     ensures cause { IfErr result IsStorersCause }
 {

@@ -3,6 +3,7 @@ ghost use Rattle.std.specs.Prelude.{◌≡◌, MatchResult, IfOk, IfErr};
 ghost use Rattle.kmc_stage_one.specs.StorerCauses.{IsStorersCause};
 ghost use Rattle.kmc_stage_one.specs.Shards.{IsFreshReader, IsShard};
 ghost use Rattle.kmc_partqueue.specs.declared.refusal.GivenUp.TheVariants.{Memory};
+ghost use Rattle.kmc_partqueue.specs.Queue.{identity};
 
 use crate::shard::Shard;
 use crate::storer::store;
@@ -30,7 +31,7 @@ fn store_one<R: Wait, G: Gate>(
     shard: Shard,
     gate: &G,
 ) -> Result<Shard, GivenUp>
-    requires { IsFreshReader way.now.lanes.table.shared.table_id way.now.lanes.shape shard.seat }
+    requires { IsFreshReader (identity way.now.lanes) way.now.lanes.shape shard.seat }
     ensures { MatchResult result (λ h. IsShard shard h) IsStorersCause }
 {
     let stored = store(rt, way, shard, gate);
@@ -48,7 +49,7 @@ pub fn start_storer<'s, E, R: Threads + Wait + Sync, G: Gate + Sync>(
     shard: Shard,
     gate: &'s G,
 ) -> Result<PromisedHandle<Result<Shard, GivenUp>, Takes>, GivenUp>
-    requires { IsFreshReader way.now.lanes.table.shared.table_id way.now.lanes.shape shard.seat }
+    requires { IsFreshReader (identity way.now.lanes) way.now.lanes.shape shard.seat }
     ensures takes { IfOk result (λ h. h.promise.shard.value ≡ shard) }
     ensures cause { IfErr result (λ e. e ≡ Memory) }
 {
@@ -58,7 +59,7 @@ pub fn start_storer<'s, E, R: Threads + Wait + Sync, G: Gate + Sync>(
     let started = scope.spawn_with(
         promise,
         move || -> Result<Shard, GivenUp>
-            requires { IsFreshReader way.now.lanes.table.shared.table_id way.now.lanes.shape shard.seat }
+            requires { IsFreshReader (identity way.now.lanes) way.now.lanes.shape shard.seat }
         { store_one(rt, way, shard, gate) },
     );
     match started {

@@ -5,6 +5,7 @@ ghost use Rattle.kmc_partqueue.specs.Counts.{Each};
 ghost use Rattle.kmc_stage_one.specs.Splitters.{IsDone, IsFreshWriter};
 ghost use Rattle.kmc_stage_one.specs.Causes.{IsWorkersCause};
 ghost use Rattle.kmc_stage_one.specs.Shards.{IsShard, IsFreshShard};
+ghost use Rattle.kmc_partqueue.specs.Queue.{identity};
 
 use crate::plan::Plan;
 use crate::shard::Shard;
@@ -32,8 +33,8 @@ pub(crate) fn store_all<'s, E, R: Threads + Wait + Sync, G: Gate + Sync>(
     plan: Plan,
     gate: &'s G,
 ) -> Result<(Vec<DoneSeat<Part>>, Vec<Shard>), GivenUp>
-    requires shards { Each (IsFreshShard way.now.lanes.table.shared.table_id way.now.lanes.shape plan.shape) seats.shards.items }
-    requires writers { Each (IsFreshWriter way.now.lanes.table.shared.table_id way.now.lanes.shape) seats.writers.items }
+    requires shards { Each (IsFreshShard (identity way.now.lanes) way.now.lanes.shape plan.shape) seats.shards.items }
+    requires writers { Each (IsFreshWriter (identity way.now.lanes) way.now.lanes.shape) seats.writers.items }
     ensures done { IfOk result (λ q. AllZip
         (IsDone plan.shape plan.batch
         (map (λ v. v.now) reads.now) way.now.writers) seats.writers.items q.0.items) }

@@ -1,6 +1,7 @@
 //! A writer or a reader that is held in the middle of a call, in a thread of its own.
 ghost use Rattle.std.specs.Prelude.{◌≡◌};
 ghost use Rattle.kmc_partqueue.specs.Seats.{IsWriterOf, IsReaderOf};
+ghost use Rattle.kmc_partqueue.specs.Queue.{identity};
 
 use crate::lanes::{got, is_full, is_not_now, total, totals};
 use kmc_partcore::{QueueShape, Totals};
@@ -73,8 +74,8 @@ fn is_seen(flag: &AtomicBool) -> bool {
 type Item = Option<(usize, u64, u8)>;
 
 fn take_held(lanes: &Lanes<u8>, mut seat: ReaderSeat<u8>, gate: &Hold) -> (Item, ReaderSeat<u8>)
-    requires { IsReaderOf lanes.now.table.shared.table_id lanes.now.shape seat }
-    ensures { IsReaderOf lanes.now.table.shared.table_id lanes.now.shape result.1
+    requires { IsReaderOf (identity lanes.now) lanes.now.shape seat }
+    ensures { IsReaderOf (identity lanes.now) lanes.now.shape result.1
         × (result.1.number ≡ seat.number) }
 {
     let item = got(lanes.try_take(&mut seat, gate));
@@ -86,8 +87,8 @@ fn put_held(
     mut seat: WriterSeat<u8>,
     gate: &Hold,
 ) -> (Option<u64>, WriterSeat<u8>)
-    requires { IsWriterOf lanes.now.table.shared.table_id lanes.now.shape seat }
-    ensures { IsWriterOf lanes.now.table.shared.table_id lanes.now.shape result.1 }
+    requires { IsWriterOf (identity lanes.now) lanes.now.shape seat }
+    ensures { IsWriterOf (identity lanes.now) lanes.now.shape result.1 }
 {
     let number = lanes.try_put(&mut seat, 20, gate).ok();
     (number, seat)
@@ -100,9 +101,9 @@ fn try_beside(
     mut reader: ReaderSeat<u8>,
     gate: &Hold,
 ) -> (bool, bool, WriterSeat<u8>)
-    requires writer { IsWriterOf lanes.now.table.shared.table_id lanes.now.shape writer }
-    requires reader { IsReaderOf lanes.now.table.shared.table_id lanes.now.shape reader }
-    ensures { IsWriterOf lanes.now.table.shared.table_id lanes.now.shape result.2 }
+    requires writer { IsWriterOf (identity lanes.now) lanes.now.shape writer }
+    requires reader { IsReaderOf (identity lanes.now) lanes.now.shape reader }
+    ensures { IsWriterOf (identity lanes.now) lanes.now.shape result.2 }
 {
     let held = is_seen(&gate.reached);
     let full = is_full(lanes.try_put(&mut writer, 11, &NoGate), 11);
@@ -120,20 +121,20 @@ fn hold_a_reader<R: Threads + Sync>(
     held: ReaderSeat<u8>,
     other: ReaderSeat<u8>,
 ) -> ((Item, ReaderSeat<u8>), (bool, bool, WriterSeat<u8>))
-    requires writer { IsWriterOf lanes.now.table.shared.table_id lanes.now.shape writer }
-    requires held { IsReaderOf lanes.now.table.shared.table_id lanes.now.shape held }
-    requires other { IsReaderOf lanes.now.table.shared.table_id lanes.now.shape other }
-    ensures { IsWriterOf lanes.now.table.shared.table_id lanes.now.shape result.1.2 }
+    requires writer { IsWriterOf (identity lanes.now) lanes.now.shape writer }
+    requires held { IsReaderOf (identity lanes.now) lanes.now.shape held }
+    requires other { IsReaderOf (identity lanes.now) lanes.now.shape other }
+    ensures { IsWriterOf (identity lanes.now) lanes.now.shape result.1.2 }
 {
     thread::join(
         rt,
         move || -> (Item, ReaderSeat<u8>)
-            requires { IsReaderOf lanes.now.table.shared.table_id lanes.now.shape held }
+            requires { IsReaderOf (identity lanes.now) lanes.now.shape held }
         { take_held(lanes, held, gate) },
         move || -> (bool, bool, WriterSeat<u8>)
-            requires writer { IsWriterOf lanes.now.table.shared.table_id lanes.now.shape writer }
-            requires reader { IsReaderOf lanes.now.table.shared.table_id lanes.now.shape other }
-            ensures { IsWriterOf lanes.entry.now.table.shared.table_id lanes.entry.now.shape result.2 }
+            requires writer { IsWriterOf (identity lanes.now) lanes.now.shape writer }
+            requires reader { IsReaderOf (identity lanes.now) lanes.now.shape other }
+            ensures { IsWriterOf (identity lanes.entry.now) lanes.entry.now.shape result.2 }
         { try_beside(lanes, writer, other, gate) },
     )
 }
@@ -146,9 +147,9 @@ fn assert_slot_kept<R: Abort + Threads + Sync>(
     first: ReaderSeat<u8>,
     second: ReaderSeat<u8>,
 )
-    requires writer { IsWriterOf queue.now.table.shared.table_id queue.now.shape writer }
-    requires first { IsReaderOf queue.now.table.shared.table_id queue.now.shape first }
-    requires second { IsReaderOf queue.now.table.shared.table_id queue.now.shape second }
+    requires writer { IsWriterOf (identity queue.now) queue.now.shape writer }
+    requires first { IsReaderOf (identity queue.now) queue.now.shape first }
+    requires second { IsReaderOf (identity queue.now) queue.now.shape second }
 {
     let hold = Hold::new(Point::PartClaimed(1, 0, 0));
     let ((item, _), (held, refused, mut back)) = hold_a_reader(
@@ -178,9 +179,9 @@ fn pass_by(
     mut reader: ReaderSeat<u8>,
     gate: &Hold,
 ) -> (bool, bool, ReaderSeat<u8>)
-    requires writer { IsWriterOf lanes.now.table.shared.table_id lanes.now.shape writer }
-    requires reader { IsReaderOf lanes.now.table.shared.table_id lanes.now.shape reader }
-    ensures { IsReaderOf lanes.now.table.shared.table_id lanes.now.shape result.2 }
+    requires writer { IsWriterOf (identity lanes.now) lanes.now.shape writer }
+    requires reader { IsReaderOf (identity lanes.now) lanes.now.shape reader }
+    ensures { IsReaderOf (identity lanes.now) lanes.now.shape result.2 }
 {
     let held = is_seen(&gate.reached);
     let put = lanes.try_put(&mut writer, 30, &NoGate).ok();
@@ -201,29 +202,29 @@ fn hold_a_writer<R: Threads + Sync>(
     other: WriterSeat<u8>,
     reader: ReaderSeat<u8>,
 ) -> ((Option<u64>, WriterSeat<u8>), (bool, bool, ReaderSeat<u8>))
-    requires held { IsWriterOf lanes.now.table.shared.table_id lanes.now.shape held }
-    requires other { IsWriterOf lanes.now.table.shared.table_id lanes.now.shape other }
-    requires reader { IsReaderOf lanes.now.table.shared.table_id lanes.now.shape reader }
-    ensures writer { IsWriterOf lanes.now.table.shared.table_id lanes.now.shape result.0.1 }
-    ensures reader { IsReaderOf lanes.now.table.shared.table_id lanes.now.shape result.1.2 }
+    requires held { IsWriterOf (identity lanes.now) lanes.now.shape held }
+    requires other { IsWriterOf (identity lanes.now) lanes.now.shape other }
+    requires reader { IsReaderOf (identity lanes.now) lanes.now.shape reader }
+    ensures writer { IsWriterOf (identity lanes.now) lanes.now.shape result.0.1 }
+    ensures reader { IsReaderOf (identity lanes.now) lanes.now.shape result.1.2 }
 {
     thread::join(
         rt,
         move || -> (Option<u64>, WriterSeat<u8>)
-            requires { IsWriterOf lanes.now.table.shared.table_id lanes.now.shape held }
-            ensures { IsWriterOf lanes.entry.now.table.shared.table_id lanes.entry.now.shape result.1 }
+            requires { IsWriterOf (identity lanes.now) lanes.now.shape held }
+            ensures { IsWriterOf (identity lanes.entry.now) lanes.entry.now.shape result.1 }
         { put_held(lanes, held, gate) },
         move || -> (bool, bool, ReaderSeat<u8>)
-            requires writer { IsWriterOf lanes.now.table.shared.table_id lanes.now.shape other }
-            requires reader { IsReaderOf lanes.now.table.shared.table_id lanes.now.shape reader }
-            ensures { IsReaderOf lanes.entry.now.table.shared.table_id lanes.entry.now.shape result.2 }
+            requires writer { IsWriterOf (identity lanes.now) lanes.now.shape other }
+            requires reader { IsReaderOf (identity lanes.now) lanes.now.shape reader }
+            ensures { IsReaderOf (identity lanes.entry.now) lanes.entry.now.shape result.2 }
         { pass_by(lanes, other, reader, gate) },
     )
 }
 
 /// Asserts that the part of writer 1 is taken, and that the queue is finished then, with one part of each writer.
 fn assert_last_of_two(rt: &impl Abort, queue: &Lanes<u8>, mut reader: ReaderSeat<u8>)
-    requires { IsReaderOf queue.now.table.shared.table_id queue.now.shape reader }
+    requires { IsReaderOf (identity queue.now) queue.now.shape reader }
 {
     let item = got(queue.try_take(&mut reader, &NoGate));
     assert!(rt; item == Some((1, 0, 20)));
@@ -239,9 +240,9 @@ fn assert_passed<R: Abort + Threads + Sync>(
     second: WriterSeat<u8>,
     reader: ReaderSeat<u8>,
 )
-    requires first { IsWriterOf queue.now.table.shared.table_id queue.now.shape first }
-    requires second { IsWriterOf queue.now.table.shared.table_id queue.now.shape second }
-    requires reader { IsReaderOf queue.now.table.shared.table_id queue.now.shape reader }
+    requires first { IsWriterOf (identity queue.now) queue.now.shape first }
+    requires second { IsWriterOf (identity queue.now) queue.now.shape second }
+    requires reader { IsReaderOf (identity queue.now) queue.now.shape reader }
 {
     let hold = Hold::new(Point::SlotHeld(1, 0));
     let ((number, writer), (held, right, back)) = hold_a_writer(
@@ -270,11 +271,11 @@ fn finish_beside(
     mut reader: ReaderSeat<u8>,
     gate: &Hold,
 ) -> (bool, DoneSeat<u8>, ReaderSeat<u8>)
-    requires writer { IsWriterOf lanes.now.table.shared.table_id lanes.now.shape writer }
-    requires reader { IsReaderOf lanes.now.table.shared.table_id lanes.now.shape reader }
-    ensures writer { IsWriterOf lanes.now.table.shared.table_id lanes.now.shape result.1
+    requires writer { IsWriterOf (identity lanes.now) lanes.now.shape writer }
+    requires reader { IsReaderOf (identity lanes.now) lanes.now.shape reader }
+    ensures writer { IsWriterOf (identity lanes.now) lanes.now.shape result.1
         × (result.1.number ≡ writer.number) }
-    ensures reader { IsReaderOf lanes.now.table.shared.table_id lanes.now.shape result.2
+    ensures reader { IsReaderOf (identity lanes.now) lanes.now.shape result.2
         × (result.2.number ≡ reader.number) }
 {
     let held = is_seen(&gate.reached);
@@ -296,9 +297,9 @@ fn gathered_by_two(
     second: ReaderSeat<u8>,
 ) -> Result<Option<Totals>, Fail>
     requires shape { (lanes.shape.writers ≡ 1) × (lanes.shape.readers ≡ 2) }
-    requires writer { IsWriterOf lanes.table.shared.table_id lanes.shape done × (done.number ≡ 0) }
-    requires first { IsReaderOf lanes.table.shared.table_id lanes.shape first × (first.number ≡ 0) }
-    requires second { IsReaderOf lanes.table.shared.table_id lanes.shape second
+    requires writer { IsWriterOf (identity lanes) lanes.shape done × (done.number ≡ 0) }
+    requires first { IsReaderOf (identity lanes) lanes.shape first × (first.number ≡ 0) }
+    requires second { IsReaderOf (identity lanes) lanes.shape second
         × (second.number ≡ 1) }
 {
     let writers = Vec::from_array(alloc, [done])?;
@@ -315,27 +316,27 @@ fn finish_past_a_reader<R: Threads + Sync>(
     held: ReaderSeat<u8>,
     other: ReaderSeat<u8>,
 ) -> ((Item, ReaderSeat<u8>), (bool, DoneSeat<u8>, ReaderSeat<u8>))
-    requires writer { IsWriterOf lanes.now.table.shared.table_id lanes.now.shape writer }
-    requires held { IsReaderOf lanes.now.table.shared.table_id lanes.now.shape held }
-    requires other { IsReaderOf lanes.now.table.shared.table_id lanes.now.shape other }
-    ensures held { IsReaderOf lanes.now.table.shared.table_id lanes.now.shape result.0.1
+    requires writer { IsWriterOf (identity lanes.now) lanes.now.shape writer }
+    requires held { IsReaderOf (identity lanes.now) lanes.now.shape held }
+    requires other { IsReaderOf (identity lanes.now) lanes.now.shape other }
+    ensures held { IsReaderOf (identity lanes.now) lanes.now.shape result.0.1
         × (result.0.1.number ≡ held.number) }
-    ensures writer { IsWriterOf lanes.now.table.shared.table_id lanes.now.shape result.1.1
+    ensures writer { IsWriterOf (identity lanes.now) lanes.now.shape result.1.1
         × (result.1.1.number ≡ writer.number) }
-    ensures other { IsReaderOf lanes.now.table.shared.table_id lanes.now.shape result.1.2
+    ensures other { IsReaderOf (identity lanes.now) lanes.now.shape result.1.2
         × (result.1.2.number ≡ other.number) }
 {
     thread::join(
         rt,
         move || -> (Item, ReaderSeat<u8>)
-            requires { IsReaderOf lanes.now.table.shared.table_id lanes.now.shape held }
-            ensures { IsReaderOf lanes.entry.now.table.shared.table_id lanes.entry.now.shape result.1 × (result.1.number ≡ held.number) }
+            requires { IsReaderOf (identity lanes.now) lanes.now.shape held }
+            ensures { IsReaderOf (identity lanes.entry.now) lanes.entry.now.shape result.1 × (result.1.number ≡ held.number) }
         { take_held(lanes, held, gate) },
         move || -> (bool, DoneSeat<u8>, ReaderSeat<u8>)
-            requires writer { IsWriterOf lanes.now.table.shared.table_id lanes.now.shape writer }
-            requires reader { IsReaderOf lanes.now.table.shared.table_id lanes.now.shape other }
-            ensures writer { IsWriterOf lanes.entry.now.table.shared.table_id lanes.entry.now.shape result.1 × (result.1.number ≡ writer.number) }
-            ensures reader { IsReaderOf lanes.entry.now.table.shared.table_id lanes.entry.now.shape result.2 × (result.2.number ≡ other.number) }
+            requires writer { IsWriterOf (identity lanes.now) lanes.now.shape writer }
+            requires reader { IsReaderOf (identity lanes.now) lanes.now.shape other }
+            ensures writer { IsWriterOf (identity lanes.entry.now) lanes.entry.now.shape result.1 × (result.1.number ≡ writer.number) }
+            ensures reader { IsReaderOf (identity lanes.entry.now) lanes.entry.now.shape result.2 × (result.2.number ≡ other.number) }
         { finish_beside(lanes, writer, other, gate) },
     )
 }
@@ -350,9 +351,9 @@ fn assert_two_gathered(
     second: ReaderSeat<u8>,
 ) -> Result<(), Fail>
     requires shape { (lanes.shape.writers ≡ 1) × (lanes.shape.readers ≡ 2) }
-    requires writer { IsWriterOf lanes.table.shared.table_id lanes.shape done × (done.number ≡ 0) }
-    requires first { IsReaderOf lanes.table.shared.table_id lanes.shape first × (first.number ≡ 0) }
-    requires second { IsReaderOf lanes.table.shared.table_id lanes.shape second
+    requires writer { IsWriterOf (identity lanes) lanes.shape done × (done.number ≡ 0) }
+    requires first { IsReaderOf (identity lanes) lanes.shape first × (first.number ≡ 0) }
+    requires second { IsReaderOf (identity lanes) lanes.shape second
         × (second.number ≡ 1) }
 {
     let end = total(lanes.try_take(&mut first, &NoGate), 0);
@@ -364,8 +365,8 @@ fn assert_two_gathered(
 
 /// Puts the two parts for which there are slots.
 fn put_two(rt: &impl Abort, lanes: &Lanes<u8>, writer: &mut WriterSeat<u8>)
-    requires { IsWriterOf lanes.now.table.shared.table_id lanes.now.shape writer.old }
-    ensures { IsWriterOf lanes.now.table.shared.table_id lanes.now.shape writer.new
+    requires { IsWriterOf (identity lanes.now) lanes.now.shape writer.old }
+    ensures { IsWriterOf (identity lanes.now) lanes.now.shape writer.new
         × (writer.new.number ≡ writer.old.number) }
 {
     let a = lanes.try_put(writer, 40, &NoGate).ok();
@@ -383,9 +384,9 @@ fn assert_finished_past<R: Abort + Threads + Sync>(
     second: ReaderSeat<u8>,
 ) -> Result<(), Fail>
     requires shape { (queue.shape.writers ≡ 1) × (queue.shape.readers ≡ 2) }
-    requires writer { IsWriterOf queue.table.shared.table_id queue.shape writer × (writer.number ≡ 0) }
-    requires first { IsReaderOf queue.table.shared.table_id queue.shape first × (first.number ≡ 0) }
-    requires second { IsReaderOf queue.table.shared.table_id queue.shape second
+    requires writer { IsWriterOf (identity queue) queue.shape writer × (writer.number ≡ 0) }
+    requires first { IsReaderOf (identity queue) queue.shape first × (first.number ≡ 0) }
+    requires second { IsReaderOf (identity queue) queue.shape second
         × (second.number ≡ 1) }
 {
     put_two(rt, &queue, &mut writer);

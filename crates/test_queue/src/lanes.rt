@@ -1,6 +1,7 @@
 //! Worked calls on one thread: what each answers, from the queue's description.
 ghost use Rattle.std.specs.Prelude.{◌≡◌, ◌≤◌, IfOk};
 ghost use Rattle.kmc_partqueue.specs.Seats.{IsWriterOf, IsReaderOf};
+ghost use Rattle.kmc_partqueue.specs.Queue.{identity};
 
 use kmc_partcore::{QueueShape, Taken, Totals};
 use kmc_partqueue::{
@@ -58,8 +59,8 @@ fn gathered_by_one(
     reader: ReaderSeat<u8>,
 ) -> Result<Option<Totals>, Fail>
     requires shape { (lanes.shape.writers ≡ 1) × (lanes.shape.readers ≡ 1) }
-    requires writer { IsWriterOf lanes.table.shared.table_id lanes.shape done × (done.number ≡ 0) }
-    requires reader { IsReaderOf lanes.table.shared.table_id lanes.shape reader
+    requires writer { IsWriterOf (identity lanes) lanes.shape done × (done.number ≡ 0) }
+    requires reader { IsReaderOf (identity lanes) lanes.shape reader
         × (reader.number ≡ 0) }
 {
     let writers = Vec::from_array(alloc, [done])?;
@@ -77,8 +78,8 @@ fn assert_gathered(
     count: u64,
 ) -> Result<(), Fail>
     requires shape { (lanes.shape.writers ≡ 1) × (lanes.shape.readers ≡ 1) }
-    requires writer { IsWriterOf lanes.table.shared.table_id lanes.shape done × (done.number ≡ 0) }
-    requires reader { IsReaderOf lanes.table.shared.table_id lanes.shape reader
+    requires writer { IsWriterOf (identity lanes) lanes.shape done × (done.number ≡ 0) }
+    requires reader { IsReaderOf (identity lanes) lanes.shape reader
         × (reader.number ≡ 0) }
 {
     assert!(rt; done.number() == 0 && reader.number() == 0);
@@ -95,9 +96,9 @@ fn queue_of_one(
 ) -> Result<(Lanes<u8>, WriterSeat<u8>, ReaderSeat<u8>), Fail>
     requires { (1 ≤ per_writer) × (per_writer ≤ 64) }
     ensures shape { IfOk result (λ q. (q.0.shape.writers ≡ 1) × (q.0.shape.readers ≡ 1)) }
-    ensures writer { IfOk result (λ q. IsWriterOf q.0.table.shared.table_id q.0.shape q.1
+    ensures writer { IfOk result (λ q. IsWriterOf (identity q.0) q.0.shape q.1
         × (q.1.number ≡ 0)) }
-    ensures reader { IfOk result (λ q. IsReaderOf q.0.table.shared.table_id q.0.shape q.2
+    ensures reader { IfOk result (λ q. IsReaderOf (identity q.0) q.0.shape q.2
         × (q.2.number ≡ 0)) }
 {
     let (lanes, mut writers, mut readers) = Lanes::<u8>::new(alloc, shape!(1, per_writer, 1))?;
@@ -113,11 +114,11 @@ fn fill_two_slots(
     writer: &mut WriterSeat<u8>,
     reader: &mut ReaderSeat<u8>,
 )
-    requires writer { IsWriterOf lanes.now.table.shared.table_id lanes.now.shape writer.old }
-    requires reader { IsReaderOf lanes.now.table.shared.table_id lanes.now.shape reader.old }
-    ensures writer { IsWriterOf lanes.now.table.shared.table_id lanes.now.shape writer.new
+    requires writer { IsWriterOf (identity lanes.now) lanes.now.shape writer.old }
+    requires reader { IsReaderOf (identity lanes.now) lanes.now.shape reader.old }
+    ensures writer { IsWriterOf (identity lanes.now) lanes.now.shape writer.new
         × (writer.new.number ≡ writer.old.number) }
-    ensures reader { IsReaderOf lanes.now.table.shared.table_id lanes.now.shape reader.new
+    ensures reader { IsReaderOf (identity lanes.now) lanes.now.shape reader.new
         × (reader.new.number ≡ reader.old.number) }
 {
     let empty = is_not_now(lanes.try_take(reader, &NoGate));
@@ -134,11 +135,11 @@ fn put_again(
     writer: &mut WriterSeat<u8>,
     reader: &mut ReaderSeat<u8>,
 )
-    requires writer { IsWriterOf lanes.now.table.shared.table_id lanes.now.shape writer.old }
-    requires reader { IsReaderOf lanes.now.table.shared.table_id lanes.now.shape reader.old }
-    ensures writer { IsWriterOf lanes.now.table.shared.table_id lanes.now.shape writer.new
+    requires writer { IsWriterOf (identity lanes.now) lanes.now.shape writer.old }
+    requires reader { IsReaderOf (identity lanes.now) lanes.now.shape reader.old }
+    ensures writer { IsWriterOf (identity lanes.now) lanes.now.shape writer.new
         × (writer.new.number ≡ writer.old.number) }
-    ensures reader { IsReaderOf lanes.now.table.shared.table_id lanes.now.shape reader.new
+    ensures reader { IsReaderOf (identity lanes.now) lanes.now.shape reader.new
         × (reader.new.number ≡ reader.old.number) }
 {
     let first = got(lanes.try_take(reader, &NoGate));
@@ -148,8 +149,8 @@ fn put_again(
 
 /// The second and the third part are taken, and then the queue is finished, as often as it is asked.
 fn take_the_rest(rt: &impl Abort, lanes: &Lanes<u8>, reader: &mut ReaderSeat<u8>)
-    requires { IsReaderOf lanes.now.table.shared.table_id lanes.now.shape reader.old }
-    ensures { IsReaderOf lanes.now.table.shared.table_id lanes.now.shape reader.new
+    requires { IsReaderOf (identity lanes.now) lanes.now.shape reader.old }
+    ensures { IsReaderOf (identity lanes.now) lanes.now.shape reader.new
         × (reader.new.number ≡ reader.old.number) }
 {
     let second = got(lanes.try_take(reader, &NoGate));

@@ -3,6 +3,7 @@ ghost use Rattle.std.specs.Prelude.{◌≡◌, ◌<◌, ℕ, IfOk};
 ghost use Rattle.kmc_partqueue.specs.Counts.{Each, total_of, same};
 ghost use Rattle.kmc_partqueue.specs.Dealing.{row_from};
 ghost use Rattle.kmc_partqueue.specs.Seats.{IsWriterOf, IsReaderOf, new_writer, new_reader};
+ghost use Rattle.kmc_partqueue.specs.Queue.{identity};
 
 use crate::seen::{EACH, Seen, WRITERS, part_of};
 use kmc_partcore::{Taken, Totals};
@@ -22,8 +23,8 @@ fn put_all<R: Wait>(
     mut seat: WriterSeat<Part>,
     seen: &Seen,
 ) -> DoneSeat<Part>
-    requires { IsWriterOf lanes.now.table.shared.table_id lanes.now.shape seat }
-    ensures { IsWriterOf lanes.now.table.shared.table_id lanes.now.shape result
+    requires { IsWriterOf (identity lanes.now) lanes.now.shape seat }
+    ensures { IsWriterOf (identity lanes.now) lanes.now.shape result
         × (result.number ≡ seat.number) }
 {
     for number in 0..EACH {
@@ -45,8 +46,8 @@ fn take_all<R: Wait>(
     mut seat: ReaderSeat<Part>,
     seen: &Seen,
 ) -> ReaderSeat<Part>
-    requires { IsReaderOf lanes.now.table.shared.table_id lanes.now.shape seat }
-    ensures { IsReaderOf lanes.now.table.shared.table_id lanes.now.shape result
+    requires { IsReaderOf (identity lanes.now) lanes.now.shape seat }
+    ensures { IsReaderOf (identity lanes.now) lanes.now.shape result
         × (result.number ≡ seat.number) }
 {
     let mut least = [0u64; WRITERS];
@@ -73,9 +74,9 @@ fn write<R: Threads + Wait + Sync>(
     seen: &Seen,
 ) -> Result<Vec<DoneSeat<Part>>, AllocError>
     requires { seats.items ≡ row_from
-        (new_writer lanes.now.table.shared.table_id lanes.now.shape) 0 lanes.now.shape.writers }
+        (new_writer (identity lanes.now) lanes.now.shape) 0 lanes.now.shape.writers }
     ensures queue { IfOk result (λ v. Each
-        (IsWriterOf lanes.now.table.shared.table_id lanes.now.shape) v.items) }
+        (IsWriterOf (identity lanes.now) lanes.now.shape) v.items) }
     ensures numbers { IfOk result (λ v. (w : ℕ) → w < lanes.now.shape.writers
         → total_of (λ s. same s.number w) v.items ≡ 1) }
 {
@@ -83,8 +84,8 @@ fn write<R: Threads + Wait + Sync>(
         rt,
         seats,
         &|seat| -> DoneSeat<Part>
-            requires { IsWriterOf lanes.now.table.shared.table_id lanes.now.shape seat }
-            ensures { IsWriterOf lanes.entry.now.table.shared.table_id lanes.entry.now.shape result
+            requires { IsWriterOf (identity lanes.now) lanes.now.shape seat }
+            ensures { IsWriterOf (identity lanes.entry.now) lanes.entry.now.shape result
                 × (result.number ≡ seat.number) }
         { put_all(rt, alloc, lanes, seat, seen) },
     )
@@ -98,9 +99,9 @@ fn read<R: Threads + Wait + Sync>(
     seen: &Seen,
 ) -> Result<Vec<ReaderSeat<Part>>, AllocError>
     requires { seats.items ≡ row_from
-        (new_reader lanes.now.table.shared.table_id lanes.now.shape) 0 lanes.now.shape.readers }
+        (new_reader (identity lanes.now) lanes.now.shape) 0 lanes.now.shape.readers }
     ensures queue { IfOk result (λ v. Each
-        (IsReaderOf lanes.now.table.shared.table_id lanes.now.shape) v.items) }
+        (IsReaderOf (identity lanes.now) lanes.now.shape) v.items) }
     ensures numbers { IfOk result (λ v. (q : ℕ) → q < lanes.now.shape.readers
         → total_of (λ s. same s.number q) v.items ≡ 1) }
 {
@@ -108,8 +109,8 @@ fn read<R: Threads + Wait + Sync>(
         rt,
         seats,
         &|seat| -> ReaderSeat<Part>
-            requires { IsReaderOf lanes.now.table.shared.table_id lanes.now.shape seat }
-            ensures { IsReaderOf lanes.entry.now.table.shared.table_id lanes.entry.now.shape result
+            requires { IsReaderOf (identity lanes.now) lanes.now.shape seat }
+            ensures { IsReaderOf (identity lanes.entry.now) lanes.entry.now.shape result
                 × (result.number ≡ seat.number) }
         { take_all(rt, lanes, seat, seen) },
     )
@@ -126,26 +127,26 @@ pub fn pass_all<R: Threads + Wait + Sync>(
     seen: &Seen,
 ) -> Option<Totals>
     requires writers { writers.items
-        ≡ row_from (new_writer lanes.table.shared.table_id lanes.shape) 0 lanes.shape.writers }
+        ≡ row_from (new_writer (identity lanes) lanes.shape) 0 lanes.shape.writers }
     requires readers { readers.items
-        ≡ row_from (new_reader lanes.table.shared.table_id lanes.shape) 0 lanes.shape.readers }
+        ≡ row_from (new_reader (identity lanes) lanes.shape) 0 lanes.shape.readers }
 {
     let queue = &lanes;
     let (written, read) = thread::join(
         rt,
         move || -> Result<Vec<DoneSeat<Part>>, AllocError>
             requires { writers.items
-                ≡ row_from (new_writer queue.now.table.shared.table_id queue.now.shape) 0 queue.now.shape.writers }
+                ≡ row_from (new_writer (identity queue.now) queue.now.shape) 0 queue.now.shape.writers }
             ensures queue { IfOk result (λ v. Each
-                (IsWriterOf queue.entry.now.table.shared.table_id queue.entry.now.shape) v.items) }
+                (IsWriterOf (identity queue.entry.now) queue.entry.now.shape) v.items) }
             ensures numbers { IfOk result (λ v. (w : ℕ) → w < queue.entry.now.shape.writers
                 → total_of (λ s. same s.number w) v.items ≡ 1) }
         { write(rt, alloc, queue, writers, seen) },
         move || -> Result<Vec<ReaderSeat<Part>>, AllocError>
             requires { readers.items
-                ≡ row_from (new_reader queue.now.table.shared.table_id queue.now.shape) 0 queue.now.shape.readers }
+                ≡ row_from (new_reader (identity queue.now) queue.now.shape) 0 queue.now.shape.readers }
             ensures queue { IfOk result (λ v. Each
-                (IsReaderOf queue.entry.now.table.shared.table_id queue.entry.now.shape) v.items) }
+                (IsReaderOf (identity queue.entry.now) queue.entry.now.shape) v.items) }
             ensures numbers { IfOk result (λ v. (q : ℕ) → q < queue.entry.now.shape.readers
                 → total_of (λ s. same s.number q) v.items ≡ 1) }
         { read(rt, queue, readers, seen) },

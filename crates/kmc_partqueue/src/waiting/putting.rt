@@ -3,6 +3,7 @@ ghost use Rattle.std.specs.Prelude.{◌≡◌, ◌↔◌, [], ◌∷◌, ◌++�
 ghost use Rattle.kmc_partqueue.specs.Seats.{IsWriterOf};
 ghost use Rattle.kmc_partqueue.specs.declared.writer.TryPutError.TheVariants.{NumbersSpent};
 ghost use Rattle.kmc_partcore.specs.declared.shape.TheConstants.{MAX_ITEMS};
+ghost use Rattle.kmc_partqueue.specs.Queue.{identity};
 
 use crate::gate::Gate;
 use crate::lanes::Lanes;
@@ -18,7 +19,7 @@ pub fn put<T, R: Wait, G: Gate>(
     part: T,
     gate: &G,
 ) -> PutResult<T>
-    requires { IsWriterOf lanes.now.table.shared.table_id lanes.now.shape s.old }
+    requires { IsWriterOf (identity lanes.now) lanes.now.shape s.old }
     ensures seat { (s.new.table ≡ s.old.table) × (s.new.number ≡ s.old.number)
         × (s.new.per_writer ≡ s.old.per_writer) }
     ensures put { MatchResult result

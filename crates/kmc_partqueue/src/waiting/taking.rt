@@ -2,6 +2,7 @@
 ghost use Rattle.std.specs.Prelude.{◌≡◌};
 ghost use Rattle.kmc_partqueue.specs.Seats.{IsReaderOf, KeepsNotes, AllEnded};
 ghost use Rattle.kmc_partqueue.specs.WaitingAnswers.{TakeAnswers, IsLast};
+ghost use Rattle.kmc_partqueue.specs.Queue.{identity};
 
 use crate::gate::Gate;
 use crate::lanes::Lanes;
@@ -17,7 +18,7 @@ pub fn take<T, R: Wait, G: Gate>(
     s: &mut ReaderSeat<T>,
     gate: &G,
 ) -> Taken<T>
-    requires { IsReaderOf lanes.now.table.shared.table_id lanes.now.shape s.old }
+    requires { IsReaderOf (identity lanes.now) lanes.now.shape s.old }
     ensures seat { (s.new.table ≡ s.old.table) × (s.new.number ≡ s.old.number)
         × (s.new.per_writer ≡ s.old.per_writer) × (s.new.writers ≡ s.old.writers) }
     ensures answer { TakeAnswers s.old s.new result }

@@ -2,6 +2,7 @@
 ghost use Rattle.std.specs.Prelude.{◌≡◌};
 ghost use Rattle.kmc_partqueue.specs.Dealing.{row_from};
 ghost use Rattle.kmc_partqueue.specs.Seats.{IsReaderOf, IsWriterOf, new_writer, new_reader};
+ghost use Rattle.kmc_partqueue.specs.Queue.{identity};
 
 use kmc_partcore::QueueShape;
 use kmc_partqueue::{Gate, Lanes, Point, ReaderSeat, TryTaken, WriterSeat};
@@ -20,7 +21,7 @@ fn put_parts<G: Gate>(
     shape: Shape,
     gate: &G,
 )
-    requires { IsWriterOf lanes.now.table.shared.table_id lanes.now.shape seat }
+    requires { IsWriterOf (identity lanes.now) lanes.now.shape seat }
 {
     let slices = slices_of(alloc, read).expect(rt, "memory");
     let parts = parts_of_reads(alloc, 0, &slices, shape).expect(rt, "memory");
@@ -33,7 +34,7 @@ fn put_parts<G: Gate>(
 
 /// Tries until nothing is left to take.
 fn take_parts<G: Gate>(lanes: &Lanes<Part>, mut seat: ReaderSeat<Part>, gate: &G)
-    requires { IsReaderOf lanes.now.table.shared.table_id lanes.now.shape seat }
+    requires { IsReaderOf (identity lanes.now) lanes.now.shape seat }
 {
     'tries: for _ in 0..100 {
         match lanes.try_take(&mut seat, gate) {
@@ -55,7 +56,7 @@ fn split_in_turn<G: Gate>(
 )
     requires queue { lanes.now.shape.writers ≡ 2 }
     requires seats { seats.items ≡ row_from
-        (new_writer lanes.now.table.shared.table_id lanes.now.shape) 0 2 }
+        (new_writer (identity lanes.now) lanes.now.shape) 0 2 }
 {
     assert!(rt; reads.len() == 2);
     let second = seats.pop().expect(rt, "a writer");
@@ -72,7 +73,7 @@ fn store_in_turn<G: Gate>(
     gate: &G,
 )
     requires { seats.items ≡ row_from
-        (new_reader lanes.now.table.shared.table_id lanes.now.shape) 0 2 }
+        (new_reader (identity lanes.now) lanes.now.shape) 0 2 }
 {
     let second = seats.pop().expect(rt, "a reader");
     let first = seats.pop().expect(rt, "a reader");
