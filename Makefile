@@ -20,7 +20,7 @@ LIST_NAME := futoncrane-kmc-list
 BIN = $(DESTDIR)$(PREFIX)/bin
 MAN = $(DESTDIR)$(PREFIX)/share/man/man1
 
-.PHONY: all count check test tests-user install uninstall dist fuzz hostile damaged devices limits threads bench results refusals merges clean
+.PHONY: all count check test tests-user install uninstall dist fuzz hostile damaged devices limits threads bench results refusals options merges clean
 
 # all programs in one call, since most of what they stand on is the same
 all:
@@ -123,6 +123,10 @@ results: $(PROGRAMS) $(REFUSED) $(BODIES) $(MANY)
 # docs/REFUSALS.md against the code: the number, text and exit status of each refusal
 refusals:
 	bench/refusals.py
+
+# usage lines, help texts and docs/*.1 against the tables of kmc_options: the options of each program, with their ranges and defaults
+options:
+	bench/options.py
 
 # random splits of random reads, against a plain count of all reads; and the time of a merge beside that of sort -m
 merges: $(KMC_MERGE)

@@ -5,9 +5,9 @@ usage: refusals.py [--list]
 
 A type of refusals is a `pub enum` whose name ends in Error, Fault or Refusal, in any crate. Its numbers are those of its function
 `number`. The text of a refusal is the one that a `Display` written by hand has for it, since programs print those, and else the one
-that it derives. What is filled in is compared as a blank: `{line}` and `{0}` of the code, `<l>` of the table. The exit status is the
-one that a function `status` gives to it, by itself or as the cause of another refusal. With --list the rows are printed as the code
-has them, with their cause and state left blank.
+that it derives. What is filled in is compared as a blank: `{line}` and `{0}` of the code, `<l>` of the table. The exit status is 2
+where the function `is_misuse` of an `Ending` says so of it, by itself or as the cause of another refusal, and else 1. With --list
+the rows are printed as the code has them, with their cause and state left blank.
 """
 import glob
 import os
@@ -17,6 +17,7 @@ import sys
 TOP = os.path.join(os.path.dirname(os.path.abspath(__file__)), "..")
 TABLE = os.path.join(TOP, "docs", "REFUSALS.md")
 KIND = r"\w*(?:Error|Fault|Refusal)"
+MISUSED, FAILED = "2", "1"
 
 # ---- the code
 
@@ -46,9 +47,13 @@ def without_comments(text):
 
 
 def sources():
+    """The files of the crates, without comments, and with the usage line of a program in the place of its call."""
+    with open(os.path.join(TOP, "crates", "kmc_options", "src", "program.rt"), encoding="utf-8") as file:
+        usages = dict(re.findall(r'Program::(\w+) =>\s*\{?\s*("usage: [^"]*")', file.read()))
     for path in sorted(glob.glob(os.path.join(TOP, "crates", "*", "src", "**", "*.rt"), recursive=True)):
         with open(path, encoding="utf-8") as file:
-            yield os.path.relpath(path, TOP), without_comments(file.read())
+            text = re.sub(r"Program::(\w+)\.usage\(\)", lambda m: usages[m.group(1)], without_comments(file.read()))
+            yield os.path.relpath(path, TOP), text
 
 
 def variants(body):
@@ -122,18 +127,17 @@ class Code:
                         for key in innermost(pattern):
                             if key in self.fields:
                                 self.texts.setdefault(key, set()).add(shown.group(1))
-            named = dict(re.findall(r"const (\w+): u8 = (\d+);", text))
-            for m in re.finditer(r"pub fn status\(&self\) -> u8", text):
-                self.read_statuses(block(text, text.index("\n    {", m.end())), named)
+            for m in re.finditer(r"fn is_misuse\(&self\) -> bool \{", text):
+                self.read_statuses(block(text, m.start()))
         for key, shown in derived.items():
             self.texts.setdefault(key, {shown})
 
-    def read_statuses(self, body, named):
+    def read_statuses(self, body):
         given = {}
         rest = None
         kind = None
         for pattern, then in arms(body):
-            value = named[re.match(r"\s*(\w+)", then).group(1)]
+            value = {"true": MISUSED, "false": FAILED}[re.match(r"\s*(\w+)", then).group(1)]
             if pattern.strip() == "_":
                 rest = value
                 continue

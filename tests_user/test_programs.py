@@ -87,16 +87,28 @@ def test_a_merge_names_the_file_that_cannot_be_opened(room):
 
 
 def test_a_merge_refuses_wrong_words(room):
-    for words in ([], [b"a\xff.dump"], ["-ci1"], ["-ci1", "-ci1", "a.dump"], ["-x", "a.dump"]):
+    room.write("a.dump", "AC\t2\n")
+    for words in ([], [b"a\xff.dump"], ["-ci1"], ["-ci1", "-ci1", "a.dump"], ["-ci1", "--ci=1", "a.dump"], ["-x", "a.dump"], ["-", "a.dump"],
+                  ["-cs0", "-cx", "-ci1", "a.dump"], ["--ci", "a.dump"], ["-k31", "a.dump"], ["--sr=2", "a.dump"], ["-b", "a.dump"], ["-fa", "a.dump"],
+                  ["-slices2", "a.dump"], ["--force", "a.dump"], ["--help"], *[["a.dump"] * 1001]):
         status, out, told = ended(room, "kmc_merge", *words)
         assert (status, out, told) == (2, b"", MERGE_USAGE), (words, told)
 
 
 def test_a_merge_names_the_first_option_out_of_range(room):
     room.write("a.dump", "AC\t2\n")
-    for words, name in ((["-cix"], b"-ci"), (["-cx%d" % (MOST + 1)], b"-cx"), (["-cs0"], b"-cs"), (["-cs0", "-cx", "-ci1"], b"-cx"), (["-cs", "-ci-1"], b"-ci")):
+    for words, name in ((["-cix"], b"-ci"), (["-cx%d" % (MOST + 1)], b"-cx"), (["-cs0"], b"-cs"), (["-cs0", "-cx-1", "-ci1"], b"-cx"), (["-csx", "-ci-1"], b"-ci"),
+                        (["--cs", "0", "--cx=x"], b"-cx"), (["--ci="], b"-ci")):
         told = b"kmc_merge: value of " + name + b" is out of range\n"
         assert ended(room, "kmc_merge", *words, "a.dump") == (2, b"", told), words
+
+
+def test_a_merge_takes_options_in_long_form_and_odd_names(room):
+    names = [room.write(name, "AC\t2\n") for name in ("a b.dump", "ci=3", "k31", "=", "a-ci9", "\u00e9.dump")]
+    for words, out in (([], b"AC\t12\n"), (["-ci13"], b""), (["--ci", "13"], b""), (["--ci=13"], b""), (["--cs=7", "--cx", "12"], b"AC\t7\n"), (["-cx11"], b"")):
+        for place in (0, 3, 6):
+            assert ended(room, "kmc_merge", *names[:place], *words, *names[place:]) == (0, out, b""), (words, place)
+    assert ended(room, "kmc_merge", *["k31"] * 1000) == (0, b"AC\t255\n", b"")
 
 
 def test_300_dumps_are_summed(room):

@@ -2,6 +2,7 @@
 use Rattle.std.proofs.Common.{◌≡◌, List, [], ◌∷◌, Some, sym, subst, ◌∙◌}
 use Rattle.std.specs.List.{filter}
 use Rattle.kmc_options.specs.Words.{Word}
+use Rattle.kmc_options.specs.declared.program.Program.TheVariants.{KmcCut}
 use Rattle.kmc_options.specs.declared.run_params.Params.{Params}
 use Rattle.kmc_options.specs.CommandLine.{found}
 use Rattle.kmc_options.specs.Options.{AreGiven}
@@ -18,7 +19,7 @@ same_some x y is = cc is
 
 -- the word that gives the slices and the bins that are given leave no choice
 pub slices_asked : (words : List Word) (r : CutRequest) (word : Word) (p : Params) → filter is_slices (joined words) ≡ word ∷ [] → AreGiven
-    (found (options_of words)) p → IsCutRequest words r → IsNumberOfSlices word p.n r.slices
+    (found KmcCut (options_of words)) p → IsCutRequest words r → IsNumberOfSlices word p.n r.slices
 slices_asked words r word p one given is =
     let same = same_first is.word word (sym is.slices_word ∙ one) in
     let bins = same_some r.params.n p.n (sym is.given.n ∙ given.n) in

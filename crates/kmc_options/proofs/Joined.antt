@@ -1,5 +1,5 @@
 -- Options in long form and their values, one word after the other.
-use Rattle.std.proofs.Common.{◌≡◌, true, false, List, [], ◌∷◌, ◌++◌, Option, Some, None, refl}
+use Rattle.std.proofs.Common.{◌≡◌, true, false, List, [], ◌∷◌, Option, Some, None, refl}
 use Rattle.kmc_options.specs.Words.{Word}
 use Rattle.kmc_options.specs.Spelling.{awaits_value}
 use Rattle.kmc_options.specs.SliceWords.{joined}

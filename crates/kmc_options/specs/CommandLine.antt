@@ -1,5 +1,4 @@
--- What a command line in long form says: the command that reads it, and what stands for each
--- option.
+-- What a command line in long form says: the command of a program that reads it, and what stands for each option.
 use Rattle.std.specs.Prelude.{◌++◌, ◌==◌, ℕ, Bool, true, false, List, [], Option, Some, None, map, length, if◌then◌else◌, codes}
 use Rattle.std.specs.Option.{option_map_or}
 use Rattle.std.specs.Str.{bytes_eq}
@@ -13,10 +12,11 @@ use Rattle.kmc_base.specs.declared.strands.Strands.TheVariants.{Apart, Joined}
 use Rattle.kmc_reads.specs.declared.format.Format.{Format}
 use Rattle.kmc_reads.specs.declared.format.Format.TheVariants.{Fasta, Fastq}
 use Rattle.kmc_options.specs.Words.{Word}
-use Rattle.kmc_options.specs.Names.{flag_name, flags, name_of, settings}
+use Rattle.kmc_options.specs.Names.{flag_name, flags_of, name_of, settings_of}
 use Rattle.kmc_options.specs.Settings.{bounds_of, chosen}
 use Rattle.kmc_options.specs.declared.named.Flag.{Flag}
 use Rattle.kmc_options.specs.declared.named.Flag.TheVariants.{B, Fa, Fm, Fq}
+use Rattle.kmc_options.specs.declared.program.Program.{Program}
 use Rattle.kmc_options.specs.declared.setting.Setting.{Setting}
 
 -- ---- the command
@@ -44,12 +44,11 @@ plain = record {
   subs = [];
 }
 
--- the eight options and the four flags, and nothing else: no positional argument, no help, no
--- version
-abbrev pub command : App
-command = record {
+-- the options and the flags of the program, and nothing else: no positional argument, no help, no version
+abbrev pub command : Program → App
+command program = record {
   top = record (new_shape (codes "kmc")) {
-    rules = map option_rule settings ++ map flag_rule flags;
+    rules = map option_rule (settings_of program) ++ map flag_rule (flags_of program);
     no_binary_name = true;
     disable_help_flag = true;
     disable_version_flag = true;
@@ -58,12 +57,12 @@ command = record {
 }
 
 -- `clap` finds no fault with the words
-unfoldable pub is_accepted : List Word → Bool
-is_accepted words = length (fault_of command words) == 0
+unfoldable pub is_accepted : Program → List Word → Bool
+is_accepted program words = length (fault_of (command program) words) == 0
 
 -- what `clap` finds in words that it accepts
-unfoldable pub found : List Word → List Row
-found words = matches_of command words
+unfoldable pub found : Program → List Word → List Row
+found program words = matches_of (command program) words
 
 -- ---- what stands for a flag and an option
 

@@ -1,16 +1,17 @@
 -- What a user is told of a command line that gives no settings, and of a run that gave up.
 use Rattle.std.specs.Prelude.{ℕ, List, ◌++◌, codes}
 use Rattle.kmc_reads.specs.Messages.{text_of_reads_error}
-use Rattle.kmc_options.specs.Names.{name_of}
+use Rattle.kmc_options.specs.Names.{name_of, usage_of}
 use Rattle.kmc_options.specs.declared.error.ParamsError.{ParamsError}
 use Rattle.kmc_options.specs.declared.error.ParamsError.TheVariants.{Usage, OutOfRange, Memory}
 use Rattle.kmc_options.specs.declared.run_error.RunError.{RunError}
 use Rattle.kmc_options.specs.declared.run_error.RunError.TheVariants as run
+use Rattle.kmc_options.specs.declared.program.Program.TheVariants.{Kmc}
 use Rattle.kmc_options.specs.declared.fault.Fault.{Fault}
 use Rattle.kmc_options.specs.declared.fault.Fault.TheVariants.{Options, Run}
 
 abbrev pub text_of_params_error : ParamsError → List ℕ
-text_of_params_error Usage = codes "usage: kmc [-fa|-fq|-fm] [-k<len>] [-p<len>] [-ci<n>] [-cx<n>] [-cs<n>] [-n<bins>] [-sp<n>] [-sr<n>] [-b]"
+text_of_params_error Usage = usage_of Kmc
 text_of_params_error (OutOfRange s) = codes "kmc: value of -" ++ name_of s ++ codes " is out of range"
 text_of_params_error Memory = codes "kmc: out of memory"
 

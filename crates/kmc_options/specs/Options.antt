@@ -7,13 +7,14 @@ use Rattle.kmc_options.specs.Names.{settings}
 use Rattle.kmc_options.specs.declared.error.ParamsError.{ParamsError}
 use Rattle.kmc_options.specs.declared.error.ParamsError.TheVariants.{Memory, OutOfRange, Usage}
 use Rattle.kmc_options.specs.Ranges.{fitting_length}
+use Rattle.kmc_options.specs.declared.program.Program.{Program}
 use Rattle.kmc_options.specs.declared.run_params.Params.{Params}
 use Rattle.kmc_options.specs.declared.setting.Setting.{Setting}
 use Rattle.kmc_options.specs.declared.setting.Setting.TheVariants.{K, P, N, Ci, Cx, Cs, Sp, Sr}
 
 -- `clap` accepts the words, and at most one format flag stands among them
-abbrev pub is_taken : List Word → Bool
-is_taken words = is_accepted words && is_some (format_of (found words))
+abbrev pub is_taken : Program → List Word → Bool
+is_taken program words = is_accepted program words && is_some (format_of (found program words))
 
 -- the first option, in the order of `settings`, whose value is out of range
 abbrev pub first_out_of_range : List Row → Option Setting
@@ -49,8 +50,7 @@ Faults rows (OutOfRange s) =
 Faults rows Memory = ⊥
 
 -- why the words give no settings; want of memory says nothing of them
-abbrev pub Explains : List Word → ParamsError → Type 0
-Explains words Usage = is_taken words ≡ false
-Explains words (OutOfRange s) =
-    (is_taken words ≡ true) × (first_out_of_range (found words) ≡ Some s)
-Explains words Memory = Unit {0}
+abbrev pub Explains : Program → List Word → ParamsError → Type 0
+Explains program words Usage = is_taken program words ≡ false
+Explains program words (OutOfRange s) = (is_taken program words ≡ true) × (first_out_of_range (found program words) ≡ Some s)
+Explains program words Memory = Unit {0}

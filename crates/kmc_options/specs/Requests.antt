@@ -1,7 +1,10 @@
--- What words ask of the programs that cut and list.
-use Rattle.std.specs.Prelude.{◌≡◌, ◌≤◌, ◌∷◌, ℕ, Bool, true, false, List, [], Some, length, map, is_some, option_and_then, string_bytes, codes}
+-- What words ask of the programs that cut, list and merge.
+use Rattle.std.specs.Prelude.{◌≡◌, ◌≤◌, ◌∷◌, ℕ, true, false, List, [], Some, length, map, option_and_then, string_bytes}
 use Rattle.std.specs.List.{filter, list_any}
-use Rattle.kmc_options.specs.Words.{Word, rest_after, number_of, is_file_name}
+use Rattle.kmc_options.specs.Words.{Word, number_of, is_file_name}
+use Rattle.kmc_options.specs.declared.program.Program.{Program}
+use Rattle.kmc_options.specs.declared.program.Program.TheVariants.{KmcCut, KmcList}
+use Rattle.kmc_options.specs.declared.run_params.Params.{Params}
 use Rattle.kmc_options.specs.declared.setting.Setting.{Setting}
 use Rattle.kmc_options.specs.CommandLine.{found}
 use Rattle.kmc_options.specs.Glued.{long_forms}
@@ -10,18 +13,6 @@ use Rattle.kmc_options.specs.Spelling.{is_slices, is_other, is_force, slices_tex
 use Rattle.kmc_options.specs.SliceWords.{joined}
 use Rattle.kmc_options.specs.declared.slices.cutting.CutRequest.{CutRequest}
 use Rattle.kmc_options.specs.declared.slices.listing.ListRequest.{ListRequest}
-
--- a word begins with one of these
-abbrev pub begins_with_one : List Word → Word → Bool
-begins_with_one prefixes word = list_any (λ prefix. is_some (rest_after prefix word)) prefixes
-
--- how the options begin that are for listing alone
-abbrev pub of_listing : List Word
-of_listing = codes "-c" ∷ codes "--c" ∷ codes "-sr" ∷ codes "--sr" ∷ codes "-b" ∷ codes "--b" ∷ []
-
--- how the options begin that are for cutting alone
-abbrev pub of_cutting : List Word
-of_cutting = codes "-f" ∷ codes "--f" ∷ codes "-k" ∷ codes "--k" ∷ codes "-p" ∷ codes "--p" ∷ codes "-n" ∷ codes "--n" ∷ codes "-sp" ∷ codes "--sp" ∷ []
 
 -- KMC's options among the words, in long form
 abbrev pub options_of : List Word → List Word
@@ -41,8 +32,7 @@ pub record IsNumberOfSlices (word : Word) (bins n : ℕ) : Type 0 where
 pub record AsksForCut (words : List Word) : Type 0 where
   pub names : length (filter is_file_name (joined words)) ≡ 1
   pub slices : length (filter is_slices (joined words)) ≡ 1
-  pub own : list_any (begins_with_one of_listing) (filter is_other (joined words)) ≡ false
-  pub taken : is_taken (options_of words) ≡ true
+  pub taken : is_taken KmcCut (options_of words) ≡ true
 
 -- this is what the words ask for
 pub record IsCutRequest (words : List Word) (r : CutRequest) : Type 0 where
@@ -51,29 +41,36 @@ pub record IsCutRequest (words : List Word) (r : CutRequest) : Type 0 where
   pub word : Word
   pub slices_word : filter is_slices (joined words) ≡ word ∷ []
   pub slices : IsNumberOfSlices word r.params.n r.slices
-  pub given : AreGiven (found (options_of words)) r.params
+  pub given : AreGiven (found KmcCut (options_of words)) r.params
   pub queue : HasProgramQueue r.params
   pub force : r.force ≡ list_any is_force (joined words)
 
--- the options are taken, and the value of this one is the first that is out of its range
-pub record IsOutOfRange (words : List Word) (s : Setting) : Type 0 where
-  pub taken : is_taken (options_of words) ≡ true
-  pub first : first_out_of_range (found (options_of words)) ≡ Some s
+-- the options are taken by the program, and the value of this one is the first that is out of its range
+pub record IsOutOfRange (program : Program) (words : List Word) (s : Setting) : Type 0 where
+  pub taken : is_taken program (options_of words) ≡ true
+  pub first : first_out_of_range (found program (options_of words)) ≡ Some s
+
+-- the words are names of files, at least one and at most so many, and options of the program
+pub record AsksForFiles (program : Program) (most : ℕ) (words : List Word) : Type 0 where
+  pub some : 1 ≤ length (filter is_file_name (joined words))
+  pub few : length (filter is_file_name (joined words)) ≤ most
+  pub slices : length (filter is_slices (joined words)) ≡ 0
+  pub force : list_any is_force (joined words) ≡ false
+  pub taken : is_taken program (options_of words) ≡ true
+
+-- these are the settings and the files that the words ask for
+pub record IsFilesRequest (program : Program) (most : ℕ) (words : List Word) (params : Params) (files : List Word) : Type 0 where
+  pub asks : AsksForFiles program most words
+  pub names : files ≡ filter is_file_name (joined words)
+  pub given : AreGiven (found program (options_of words)) params
 
 abbrev pub most_files : ℕ
 most_files = 100000
 
 -- the words are names of files and options of the program that lists
-pub record AsksForList (words : List Word) : Type 0 where
-  pub some : 1 ≤ length (filter is_file_name (joined words))
-  pub few : length (filter is_file_name (joined words)) ≤ most_files
-  pub slices : length (filter is_slices (joined words)) ≡ 0
-  pub force : list_any is_force (joined words) ≡ false
-  pub own : list_any (begins_with_one of_cutting) (filter is_other (joined words)) ≡ false
-  pub taken : is_taken (options_of words) ≡ true
+abbrev pub AsksForList : List Word → Type 0
+AsksForList = AsksForFiles KmcList most_files
 
 -- this is what the words ask for
-pub record IsListRequest (words : List Word) (r : ListRequest) : Type 0 where
-  pub asks : AsksForList words
-  pub files : map string_bytes r.files.items ≡ filter is_file_name (joined words)
-  pub given : AreGiven (found (options_of words)) r.params
+abbrev pub IsListRequest : List Word → ListRequest → Type 0
+IsListRequest words r = IsFilesRequest KmcList most_files words r.params (map string_bytes r.files.items)

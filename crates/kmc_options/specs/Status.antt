@@ -1,17 +1,32 @@
--- The exit status of a fault.
-use Rattle.std.specs.Prelude.{ℕ, Result, Ok, Err}
+-- How a program ends that has a fault.
+use Rattle.std.specs.Prelude.{ℕ, Bool, true, false}
 use Rattle.kmc_options.specs.declared.fault.Fault.{Fault}
 use Rattle.kmc_options.specs.declared.fault.Fault.TheVariants.{Options, Run}
 use Rattle.kmc_options.specs.declared.error.ParamsError.TheVariants.{Memory, OutOfRange, Usage}
+use Rattle.kmc_options.specs.declared.run_error.RunError.{RunError}
+use Rattle.kmc_options.specs.declared.run_error.RunError.TheVariants as run
 
--- 2 where the command line is at fault, and 1 where the run failed
-abbrev pub status_of : Fault → ℕ
-status_of (Options Usage) = 2
-status_of (Options (OutOfRange s)) = 2
-status_of (Options Memory) = 1
-status_of (Run e) = 1
+-- the exit status by whether the command line is at fault: 2 where it is, and else 1
+abbrev pub status_of : Bool → ℕ
+status_of true = 2
+status_of false = 1
 
--- and 0 where there is no fault
-abbrev pub status_of_answer : Result ℕ Fault → ℕ
-status_of_answer (Ok lines) = 0
-status_of_answer (Err fault) = status_of fault
+-- the command line is at fault; want of memory says nothing of it
+abbrev pub is_misuse : Fault → Bool
+is_misuse (Options Usage) = true
+is_misuse (Options (OutOfRange s)) = true
+is_misuse (Options Memory) = false
+is_misuse (Run e) = false
+
+-- the run gave up since a write failed
+abbrev pub is_write : RunError → Bool
+is_write run.Memory = false
+is_write run.Read = false
+is_write run.Write = true
+is_write (run.Input e) = false
+is_write run.TooLong = false
+
+-- a write of the dump failed
+abbrev pub is_unwritten : Fault → Bool
+is_unwritten (Options e) = false
+is_unwritten (Run e) = is_write e

@@ -8,19 +8,24 @@ ghost use Rattle.kmc_options.specs.Parsed.{FailsAs};
 ghost use Rattle.kmc_options.specs.declared.error.ParamsError.TheVariants.{Memory, Usage};
 
 use crate::error::ParamsError;
-use crate::named::{FLAGS, Named, OPTIONS};
+use crate::named::Named;
+use crate::program::Program;
 use clap::error::ErrorKind;
 use clap::{Arg, ArgMatches, Command};
 use std::alloc::{AllocError, Global};
 
-/// What `clap` finds in the words.
-pub fn parse<'a>(alloc: Global, words: &'a [String]) -> Result<ArgMatches<'a>, ParamsError>
+/// What `clap` finds in the words of a program.
+pub fn parse<'a>(
+    alloc: Global,
+    program: Program,
+    words: &'a [String],
+) -> Result<ArgMatches<'a>, ParamsError>
     ensures { MatchResult result
-        (λ m. (is_accepted (map string_bytes words.entry.now) ≡ true)
-        × (rows_of (found_of m) ≡ found (map string_bytes words.entry.now)))
-        (FailsAs (map string_bytes words.entry.now)) }
+        (λ m. (is_accepted program (map string_bytes words.entry.now) ≡ true)
+        × (rows_of (found_of m) ≡ found program (map string_bytes words.entry.now)))
+        (FailsAs program (map string_bytes words.entry.now)) }
 {
-    let Ok(command) = command(alloc) else {
+    let Ok(command) = command(alloc, program) else {
         return Err(ParamsError::Memory);
     };
     match command.try_get_matches_from(words) {
@@ -40,13 +45,13 @@ fn fault(kind: ErrorKind) -> ParamsError
     }
 }
 
-fn command<'a>(alloc: Global) -> Result<Command<'a>, AllocError>
-    ensures { IfOk result (λ r. app_of r ≡ command) }
+fn command<'a>(alloc: Global, program: Program) -> Result<Command<'a>, AllocError>
+    ensures { IfOk result (λ r. app_of r ≡ command program) }
 {
-    let Ok(with_options) = with_each(alloc, plain(alloc), &OPTIONS) else {
+    let Ok(with_options) = with_each(alloc, plain(alloc), program.options()) else {
         return Err(AllocError);
     };
-    with_each(alloc, with_options, &FLAGS)
+    with_each(alloc, with_options, program.flags())
 }
 
 // The command without its options and flags.

@@ -12,6 +12,7 @@ use crate::command::parse;
 use crate::error::ParamsError;
 use crate::given::{given, is_given};
 use crate::glued::long_form;
+use crate::program::Program;
 use crate::run_params::Params;
 use crate::setting::Setting;
 use std::alloc::{AllocError, Global};
@@ -29,36 +30,36 @@ pub fn words(alloc: Global, argv: Vec<String>) -> Result<Vec<String>, AllocError
     Ok(words)
 }
 
-/// The settings that a command line in long form gives, and whether `-p` stands in it.
-fn asked(alloc: Global, words: &[String]) -> Result<(Params, bool), ParamsError>
+/// The settings that a command line of a program gives in long form, and whether `-p` stands in it.
+fn asked(alloc: Global, program: Program, words: &[String]) -> Result<(Params, bool), ParamsError>
     ensures answer { let texts = map string_bytes words.now in MatchResult result
-        (λ r. (is_taken texts ≡ true) × AreGiven (found texts) r.0 × HasAskedSignatures r.0
-        × HasUsualQueue r.0 × (r.1 ≡ is_some (given_text (found texts) P)))
-        (Explains texts) }
+        (λ r. (is_taken program texts ≡ true) × AreGiven (found program texts) r.0 × HasAskedSignatures r.0
+        × HasUsualQueue r.0 × (r.1 ≡ is_some (given_text (found program texts) P)))
+        (Explains program texts) }
     ensures complete { let texts = map string_bytes words.now in
-        is_taken texts ≡ true → first_out_of_range (found texts) ≡ None
+        is_taken program texts ≡ true → first_out_of_range (found program texts) ≡ None
         → IfErr result (λ e. e ≡ Memory) }
 {
-    let matches = parse(alloc, words)?;
+    let matches = parse(alloc, program, words)?;
     let params = given(&matches)?;
     Ok((params, is_given(&matches, Setting::P)))
 }
 
-/// The settings that a command line in long form gives; an option that it leaves out has its
+/// The settings that a command line of `kmc` gives in long form; an option that it leaves out has its
 /// default. The refusals are judged in this order: words that the command does not take, an option
 /// that is given twice or without its value, more than one format (Usage); then the first of k, p,
 /// n, ci, cx, cs, sp, sr whose value is no number or out of its range (OutOfRange). A number is one
 /// or more ASCII digits.
 pub fn params(alloc: Global, words: Vec<String>) -> Result<Params, ParamsError>
     ensures answer { let texts = map string_bytes words.items in MatchResult result
-        (λ r. (is_taken texts ≡ true) × AreGiven (found texts) r × HasAskedSignatures r
+        (λ r. (is_taken Program.Kmc texts ≡ true) × AreGiven (found Program.Kmc texts) r × HasAskedSignatures r
         × HasUsualQueue r)
-        (Explains texts) }
+        (Explains Program.Kmc texts) }
     ensures complete { let texts = map string_bytes words.items in
-        is_taken texts ≡ true → first_out_of_range (found texts) ≡ None
+        is_taken Program.Kmc texts ≡ true → first_out_of_range (found Program.Kmc texts) ≡ None
         → IfErr result (λ e. e ≡ Memory) }
 {
-    let (params, _is_length_asked) = asked(alloc, words.as_slice())?;
+    let (params, _is_length_asked) = asked(alloc, Program::Kmc, words.as_slice())?;
     Ok(params)
 }
 
@@ -85,19 +86,19 @@ fn with_signatures(params: Params, are_asked: bool) -> Params
     }
 }
 
-/// The settings of a run that the words of a command line give, glued or in long form, with the program's own queue, and with
+/// The settings of a run that the words of a program's command line give, glued or in long form, with the program's own queue, and with
 /// signatures of the length that fits best where `-p` does not stand.
-pub fn settings(alloc: Global, argv: Vec<String>) -> Result<Params, ParamsError>
+pub fn settings(alloc: Global, program: Program, argv: Vec<String>) -> Result<Params, ParamsError>
     ensures answer { let texts = long_forms (map string_bytes argv.items) in MatchResult result
-        (λ r. (is_taken texts ≡ true) × AreGiven (found texts) r
-        × HasProgramSignatures (found texts) r × HasProgramQueue r)
-        (Explains texts) }
+        (λ r. (is_taken program texts ≡ true) × AreGiven (found program texts) r
+        × HasProgramSignatures (found program texts) r × HasProgramQueue r)
+        (Explains program texts) }
     ensures complete { let texts = long_forms (map string_bytes argv.items) in
-        is_taken texts ≡ true → first_out_of_range (found texts) ≡ None
+        is_taken program texts ≡ true → first_out_of_range (found program texts) ≡ None
         → IfErr result (λ e. e ≡ Memory) }
 {
     let words = words(alloc, argv)?;
-    let (asked, is_length_asked) = asked(alloc, words.as_slice())?;
+    let (asked, is_length_asked) = asked(alloc, program, words.as_slice())?;
     let params = with_signatures(asked, is_length_asked);
     match params.with_queue(STORERS, WAITING_PARTS, SPLITTER_READS) {
         Some(params) => Ok(params),

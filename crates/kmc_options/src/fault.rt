@@ -1,9 +1,11 @@
 //! What a fault shows its user: one line on standard error, and the exit status.
-ghost use Rattle.std.specs.Prelude.{◌≡◌, ◌≢◌, not, true, Some};
+ghost use Rattle.std.specs.Prelude.{◌≡◌, Some};
 ghost use Rattle.kmc_options.specs.Messages.{message_of};
 
+use crate::ending::Ending;
 use crate::error::ParamsError;
 use crate::named::Named;
+use crate::program::Program;
 use crate::run_error::RunError;
 use kmc_reads::ReadsMessage;
 use std::fmt;
@@ -17,14 +19,7 @@ pub enum Fault {
     Run(RunError),
 }
 
-// The command line is at fault.
-const MISUSED: u8 = 2;
-
-// The command line is sound, and the run failed.
-const FAILED: u8 = 1;
-
 impl Fault {
-    ghost use Rattle.kmc_options.specs.Status.{status_of};
     ghost use Rattle.kmc_options.specs.RefusalNumbers.{number_of_fault};
 
     /// The number of the refusal, as docs/REFUSALS.md lists it.
@@ -36,25 +31,26 @@ impl Fault {
             Fault::Run(_) => 2,
         }
     }
+}
 
-    /// The exit status: 2 where the command line is at fault, and else 1.
-    pub fn status(&self) -> u8
-        ensures { result ≡ status_of self.now }
-    {
+impl Ending for Fault {
+    ghost use Rattle.kmc_options.specs.Status.{is_misuse, is_unwritten};
+
+    ghost misused = { is_misuse };
+
+    ghost unwritten = { is_unwritten };
+
+    fn is_misuse(&self) -> bool {
         match self {
-            Fault::Options(ParamsError::Usage | ParamsError::OutOfRange(_)) => MISUSED,
-            Fault::Options(ParamsError::Memory) | Fault::Run(_) => FAILED,
+            Fault::Options(ParamsError::Usage | ParamsError::OutOfRange(_)) => true,
+            Fault::Options(ParamsError::Memory) | Fault::Run(_) => false,
         }
     }
 
-    /// Whether the user is told of the fault. A write to a pipe whose other end is closed is not told: its reader has enough.
-    pub fn is_told(&self, pipe_closed: bool) -> bool
-        ensures write { self.now ≡ Fault.Run RunError.Write → result ≡ not pipe_closed }
-        ensures other { self.now ≢ Fault.Run RunError.Write → result ≡ true }
-    {
+    fn is_unwritten(&self) -> bool {
         match self {
-            Fault::Run(RunError::Write) => !pipe_closed,
-            _ => true,
+            Fault::Run(RunError::Write) => true,
+            _ => false,
         }
     }
 }
@@ -64,9 +60,7 @@ impl fmt::Display for Fault {
 
     fn fmt<W: fmt::Write>(&self, f: &mut fmt::Formatter<W>) -> fmt::Result {
         match self {
-            Fault::Options(ParamsError::Usage) => f.write_str(
-                "usage: kmc [-fa|-fq|-fm] [-k<len>] [-p<len>] [-ci<n>] [-cx<n>] [-cs<n>] [-n<bins>] [-sp<n>] [-sr<n>] [-b]",
-            ),
+            Fault::Options(ParamsError::Usage) => f.write_str(Program::Kmc.usage()),
             Fault::Options(ParamsError::OutOfRange(setting)) => {
                 let name = setting.name();
                 write!(f, "kmc: value of -{name} is out of range")

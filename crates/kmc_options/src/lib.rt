@@ -14,6 +14,7 @@ mod glued;
 mod named;
 mod prefix;
 mod process;
+mod program;
 mod run_error;
 mod run_params;
 mod setting;
@@ -21,16 +22,17 @@ mod slices;
 
 pub use command_line::{params, settings, words};
 pub use digits::number;
-pub use ending::ended;
+pub use ending::{Ending, ended};
 pub use error::ParamsError;
 pub use fault::Fault;
 pub use named::Named;
 pub use prefix::{is_file_name, rest_after};
 pub use process::{arguments, name_at};
+pub use program::Program;
 pub use run_error::RunError;
 pub use run_params::{MAX_BATCH, Params};
 pub use setting::{Bounds, Setting};
 pub use slices::{
-    CutRequest, CutRequestError, ListRequest, ListRequestError, MOST_FILES, MOST_SLICES,
-    cut_request, list_request,
+    CutRequest, CutRequestError, FilesRequest, ListRequest, ListRequestError, MOST_FILES,
+    MOST_SLICES, cut_request, files_request, list_request,
 };

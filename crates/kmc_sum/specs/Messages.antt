@@ -1,7 +1,8 @@
--- What a user is shown of a fault, and the exit status.
-use Rattle.std.specs.Prelude.{ℕ, List, ◌++◌, Result, Ok, Err, codes, decimal}
+-- What a user is shown of a fault, and how the program ends.
+use Rattle.std.specs.Prelude.{ℕ, Bool, true, false, List, ◌++◌, codes, decimal}
+use Rattle.kmc_options.specs.Names.{name_of, usage_of}
 use Rattle.kmc_options.specs.Words.{Word, name_at}
-use Rattle.kmc_sum.specs.Request.{prefix_of}
+use Rattle.kmc_options.specs.declared.program.Program.TheVariants.{KmcMerge}
 use Rattle.kmc_sum.specs.declared.error.LineFault.{LineFault}
 use Rattle.kmc_sum.specs.declared.error.LineFault.TheVariants.{Malformed, OtherLength, NotRising}
 use Rattle.kmc_sum.specs.declared.error.SourceFault.{SourceFault}
@@ -9,6 +10,7 @@ use Rattle.kmc_sum.specs.declared.error.SourceFault.TheVariants.{Line, Read}
 use Rattle.kmc_sum.specs.declared.error.SumError.TheVariants.{Source, Write, Memory, TooLong}
 use Rattle.kmc_sum.specs.declared.request.RequestError.{RequestError}
 use Rattle.kmc_sum.specs.declared.request.RequestError.TheVariants.{Usage, OutOfRange}
+use Rattle.kmc_sum.specs.declared.request.RequestError.TheVariants as request
 use Rattle.kmc_sum.specs.declared.fault.Fault.{Fault}
 use Rattle.kmc_sum.specs.declared.fault.Fault.TheVariants.{Request, NotOpened, Sum}
 
@@ -22,8 +24,9 @@ text_of_source_fault Read = codes "cannot be read"
 text_of_source_fault (Line line fault) = codes "line " ++ decimal line ++ codes " " ++ text_of_line_fault fault
 
 abbrev pub text_of_request_error : RequestError → List ℕ
-text_of_request_error Usage = codes "usage: kmc_merge [-ci<n>] [-cx<n>] [-cs<n>] a.dump b.dump .."
-text_of_request_error (OutOfRange o) = codes "kmc_merge: value of " ++ prefix_of o ++ codes " is out of range"
+text_of_request_error Usage = usage_of KmcMerge
+text_of_request_error (OutOfRange s) = codes "kmc_merge: value of -" ++ name_of s ++ codes " is out of range"
+text_of_request_error request.Memory = codes "kmc_merge: out of memory"
 
 -- the line that tells of a fault: `kmc_merge: b.dump: line 4 is no line of a dump`
 abbrev pub message_of : List Word → Fault → List ℕ
@@ -34,13 +37,19 @@ message_of files (Sum Write) = codes "kmc_merge: cannot write"
 message_of files (Sum Memory) = codes "kmc_merge: out of memory"
 message_of files (Sum TooLong) = codes "kmc_merge: too many lines"
 
--- 2 where the command line is at fault, and 1 where the merge failed
-abbrev pub status_of : Fault → ℕ
-status_of (Request error) = 2
-status_of (NotOpened source) = 1
-status_of (Sum error) = 1
+-- the command line is at fault; want of memory says nothing of it
+abbrev pub is_misuse : Fault → Bool
+is_misuse (Request Usage) = true
+is_misuse (Request (OutOfRange s)) = true
+is_misuse (Request request.Memory) = false
+is_misuse (NotOpened source) = false
+is_misuse (Sum error) = false
 
--- and 0 where there is no fault
-abbrev pub status_of_answer : Result ℕ Fault → ℕ
-status_of_answer (Ok lines) = 0
-status_of_answer (Err fault) = status_of fault
+-- a write of the dump failed
+abbrev pub is_unwritten : Fault → Bool
+is_unwritten (Request error) = false
+is_unwritten (NotOpened source) = false
+is_unwritten (Sum (Source e)) = false
+is_unwritten (Sum Write) = true
+is_unwritten (Sum Memory) = false
+is_unwritten (Sum TooLong) = false

@@ -29,6 +29,7 @@ number_of_sum_error sum_error.TooLong = 4
 abbrev pub number_of_request_error : RequestError → ℕ
 number_of_request_error request_error.Usage = 1
 number_of_request_error (request_error.OutOfRange _) = 2
+number_of_request_error request_error.Memory = 3
 
 abbrev pub number_of_fault : Fault → ℕ
 number_of_fault (fault.Request _) = 1

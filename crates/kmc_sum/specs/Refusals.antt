@@ -1,5 +1,5 @@
 -- The causes of refusals.
-use Rattle.std.specs.Prelude.{◌≡◌, ◌≤◌, ◌-◌, ◌^◌, ℕ, ◌<◌, ◌⊎◌, List, [], ◌∷◌, length, slice_index_or, Option}
+use Rattle.std.specs.Prelude.{◌≡◌, ◌≤◌, ◌-◌, ◌^◌, ℕ, ◌<◌, ◌⊎◌, List, [], ◌∷◌, length, Option}
 use Rattle.std.specs.List.{sum_by}
 use Rattle.kmc_device.specs.Device.{HasFailed}
 use Rattle.kmc_sum.specs.Sources.{left_at, GaveFronts}

@@ -1,48 +1,26 @@
 //! The program: from its arguments to the dump of the sum and the exit status.
-ghost use Rattle.std.specs.Prelude.{◌≡◌, ℕ, ◌-◌, ◌^◌, ◌<◌, ◌≤◌, ◌⊎◌, List, length, map, MatchResult, string_bytes};
+ghost use Rattle.std.specs.Prelude.{◌≡◌, ◌≢◌, ℕ, ◌-◌, ◌^◌, ◌<◌, ◌≤◌, ◌⊎◌, List, length, map, MatchResult, string_bytes};
 ghost use Rattle.std.specs.Process.{exit_status};
 ghost use Rattle.kmc_options.specs.Words.{Word};
 ghost use Rattle.kmc_sum.specs.Answer.{IsCause};
 ghost use Rattle.kmc_sum.specs.Request.{Explains};
 ghost use Rattle.kmc_sum.specs.Numbers.{most_sources};
 ghost use Rattle.kmc_sum.specs.Program.{IsAnswered, IsGivenUp};
-ghost use Rattle.kmc_sum.specs.Messages.{status_of_answer};
 ghost use Rattle.kmc_sum.specs.Sources.{failures_of, lefts_of};
 ghost use Rattle.kmc_sum.specs.State.{IsBegun, IsSumWritten};
 
 use crate::error::SumError;
-use crate::fault::{Fault, Message};
+use crate::fault::{Fault, Message, unnamed};
 use crate::merging::{MOST_SOURCES, merge};
 use crate::request::{RequestError, asked_for};
 use kmc_count::Limits;
 use kmc_device::Counted;
-use kmc_options::arguments;
+use kmc_options::{arguments, ended};
 use std::alloc::Global;
 use std::fs;
 use std::io::{Read, Write};
 use std::process::ExitCode;
 use std::rt::{Env, Files};
-
-/// Shows a fault of the files, unless it is a write to a closed pipe, and gives the exit status: 0 where there is no fault. A
-/// line that cannot be written changes nothing of the status.
-fn ended(
-    rt: &impl Eprint,
-    files: &[String],
-    answer: Result<u64, Fault>,
-    pipe_closed: bool,
-) -> ExitCode
-    ensures { exit_status result ≡ status_of_answer answer }
-{
-    match answer {
-        Ok(_) => ExitCode::from(0),
-        Err(fault) => {
-            if fault.is_told(pipe_closed) {
-                let _ = rt.eprintln(Message { files, fault });
-            }
-            ExitCode::from(fault.status())
-        }
-    }
-}
 
 /// A reader for each file, or why there are none: the first file that cannot be opened, or want of memory.
 fn opened<T: Files + Alloc<A = Global>>(
@@ -94,8 +72,11 @@ pub fn sum_readers<T: Eprint + Alloc<A = Global>, R: Read, W: Write>(
     ensures statuses { exit_status result ≤ 1 }
 {
     match merge(rt.alloc(), readers, limits, writer) {
-        Ok(lines) => ended(rt, files, Ok(lines), false),
-        Err(error) => ended(rt, files, Err(Fault::Sum(error)), writer.is_pipe_closed()),
+        Ok(_) => ExitCode::from(0),
+        Err(error) => {
+            let fault = Fault::Sum(error);
+            ended(rt, Message { files, fault }, writer.is_pipe_closed())
+        }
     }
 }
 
@@ -113,19 +94,23 @@ pub fn sum_files<T: Files + Eprint + Alloc<A = Global>, W: Write>(
         (W.contents writer.new.inner)
         × (writer.new.failures ≡ writer.old.failures) }
     ensures misused { exit_status result ≡ 2
-        → ((e : RequestError) × Explains most_sources (map string_bytes words.items) e)
+        → ((e : RequestError) × (e ≢ RequestError.Memory)
+        × Explains most_sources (map string_bytes words.items) e)
         × (writer.new ≡ writer.old) }
     ensures failed { exit_status result ≡ 1 → (writer.new ≡ writer.old)
         ⊎ IsGivenUp (map string_bytes words.items) W.contents writer.old writer.new }
     ensures statuses { exit_status result ≤ 2 }
 {
-    let asked = match asked_for(words, MOST_SOURCES) {
+    let asked = match asked_for(rt.alloc(), words, MOST_SOURCES) {
         Ok(asked) => asked,
-        Err(error) => return ended(rt, &[], Err(Fault::Request(error)), false),
+        Err(error) => return ended(rt, unnamed(Fault::Request(error)), false),
     };
     let mut readers = match opened(rt, &asked.files) {
         Ok(readers) => readers,
-        Err(fault) => return ended(rt, &asked.files, Err(fault), false),
+        Err(fault) => {
+            let files = asked.files.as_slice();
+            return ended(rt, Message { files, fault }, false);
+        }
     };
     sum_readers(
         rt,
@@ -153,7 +138,7 @@ pub fn program<T: Files + Env + Eprint + Alloc<A = Global>, W: Write>(
 {
     match arguments(rt) {
         Ok(Some(words)) => sum_files(rt, words, writer),
-        Ok(None) => ended(rt, &[], Err(Fault::Request(RequestError::Usage)), false),
-        Err(error) => ended(rt, &[], Err(Fault::from(error)), false),
+        Ok(None) => ended(rt, unnamed(Fault::Request(RequestError::Usage)), false),
+        Err(error) => ended(rt, unnamed(Fault::from(error)), false),
     }
 }

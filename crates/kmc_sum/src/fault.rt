@@ -1,12 +1,12 @@
 //! What a fault shows its user: one line on standard error, and the exit status.
-ghost use Rattle.std.specs.Prelude.{◌≡◌, ◌≢◌, Some, map, not, string_bytes, true};
-ghost use Rattle.kmc_sum.specs.Messages.{message_of, status_of};
+ghost use Rattle.std.specs.Prelude.{◌≡◌, Some, map, string_bytes};
+ghost use Rattle.kmc_sum.specs.Messages.{is_misuse, is_unwritten, message_of};
 ghost use Rattle.kmc_sum.specs.declared.error.SumError.TheVariants.{Memory};
 ghost use Rattle.kmc_sum.specs.declared.fault.Fault.TheVariants.{Sum};
 
 use crate::error::SumError;
 use crate::request::RequestError;
-use kmc_options::name_at;
+use kmc_options::{Ending, name_at};
 use std::alloc::AllocError;
 use std::fmt;
 
@@ -21,12 +21,6 @@ pub enum Fault {
     Sum(SumError),
 }
 
-// The command line is at fault.
-const MISUSED: u8 = 2;
-
-// The command line is sound, and the merge failed.
-const FAILED: u8 = 1;
-
 impl Fault {
     ghost use Rattle.kmc_sum.specs.RefusalNumbers.{number_of_fault};
 
@@ -38,27 +32,6 @@ impl Fault {
             Fault::Request(_) => 1,
             Fault::NotOpened(_) => 2,
             Fault::Sum(_) => 3,
-        }
-    }
-
-    /// The exit status: 2 where the command line is at fault, and else 1.
-    pub fn status(&self) -> u8
-        ensures { result ≡ status_of self.now }
-    {
-        match self {
-            Fault::Request(_) => MISUSED,
-            Fault::NotOpened(_) | Fault::Sum(_) => FAILED,
-        }
-    }
-
-    /// Whether the user is told of the fault. A write to a pipe whose other end is closed is not told: its reader has enough.
-    pub fn is_told(&self, pipe_closed: bool) -> bool
-        ensures write { self.now ≡ Fault.Sum SumError.Write → result ≡ not pipe_closed }
-        ensures other { self.now ≢ Fault.Sum SumError.Write → result ≡ true }
-    {
-        match self {
-            Fault::Sum(SumError::Write) => !pipe_closed,
-            _ => true,
         }
     }
 }
@@ -76,6 +49,34 @@ impl From<AllocError> for Fault {
 pub struct Message<'a> {
     pub files: &'a [String],
     pub fault: Fault,
+}
+
+/// The line of a fault that is none of a file.
+pub(crate) fn unnamed<'a>(fault: Fault) -> Message<'a>
+    ensures { result.fault ≡ fault }
+{
+    Message { files: &[], fault }
+}
+
+impl Ending for Message<'_> {
+    ghost misused = { λ m. is_misuse m.fault };
+
+    ghost unwritten = { λ m. is_unwritten m.fault };
+
+    fn is_misuse(&self) -> bool {
+        match self.fault {
+            Fault::Request(RequestError::Memory) => false,
+            Fault::Request(_) => true,
+            Fault::NotOpened(_) | Fault::Sum(_) => false,
+        }
+    }
+
+    fn is_unwritten(&self) -> bool {
+        match self.fault {
+            Fault::Sum(SumError::Write) => true,
+            _ => false,
+        }
+    }
 }
 
 impl fmt::Display for Message<'_> {

@@ -14,13 +14,14 @@ use Rattle.kmc_options.specs.declared.run_params.Params.{Params}
 use Rattle.kmc_options.specs.Words.{Word}
 use Rattle.kmc_options.specs.CommandLine.{found}
 use Rattle.kmc_options.specs.Options.{AreGiven, Explains, is_taken}
+use Rattle.kmc_options.specs.declared.program.Program.TheVariants.{Kmc}
 use Rattle.kmc_options.specs.declared.error.ParamsError.{ParamsError}
 
 -- the words, in long form, give settings
 pub record IsAsked (words : List Word) : Type 0 where
-  pub taken : is_taken words ≡ true
+  pub taken : is_taken Kmc words ≡ true
   pub params : Params
-  pub given : AreGiven (found words) params
+  pub given : AreGiven (found Kmc words) params
 
 -- the words, in long form, give settings by which the text is the dump of the bytes, and has so many lines
 pub record IsAnswered (words : List Word) (bytes text : List ℕ) (lines : ℕ) : Type 0 where
@@ -35,7 +36,7 @@ pub record IsCount {R W : Type 0} (words : List Word) (remaining : R → Option 
       × IsAnswered words bytes text lines × Appends (contents writer.inner) (contents written.inner) text)
   pub sound : IfOk answer (λ lines. (read.failures ≡ reader.failures) × (written.failures ≡ writer.failures))
   -- each fault has its cause
-  pub options : (e : ParamsError) → IsErrOf answer (Options e) → Explains words e × (read ≡ reader)
+  pub options : (e : ParamsError) → IsErrOf answer (Options e) → Explains Kmc words e × (read ≡ reader)
   pub run : (e : RunError) → IsErrOf answer (Run e) → IsAsked words
   pub input : (e : ReadsError) → IsErrOf answer (Run (Input e)) → (asked : IsAsked words)
       × IsRefused asked.params.format (remaining reader.inner) (remaining read.inner) [] e

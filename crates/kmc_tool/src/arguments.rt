@@ -8,7 +8,7 @@ ghost use Rattle.kmc_tool.specs.Program.{IsCount, IsDone, LeavesFront};
 
 use crate::running::run;
 use kmc_device::Counted;
-use kmc_options::{Fault, ParamsError, arguments, ended, settings};
+use kmc_options::{Fault, ParamsError, Program, arguments, ended, settings};
 use std::alloc::{AllocError, Global};
 use std::io::{Read, Write};
 use std::process::ExitCode;
@@ -31,7 +31,7 @@ pub fn count<T: Threads + Wait + Sync, R: Read, W: Write>(
     requires reads { reader.old.reads + 2 ^ 32 < 2 ^ 64 }
     ensures { IsCount (long_forms (map string_bytes argv.items)) R.remaining W.contents reader.old reader.new writer.old writer.new result }
 {
-    let params = match settings(alloc, argv) {
+    let params = match settings(alloc, Program::Kmc, argv) {
         Ok(params) => params,
         Err(error) => return Err(Fault::Options(error)),
     };
@@ -59,12 +59,14 @@ pub fn program_of<T: Threads + Wait + Sync + Eprint + Alloc<A = Global>, R: Read
     ensures failed { exit_status result ≡ 1 → (writer.new ≡ writer.old)
         ⊎ LeavesFront (long_forms (map string_bytes argv.items)) R.remaining W.contents reader.old reader.new writer.old writer.new }
     ensures misused { exit_status result ≡ 2 → ((e : ParamsError) × (e ≢ ParamsError.Memory)
-        × Explains (long_forms (map string_bytes argv.items)) e)
+        × Explains Program.Kmc (long_forms (map string_bytes argv.items)) e)
         × (reader.new ≡ reader.old) × (writer.new ≡ writer.old) }
     ensures statuses { exit_status result ≤ 2 }
 {
-    let answer = count(rt, rt.alloc(), argv, reader, writer);
-    ended(rt, answer, writer.is_pipe_closed())
+    match count(rt, rt.alloc(), argv, reader, writer) {
+        Ok(_) => ExitCode::from(0),
+        Err(fault) => ended(rt, fault, writer.is_pipe_closed()),
+    }
 }
 
 /// The whole program: [`program_of`] over the process's arguments. Where they cannot be read, they are no usage. No contract says
@@ -87,7 +89,7 @@ pub fn program<T: Threads + Wait + Sync + Env + Eprint + Alloc<A = Global>, R: R
 {
     match arguments(rt) {
         Ok(Some(argv)) => program_of(rt, argv, reader, writer),
-        Ok(None) => ended(rt, Err(Fault::Options(ParamsError::Usage)), false),
-        Err(AllocError) => ended(rt, Err(Fault::Options(ParamsError::Memory)), false),
+        Ok(None) => ended(rt, Fault::Options(ParamsError::Usage), false),
+        Err(AllocError) => ended(rt, Fault::Options(ParamsError::Memory), false),
     }
 }

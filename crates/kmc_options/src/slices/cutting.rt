@@ -7,17 +7,15 @@ ghost use Rattle.kmc_options.specs.declared.slices.cutting.CutRequestError.TheVa
 use crate::command_line::settings;
 use crate::digits::number;
 use crate::error::ParamsError;
+use crate::program::Program;
 use crate::run_params::Params;
 use crate::setting::Setting;
 use crate::slices::sorting::{SortedWords, only, sorted_words};
-use crate::slices::spelling::{any_begins_with, slices_text};
+use crate::slices::spelling::slices_text;
 use std::alloc::{AllocError, Global};
 
 /// The most slices that reads are cut into.
 pub const MOST_SLICES: u64 = 1000;
-
-/// How the options begin that are for listing alone.
-const FOREIGN: [&'static str; 6] = ["-c", "--c", "-sr", "--sr", "-b", "--b"];
 
 /// What is asked for: the reads of standard input, cut by these settings into the records of so many slices, in files whose names
 /// begin with the prefix.
@@ -87,7 +85,7 @@ pub fn cut_request(alloc: Global, words: Vec<String>) -> Result<CutRequest, CutR
     ensures asked { IfOk result (IsCutRequest (map string_bytes words.items)) }
     ensures usage { IsErrOf result CutRequestError.Usage → AsksForCut (map string_bytes words.items) → ⊥ }
     ensures range { (s : Setting) → IsErrOf result (CutRequestError.OutOfRange s)
-        → IsOutOfRange (map string_bytes words.items) s }
+        → IsOutOfRange Program.KmcCut (map string_bytes words.items) s }
     ensures slices { IsErrOf result CutRequestError.Slices
         → (r : _) → IsCutRequest (map string_bytes words.items) r → ⊥ }
 {
@@ -103,10 +101,7 @@ pub fn cut_request(alloc: Global, words: Vec<String>) -> Result<CutRequest, CutR
     let Some(word) = only(slices) else {
         return Err(CutRequestError::Usage);
     };
-    if any_begins_with(&others, &FOREIGN) {
-        return Err(CutRequestError::Usage);
-    }
-    let params = match settings(alloc, others) {
+    let params = match settings(alloc, Program::KmcCut, others) {
         Ok(params) => params,
         Err(ParamsError::Usage) => return Err(CutRequestError::Usage),
         Err(ParamsError::OutOfRange(setting)) => return Err(CutRequestError::OutOfRange(setting)),

@@ -2,23 +2,16 @@
 ghost use Rattle.std.specs.Prelude.{◌≡◌, IfOk, IsErrOf, map, string_bytes};
 ghost use Rattle.kmc_options.specs.declared.setting.Setting.{Setting};
 ghost use Rattle.kmc_options.specs.Requests.{AsksForList, IsListRequest, IsOutOfRange};
-ghost use Rattle.kmc_options.specs.declared.slices.listing.ListRequestError.TheVariants.{Memory};
 
-use crate::command_line::settings;
 use crate::error::ParamsError;
+use crate::program::Program;
 use crate::run_params::Params;
 use crate::setting::Setting;
-use crate::slices::sorting::{SortedWords, sorted_words};
-use crate::slices::spelling::any_begins_with;
-use std::alloc::{AllocError, Global};
+use crate::slices::files::{FilesRequest, files_request};
+use std::alloc::Global;
 
 /// The most files of one slice.
 pub const MOST_FILES: usize = 100_000;
-
-/// How the options begin that are for cutting alone.
-const FOREIGN: [&'static str; 10] = [
-    "-f", "--f", "-k", "--k", "-p", "--p", "-n", "--n", "-sp", "--sp",
-];
 
 /// What is asked for: the dump of the records of these files of one slice, by the limits, the strands and the threads of these
 /// settings. How the reads were cut stands in the files.
@@ -54,39 +47,15 @@ impl ListRequestError {
     }
 }
 
-impl From<AllocError> for ListRequestError {
-    ghost from_gives = { λ _ e. e ≡ Memory };
-
-    fn from(_: AllocError) -> ListRequestError {
-        ListRequestError::Memory
-    }
-}
-
 /// What the words ask for.
 pub fn list_request(alloc: Global, words: Vec<String>) -> Result<ListRequest, ListRequestError>
     ensures asked { IfOk result (IsListRequest (map string_bytes words.items)) }
     ensures usage { IsErrOf result ListRequestError.Usage → AsksForList (map string_bytes words.items) → ⊥ }
     ensures range { (s : Setting) → IsErrOf result (ListRequestError.OutOfRange s)
-        → IsOutOfRange (map string_bytes words.items) s }
+        → IsOutOfRange Program.KmcList (map string_bytes words.items) s }
 {
-    let SortedWords {
-        names,
-        slices,
-        others,
-        force,
-    } = sorted_words(alloc, words)?;
-    let count = names.len();
-    if count == 0 || count > MOST_FILES || slices.len() > 0 || force {
-        return Err(ListRequestError::Usage);
-    }
-    if any_begins_with(&others, &FOREIGN) {
-        return Err(ListRequestError::Usage);
-    }
-    match settings(alloc, others) {
-        Ok(params) => Ok(ListRequest {
-            params,
-            files: names,
-        }),
+    match files_request(alloc, Program::KmcList, MOST_FILES, words) {
+        Ok(FilesRequest { params, files }) => Ok(ListRequest { params, files }),
         Err(ParamsError::Usage) => Err(ListRequestError::Usage),
         Err(ParamsError::OutOfRange(setting)) => Err(ListRequestError::OutOfRange(setting)),
         Err(ParamsError::Memory) => Err(ListRequestError::Memory),

@@ -3,6 +3,7 @@ ghost use Rattle.std.specs.Prelude.{Some};
 ghost use Rattle.kmc_options.specs.SliceMessages.{text_of_no_cut, text_of_no_list};
 
 use crate::named::Named;
+use crate::program::Program;
 use crate::slices::cutting::CutRequestError;
 use crate::slices::listing::ListRequestError;
 use std::error::Error;
@@ -13,10 +14,7 @@ impl fmt::Display for CutRequestError {
 
     fn fmt<W: fmt::Write>(&self, f: &mut fmt::Formatter<W>) -> fmt::Result {
         match self {
-            CutRequestError::Usage => write!(
-                f,
-                "usage: kmc_cut [-fa|-fq|-fm] [-k<len>] [-p<len>] [-n<bins>] [-sp<n>] -slices<S> [--force] <prefix>"
-            ),
+            CutRequestError::Usage => f.write_str(Program::KmcCut.usage()),
             CutRequestError::OutOfRange(setting) => {
                 let name = setting.name();
                 write!(f, "kmc_cut: value of -{name} is out of range")
@@ -32,10 +30,7 @@ impl fmt::Display for ListRequestError {
 
     fn fmt<W: fmt::Write>(&self, f: &mut fmt::Formatter<W>) -> fmt::Result {
         match self {
-            ListRequestError::Usage => write!(
-                f,
-                "usage: kmc_list [-ci<n>] [-cx<n>] [-cs<n>] [-sr<n>] [-b] <file> .."
-            ),
+            ListRequestError::Usage => f.write_str(Program::KmcList.usage()),
             ListRequestError::OutOfRange(setting) => {
                 let name = setting.name();
                 write!(f, "kmc_list: value of -{name} is out of range")

@@ -1,9 +1,8 @@
 //! What single words of a command line are.
-ghost use Rattle.std.specs.Prelude.{◌≡◌, map, nat_eq, option_map, string_bytes};
+ghost use Rattle.std.specs.Prelude.{◌≡◌, map, nat_eq, option_map};
 ghost use Rattle.std.specs.List.{list_any};
 ghost use Rattle.std.specs.Str.{bytes_eq};
 ghost use Rattle.kmc_options.specs.Spelling.{awaits_value, is_slices, is_force, slices_text};
-ghost use Rattle.kmc_options.specs.Requests.{begins_with_one};
 
 use crate::prefix::rest_after;
 
@@ -69,26 +68,4 @@ pub fn awaits_value(word: &str) -> bool
     ensures { result ≡ awaits_value word.now }
 {
     rest_after("--", word).is_some() && !has_equals_sign(word) && !is_one_of(word, &PLAIN_WORDS)
-}
-
-/// Whether the word begins with one of these.
-fn begins_with_one(word: &str, prefixes: &[&str]) -> bool
-    ensures { result ≡ begins_with_one (map (λ p. p.now) prefixes.now) word.now }
-{
-    let mut found = false;
-    for prefix in prefixes {
-        found = found || rest_after(*prefix, word).is_some();
-    }
-    found
-}
-
-/// Whether a word begins with one of these.
-pub fn any_begins_with(words: &[String], prefixes: &[&str]) -> bool
-    ensures { result ≡ list_any (begins_with_one (map (λ p. p.now) prefixes.now)) (map string_bytes words.now) }
-{
-    let mut found = false;
-    for word in words {
-        found = found || begins_with_one(word, prefixes);
-    }
-    found
 }

@@ -2,6 +2,7 @@ use Rattle.std.proofs.Common.{ap, map, refl, subst}
 use Rattle.std.specs.Prelude.{string_bytes}
 use Rattle.kmc_tool.proofs.Refusals.{no_options, no_refusal, no_run, of_options, of_run}
 use Rattle.kmc_options.specs.declared.fault.Fault.TheVariants.{Run}
+use Rattle.kmc_options.specs.declared.program.Program.TheVariants.{Kmc}
 use Rattle.kmc_options.specs.Glued.{long_forms}
 use Rattle.kmc_options.specs.Options.{Explains}
 use Rattle.kmc_tool.proofs.arguments.count.Goals as goal
@@ -10,7 +11,7 @@ pub returns-in-Err : goal.returns-in-Err
 returns-in-Err g c = record {
   ok = tt;
   sound = tt;
-  options = λ e is. (subst (Explains (long_forms (map string_bytes c.args.argv.items))) (of_options is) c.in-Err.ensures.answer, refl);
+  options = λ e is. (subst (Explains Kmc (long_forms (map string_bytes c.args.argv.items))) (of_options is) c.in-Err.ensures.answer, refl);
   run = λ e is. absurd (no_run is);
   input = λ e is. absurd (no_run is);
   read_failed = λ is. absurd (no_run is);

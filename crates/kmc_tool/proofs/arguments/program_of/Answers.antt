@@ -1,18 +1,16 @@
-use Rattle.std.proofs.Common.{sym, ◌∙◌, subst}
-use Rattle.std.specs.Prelude.{◌≤◌}
-use Rattle.kmc_tool.proofs.Statuses.{at_most_2, done_only, one_or_other, only_misuse}
-use Rattle.kmc_base.specs.Lemmas.PassedOn.{of_err}
+use Rattle.std.proofs.Common.{sym, ap, ◌∙◌}
+use Rattle.std.specs.Prelude.{Err}
+use Rattle.kmc_tool.proofs.Statuses.{one_or_other, only_misuse}
 use Rattle.kmc_tool.proofs.arguments.program_of.Goals as goal
 
-pub returns-clause-done : goal.returns-clause-done
-returns-clause-done g c = λ zero.
-    let answer = done_only c.count-answer.result (sym c.ended.ensures ∙ zero) in
-    let told = answer.of_ok _ c.count-answer.ensures.ok in
-    let sound = answer.of_ok _ c.count-answer.ensures.sound in
+pub returns-in-Ok-clause-done : goal.returns-in-Ok-clause-done
+returns-in-Ok-clause-done g c = λ zero.
+    let told = c.in-Ok.ensures.ok in
+    let sound = c.in-Ok.ensures.sound in
     record {
       bytes = told.0;
       text = told.1;
-      lines = answer.lines;
+      lines = _;
       given = told.2;
       answered = told.3;
       out = told.4;
@@ -20,10 +18,10 @@ returns-clause-done g c = λ zero.
       writer_sound = sound.1;
     }
 
-pub returns-clause-failed : goal.returns-clause-failed
-returns-clause-failed g c = λ one.
-    one_or_other c.count-answer.result (sym c.ended.ensures ∙ one) c.count-answer.ensures.silent (λ is.
-    let told = c.count-answer.ensures.write_failed is in
+pub returns-in-Err-clause-failed : goal.returns-in-Err-clause-failed
+returns-in-Err-clause-failed g c = λ one.
+    one_or_other c.in-Err.fault c.in-Err.ensures.silent (λ is.
+    let told = c.in-Err.ensures.write_failed (ap Err is) in
     record {
       bytes = told.1;
       text = told.2;
@@ -34,14 +32,11 @@ returns-clause-failed g c = λ one.
       failed = told.0;
     })
 
-pub returns-clause-misused : goal.returns-clause-misused
-returns-clause-misused g c = λ two.
-    let misuse = only_misuse c.count-answer.result (sym c.ended.ensures ∙ two) in
-    let told = c.count-answer.ensures.options misuse.0 misuse.2 in (
+pub returns-in-Err-clause-misused : goal.returns-in-Err-clause-misused
+returns-in-Err-clause-misused g c = λ two.
+    let misuse = only_misuse c.in-Err.fault (sym c.ended.ensures.status ∙ two) in
+    let told = c.in-Err.ensures.options misuse.0 (ap Err misuse.2) in (
       (misuse.0, misuse.1, told.0),
       told.1,
-      of_err _ c.count-answer.result _ misuse.2 c.count-answer.ensures.silent (λ no. absurd (cc)),
+      c.in-Err.ensures.silent (λ no. let wrong = sym misuse.2 ∙ no in absurd (cc)),
     )
-
-pub returns-clause-statuses : goal.returns-clause-statuses
-returns-clause-statuses g c = subst (λ s. s ≤ 2) (sym c.ended.ensures) (at_most_2 c.count-answer.result)

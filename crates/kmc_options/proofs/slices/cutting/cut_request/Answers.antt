@@ -5,6 +5,7 @@ use Rattle.kmc_options.specs.Glued.{long_forms}
 use Rattle.kmc_options.specs.Options.{AreGiven}
 use Rattle.kmc_options.specs.SliceWords.{joined, AreSorted}
 use Rattle.kmc_options.specs.Requests.{IsNumberOfSlices}
+use Rattle.kmc_options.specs.declared.program.Program.TheVariants.{KmcCut}
 use Rattle.kmc_options.proofs.Asked.{slices_asked}
 use Rattle.kmc_options.proofs.slices.cutting.cut_request.Goals as goal
 
@@ -13,6 +14,6 @@ returns-in-None-clause-slices c = λ _ r is.
     let words = map string_bytes c.args.words.items in
     let sorted : AreSorted (joined words) c.in_ok-names.field-0 = c.in_ok-names.ensures in
     let one : map string_bytes c.in_ok-names.field-0.slices.items ≡ string_bytes c.in-Some-only.word ∷ [] = c.in-Some-only.ensures in
-    let given = subst (λ ws. AreGiven (found (long_forms ws)) c.in-Ok.params) sorted.others c.in-Ok.ensures.answer.1 in
+    let given = subst (λ ws. AreGiven (found KmcCut (long_forms ws)) c.in-Ok.params) sorted.others c.in-Ok.ensures.answer.1 in
     let asked = slices_asked words r (string_bytes c.in-Some-only.word) c.in-Ok.params (sym sorted.slices ∙ one) given is in
-    c.in-None.ensures r.slices (subst (λ w. IsNumberOfSlices w c.in-Ok.params.n r.slices) (sym c.deref-2.ensures) asked)
+    c.in-None.ensures r.slices (subst (λ w. IsNumberOfSlices w c.in-Ok.params.n r.slices) (sym c.deref.ensures) asked)
