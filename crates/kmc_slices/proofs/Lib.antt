@@ -3,6 +3,7 @@ mod Dumps
 mod Files
 mod FilesRead
 mod KnownFiles
+mod Opened
 mod Rounds
 mod Sides
 mod Statuses

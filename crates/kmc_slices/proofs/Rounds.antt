@@ -1,5 +1,5 @@
 -- Rounds behind rounds, on the writers of all slices.
-use Rattle.std.proofs.Common.{◌≡◌, inl, ℕ, ◌<◌, ◌^◌, min, List, [], ◌∷◌, ◌++◌, get_or, Option, Result, Err, IfErr, OnErr, refl, sym, ap, subst, ◌∙◌, arith, append_assoc, append-nil}
+use Rattle.std.proofs.Common.{◌≡◌, inl, ℕ, ◌<◌, ◌^◌, List, [], ◌∷◌, ◌++◌, get_or, Option, Result, Err, IfErr, OnErr, refl, sym, ap, subst, ◌∙◌, append_assoc, append-nil}
 use Rattle.std.specs.List.{AllByRecursion, flat_map}
 use Rattle.std.proofs.lemmas.List.Concat.{flat_map-append}
 use Rattle.std.proofs.KnownBytes.{Appends-nil}
@@ -8,7 +8,6 @@ use Rattle.kmc_device.specs.Device.{AppendsFront}
 use Rattle.kmc_device.specs.Lemmas.Devices.{front_after, front_of, front_all}
 use Rattle.kmc_reads.specs.declared.format.Format.{Format}
 use Rattle.kmc_record.specs.Shapes.{Sizes, IsShape}
-use Rattle.kmc_options.specs.declared.run_params.Params.{Params}
 use Rattle.kmc_store.specs.Bins.{AreBins, body_at}
 use Rattle.kmc_store.specs.Holds.{HoldsReads}
 use Rattle.kmc_store.specs.Laws.{MergedBinsHoldBoth, EmptyBinsHoldNoReads}

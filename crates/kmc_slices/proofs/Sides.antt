@@ -5,12 +5,14 @@ use Rattle.kmc_record.specs.Bodies.{AreRecordsOfBin, IsFirstError}
 use Rattle.kmc_record.specs.Parts.{IsPart}
 use Rattle.kmc_record.specs.Shapes.{Sizes}
 use Rattle.kmc_record.specs.declared.part_error.PartError.{PartError}
-use Rattle.kmc_store.specs.Bins.{body_at}
-use Rattle.kmc_slices.specs.Outside.{AreCounted, IsFaultIn}
-use Rattle.kmc_slices.specs.declared.judging.BinFault.{BinFault}
+use Rattle.kmc_store.specs.Bins.{AreBins, body_at}
+use Rattle.kmc_slices.specs.Outside.{AreCounted, IsBinFault, IsFaultIn, IsRowError}
+use Rattle.kmc_slices.specs.declared.bin_fault.BinFault.{BinFault}
+use Rattle.kmc_slices.specs.declared.bin_fault.JudgeError.{JudgeError}
+use Rattle.kmc_slices.specs.declared.bin_fault.JudgeError.TheVariants.{Foreign, Memory}
 use Rattle.kmc_record.specs.Lemmas.PartRecords.{records_of_part}
 
-in_front_or_behind : (i n : ℕ) → (i < n) ⊎ (n ≤ i)
+pub in_front_or_behind : (i n : ℕ) → (i < n) ⊎ (n ≤ i)
 in_front_or_behind i n = grind arith
 
 module _ (shape : Sizes) (bodies : List (List ℕ)) (from at to : ℕ) (front : List ℕ) (one : AreCounted shape bodies from at front) where
@@ -50,6 +52,11 @@ module _ (shape : Sizes) (bodies : List (List ℕ)) (from at to : ℕ) (front : 
     here = h.here;
   }
 
+  -- the front is well, and this is why the row behind it was not counted
+  pub back_error : (e : JudgeError) → IsRowError shape bodies at to e → IsRowError shape bodies from to e
+  back_error (Foreign e) h = back_fault e h
+  back_error Memory h = (front ++ h.0, both_counted h.0 h.1)
+
   -- the front is well, and the bin behind it is at fault
   pub fault_here : (why : PartError) → at < to → to ≤ shape.n → IsFirstError at shape why (body_at bodies at) → IsFaultIn shape bodies from to
       (record { bin = at; why = why })
@@ -57,7 +64,35 @@ module _ (shape : Sizes) (bodies : List (List ℕ)) (from at to : ℕ) (front : 
     inside = omega arith;
     within = omega arith;
     before = records_before;
-    here = λ other. h;
+    here = h;
+  }
+
+-- a fault of the row in front is that of both
+pub front_fault : (shape : Sizes) (bodies : List (List ℕ)) (from at to : ℕ) (e : BinFault) → at ≤ to → IsFaultIn shape bodies from at e
+    → IsFaultIn shape bodies from to e
+front_fault shape bodies from at to e less h = record {
+  inside = h.inside;
+  within = omega (arith, h.within, less);
+  before = h.before;
+  here = h.here;
+}
+
+-- the row of all bins
+module _ (shape : Sizes) (bodies : List (List ℕ)) where
+  pub whole_fault : (e : BinFault) → IsFaultIn shape bodies 0 shape.n e → IsBinFault shape bodies e
+  whole_fault e h = record {
+    inside = h.inside;
+    before = λ i less. h.before i (omega arith) less;
+    here = h.here;
+  }
+
+  pub whole_bins : (words : List ℕ) → length bodies ≡ shape.n → AreCounted shape bodies 0 shape.n words → AreBins shape bodies words
+  whole_bins words wide h = record {
+    wide = wide;
+    counted = omega (arith, h.long);
+    each = λ i inside.
+        let here : 0 + i ≡ i = omega arith in
+        subst (λ b. IsPart b shape (body_at bodies b) (get_or words i 0)) here (h.each i (omega arith));
   }
 
 pub one_counted : (shape : Sizes) (bodies : List (List ℕ)) (from bin count : ℕ) (front : List ℕ) → AreCounted shape bodies from bin front

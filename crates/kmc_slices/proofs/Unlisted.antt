@@ -5,7 +5,7 @@ use Rattle.kmc_lists.specs.Line.{text_of}
 use Rattle.kmc_options.specs.declared.run_params.Params.{Params}
 use Rattle.kmc_store.specs.Bins.{AreBins}
 use Rattle.kmc_slices.specs.Outside.{IsBinFault}
-use Rattle.kmc_slices.specs.declared.judging.BinFault.{BinFault}
+use Rattle.kmc_slices.specs.declared.bin_fault.BinFault.{BinFault}
 use Rattle.kmc_stage_two.specs.Stages.{IsDumpOfBins}
 use Rattle.kmc_slices.specs.Gathered.{Records}
 use Rattle.kmc_slices.specs.declared.listing.ListError.{ListError}

@@ -1,6 +1,7 @@
 -- What the program that cuts reads does.
-use Rattle.std.specs.Prelude.{◌≡◌, ◌⊎◌, ◌+◌, ◌^◌, ℕ, List, Option, Result, Ok, Err, length}
+use Rattle.std.specs.Prelude.{◌≡◌, ◌⊎◌, ◌+◌, ◌^◌, ℕ, Bool, true, false, List, Option, Ok, Err, length}
 use Rattle.kmc_device.specs.Device.{Watched}
+use Rattle.kmc_options.specs.declared.program.Program.TheVariants.{KmcCut}
 use Rattle.kmc_options.specs.declared.run_params.Params.{Params}
 use Rattle.kmc_options.specs.declared.setting.Setting.{Setting}
 use Rattle.kmc_options.specs.Shape.{shape_of}
@@ -10,10 +11,22 @@ use Rattle.kmc_slice_files.specs.Opening.{IsCreateFault}
 use Rattle.kmc_options.specs.Requests.{AsksForCut, IsCutRequest, IsOutOfRange}
 use Rattle.kmc_options.specs.declared.slices.cutting.CutRequest.{CutRequest}
 use Rattle.kmc_options.specs.declared.slices.cutting.CutRequestError.TheVariants.{Usage, OutOfRange, Slices, Memory}
-use Rattle.kmc_slices.specs.Cut.{AreReadCounts, AreWriteCounts, IsCutError, IsLeft, WroteSlices}
+use Rattle.kmc_slices.specs.Cut.{AreReadCounts, AreWriteCounts, IsCutError, IsCutting, IsLeft, WroteSlices}
 use Rattle.kmc_slices.specs.declared.error.CutError.{CutError}
 use Rattle.kmc_slices.specs.declared.programs.cut_fault.CutFault.{CutFault}
 use Rattle.kmc_slices.specs.declared.programs.cut_fault.CutFault.TheVariants.{Request, NotMade, Cut}
+
+-- all that the reader gave was cut to these writers, one for each slice, and no device failed
+abbrev pub IsCutTo : {R W : Type 0} → (R → Option (List ℕ)) → (W → Option (List ℕ)) → Params → Watched R → Watched R → List (Watched W)
+    → List (Watched W) → Type 0
+IsCutTo remaining contents params reader read writers written =
+    IsCutting {A = Unit {0}} remaining contents params PIECE_SYMBOLS (2 ^ 32) reader read writers written (Ok tt)
+
+-- the fault is the cause for which a cut to these writers was given up
+abbrev pub IsFaultOfCut : {R W : Type 0} → (R → Option (List ℕ)) → (W → Option (List ℕ)) → Params → Watched R → Watched R → List (Watched W)
+    → List (Watched W) → CutFault → Type 0
+IsFaultOfCut remaining contents params reader read writers written fault = (e : CutError) × (fault ≡ Cut e)
+    × IsCutting {A = Unit {0}} remaining contents params PIECE_SYMBOLS (2 ^ 32) reader read writers written (Err e)
 
 -- files, as many as slices, got the slices of bins that hold all that the reader gave
 pub record WroteFiles (params : Params) (S : ℕ) (old new : Option (List ℕ)) : Type 0 where
@@ -47,18 +60,13 @@ FailsToCut remaining words reader read =
 
 -- the words ask for no cut: they are no usage, an option is out of its range, or the number of slices is
 abbrev pub AsksForNoCut : List Word → Type 0
-AsksForNoCut words = (AsksForCut words → ⊥) ⊎ (((s : Setting) × IsOutOfRange words s) ⊎ ((r : CutRequest) → IsCutRequest words r → ⊥))
+AsksForNoCut words = (AsksForCut words → ⊥) ⊎ (((s : Setting) × IsOutOfRange KmcCut words s) ⊎ ((r : CutRequest) → IsCutRequest words r → ⊥))
 
--- 2 where the command line is at fault, and else 1
-abbrev pub status_of : CutFault → ℕ
-status_of (Request Usage) = 2
-status_of (Request (OutOfRange s)) = 2
-status_of (Request Slices) = 2
-status_of (Request Memory) = 1
-status_of (NotMade e) = 1
-status_of (Cut e) = 1
-
--- and 0 where there is no fault
-abbrev pub status_of_answer : Result (Unit {0}) CutFault → ℕ
-status_of_answer (Ok u) = 0
-status_of_answer (Err fault) = status_of fault
+-- the command line is at fault; want of memory says nothing of it
+abbrev pub is_misuse : CutFault → Bool
+is_misuse (Request Usage) = true
+is_misuse (Request (OutOfRange s)) = true
+is_misuse (Request Slices) = true
+is_misuse (Request Memory) = false
+is_misuse (NotMade e) = false
+is_misuse (Cut e) = false

@@ -4,7 +4,7 @@ use Rattle.kmc_reads.specs.Messages.{text_of_reads_error}
 use Rattle.kmc_record.specs.declared.part_error.PartError.{PartError}
 use Rattle.kmc_record.specs.declared.part_error.PartError.TheVariants.{Damaged, WrongBin, Memory as NoMemory}
 use Rattle.kmc_options.specs.Words.{Word, name_at}
-use Rattle.kmc_slices.specs.declared.judging.BinFault.{BinFault}
+use Rattle.kmc_slices.specs.declared.bin_fault.BinFault.{BinFault}
 use Rattle.kmc_slice_files.specs.Messages.{text_of_slice_fault}
 use Rattle.kmc_slice_files.specs.declared.opening.CreateFault.TheVariants as create
 use Rattle.kmc_options.specs.SliceMessages.{text_of_no_cut, text_of_no_list}

@@ -2,6 +2,8 @@
 use Rattle.std.specs.Prelude.{ℕ}
 use Rattle.kmc_slices.specs.declared.error.CutError.{CutError}
 use Rattle.kmc_slices.specs.declared.error.CutError.TheVariants as cut_error
+use Rattle.kmc_slices.specs.declared.bin_fault.JudgeError.{JudgeError}
+use Rattle.kmc_slices.specs.declared.bin_fault.JudgeError.TheVariants as judge_error
 use Rattle.kmc_slices.specs.declared.listing.ListError.{ListError}
 use Rattle.kmc_slices.specs.declared.listing.ListError.TheVariants as list_error
 use Rattle.kmc_slices.specs.declared.gathering.GatherError.{GatherError}
@@ -13,6 +15,10 @@ number_of_cut_error cut_error.Read = 2
 number_of_cut_error (cut_error.Write _) = 3
 number_of_cut_error (cut_error.Input _) = 4
 number_of_cut_error cut_error.TooLong = 5
+
+abbrev pub number_of_judge_error : JudgeError → ℕ
+number_of_judge_error (judge_error.Foreign _) = 1
+number_of_judge_error judge_error.Memory = 2
 
 abbrev pub number_of_list_error : ListError → ℕ
 number_of_list_error (list_error.Foreign _) = 1

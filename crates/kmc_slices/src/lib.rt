@@ -4,6 +4,7 @@
 //! programs, and learns from `laws` that the dumps of all slices, merged, are the dump of all the reads.
 #![tactic(auto)]
 
+mod bin_fault;
 mod cutting;
 mod error;
 mod gathering;
@@ -16,12 +17,13 @@ mod sharing;
 mod slicing;
 mod writing;
 
+pub use bin_fault::{BinFault, JudgeError};
 pub use error::CutError;
 pub use gathering::{GatherError, SliceRecords};
-pub use judging::{BinFault, judged_bins};
+pub use judging::judged_bins;
 pub use listing::{ListError, list_records};
 pub use programs::{
-    CutFault, CutMessage, ListFault, ListMessage, cut_program, cut_words, gather_files, list_files,
-    list_program, list_words,
+    CutFault, CutMessage, ListFault, ListMessage, cut_program, cut_to, cut_words, gather_readers,
+    list_files, list_program, list_readers, list_words,
 };
 pub use slicing::{cut_slices, cut_slices_with};

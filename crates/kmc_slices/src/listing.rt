@@ -5,12 +5,13 @@ ghost use Rattle.kmc_device.specs.Device.{AppendsFront, RisesByOne};
 ghost use Rattle.kmc_lists.specs.Line.{text_of};
 ghost use Rattle.kmc_store.specs.Bins.{AreBins};
 ghost use Rattle.kmc_slices.specs.Outside.{IsBinFault};
-ghost use Rattle.kmc_slices.specs.declared.judging.BinFault.{BinFault};
+ghost use Rattle.kmc_slices.specs.declared.bin_fault.BinFault.{BinFault};
 ghost use Rattle.kmc_stage_two.specs.Stages.{IsDumpOfBins};
 ghost use Rattle.kmc_slices.specs.declared.listing.ListError.TheVariants.{Memory, Foreign, Write};
 
+use crate::bin_fault::{BinFault, JudgeError};
 use crate::gathering::SliceRecords;
-use crate::judging::{BinFault, judged_bins};
+use crate::judging::judged_bins;
 use kmc_device::Counted;
 use kmc_dump::{DumpError, write_bins};
 use kmc_options::Params;
@@ -26,7 +27,7 @@ pub enum ListError {
     /// The first bin whose records are none of that bin, and why. Nothing was written.
     #[error("{0}")]
     Foreign(BinFault),
-    /// Memory was refused. Nothing was written.
+    /// Memory was refused. The records of each bin are of that bin, and nothing was written.
     #[error("out of memory")]
     Memory,
     /// A write or the flush failed. A front of the dump is out.
@@ -54,14 +55,6 @@ impl From<AllocError> for ListError {
 
     fn from(_: AllocError) -> ListError {
         ListError::Memory
-    }
-}
-
-impl From<BinFault> for ListError {
-    ghost from_gives = { λ fault e. e ≡ Foreign fault };
-
-    fn from(fault: BinFault) -> ListError {
-        ListError::Foreign(fault)
     }
 }
 
@@ -105,7 +98,11 @@ pub fn list_records<T: Threads + Sync, W: io::Write>(
     ensures silent { IfErr result (λ e. e ≢ Write → writer.new ≡ writer.old) }
 {
     let (slicing, bodies) = records.into_parts();
-    let bins = judged_bins(rt, alloc, slicing.shape, bodies, params.sr)?;
+    let bins = match judged_bins(rt, alloc, slicing.shape, bodies, params.sr) {
+        Ok(bins) => bins,
+        Err(JudgeError::Foreign(fault)) => return Err(ListError::Foreign(fault)),
+        Err(JudgeError::Memory) => return Err(ListError::Memory),
+    };
     let lists = lists_of_bins(rt, alloc, bins, params.strands, &params.limits, params.sr)?;
     let lines = write_bins(rt, alloc, writer, &lists, slicing.shape.k(), params.sr)?;
     Ok(lines)

@@ -2,7 +2,7 @@
 ghost use Rattle.std.specs.Prelude.{ℕ, ◌≤◌, map, IfOk, IsErrOf};
 ghost use Rattle.kmc_record.specs.declared.fault.RecordFault.{RecordFault};
 ghost use Rattle.kmc_count.specs.Bodies.{IsFirstDamaged};
-ghost use Rattle.kmc_stage_two.specs.Bodies.{AreListsOfBodies};
+ghost use Rattle.kmc_stage_two.specs.Bodies.{AreListsOfBodies, BodiesWantMemory};
 
 use crate::group::list_group;
 use kmc_base::{KeyRule, PackedKmer};
@@ -17,8 +17,8 @@ use std::thread::Threads;
 const GROUP: usize = 128;
 
 /// The list of each body, in the order of the bodies, by at most so many threads. The bodies are halved until a half is a group;
-/// the records of a group are freed once it is counted. Where a body is damaged, the fault is that of the first such body. Where no
-/// thread can be made, the calling thread counts.
+/// the records of a group are freed once it is counted; where memory for a half is refused, all are one group. Where a body is damaged,
+/// the fault is that of the first such body. Where no thread can be made, the calling thread counts.
 pub fn list_bodies<
     R: Threads + Sync,
     W: PackedKmer + Drop + Send + Sync,
@@ -39,12 +39,17 @@ pub fn list_bodies<
     ensures damaged { (fault : RecordFault) (offset : ℕ)
         → IsErrOf result (BodyError.Damaged fault offset)
         → IsFirstDamaged rule.k fault offset (map (λ b. b.items) bodies.items) }
+    ensures memory { IsErrOf result BodyError.Memory
+        → BodiesWantMemory rule.k (map (λ b. b.items) bodies.items) }
 {
     if bodies.len() <= GROUP {
         return list_group(rt, alloc, &bodies, rule, limits, threads);
     }
     let mut low = bodies;
-    let high = low.split_off(low.len() / 2)?;
+    let middle = low.len() / 2;
+    let Ok(high) = low.split_off(middle) else {
+        return list_group(rt, alloc, &low, rule, limits, threads);
+    };
     let mut lists = list_bodies(rt, alloc, low, rule, limits, threads)?;
     let mut more = list_bodies(rt, alloc, high, rule, limits, threads)?;
     lists.append(&mut more)?;

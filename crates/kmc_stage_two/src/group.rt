@@ -4,7 +4,7 @@ ghost use Rattle.std.specs.Prelude.{◌≤◌, ℕ, map, IfOk, IsErrOf};
 ghost use Rattle.std.specs.List.{All};
 ghost use Rattle.kmc_record.specs.declared.fault.RecordFault.{RecordFault};
 ghost use Rattle.kmc_count.specs.Bodies.{IsFirstDamaged};
-ghost use Rattle.kmc_stage_two.specs.Bodies.{AreListsOfBodies, IsListAt};
+ghost use Rattle.kmc_stage_two.specs.Bodies.{AreListsOfBodies, BodiesWantMemory, IsListAt};
 
 use crate::giants::take_giants;
 use crate::largest_first::LargestFirst;
@@ -63,6 +63,8 @@ pub(crate) fn list_group<
     ensures damaged { (fault : RecordFault) (offset : ℕ)
         → IsErrOf result (BodyError.Damaged fault offset)
         → IsFirstDamaged rule.k fault offset (map (λ b. b.items) bodies.now) }
+    ensures memory { IsErrOf result BodyError.Memory
+        → BodiesWantMemory rule.k (map (λ b. b.items) bodies.now) }
 {
     if threads > 1 {
         if let Ok(placed) = take_all(rt, alloc, bodies, rule, limits, threads) {

@@ -2,7 +2,7 @@
 ghost use Rattle.std.specs.Prelude.{ℕ, ◌≤◌, map, IfOk, IsErrOf};
 ghost use Rattle.kmc_record.specs.declared.fault.RecordFault.{RecordFault};
 ghost use Rattle.kmc_count.specs.Bodies.{IsFirstDamaged};
-ghost use Rattle.kmc_stage_two.specs.Bodies.{AreListsOfBodies};
+ghost use Rattle.kmc_stage_two.specs.Bodies.{AreListsOfBodies, BodiesWantMemory};
 ghost use Rattle.kmc_lists.specs.Lists.{sized_lists, lists_of};
 
 use crate::bins::list_bodies;
@@ -32,6 +32,8 @@ fn list_sized<R: Threads + Sync, W: PackedKmer + Drop + Send + Sync>(
     ensures damaged { (fault : RecordFault) (offset : ℕ)
         → IsErrOf result (BodyError.Damaged fault offset)
         → IsFirstDamaged rule.k fault offset (map (λ b. b.items) bodies.items) }
+    ensures memory { IsErrOf result BodyError.Memory
+        → BodiesWantMemory rule.k (map (λ b. b.items) bodies.items) }
 {
     Ok(if limits.cs <= u64::from(u8::MAX) {
         SizedLists::U8(list_bodies(rt, alloc, bodies, rule, *limits, threads)?)
@@ -62,6 +64,8 @@ pub fn list_bins<R: Threads + Sync>(
     ensures damaged { (fault : RecordFault) (offset : ℕ)
         → IsErrOf result (BodyError.Damaged fault offset)
         → IsFirstDamaged k fault offset (map (λ b. b.items) bodies.items) }
+    ensures memory { IsErrOf result BodyError.Memory
+        → BodiesWantMemory k (map (λ b. b.items) bodies.items) }
 {
     let rule = KeyRule { k, strands };
     Ok(if k <= NARROW_K {

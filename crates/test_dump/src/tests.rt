@@ -8,3 +8,4 @@ mod letters;
 mod listed;
 mod prefixes;
 mod rows;
+mod taken;

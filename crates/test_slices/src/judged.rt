@@ -1,6 +1,6 @@
 //! Bodies from outside, judged by several threads.
 use kmc_record::{PartError, Shape};
-use kmc_slices::{BinFault, judged_bins};
+use kmc_slices::{BinFault, JudgeError, judged_bins};
 use kmc_store::Bins;
 use std::alloc::{AllocError, Global};
 use std::process::Abort;
@@ -52,10 +52,10 @@ fn assert_judged<R: Abort + Threads + Sync>(
             assert_eq!(rt; faults, 0);
             assert_words(rt, &bins);
         }
-        Err(fault) => {
+        Err(error) => {
             let bin = faults.trailing_zeros() as usize;
             let why = PartError::WrongBin(0);
-            assert_eq!(rt; fault, BinFault { bin, why });
+            assert_eq!(rt; error, JudgeError::Foreign(BinFault { bin, why }));
         }
     }
     Ok(())
@@ -69,4 +69,19 @@ fn the_first_fault_is_told_whichever_thread_meets_it(rt: HostRuntime) -> Result<
         }
     }
     Ok(())
+}
+
+/// The test passes where no growth is refused, and whichever one is (`rt try --test --fail-alloc N -- growth`).
+#[test]
+fn a_refused_growth_hides_no_fault(rt: HostRuntime) {
+    let alloc = rt.alloc();
+    let shape = Shape::new(4, 5, 7).expect(&rt, "a shape");
+    let Ok(bodies) = bodies_of(alloc, 1 << 3) else {
+        return;
+    };
+    assert!(rt; bodies.len() == shape.n());
+    let answer = judged_bins(&rt, alloc, shape, bodies, 3);
+    let why = PartError::WrongBin(0);
+    let fault = BinFault { bin: 3, why };
+    assert!(rt; answer.err() == Some(JudgeError::Foreign(fault)));
 }

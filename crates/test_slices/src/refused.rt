@@ -4,7 +4,6 @@ use crate::devices::{Weak, writers_of};
 use crate::texts::settings;
 use kmc_base::Strands;
 use kmc_device::Counted;
-use kmc_record::PartError;
 use kmc_slice_files::{FrameFault, FramesFault, SliceFault};
 use kmc_slices::{CutError, GatherError, ListError, SliceRecords, cut_slices, list_records};
 use std::alloc::Global;
@@ -75,9 +74,6 @@ fn assert_listed_or_refused<R: Abort + Threads + Sync>(
     let written: Vec<u8> = writer.into_inner();
     match answer {
         Ok(_) => assert!(rt; written.as_slice() == dump.as_bytes()),
-        Err(ListError::Foreign(fault)) => {
-            assert!(rt; fault.why == PartError::Memory && written.is_empty());
-        }
         Err(e) => assert!(rt; e == ListError::Memory && written.is_empty()),
     }
 }

@@ -5,7 +5,7 @@ use kmc_base::{Kmer, Strands};
 use kmc_count::{Limits, count_bin};
 use kmc_device::Counted;
 use kmc_dump::write_dump;
-use kmc_record::{Part, BodyError, PartError, RecordFault, Shape};
+use kmc_record::{BodyError, Part, PartError, RecordFault, Shape};
 use std::alloc::Global;
 use std::io;
 use std::io::ErrorKind;

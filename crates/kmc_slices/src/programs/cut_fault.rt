@@ -1,10 +1,10 @@
 //! What a fault of the cutting shows its user: one line on standard error, and the exit status.
-ghost use Rattle.std.specs.Prelude.{◌≡◌, Some};
-ghost use Rattle.kmc_slices.specs.CutProgram.{status_of};
+ghost use Rattle.std.specs.Prelude.{◌≡◌, Some, false};
+ghost use Rattle.kmc_slices.specs.CutProgram.{is_misuse};
 ghost use Rattle.kmc_slices.specs.Messages.{message_of_cut};
 
 use crate::error::CutError;
-use kmc_options::CutRequestError;
+use kmc_options::{CutRequestError, Ending};
 use kmc_reads::ReadsMessage;
 use kmc_slice_files::CreateFault;
 use std::fmt;
@@ -20,12 +20,6 @@ pub enum CutFault {
     Cut(CutError),
 }
 
-// The command line is at fault.
-const MISUSED: u8 = 2;
-
-// The command line is sound, and the cut failed.
-const FAILED: u8 = 1;
-
 impl CutFault {
     ghost use Rattle.kmc_slices.specs.ProgramNumbers.{number_of_cut_fault};
 
@@ -39,17 +33,6 @@ impl CutFault {
             CutFault::Cut(_) => 3,
         }
     }
-
-    /// The exit status: 2 where the command line is at fault, and else 1.
-    pub fn status(&self) -> u8
-        ensures { result ≡ status_of self.now }
-    {
-        match self {
-            CutFault::Request(CutRequestError::Memory) => FAILED,
-            CutFault::Request(_) => MISUSED,
-            CutFault::NotMade(_) | CutFault::Cut(_) => FAILED,
-        }
-    }
 }
 
 /// The line that tells the user of a fault, with the prefix of the files as it was given.
@@ -57,6 +40,33 @@ impl CutFault {
 pub struct CutMessage<'a> {
     pub prefix: &'a str,
     pub fault: CutFault,
+}
+
+/// The line of words that ask for nothing.
+pub(crate) fn unnamed<'a>(error: CutRequestError) -> CutMessage<'a>
+    ensures { result.fault ≡ CutFault.Request error }
+{
+    let fault = CutFault::Request(error);
+    CutMessage { prefix: "", fault }
+}
+
+impl Ending for CutMessage<'_> {
+    ghost misused = { λ m. is_misuse m.fault };
+
+    ghost unwritten = { λ _. false };
+
+    fn is_misuse(&self) -> bool {
+        match self.fault {
+            CutFault::Request(CutRequestError::Memory) => false,
+            CutFault::Request(_) => true,
+            CutFault::NotMade(_) | CutFault::Cut(_) => false,
+        }
+    }
+
+    /// The program writes to files that it makes.
+    fn is_unwritten(&self) -> bool {
+        false
+    }
 }
 
 impl fmt::Display for CutMessage<'_> {

@@ -1,19 +1,21 @@
 //! The program that cuts reads into slices.
-ghost use Rattle.std.specs.Prelude.{◌≡◌, ◌≢◌, ◌+◌, ◌-◌, ◌^◌, ◌<◌, ◌≤◌, ◌⊎◌, List, map, string_bytes, true, false, IfErr, OnOk};
+ghost use Rattle.std.specs.Prelude.{◌≡◌, ℕ, ◌+◌, ◌-◌, ◌^◌, ◌<◌, ◌≤◌, ◌⊎◌, List, length, map, slice_index, string_bytes, true, false, IfOk, IfErr, OnOk};
 ghost use Rattle.std.specs.Process.{exit_status};
 ghost use Rattle.kmc_options.specs.Words.{Word};
 ghost use Rattle.kmc_options.specs.Requests.{IsCutRequest};
 ghost use Rattle.kmc_options.specs.declared.slices.cutting.CutRequest.{CutRequest};
-ghost use Rattle.kmc_options.specs.declared.slices.cutting.CutRequestError.{CutRequestError};
+ghost use Rattle.kmc_slice_files.specs.Opening.{IsCreateFault};
+ghost use Rattle.kmc_slice_files.specs.declared.opening.CreateFault.{CreateFault};
 ghost use Rattle.kmc_slices.specs.Asking.{is_asked, text_asked, Shows, ShowsFront};
-ghost use Rattle.kmc_slices.specs.CutProgram.{AsksForNoCut, FailsToCut, IsCutFault, WroteFiles, status_of_answer};
+ghost use Rattle.kmc_slices.specs.CutProgram.{AsksForNoCut, FailsToCut, IsCutFault, IsCutTo, IsFaultOfCut, WroteFiles};
+ghost use Rattle.kmc_slices.specs.declared.programs.cut_fault.CutFault.{CutFault};
 ghost use Rattle.kmc_slices.specs.declared.programs.cutting.TheConstants.{HELP};
 
 use crate::programs::asking::{asked_text, shown};
-use crate::programs::cut_fault::{CutFault, CutMessage};
+use crate::programs::cut_fault::{CutFault, CutMessage, unnamed};
 use crate::slicing::cut_slices;
 use kmc_device::Counted;
-use kmc_options::{CutRequest, CutRequestError, arguments, cut_request};
+use kmc_options::{CutRequest, CutRequestError, Params, arguments, cut_request, ended};
 use kmc_slice_files::create_files;
 use std::alloc::{AllocError, Global};
 use std::io::{Read, Write};
@@ -25,54 +27,101 @@ use std::thread::Threads;
 const HELP: &'static str =
     "kmc_cut: reads on standard input, cut into the records of slices that kmc_list lists one by one\n\nusage: kmc_cut [-fa|-fq|-fm] [-k<len>] [-p<len>] [-n<bins>] [-sp<n>] -slices<S> [--force] <prefix>\n\n  -fq -fa -fm  FASTQ, FASTA, FASTA whose sequences take several lines; FASTQ where none is given\n  -k<len>      the length of words, 1 to 64; 25\n  -p<len>      the most symbols of a signature, 5 to 11; 9\n  -n<bins>     bins, 1 to 2000; 512\n  -sp<n>       threads that cut, 1 to 16; 2\n  -slices<S>   slices, 1 to 1000 and at most the bins\n  --force      files that are there are written over\n  <prefix>     the files are <prefix>.0, <prefix>.1 and so on\n\nReads may be cut in parts, each with a prefix of its own. Then for each slice kmc_list lists the files of all parts.\n";
 
-/// Cuts what the reader gives to files that are made first.
-fn cut<T: Threads + Wait + Sync + Files + Alloc<A = Global>, R: Read>(
+/// Cuts what the reader gives to the writers, one for each slice.
+fn cut_through<T: Threads + Wait + Sync + Alloc<A = Global>, R: Read, W: Write>(
     rt: &T,
-    request: &CutRequest,
+    params: &Params,
     reader: &mut Counted<R>,
+    writers: &mut [Counted<W>],
 ) -> Result<(), CutFault>
-    requires some { 1 ≤ request.now.slices }
-    requires few { request.now.slices < 2 ^ 16 }
     requires reader { reader.old.failures < 2 ^ 64 - 1 }
     requires reads { reader.old.reads + 2 ^ 32 < 2 ^ 64 }
-    ensures ok { OnOk result (WroteFiles request.now.params request.now.slices
-        (R.remaining reader.old.inner) (R.remaining reader.new.inner)
-        × (reader.new.failures ≡ reader.old.failures)) }
-    ensures sound { IfErr result (λ e. (r : CutRequestError) → e ≢ CutFault.Request r) }
-    ensures fault { IfErr result (IsCutFault R.remaining request.now.params request.now.slices reader.old reader.new) }
+    requires some { 1 ≤ length writers.old }
+    requires few { length writers.old < 2 ^ 16 }
+    requires failures { (s : ℕ) → s < length writers.old
+        → slice_index (map (λ w. w.failures) writers.old) s < 2 ^ 64 - 1 }
+    ensures ok { OnOk result (IsCutTo R.remaining W.contents params.now reader.old reader.new writers.old writers.new) }
+    ensures fault { IfErr result (IsFaultOfCut R.remaining W.contents params.now reader.old reader.new writers.old writers.new) }
 {
-    let mut writers = match create_files(
-        rt,
-        &request.prefix,
-        request.slices as usize,
-        request.force,
-    ) {
-        Ok(writers) => writers,
-        Err(fault) => return Err(CutFault::NotMade(fault)),
-    };
-    match cut_slices(
-        rt,
-        rt.alloc(),
-        reader,
-        writers.as_mut_slice(),
-        &request.params,
-    ) {
+    match cut_slices(rt, rt.alloc(), reader, writers, params) {
         Ok(()) => Ok(()),
         Err(error) => Err(CutFault::Cut(error)),
     }
 }
 
-/// Shows a fault and gives the exit status: 0 where there is no fault. A line that cannot be written changes nothing of the status.
-fn ended(rt: &impl Eprint, prefix: &str, answer: Result<(), CutFault>) -> ExitCode
-    ensures { exit_status result ≡ status_of_answer answer }
+/// Cuts what the reader gives to the writers of the files of this prefix, one for each slice. A fault is shown in one line on standard
+/// error. The exit status is 0 where each writer got its file and no device failed, and else 1.
+pub fn cut_to<T: Threads + Wait + Sync + Eprint + Alloc<A = Global>, R: Read, W: Write>(
+    rt: &T,
+    prefix: &str,
+    params: &Params,
+    reader: &mut Counted<R>,
+    writers: &mut [Counted<W>],
+) -> ExitCode
+    requires reader { reader.old.failures < 2 ^ 64 - 1 }
+    requires reads { reader.old.reads + 2 ^ 32 < 2 ^ 64 }
+    requires some { 1 ≤ length writers.old }
+    requires few { length writers.old < 2 ^ 16 }
+    requires failures { (s : ℕ) → s < length writers.old
+        → slice_index (map (λ w. w.failures) writers.old) s < 2 ^ 64 - 1 }
+    ensures done { exit_status result ≡ 0
+        → IsCutTo R.remaining W.contents params.now reader.old reader.new writers.old writers.new }
+    ensures failed { exit_status result ≡ 1 → (fault : CutFault)
+        × IsFaultOfCut R.remaining W.contents params.now reader.old reader.new writers.old writers.new fault }
+    ensures statuses { exit_status result ≤ 1 }
 {
-    match answer {
+    match cut_through(rt, params, reader, writers) {
         Ok(()) => ExitCode::from(0),
-        Err(fault) => {
-            let _ = rt.eprintln(CutMessage { prefix, fault });
-            ExitCode::from(fault.status())
-        }
+        Err(fault) => ended(rt, CutMessage { prefix, fault }, false),
     }
+}
+
+/// The files that are asked for, made to be written.
+fn files_made<T: Files + Alloc<A = Global>>(
+    rt: &T,
+    request: &CutRequest,
+) -> Result<Vec<Counted<T::File>>, CutFault>
+    ensures ok { IfOk result (λ writers. (length writers.items ≡ request.now.slices)
+        × ((s : ℕ) → slice_index (map (λ w. w.failures) writers.items) s ≡ 0)) }
+    ensures fault { IfErr result (λ fault. (e : CreateFault) × (fault ≡ CutFault.NotMade e) × IsCreateFault request.now.slices e) }
+{
+    match create_files(rt, &request.prefix, request.slices as usize, request.force) {
+        Ok(writers) => Ok(writers),
+        Err(fault) => Err(CutFault::NotMade(fault)),
+    }
+}
+
+/// Makes the files that are asked for, and cuts what the reader gives to them by [`cut_to`].
+fn cut<T: Threads + Wait + Sync + Files + Eprint + Alloc<A = Global>, R: Read>(
+    rt: &T,
+    request: &CutRequest,
+    reader: &mut Counted<R>,
+) -> ExitCode
+    requires some { 1 ≤ request.now.slices }
+    requires few { request.now.slices < 2 ^ 16 }
+    requires reader { reader.old.failures < 2 ^ 64 - 1 }
+    requires reads { reader.old.reads + 2 ^ 32 < 2 ^ 64 }
+    ensures done { exit_status result ≡ 0 → WroteFiles request.now.params request.now.slices
+        (R.remaining reader.old.inner) (R.remaining reader.new.inner)
+        × (reader.new.failures ≡ reader.old.failures) }
+    ensures failed { exit_status result ≡ 1 → (fault : CutFault)
+        × IsCutFault R.remaining request.now.params request.now.slices reader.old reader.new fault }
+    ensures statuses { exit_status result ≤ 1 }
+{
+    let mut writers = match files_made(rt, request) {
+        Ok(writers) => writers,
+        Err(fault) => {
+            let prefix = request.prefix.as_str();
+            return ended(rt, CutMessage { prefix, fault }, false);
+        }
+    };
+    cut_to(
+        rt,
+        &request.prefix,
+        &request.params,
+        reader,
+        writers.as_mut_slice(),
+    )
 }
 
 /// Does what the words ask for: shows help or the version on the writer, or cuts what the reader gives to the files of slices. A fault
@@ -107,8 +156,8 @@ pub fn cut_words<T: Threads + Wait + Sync + Files + Eprint + Alloc<A = Global>, 
         return shown(text, writer);
     }
     match cut_request(rt.alloc(), words) {
-        Ok(request) => ended(rt, &request.prefix, cut(rt, &request, reader)),
-        Err(error) => ended(rt, "", Err(CutFault::Request(error))),
+        Ok(request) => cut(rt, &request, reader),
+        Err(error) => ended(rt, unnamed(error), false),
     }
 }
 
@@ -136,7 +185,7 @@ pub fn cut_program<
 {
     match arguments(rt) {
         Ok(Some(words)) => cut_words(rt, words, reader, writer),
-        Ok(None) => ended(rt, "", Err(CutFault::Request(CutRequestError::Usage))),
-        Err(AllocError) => ended(rt, "", Err(CutFault::Request(CutRequestError::Memory))),
+        Ok(None) => ended(rt, unnamed(CutRequestError::Usage), false),
+        Err(AllocError) => ended(rt, unnamed(CutRequestError::Memory), false),
     }
 }

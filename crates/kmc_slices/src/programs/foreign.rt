@@ -2,7 +2,7 @@
 ghost use Rattle.std.specs.Prelude.{Some};
 ghost use Rattle.kmc_slices.specs.Messages.{text_of_bin_fault};
 
-use crate::judging::BinFault;
+use crate::bin_fault::BinFault;
 use kmc_record::PartError;
 use std::fmt;
 

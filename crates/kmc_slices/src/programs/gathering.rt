@@ -1,7 +1,7 @@
 //! The files of one slice, opened one after the other.
-ghost use Rattle.std.specs.Prelude.{◌≡◌, ◌≤◌, ◌<◌, ◌∷◌, ◌++◌, [], ℕ, List, Option, length, IfOk, IfErr, OnOk};
+ghost use Rattle.std.specs.Prelude.{◌≡◌, ◌≤◌, ◌<◌, ◌∷◌, ◌++◌, [], ℕ, List, Option, Some, length, IfOk, IfErr, OnOk};
 ghost use Rattle.kmc_slices.specs.Gathered.{AreGathered};
-ghost use Rattle.kmc_slices.specs.ListProgram.{IsOfFiles, IsOfFirst, IsOfNext};
+ghost use Rattle.kmc_slices.specs.ListProgram.{AreOpened, IsOfFiles, IsOfFirst, IsOfNext, of_files, opened_by};
 
 use crate::gathering::{GatherError, SliceRecords};
 use crate::listing::ListError;
@@ -9,69 +9,75 @@ use crate::programs::list_fault::ListFault;
 use kmc_device::Counted;
 use std::alloc::Global;
 use std::fs;
+use std::io::Read;
 use std::rt::Files;
 
-/// A reader of a file.
-fn opened<T: Files>(rt: &T, files: &[String], i: usize) -> Result<Counted<T::File>, ListFault>
-    requires { i < length files.now }
-    ensures { IfErr result (λ fault. fault ≡ ListFault.NotOpened i) }
-{
-    match fs::open(rt, files[i].as_str()) {
-        Ok(file) => Ok(Counted::new(file)),
-        Err(_) => Err(ListFault::NotOpened(i)),
+/// A reader of the file of this number; none where there is none or it cannot be opened.
+pub(crate) fn opened<T: Files>(rt: &T, files: &[String], i: usize) -> Option<Counted<T::File>> {
+    let name = files.get(i)?;
+    match fs::open(rt, name.as_str()) {
+        Ok(file) => Some(Counted::new(file)),
+        Err(_) => None,
     }
 }
 
-/// The records of the slice of which the first file tells.
-fn first_file<T: Files + Alloc<A = Global>>(
-    rt: &T,
-    files: &[String],
+/// The records of the slice of which the first reader tells.
+fn first_records<R: Read + Drop, F: Fn(usize) -> Option<Counted<R>>>(
+    alloc: Global,
+    opener: &F,
 ) -> Result<SliceRecords, ListFault>
-    requires { 1 ≤ length files.now }
-    ensures ok { IfOk result (λ records. (old new : Option (List ℕ)) × AreGathered ((old, new) ∷ []) records) }
-    ensures fault { IfErr result IsOfFirst }
+    requires { F.IsAlwaysCallable opener.now }
+    ensures ok { IfOk result (λ records. (old new : Option (List ℕ))
+        × opened_by R.remaining (F.post opener.now) 0 (Some old) × AreGathered ((old, new) ∷ []) records) }
+    ensures fault { IfErr result (IsOfFirst (opened_by R.remaining (F.post opener.now))) }
 {
-    let mut reader = opened(rt, files, 0)?;
-    match SliceRecords::begin(rt.alloc(), &mut reader) {
+    let Some(mut reader) = opener(0) else {
+        return Err(ListFault::NotOpened(0));
+    };
+    match SliceRecords::begin(alloc, &mut reader) {
         Ok(records) => Ok(records),
         Err(GatherError::Memory) => Err(ListFault::Dump(ListError::Memory)),
         Err(GatherError::File(fault)) => Err(ListFault::File(0, fault)),
     }
 }
 
-/// The records of another file, behind those of the files before it.
-fn next_file<T: Files>(
-    rt: &T,
-    files: &[String],
+/// The records of another reader, behind those of the readers before it.
+fn add_records<R: Read + Drop, F: Fn(usize) -> Option<Counted<R>>>(
+    opener: &F,
     i: usize,
     records: &mut SliceRecords,
 ) -> Result<(), ListFault>
-    requires { i < length files.now }
+    requires { F.IsAlwaysCallable opener.now }
     ensures ok { (readings : List (Option (List ℕ) × Option (List ℕ))) → AreGathered readings records.old
-        → OnOk result ((old new : Option (List ℕ)) × AreGathered (readings ++ (old, new) ∷ []) records.new) }
-    ensures fault { IfErr result (IsOfNext i records.old) }
+        → OnOk result ((old new : Option (List ℕ)) × opened_by R.remaining (F.post opener.now) i (Some old)
+        × AreGathered (readings ++ (old, new) ∷ []) records.new) }
+    ensures fault { IfErr result (IsOfNext (opened_by R.remaining (F.post opener.now)) i records.old) }
 {
-    let mut reader = opened(rt, files, i)?;
+    let Some(mut reader) = opener(i) else {
+        return Err(ListFault::NotOpened(i));
+    };
     match records.add(&mut reader) {
         Ok(()) => Ok(()),
         Err(fault) => Err(ListFault::File(i, fault)),
     }
 }
 
-/// The records of one slice, from files that are opened, read to their ends and closed one after the other. The fault is that
-/// of the first file that has one.
-pub fn gather_files<T: Files + Alloc<A = Global>>(
-    rt: &T,
-    files: &[String],
+/// The records of one slice, from so many readers, which `opener` opens by their numbers from 0 on. They are opened, read to their ends
+/// and closed one after the other. The fault is that of the first reader that has one.
+pub fn gather_readers<R: Read + Drop, F: Fn(usize) -> Option<Counted<R>>>(
+    alloc: Global,
+    count: usize,
+    opener: &F,
 ) -> Result<SliceRecords, ListFault>
-    requires { 1 ≤ length files.now }
-    ensures ok { IfOk result (λ records. (readings : List (Option (List ℕ) × Option (List ℕ)))
-        × (length readings ≡ length files.now) × AreGathered readings records) }
-    ensures fault { IfErr result (IsOfFiles (length files.now)) }
+    requires some { 1 ≤ count }
+    requires opener { F.IsAlwaysCallable opener.now }
+    ensures ok { IfOk result (λ records. (readings : List (Option (List ℕ) × Option (List ℕ))) × (length readings ≡ count)
+        × AreOpened (opened_by R.remaining (F.post opener.now)) readings × AreGathered readings records) }
+    ensures fault { IfErr result (IsOfFiles (opened_by R.remaining (F.post opener.now)) count) }
 {
-    let mut records = first_file(rt, files)?;
-    for i in 1..files.len() {
-        next_file(rt, files, i, &mut records)?;
+    let mut records = first_records(alloc, opener)?;
+    for i in 1..count {
+        add_records(opener, i, &mut records)?;
     }
     Ok(records)
 }

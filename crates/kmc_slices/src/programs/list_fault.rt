@@ -1,12 +1,11 @@
 //! What a fault of the listing shows its user: one line on standard error, and the exit status.
-ghost use Rattle.std.specs.Prelude.{◌≡◌, ◌≢◌, Some, map, not, string_bytes, true};
-ghost use Rattle.kmc_slices.specs.ListProgram.{status_of};
+ghost use Rattle.std.specs.Prelude.{◌≡◌, Some, map, string_bytes};
+ghost use Rattle.kmc_slices.specs.ListProgram.{is_misuse, is_unwritten};
 ghost use Rattle.kmc_slices.specs.Messages.{message_of_list};
-ghost use Rattle.kmc_slices.specs.declared.programs.list_fault.ListFault.TheVariants.{Dump};
 
 use crate::listing::ListError;
 use crate::programs::foreign::Foreign;
-use kmc_options::{ListRequestError, name_at};
+use kmc_options::{Ending, ListRequestError, name_at};
 use kmc_slice_files::SliceFault;
 use std::fmt;
 
@@ -23,12 +22,6 @@ pub enum ListFault {
     Dump(ListError),
 }
 
-// The command line is at fault.
-const MISUSED: u8 = 2;
-
-// The command line is sound, and the listing failed.
-const FAILED: u8 = 1;
-
 impl ListFault {
     ghost use Rattle.kmc_slices.specs.ProgramNumbers.{number_of_list_fault};
 
@@ -43,28 +36,6 @@ impl ListFault {
             ListFault::Dump(_) => 4,
         }
     }
-
-    /// The exit status: 2 where the command line is at fault, and else 1.
-    pub fn status(&self) -> u8
-        ensures { result ≡ status_of self.now }
-    {
-        match self {
-            ListFault::Request(ListRequestError::Memory) => FAILED,
-            ListFault::Request(_) => MISUSED,
-            _ => FAILED,
-        }
-    }
-
-    /// Whether the user is told of the fault. A write to a pipe whose other end is closed is not told: its reader has enough.
-    pub fn is_told(&self, pipe_closed: bool) -> bool
-        ensures write { self.now ≡ Dump ListError.Write → result ≡ not pipe_closed }
-        ensures other { self.now ≢ Dump ListError.Write → result ≡ true }
-    {
-        match self {
-            ListFault::Dump(ListError::Write) => !pipe_closed,
-            _ => true,
-        }
-    }
 }
 
 /// The line that tells the user of a fault, with the names of the files as they were given.
@@ -72,6 +43,35 @@ impl ListFault {
 pub struct ListMessage<'a> {
     pub files: &'a [String],
     pub fault: ListFault,
+}
+
+/// The line of words that ask for nothing.
+pub(crate) fn unnamed<'a>(error: ListRequestError) -> ListMessage<'a>
+    ensures { result.fault ≡ ListFault.Request error }
+{
+    let fault = ListFault::Request(error);
+    ListMessage { files: &[], fault }
+}
+
+impl Ending for ListMessage<'_> {
+    ghost misused = { λ m. is_misuse m.fault };
+
+    ghost unwritten = { λ m. is_unwritten m.fault };
+
+    fn is_misuse(&self) -> bool {
+        match self.fault {
+            ListFault::Request(ListRequestError::Memory) => false,
+            ListFault::Request(_) => true,
+            _ => false,
+        }
+    }
+
+    fn is_unwritten(&self) -> bool {
+        match self.fault {
+            ListFault::Dump(ListError::Write) => true,
+            _ => false,
+        }
+    }
 }
 
 impl fmt::Display for ListMessage<'_> {

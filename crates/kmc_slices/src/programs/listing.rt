@@ -6,18 +6,18 @@ ghost use Rattle.kmc_options.specs.Requests.{IsListRequest};
 ghost use Rattle.kmc_options.specs.declared.slices.listing.ListRequest.{ListRequest};
 ghost use Rattle.kmc_options.specs.declared.slices.listing.ListRequestError.{ListRequestError};
 ghost use Rattle.kmc_slices.specs.Asking.{is_asked, text_asked, Shows, ShowsFront};
-ghost use Rattle.kmc_slices.specs.ListProgram.{AsksForNothing, FailsToList, IsListed, IsListFault, status_of_answer};
+ghost use Rattle.kmc_slices.specs.ListProgram.{AsksForNothing, FailsToList, IsListed, IsListFault, of_files, opened_by};
 ghost use Rattle.kmc_slices.specs.declared.programs.list_fault.ListFault.{ListFault};
 ghost use Rattle.kmc_slices.specs.declared.programs.listing.TheConstants.{HELP};
 
 use crate::listing::list_records;
 use crate::programs::asking::{asked_text, shown};
-use crate::programs::gathering::gather_files;
-use crate::programs::list_fault::{ListFault, ListMessage};
+use crate::programs::gathering::{gather_readers, opened};
+use crate::programs::list_fault::{ListFault, ListMessage, unnamed};
 use kmc_device::Counted;
-use kmc_options::{ListRequest, ListRequestError, Params, arguments, list_request};
+use kmc_options::{ListRequest, ListRequestError, Params, arguments, ended, list_request};
 use std::alloc::{AllocError, Global};
-use std::io::Write;
+use std::io::{Read, Write};
 use std::process::ExitCode;
 use std::rt::{Env, Files};
 use std::thread::Threads;
@@ -25,53 +25,62 @@ use std::thread::Threads;
 const HELP: &'static str =
     "kmc_list: the dump of one slice of reads that kmc_cut has cut\n\nusage: kmc_list [-ci<n>] [-cx<n>] [-cs<n>] [-sr<n>] [-b] <file> ..\n\n  -ci<n>     words that occur less often are not listed; 2 where it is not given\n  -cx<n>     words that occur more often are not listed; 10^9\n  -cs<n>     greater counts are shown as this; 255\n  -sr<n>     threads that count, 1 to 16; 2\n  -b         words are counted as read, not together with their reverse complements\n  <file>     the files of one slice, of all parts of the reads\n\nThe dumps of all slices are merged by\n  kmc_merge -ci1 -cx9223372036854775808 -cs9223372036854775808 <dump> ..\n";
 
-/// Writes the dump of the records of the files.
-fn listed<T: Threads + Sync + Files + Alloc<A = Global>, W: Write>(
+/// Writes the dump of the records of so many readers.
+fn listed<
+    T: Threads + Sync + Alloc<A = Global>,
+    R: Read + Drop,
+    W: Write,
+    F: Fn(usize) -> Option<Counted<R>>,
+>(
     rt: &T,
-    files: &[String],
+    count: usize,
     params: &Params,
+    opener: &F,
     writer: &mut Counted<W>,
 ) -> Result<u64, ListFault>
-    requires some { 1 ≤ length files.now }
+    requires some { 1 ≤ count }
+    requires opener { F.IsAlwaysCallable opener.now }
     requires failures { writer.old.failures < 2 ^ 64 - 1 }
-    ensures ok { IfOk result (λ lines. IsListed (length files.now) params.now
+    ensures ok { IfOk result (λ lines. IsListed (opened_by R.remaining (F.post opener.now)) count params.now
         (W.contents writer.old.inner) (W.contents writer.new.inner)
         × (writer.new.failures ≡ writer.old.failures)) }
     ensures sound { IfErr result (λ e. (r : ListRequestError) → e ≢ ListFault.Request r) }
-    ensures fault { IfErr result (IsListFault (length files.now) params.now W.contents writer.old writer.new) }
+    ensures fault { IfErr result (IsListFault (opened_by R.remaining (F.post opener.now)) count params.now W.contents writer.old writer.new) }
 {
-    let records = gather_files(rt, files)?;
+    let records = gather_readers(rt.alloc(), count, opener)?;
     match list_records(rt, rt.alloc(), records, params, writer) {
         Ok(lines) => Ok(lines),
         Err(error) => Err(ListFault::Dump(error)),
     }
 }
 
-/// Shows a fault, unless it is a write to a closed pipe, and gives the exit status: 0 where there is no fault. A line that cannot
-/// be written changes nothing of the status.
-fn ended(
-    rt: &impl Eprint,
-    files: &[String],
-    answer: Result<u64, ListFault>,
-    pipe_closed: bool,
-) -> ExitCode
-    ensures { exit_status result ≡ status_of_answer answer }
+/// Reads a reader for each of the files, which `opener` opens by their numbers one after the other; they must be of one slice. Writes the
+/// dump of their records by the settings. A fault is shown in one line on standard error, but for a write to a pipe whose other end is
+/// closed. The exit status is 0 where the dump was written and no device failed, and else 1; then a reader or the records are at fault
+/// or memory was refused, and nothing was written, or one write failed and a front of the dump is out.
+pub fn list_readers<
+    T: Threads + Sync + Eprint + Alloc<A = Global>,
+    R: Read + Drop,
+    W: Write,
+    F: Fn(usize) -> Option<Counted<R>>,
+>(rt: &T, files: &[String], params: &Params, opener: &F, writer: &mut Counted<W>) -> ExitCode
+    requires some { 1 ≤ length files.now }
+    requires opener { F.IsAlwaysCallable opener.now }
+    requires failures { writer.old.failures < 2 ^ 64 - 1 }
+    ensures done { exit_status result ≡ 0 → IsListed (opened_by R.remaining (F.post opener.now)) (length files.now) params.now
+        (W.contents writer.old.inner) (W.contents writer.new.inner)
+        × (writer.new.failures ≡ writer.old.failures) }
+    ensures failed { exit_status result ≡ 1 → (fault : ListFault)
+        × IsListFault (opened_by R.remaining (F.post opener.now)) (length files.now) params.now W.contents writer.old writer.new fault }
+    ensures statuses { exit_status result ≤ 1 }
 {
-    match answer {
+    match listed(rt, files.len(), params, opener, writer) {
         Ok(_) => ExitCode::from(0),
-        Err(fault) => {
-            if fault.is_told(pipe_closed) {
-                let _ = rt.eprintln(ListMessage { files, fault });
-            }
-            ExitCode::from(fault.status())
-        }
+        Err(fault) => ended(rt, ListMessage { files, fault }, writer.is_pipe_closed()),
     }
 }
 
-/// Reads the files, opened one after the other, which must be of one slice, and writes the dump of their records by the settings.
-/// A fault is shown in one line on standard error, but for a write to a pipe whose other end is closed. The exit status is 0
-/// where the dump was written and no device failed, and else 1; then a file or the records are at fault or memory was refused, and
-/// nothing was written, or one write failed and a front of the dump is out.
+/// [`list_readers`] of the files that are asked for.
 pub fn list_files<T: Threads + Sync + Files + Eprint + Alloc<A = Global>, W: Write>(
     rt: &T,
     request: &ListRequest,
@@ -79,15 +88,16 @@ pub fn list_files<T: Threads + Sync + Files + Eprint + Alloc<A = Global>, W: Wri
 ) -> ExitCode
     requires some { 1 ≤ length request.now.files.items }
     requires failures { writer.old.failures < 2 ^ 64 - 1 }
-    ensures done { exit_status result ≡ 0 → IsListed (length request.now.files.items) request.now.params
+    ensures done { exit_status result ≡ 0 → IsListed of_files (length request.now.files.items) request.now.params
         (W.contents writer.old.inner) (W.contents writer.new.inner)
         × (writer.new.failures ≡ writer.old.failures) }
     ensures failed { exit_status result ≡ 1 → (fault : ListFault)
-        × IsListFault (length request.now.files.items) request.now.params W.contents writer.old writer.new fault }
+        × IsListFault of_files (length request.now.files.items) request.now.params W.contents writer.old writer.new fault }
     ensures statuses { exit_status result ≤ 1 }
 {
-    let answer = listed(rt, &request.files, &request.params, writer);
-    ended(rt, &request.files, answer, writer.is_pipe_closed())
+    let files = request.files.as_slice();
+    let opener = |i: usize| opened(rt, files, i);
+    list_readers(rt, files, &request.params, &opener, writer)
 }
 
 /// Does what the words ask for: shows help or the version, or lists the slice of the files that they name. The exit status is 2
@@ -100,7 +110,7 @@ pub fn list_words<T: Threads + Sync + Files + Eprint + Alloc<A = Global>, W: Wri
     requires { writer.old.failures < 2 ^ 64 - 1 }
     ensures done { exit_status result ≡ 0 → is_asked (map string_bytes words.items) ≡ false
         → (r : ListRequest) × IsListRequest (map string_bytes words.items) r
-        × IsListed (length r.files.items) r.params (W.contents writer.old.inner) (W.contents writer.new.inner)
+        × IsListed of_files (length r.files.items) r.params (W.contents writer.old.inner) (W.contents writer.new.inner)
         × (writer.new.failures ≡ writer.old.failures) }
     ensures misused { exit_status result ≡ 2 → AsksForNothing (map string_bytes words.items) × (writer.new ≡ writer.old) }
     ensures shown { exit_status result ≡ 0 → is_asked (map string_bytes words.items) ≡ true
@@ -116,7 +126,7 @@ pub fn list_words<T: Threads + Sync + Files + Eprint + Alloc<A = Global>, W: Wri
     }
     match list_request(rt.alloc(), words) {
         Ok(request) => list_files(rt, &request, writer),
-        Err(error) => ended(rt, &[], Err(ListFault::Request(error)), false),
+        Err(error) => ended(rt, unnamed(error), false),
     }
 }
 
@@ -128,7 +138,7 @@ pub fn list_program<T: Threads + Sync + Files + Env + Eprint + Alloc<A = Global>
     requires { writer.old.failures < 2 ^ 64 - 1 }
     ensures done { exit_status result ≡ 0 → (words : List Word) × (is_asked words ≡ false
         → (r : ListRequest) × IsListRequest words r
-        × IsListed (length r.files.items) r.params (W.contents writer.old.inner) (W.contents writer.new.inner)
+        × IsListed of_files (length r.files.items) r.params (W.contents writer.old.inner) (W.contents writer.new.inner)
         × (writer.new.failures ≡ writer.old.failures))
         × (is_asked words ≡ true → Shows W.contents (text_asked HELP.now words) writer.old writer.new) }
     ensures failed { exit_status result ≡ 1 → (writer.new ≡ writer.old) ⊎ ((words : List Word)
@@ -139,13 +149,7 @@ pub fn list_program<T: Threads + Sync + Files + Env + Eprint + Alloc<A = Global>
 {
     match arguments(rt) {
         Ok(Some(words)) => list_words(rt, words, writer),
-        Ok(None) => {
-            let fault = ListFault::Request(ListRequestError::Usage);
-            ended(rt, &[], Err(fault), false)
-        }
-        Err(AllocError) => {
-            let fault = ListFault::Request(ListRequestError::Memory);
-            ended(rt, &[], Err(fault), false)
-        }
+        Ok(None) => ended(rt, unnamed(ListRequestError::Usage), false),
+        Err(AllocError) => ended(rt, unnamed(ListRequestError::Memory), false),
     }
 }

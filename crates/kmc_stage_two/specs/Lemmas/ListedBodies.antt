@@ -6,11 +6,11 @@ use Rattle.kmc_base.specs.declared.strands.Strands.{Strands}
 use Rattle.kmc_record.specs.declared.fault.RecordFault.{RecordFault}
 use Rattle.kmc_record.specs.Faults.{IsFirstFault}
 use Rattle.kmc_count.specs.declared.limits.Limits.{Limits}
-use Rattle.kmc_count.specs.Bodies.{IsDumpOfBody, AreDumpsOfBodies, IsWhole, IsFirstDamaged}
-use Rattle.kmc_stage_two.specs.Lemmas.ManyBodies.{texts, second_damaged}
+use Rattle.kmc_count.specs.Bodies.{IsDumpOfBody, AreDumpsOfBodies, IsWhole, IsFirstDamaged, WantsMemory}
+use Rattle.kmc_stage_two.specs.Lemmas.ManyBodies.{texts, second_damaged, second_wants}
 use Rattle.kmc_count.specs.Lemmas.Zips.{zip_append}
 use Rattle.kmc_lists.specs.Listed.{Listed, pairs_of, IsListOf}
-use Rattle.kmc_stage_two.specs.Bodies.{AreListsOfBodies}
+use Rattle.kmc_stage_two.specs.Bodies.{AreListsOfBodies, BodiesWantMemory}
 
 module _ (strands : Strands) (k : ℕ) (l : Limits) where
   pub both_listed : (us vs : List (List ℕ)) (lists more : List Listed) → AreListsOfBodies strands k l us lists → AreListsOfBodies strands k l vs more
@@ -42,3 +42,12 @@ module _ (strands : Strands) (k : ℕ) (l : Limits) where
       (subst (IsFirstDamaged k fault offset) (sym (map-append (λ (v : Vec ℕ Global). v.items) done (b ∷ rest)))
       (second_damaged strands k l (texts done) (texts (b ∷ rest)) (map pairs_of lists) fault offset h.dumps
       record { number = 0; inside = omega arith; before = All-nil (IsWhole k); first = subst (IsFirstFault k fault offset) same first }))
+
+  -- the bodies so far are whole, and the count of the next one wants memory
+  pub next_wants : (all done rest : List (Vec ℕ Global)) (b : Vec ℕ Global) (body : List ℕ) (lists : List Listed) → all ≡ done ++ b ∷ rest
+      → body ≡ b.items → AreListsOfBodies strands k l (texts done) lists → WantsMemory k body → BodiesWantMemory k (texts all)
+  next_wants all done rest b body lists is same h wants =
+      subst (λ (v : List (Vec ℕ Global)). BodiesWantMemory k (texts v)) (sym is)
+      (subst (BodiesWantMemory k) (sym (map-append (λ (v : Vec ℕ Global). v.items) done (b ∷ rest)))
+      (second_wants strands k l (texts done) (texts (b ∷ rest)) (map pairs_of lists) h.dumps
+      record { number = 0; inside = omega arith; before = All-nil (IsWhole k); here = subst (WantsMemory k) same wants }))

@@ -83,7 +83,7 @@ pub(crate) fn has_pairs<W: PackedKmer + Drop, C: CountWidth + Drop>(
 }
 
 /// Whether the lists are these, pair by pair.
-fn are_same<W: PackedKmer + Drop, C: CountWidth + Drop>(
+pub(crate) fn are_same<W: PackedKmer + Drop, C: CountWidth + Drop>(
     lists: &[KmerList<W, C>],
     plain: &[Vec<(Kmer, u64)>],
 ) -> bool {

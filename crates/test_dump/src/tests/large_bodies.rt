@@ -11,20 +11,20 @@ use std::test::Fail;
 use std::thread::Threads;
 use test_support::Dice;
 
-const LIMITS: Limits = Limits {
+pub(crate) const LIMITS: Limits = Limits {
     ci: 1,
     cx: 1 << 63,
     cs: 1 << 63,
 };
 
 /// The bytes of a body that threads count together.
-const SHARED: usize = 1 << 20;
+pub(crate) const SHARED: usize = 1 << 20;
 
 /// And of one whose words of 12 symbols one thread adds up in a table.
 const ADDED_UP: usize = 1 << 21;
 
 /// Records that look random, most of them of one word, again and again: so many bytes or a few more.
-fn thrown_body(alloc: Global, k: usize, bytes: usize) -> Result<Vec<u8>, AllocError> {
+pub(crate) fn thrown_body(alloc: Global, k: usize, bytes: usize) -> Result<Vec<u8>, AllocError> {
     let mut dice = Dice { state: 4711 };
     let mut block = Vec::new(alloc);
     for record in 0..3000 {
@@ -42,7 +42,11 @@ fn thrown_body(alloc: Global, k: usize, bytes: usize) -> Result<Vec<u8>, AllocEr
 }
 
 /// A body between an empty one and a small one.
-fn between_others(alloc: Global, body: &[u8], k: usize) -> Result<Vec<Vec<u8>>, AllocError> {
+pub(crate) fn between_others(
+    alloc: Global,
+    body: &[u8],
+    k: usize,
+) -> Result<Vec<Vec<u8>>, AllocError> {
     let mut bodies = Vec::new(alloc);
     bodies.push(Vec::new(alloc))?;
     let mut large = Vec::new(alloc);

@@ -1,4 +1,4 @@
-use kmc_options::{Fault, ParamsError, RunError, Setting};
+use kmc_options::{Ending, Fault, ParamsError, RunError, Setting};
 use kmc_reads::ReadsError;
 use std::alloc::Global;
 use std::fmt::Display;

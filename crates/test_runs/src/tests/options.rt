@@ -1,6 +1,8 @@
 use crate::tests::texts::words_of;
 use kmc_base::Strands;
-use kmc_options::{Params, ParamsError, Setting, params, settings as program_settings, words};
+use kmc_options::{
+    Params, ParamsError, Program, Setting, params, settings as program_settings, words,
+};
 use kmc_reads::Format;
 use std::alloc::{AllocError, Global};
 use std::process::Abort;
@@ -131,7 +133,7 @@ fn no_option_means_the_defaults(rt: HostRuntime) {
 /// The symbols of the signatures of a run of the program by this line.
 fn length_of(rt: &(impl Abort + Alloc<A = Global>), line: &str) -> usize {
     let words = words_of(rt.alloc(), line).expect(rt, "memory");
-    let params = program_settings(rt.alloc(), words).expect(rt, line);
+    let params = program_settings(rt.alloc(), Program::Kmc, words).expect(rt, line);
     params.shape().m()
 }
 

@@ -2,7 +2,7 @@
 use super::random_rows::{COUNT, ROWS};
 use super::*;
 use crate::tests::texts::words_of;
-use kmc_options::settings;
+use kmc_options::{Program, settings};
 use std::str::Lines;
 
 /// The byte that a byte of a row stands for.
@@ -27,7 +27,7 @@ fn spelled_out(alloc: Global, row: &str) -> Result<Vec<u8>, AllocError> {
 /// The settings that a row's options give.
 fn given(rt: &impl Abort, alloc: Global, options: &str) -> Params {
     let words = words_of(alloc, options).expect(rt, "memory");
-    settings(alloc, words).expect(rt, "settings")
+    settings(alloc, Program::Kmc, words).expect(rt, "settings")
 }
 
 /// Asserts that a run over the text, so many bytes a read, writes the dump.

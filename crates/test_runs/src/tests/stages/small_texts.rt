@@ -48,6 +48,8 @@ fn bins_give_the_dumps_of_short_reads(rt: HostRuntime) {
     let params = settings(&rt, 4, 1, BILLION, 255);
     assert_dump(&rt, &[b"ACGTACGT"], &params, b"ACGT\t2\nCGTA\t2\nGTAC\t1\n");
     assert_dump(&rt, &[b"ACGTNACGT"], &params, b"ACGT\t2\n");
+    let two: [&[u8]; 2] = [b"ACGTACGT", b"ACGTNACGT"];
+    assert_dump(&rt, &two, &params, b"ACGT\t4\nCGTA\t2\nGTAC\t1\n");
 }
 
 #[test]

@@ -1,23 +1,26 @@
 use Rattle.std.proofs.Common.{map, string_bytes, Err, inl, inr, refl, sym, ap, ◌∙◌}
-use Rattle.kmc_slices.proofs.Statuses.{asks_for_no_cut, done, failed}
+use Rattle.kmc_options.specs.Status.{status_of}
+use Rattle.kmc_slices.specs.CutProgram.{is_misuse}
+use Rattle.kmc_slices.proofs.Statuses.{asks_for_no_cut}
 use Rattle.kmc_slices.proofs.programs.cutting.cut_words.Goals as goal
 
 pub returns-in-Ok-clause-done : goal.returns-in-Ok-clause-done
 returns-in-Ok-clause-done g c = λ status _.
-    let wrote = done c.cut.result _ c.cut.ensures.ok (sym c.ended.ensures ∙ status) in
+    let wrote = c.cut.ensures.done status in
     (c.in-Ok.request, c.in-Ok.ensures.asked, wrote.0, wrote.1)
 
 pub returns-in-Err-clause-misused : goal.returns-in-Err-clause-misused
 returns-in-Err-clause-misused g c = λ status. (
   asks_for_no_cut (map string_bytes c.args.words.items) c.in-Err.error (λ is. c.in-Err.ensures.usage (ap Err is))
-      (λ s is. c.in-Err.ensures.range s (ap Err is)) (λ is. c.in-Err.ensures.slices (ap Err is)) (sym c.ended-in-Err.ensures ∙ status),
+      (λ s is. c.in-Err.ensures.range s (ap Err is)) (λ is. c.in-Err.ensures.slices (ap Err is))
+      (ap (λ f. status_of (is_misuse f)) (sym c.unnamed.ensures) ∙ sym c.ended.ensures.status ∙ status),
   refl,
   refl,
 )
 
 pub returns-in-Ok-clause-failed : goal.returns-in-Ok-clause-failed
 returns-in-Ok-clause-failed g c = λ status _.
-    let why = failed c.cut.result _ c.cut.ensures.fault (sym c.ended.ensures ∙ status) in
+    let why = c.cut.ensures.failed status in
     inr (c.in-Ok.request, c.in-Ok.ensures.asked, why.0, why.1)
 
 pub returns-in-Err-clause-failed : goal.returns-in-Err-clause-failed

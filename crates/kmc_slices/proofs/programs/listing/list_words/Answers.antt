@@ -1,4 +1,6 @@
 use Rattle.std.proofs.Common.{map, string_bytes, Err, inl, inr, refl, sym, ap, ◌∙◌}
+use Rattle.kmc_options.specs.Status.{status_of}
+use Rattle.kmc_slices.specs.ListProgram.{is_misuse}
 use Rattle.kmc_slices.proofs.Statuses.{asks_for_nothing}
 use Rattle.kmc_slices.proofs.programs.listing.list_words.Goals as goal
 
@@ -18,6 +20,6 @@ returns-in-Err-clause-failed g c = λ status _. inl refl
 pub returns-in-Err-clause-misused : goal.returns-in-Err-clause-misused
 returns-in-Err-clause-misused g c = λ status. (
   asks_for_nothing (map string_bytes c.args.words.items) c.in-Err.error (λ is. c.in-Err.ensures.usage (ap Err is))
-      (λ s is. c.in-Err.ensures.range s (ap Err is)) (sym c.ended.ensures ∙ status),
+      (λ s is. c.in-Err.ensures.range s (ap Err is)) (ap (λ f. status_of (is_misuse f)) (sym c.unnamed.ensures) ∙ sym c.ended.ensures.status ∙ status),
   refl,
 )

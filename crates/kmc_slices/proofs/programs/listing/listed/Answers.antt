@@ -13,8 +13,9 @@ returns-in-Err-clause-fault g c =
       record {
         readings = gathered.0;
         many = gathered.1;
+        opened = gathered.2;
         records = _;
-        gathered = gathered.2;
+        gathered = gathered.3;
         why = dump_fault _ _ _ _ _ _ (λ fault is. why.foreign fault (ap Err is)) (λ is. why.judged (ap Err is)) (λ is. why.front (ap Err is))
             (λ is. why.failed (ap Err is)) why.silent;
       },
