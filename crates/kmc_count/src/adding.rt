@@ -1,5 +1,5 @@
 //! Items of short words, those of equal words added up: a counter for each word takes the place of a sort.
-ghost use Rattle.std.specs.Prelude.{◌≡◌, ℕ, ◌+◌, ◌*◌, ◌/◌, ◌^◌, ◌<◌, ◌≤◌, ◌++◌, ◌∷◌, [], List, map, drop, length, replicate, true, OnOk, IsErrOf};
+ghost use Rattle.std.specs.Prelude.{◌≡◌, ℕ, ◌+◌, ◌*◌, ◌/◌, ◌^◌, ◌<◌, ◌≤◌, ◌++◌, ◌∷◌, [], List, map, drop, length, max, replicate, true, OnOk, IsErrOf};
 ghost use Rattle.kmc_base.specs.Weights.{items, worth, AreItems};
 ghost use Rattle.kmc_record.specs.Faults.{IsFirstFault};
 ghost use Rattle.kmc_record.specs.declared.fault.RecordFault.{RecordFault};
@@ -157,6 +157,7 @@ const ITEMS_OF_A_COUNTER: usize = 2;
 /// How many items of short words may wait before they are added up.
 fn most_items(k: usize) -> usize
     requires { k ≤ MOST_TABLE_SYMBOLS }
+    ensures { result ≡ max (2 ^ 14) (2 * 4 ^ k) }
 {
     FEWEST_ITEMS.max(ITEMS_OF_A_COUNTER << (2 * k))
 }

@@ -20,7 +20,8 @@ use std::alloc::{AllocError, Global};
 
 /// Sorts the numbers of records, by the faster way for their width where there is memory for that.
 fn sort_numbers(numbers: &mut Vec<u128>)
-    ensures { IsPermutation numbers.old.items numbers.new.items }
+    ensures moved { IsPermutation numbers.old.items numbers.new.items }
+    ensures sorted { IsSorted nat_cmp numbers.new.items }
 {
     if numbers.sort().is_err() {
         numbers.sort_unstable();
