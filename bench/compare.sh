@@ -14,6 +14,9 @@
 #   repeat  the same of the letters AC, over and over
 #   prefix  8 million sequences of 40 symbols whose first 11 are the same, FASTA, all words; k to 40
 #   one_bin short, by ours with one bin
+#   plant   24 million reads of 150 symbols from a genome of 120 million (30-fold), a third of them with an error, FASTQ, 7.5 GB
+#   fly     240,000 reads of 15,000 symbols from such a genome (30-fold) with errors in 2 of 1000, 7.2 GB
+#   plant_fifth, fly_fifth    a fifth of either, for machines with less disk
 #
 # For each k and each number of threads (-spN -srN against -tN) ours and both modes of KMC run in turn, ROUNDS (3) times each. KMC's modes are
 # `kmc -r`, in memory, and `kmc`, with files. The sorted dump is part of its time, and its memory is the greater of the two programs'.
@@ -50,6 +53,10 @@ text_of() {
             repeat) python3 -c 'a = "AC" * 50; [print("@r\n%s\n+\n%s" % (a, a)) for _ in range(500000)]' > "$name.part" ;;
             prefix) python3 -c 'import random; random.seed(6)
 for _ in range(8000000): print(">r\nACGTTGCAGTC" + "".join(random.choices("ACGT", k=29)))' > "$name.part" ;;
+            plant) python3 "$top/bench/simulate_reads.py" 24000000 150 120000000 7 0.0027 0 > "$name.part" ;;
+            plant_fifth) python3 "$top/bench/simulate_reads.py" 4800000 150 24000000 7 0.0027 0 > "$name.part" ;;
+            fly) python3 "$top/bench/simulate_reads.py" 240000 15000 120000000 8 0.002 0 > "$name.part" ;;
+            fly_fifth) python3 "$top/bench/simulate_reads.py" 48000 15000 24000000 8 0.002 0 > "$name.part" ;;
             *) echo "compare.sh: no workload $1" >&2; return 2 ;;
         esac
         mv "$name.part" "$name"
