@@ -14,6 +14,10 @@ import os
 import re
 import sys
 
+sys.dont_write_bytecode = True  # no files beside the scripts
+
+from comparing import ended  # noqa: E402
+
 TOP = os.path.join(os.path.dirname(os.path.abspath(__file__)), "..")
 CRATES = os.path.join(TOP, "crates")
 NAMES = {"Kmc": "kmc", "KmcMerge": "kmc_merge", "KmcCut": "kmc_cut", "KmcList": "kmc_list"}
@@ -173,11 +177,7 @@ def main():
         same(f"the synopsis of docs/{name}.1", synopsis, names | OWN[name])
         same(f"docs/{name}.1", set(items), names | OWN[name])
         ranges(f"docs/{name}.1", items, options, True)
-    for fault in faults:
-        print(f"options: {fault}", file=sys.stderr)
-    if not faults:
-        print(f"options: the usage lines, help texts and pages have the options of {', '.join(told)}, with their ranges and defaults")
-    return 1 if faults else 0
+    return ended("options", faults, f"the usage lines, help texts and pages have the options of {', '.join(told)}, with their ranges and defaults")
 
 
 if __name__ == "__main__":

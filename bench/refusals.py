@@ -14,6 +14,10 @@ import os
 import re
 import sys
 
+sys.dont_write_bytecode = True  # no files beside the scripts
+
+from comparing import ended  # noqa: E402
+
 TOP = os.path.join(os.path.dirname(os.path.abspath(__file__)), "..")
 TABLE = os.path.join(TOP, "docs", "REFUSALS.md")
 KIND = r"\w*(?:Error|Fault|Refusal)"
@@ -223,11 +227,7 @@ def main():
     for key in code.numbers:
         if key not in listed:
             faults.append(f"{key[0]}::{key[1]} stands in the code and not in the table")
-    for fault in faults:
-        print(f"refusals: {fault}", file=sys.stderr)
-    if not faults:
-        print(f"refusals: docs/REFUSALS.md has the {len(listed)} refusals of the code, with their numbers, texts and exit statuses")
-    return 1 if faults else 0
+    return ended("refusals", faults, f"docs/REFUSALS.md has the {len(listed)} refusals of the code, with their numbers, texts and exit statuses")
 
 
 if __name__ == "__main__":
