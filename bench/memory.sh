@@ -3,8 +3,10 @@
 #
 # usage: bench/memory.sh
 #
-# Wants GNU time. The inputs are made in a folder of $TMPDIR or /tmp, which is removed at the end. MB are a million bytes.
+# Wants GNU time. The inputs are made in a folder of $TMPDIR or /tmp, which is removed at the end. MB are a million bytes. What is freed goes
+# back to the system, as where futoncrane starts the program.
 set -eu
+export MALLOC_MMAP_THRESHOLD_=65536
 top=$(cd "$(dirname "$0")/.." && pwd)
 work=$(mktemp -d)
 trap 'rm -rf "$work"' EXIT

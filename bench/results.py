@@ -29,6 +29,7 @@ SECTIONS = [
     ("busy", "Short reads beside four busy processes, k 25, two threads", ["bench/busy.sh", "-r", ROUNDS, "-t", "2"], False),
     ("skew", "Skewed inputs", ["bench/compare.sh", "-k", "25 55", "-t", "4", "-r", ROUNDS, "alla", "repeat", "prefix", "one_bin"], False),
     ("memory", "Memory", ["bench/memory.sh"], False),
+    ("forms", "What three forms of the count save", ["bench/forms.py"], False),
     ("reading", "Reading and feeding alone", ["bench/reading.sh"], False),
     ("feeding", "What futoncrane takes beside the program", ["bench/feeding.sh"], False),
     ("slices", "Slices: what does not fit one memory", ["bench/slices.sh"], False),

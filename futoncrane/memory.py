@@ -7,22 +7,33 @@ import os
 from futoncrane.faults import Fault
 
 MEGA = 10**6
-# the least and the most that rounds take, and what comes with each symbol: of one run, and of the cut to files of records
-ROUNDS = (20 * MEGA, 70 * MEGA, 0.2)
-ROUNDS_OF_A_CUT = (20 * MEGA, 150 * MEGA, 3)
-# of the records, while reads are cut and while their k-mers are listed
-BYTES_OF_A_SYMBOL_CUT = 1.1
-BYTES_OF_A_SYMBOL = 1.2
-# k-mers of at most so many symbols are all of one bin, so of one slice, and their reads are packed whole
-MOST_OF_ONE_BIN = 10
-BYTES_OF_A_PACKED_SYMBOL = 0.3
-BYTES_OF_A_COUNTER = 13 * MEGA
+# of the records: bytes for each symbol, where a run of k-mers with one signature is short, where k is above 32, and else. k-mers of at most
+# so many symbols are all of one bin, so of one slice, and their reads are packed whole
+MOST_OF_ONE_BIN, MOST_OF_SHORT_RUNS, MOST_OF_A_NARROW_KMER = 10, 22, 32
+BYTES_OF_A_PACKED_SYMBOL, BYTES_IN_SHORT_RUNS, BYTES_OF_A_SYMBOL, BYTES_IN_LONG_RUNS = 0.265, 1.1, 0.89, 0.75
+# the rounds of one run: the least, what comes with each symbol, and the most, which grows with the records; and those of the cut to files of
+# records: the least, what comes with each symbol, and the most
+ROUNDS = (20 * MEGA, 0.3, 34 * MEGA, 40 * MEGA)
+ROUNDS_OF_A_CUT = (20 * MEGA, 3, 150 * MEGA)
+# the first bins are counted before any records are given back: with so many of the lists; and so much of the records is never given back
+FIRST, KEPT = 0.25, 0.35
+# a thread that counts takes so much for each symbol, or where the k-mers of a bin have a table, for each k-mer of so many letters that there
+# can be; one that writes takes so much
+BYTES_OF_A_COUNTED_SYMBOL = 1 / 60
+BYTES_OF_A_COUNTER = 13
+MOST_OF_A_TABLE, COUNTERS_OF_A_BYTE = 12, 8
+BYTES_OF_A_WRITER = 10 * MEGA
+# the usual bins and the most; they are of unequal size: the greatest ones are taken to be twice the mean. More slices than FEW_SLICES are
+# made of the most, so that they are alike
+BINS, MOST_BINS, GREATEST_BIN, FEW_SLICES = 512, 2000, 2, 64
+# blocks of so many bytes are given back to the system
+GIVEN_BACK = 1 << 16
 # addresses are asked for that are not used: so many for each byte that is, and for each thread
 ADDRESSES_OF_A_BYTE = 2
 ADDRESSES_OF_A_THREAD = 10 * MEGA
 # how many k-mers are listed for each symbol, of which this is a guess: with errors of reading, and without
 LISTED_WITH_ERRORS = 0.5
-LISTED_WITHOUT = 0.1
+LISTED_WITHOUT = 0.05
 MOST_SLICES = 1000
 # slices are of unequal size, as signatures are of unequal frequency: where the mean is 1, the greatest is taken to be 1, and
 # so much more for each time that the number of slices is doubled (as measured on sequences of which 41 in 100 letters are C or G)
@@ -30,7 +41,7 @@ UNEVEN = 0.25
 # of the files of records: bytes of the disk for each symbol
 DISK_OF_A_SYMBOL = 1.1
 
-Plan = collections.namedtuple("Plan", "slices wanted")
+Plan = collections.namedtuple("Plan", "slices wanted bins", defaults=[BINS])
 
 
 def listed_of(symbols, format_name, k, least):
@@ -44,42 +55,61 @@ def bytes_of_a_line(k, cap):
     return (17 if k > 32 else 10) + (7 if cap > 2**32 - 1 else 3 if cap > 255 else 0)
 
 
-def records(symbols, k, usual):
-    """The bytes of memory that the records of so many symbols take, of which k-mers usually take `usual` for each."""
-    return (BYTES_OF_A_PACKED_SYMBOL if k <= MOST_OF_ONE_BIN else usual) * symbols
+def records(symbols, k):
+    """The bytes of memory that the records of so many symbols take."""
+    if k <= MOST_OF_ONE_BIN:
+        return BYTES_OF_A_PACKED_SYMBOL * symbols
+    usual = BYTES_IN_SHORT_RUNS if k <= MOST_OF_SHORT_RUNS else BYTES_OF_A_SYMBOL if k <= MOST_OF_A_NARROW_KMER else BYTES_IN_LONG_RUNS
+    return usual * symbols
 
 
-def listing(symbols, listed, k, cap, threads):
-    """The bytes of memory that the listing of so many symbols takes."""
-    return records(symbols, k, BYTES_OF_A_SYMBOL) + bytes_of_a_line(k, cap) * listed + BYTES_OF_A_COUNTER * threads
+def counting(symbols, k, threads, bins=BINS):
+    """The bytes of memory that threads take which count the bins of so many symbols."""
+    of_bin = records(symbols, k) / (1 if k <= MOST_OF_ONE_BIN else bins / GREATEST_BIN)
+    if k <= MOST_OF_A_TABLE and 4**k <= COUNTERS_OF_A_BYTE * of_bin:
+        return BYTES_OF_A_COUNTER * 4**k * threads
+    return symbols * BINS / bins * BYTES_OF_A_COUNTED_SYMBOL * threads * (2 if k > MOST_OF_A_NARROW_KMER else 1)
 
 
-def rounds(symbols, bounds=ROUNDS):
+def rounds(symbols, k):
     """The bytes of memory that reading takes beside the records."""
-    least, most, more = bounds
+    least, more, most, with_records = ROUNDS
+    return min(least + more * symbols, most + with_records * records(1, k))
+
+
+def rounds_of_a_cut(symbols):
+    """The bytes of memory that the cut to files of records takes."""
+    least, more, most = ROUNDS_OF_A_CUT
     return min(least + more * symbols, most)
+
+
+def listing(symbols, listed, k, cap, threads, share=1, bins=BINS):
+    """The bytes of memory that the listing of a share of so many symbols takes: the greater of what it takes at its beginning and at its end."""
+    kept, lines, counted = share * records(symbols, k), share * bytes_of_a_line(k, cap) * listed, counting(symbols, k, threads, bins)
+    return max(kept + counted + FIRST * lines, KEPT * kept + counted + lines + BYTES_OF_A_WRITER * threads * (1 if listed else 0))
 
 
 def wanted(symbols, listed, k, cap, threads):
     """The bytes of memory that one run takes: the greater of what it takes while it cuts, and while it lists."""
-    return int(max(records(symbols, k, BYTES_OF_A_SYMBOL_CUT) + rounds(symbols), listing(symbols, listed, k, cap, threads)))
+    return int(max(records(symbols, k) + rounds(symbols, k), listing(symbols, listed, k, cap, threads)))
 
 
-def of_slice(slices, symbols, listed, k, cap, threads):
+def of_slice(slices, symbols, listed, k, cap, threads, bins=BINS):
     """The bytes of memory that one of so many slices takes: the greater of what cutting all takes, and listing the greatest slice."""
     share = 1 if k <= MOST_OF_ONE_BIN else (1 + UNEVEN * math.log2(slices)) / slices
-    return int(max(rounds(symbols, ROUNDS_OF_A_CUT), listing(symbols * share, listed * share, k, cap, threads)))
+    return int(max(rounds_of_a_cut(symbols), listing(symbols, listed, k, cap, threads, share, bins)))
 
 
 def plan(symbols, listed, k, cap, threads, room):
-    """One run where that fits the room, else the least power of two of slices that do, or the most; the slices are none where no number
-    does."""
+    """One run where that fits the room, else the least power of two of slices that do, or the most, of the usual bins or, where these are too
+    large, of the most; the slices are none where no number does."""
     whole = wanted(symbols, listed, k, cap, threads)
     if whole <= room:
         return Plan(1, whole)
     for slices in [1 << it for it in range(1, MOST_SLICES.bit_length())] + [MOST_SLICES]:
-        if of_slice(slices, symbols, listed, k, cap, threads) <= room:
-            return Plan(slices, whole)
+        for bins in (BINS, MOST_BINS) if slices <= FEW_SLICES else (MOST_BINS,):
+            if of_slice(slices, symbols, listed, k, cap, threads, bins) <= room:
+                return Plan(slices, whole, bins)
     return Plan(None, whole)
 
 
@@ -96,6 +126,12 @@ def disk_of_dumps(listed, k):
 def addresses(room, threads):
     """The greatest address space for a run that is to take so much room: two threads beside the splitters and counters."""
     return ADDRESSES_OF_A_BYTE * room + ADDRESSES_OF_A_THREAD * (2 * threads + 2)
+
+
+def environment():
+    """The environment of a program that counts. What it frees, from blocks of 64 KiB on, goes back to the system at once: the C library keeps
+    it otherwise, which takes a quarter more memory and saves no time. What the user says of that stays."""
+    return dict({"MALLOC_MMAP_THRESHOLD_": str(GIVEN_BACK)}, **os.environ)
 
 
 def of_groups(lines, root="/sys/fs/cgroup"):

@@ -15,7 +15,7 @@ def fed(command, found, setting, children, output, reader=None, text=None, step=
     feed = Feed(found)
     space = memory.addresses(setting.memory, setting.threads) if setting.memory else None
     sink = subprocess.PIPE if reader else output.descriptor if output else subprocess.DEVNULL
-    program = children.start(command, space, stdin=feed.source, stdout=sink)
+    program = children.start(command, space, env=memory.environment(), stdin=feed.source, stdout=sink)
     feed.close_source()
     if output:
         output.let_go()

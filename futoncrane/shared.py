@@ -8,9 +8,6 @@ from futoncrane.inputs import is_same_file
 from futoncrane.options import MOST, Option, at_most, file_of_names, number, size
 
 MOST_THREADS = 16
-MOST_BINS = 2000
-# more slices than this are made of more bins, so that they are alike
-FEW_SLICES = 64
 
 
 def processors():
@@ -48,7 +45,7 @@ OLD = [
     Option([], "splitters", "N", number(1, MOST_THREADS), hidden=["-sp", "--sp"]),
     Option([], "counters", "N", number(1, MOST_THREADS), hidden=["-sr", "--sr"]),
     Option([], "signature", "N", number(5, 11), hidden=["-p", "--p"]),
-    Option([], "bins", "N", number(1, MOST_BINS), hidden=["-n", "--n"]),
+    Option([], "bins", "N", number(1, memory.MOST_BINS), hidden=["-n", "--n"]),
 ]
 ABOUT_RUNS = [BOTH, STRANDS, THREADS, MEMORY, SLICES, DIRECTORY, FILES, JSON, QUIET, *OLD]
 
@@ -108,11 +105,11 @@ def plan(told, symbols, listed):
     room = told.memory or memory.of_machine()
     found = memory.plan(symbols, listed, told.k, told.cap, told.threads, room)
     if told.slices:
-        found = found._replace(slices=told.slices)
+        found = found._replace(slices=told.slices, bins=memory.MOST_BINS if told.slices > memory.FEW_SLICES else memory.BINS)
     if found.slices is None:
         memory.refuse(found, room, told.memory is not None)
     if told.bins and found.slices > told.bins:
         raise Misuse("there are %d slices, and -n says %d bins: a slice wants a bin" % (found.slices, told.bins))
-    if not told.bins and found.slices > FEW_SLICES:
-        told.bins = MOST_BINS
+    if not told.bins and found.bins != memory.BINS:
+        told.bins = found.bins
     return found

@@ -41,7 +41,7 @@ def listed(names, setting, children, step, output=None, file=None):
     parts = merging.Parts(names, children)
     space = memory.addresses(setting.memory, setting.threads) if setting.memory else None
     command = [places.find("kmc_list"), *shared.words_of_list(setting), *parts.given]
-    program = children.start(command, space, pass_fds=parts.pipes, stdin=0 if "-" in names else subprocess.DEVNULL,
+    program = children.start(command, space, env=memory.environment(), pass_fds=parts.pipes, stdin=0 if "-" in names else subprocess.DEVNULL,
                              stdout=output.descriptor if output else file)
     parts.let_go()
     if output:

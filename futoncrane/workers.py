@@ -33,6 +33,11 @@ def open_more():
         resource.setrlimit(resource.RLIMIT_NOFILE, (wanted, most))
 
 
+def environment():
+    """The environment of a program that counts, as futoncrane.memory tells it: what is freed goes back to the system."""
+    return dict({"MALLOC_MMAP_THRESHOLD_": "65536"}, **os.environ)
+
+
 def feed(child, path, start, end):
     """Writes the bytes of the file from start to end to the program's standard input, and closes that."""
     with open(path, "rb") as file, contextlib.suppress(BrokenPipeError), child.stdin as sink:
@@ -61,7 +66,7 @@ def unpack(child, command, path):
 def run_cut(part, command):
     """Cuts a part by the command."""
     path, packing, start, end = part
-    child = subprocess.Popen(command, stdin=subprocess.PIPE, stdout=subprocess.DEVNULL, stderr=subprocess.PIPE)
+    child = subprocess.Popen(command, env=environment(), stdin=subprocess.PIPE, stdout=subprocess.DEVNULL, stderr=subprocess.PIPE)
     try:
         if packing is None:
             feed(child, path, start, end)
@@ -99,7 +104,7 @@ def list_slice(number, parts, path, options, directory):
         names = [str(it) for it in range(parts)]
         with open(work, "wb") as out:
             ran = subprocess.run([program("kmc_list", path), *options, *names], cwd=os.path.join(directory, "slice-%d" % number),
-                                 stdin=subprocess.DEVNULL, stdout=out, stderr=subprocess.PIPE)
+                                 env=environment(), stdin=subprocess.DEVNULL, stdout=out, stderr=subprocess.PIPE)
         if ran.returncode != 0:
             message = ran.stderr.decode(errors="replace").strip().replace("kmc_list: ", "", 1)
             raise RuntimeError("slice %d: %s" % (number, message or "kmc_list was ended by signal %d" % -ran.returncode))

@@ -153,11 +153,17 @@ def test_names_that_promise_another_form_are_refused(room):
 def test_the_page_has_the_figures_of_the_estimate(room):
     from futoncrane import memory
     page = " ".join(content(os.path.join(TOP, "docs", "kmc.1")).decode().split())
-    least, most, _ = memory.ROUNDS
-    for told in ("%.1f for each symbol, %d to %d million for the rounds" % (memory.BYTES_OF_A_SYMBOL_CUT, least // memory.MEGA, most // memory.MEGA),
-                 "%.1f for each symbol, %d for each k-mer that is listed (%d where k is above 32), and %d million for each counting thread" % (
-                     memory.BYTES_OF_A_SYMBOL, memory.bytes_of_a_line(31, 255), memory.bytes_of_a_line(33, 255), memory.BYTES_OF_A_COUNTER // memory.MEGA),
-                 "at most %d symbols share one bin: there %.1f for each symbol" % (memory.MOST_OF_ONE_BIN, memory.BYTES_OF_A_PACKED_SYMBOL)):
+    least, most = (memory.rounds(it, 25) // memory.MEGA for it in (0, 10**12))
+    for told in ("the records take %s for each symbol, %s where k is above %d, and %s from %d to %d" % (
+                     memory.BYTES_OF_A_SYMBOL, memory.BYTES_IN_LONG_RUNS, memory.MOST_OF_A_NARROW_KMER, memory.BYTES_IN_SHORT_RUNS, memory.MOST_OF_ONE_BIN + 1,
+                     memory.MOST_OF_SHORT_RUNS),
+                 "the lists %d for each k-mer that is listed, %d where k is above 32" % (memory.bytes_of_a_line(31, 255), memory.bytes_of_a_line(33, 255)),
+                 "cutting the records, and %d to %d million for the rounds" % (least, most),
+                 "the first bins the records, a quarter of the lists" if memory.FIRST == 1 / 4 else "?",
+                 "the last bins %.2f of the records, the lists, and %d million for each counting thread" % (memory.KEPT, memory.BYTES_OF_A_WRITER // memory.MEGA),
+                 "a 60th of a byte for each symbol and thread" if memory.BYTES_OF_A_COUNTED_SYMBOL == 1 / 60 else "?",
+                 "at most %d symbols share one bin: there the records take %s for each symbol" % (memory.MOST_OF_ONE_BIN, memory.BYTES_OF_A_PACKED_SYMBOL),
+                 "MALLOC_MMAP_THRESHOLD_=%d" % memory.GIVEN_BACK):
         assert told in page, told
     assert "for each symbol" not in content(os.path.join(TOP, "README.md")).decode()
 

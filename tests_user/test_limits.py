@@ -12,24 +12,30 @@ REAL = 10**9
 
 
 def test_the_amount_is_that_of_the_measured_table(room):
-    # symbols, listed k-mers, k, threads and the measured peak in bytes: an estimate is above it, and at most a third
-    rows = ((50 * 10**6, 0, 25, 2, 83), (150 * 10**6, 0, 25, 2, 201), (150 * 10**6, 5600000, 25, 2, 222), (150 * 10**6, 29000000, 25, 2, 437),
-            (150 * 10**6, 33300000, 50, 2, 690), (150 * 10**6, 6200000, 12, 2, 259), (150 * 10**6, 105100000, 25, 2, 1033), (30 * 10**6, 15000000, 25, 2, 170),
-            (30 * 10**6, 15000000, 25, 4, 201), (600 * 10**6, 0, 25, 4, 702), (600 * 10**6, 22400000, 25, 4, 869), (300 * 10**6, 0, 25, 4, 349),
-            (150 * 10**6, 0, 5, 2, 79), (150 * 10**6, 100000, 9, 2, 83), (600 * 10**6, 100000, 9, 2, 201))
+    # millions of symbols, listed k-mers, k, threads and the measured peak in millions of bytes: an estimate is above it, and at most a third
+    rows = ((50, 0, 25, 2, 74), (150, 0, 25, 2, 157), (150, 5641354, 25, 2, 155), (150, 29698923, 25, 2, 326), (150, 34891176, 50, 2, 650),
+            (150, 512, 5, 2, 67), (150, 131072, 9, 2, 65), (150, 524800, 10, 2, 83), (150, 2094953, 11, 2, 254), (150, 6222777, 12, 2, 226),
+            (150, 109372927, 25, 2, 1051), (30, 15000000, 25, 2, 164), (30, 15000000, 25, 4, 186), (189, 0, 13, 4, 269), (189, 0, 15, 4, 248),
+            (189, 0, 18, 4, 261), (189, 0, 21, 4, 247), (189, 0, 31, 4, 210), (189, 0, 40, 4, 199), (189, 0, 55, 4, 185), (189, 0, 64, 4, 178),
+            (189, 36076088, 31, 4, 390), (189, 40417088, 55, 4, 788), (720, 69836305, 31, 4, 799), (720, 24433519, 31, 4, 648),
+            (720, 24396837, 25, 4, 707), (100, 49999998, 25, 4, 503), (3600, 122193230, 31, 4, 3209))
     for symbols, listed, k, threads, peak in rows:
-        found = memory.wanted(symbols, listed, k, 255, threads)
-        assert peak * 10**6 <= found <= 1.3 * peak * 10**6, (symbols, listed, found)
+        found = memory.wanted(symbols * 10**6, listed, k, 255, threads)
+        assert peak * 10**6 <= found <= 1.3 * peak * 10**6, (symbols, listed, k, found)
+    # and of reads at 30-fold, where the listed k-mers are guessed
+    assert 3209 * 10**6 <= memory.wanted(3600 * 10**6, memory.listed_of(3600 * 10**6, "FASTQ", 31, 2), 31, 255, 4) <= 1.3 * 3209 * 10**6
 
 
 def test_a_run_or_slices_are_chosen(room):
     fits = memory.plan(90 * REAL, 3 * REAL, 31, 255, 8, 256 * GB)
-    assert fits.slices == 1 and 100 * REAL < fits.wanted < 160 * REAL
-    assert memory.plan(90 * REAL, 3 * REAL, 31, 255, 8, 100 * GB).slices == 2
-    assert memory.plan(90 * REAL, 3 * REAL, 31, 255, 8, 16 * GB).slices == 32
-    assert memory.plan(90 * REAL, 3 * REAL, 31, 255, 8, GB).slices == 512
-    assert memory.plan(90 * REAL, 3 * REAL, 31, 255, 8, 64 << 20).slices is None
-    assert memory.plan(0, 0, 31, 255, 1, 64 << 20) == (1, 20 * 10**6)
+    assert fits.slices == 1 and 80 * REAL < fits.wanted < 120 * REAL
+    assert memory.plan(90 * REAL, 3 * REAL, 31, 255, 8, 90 * GB).slices == 2
+    # where threads would take more for the usual bins than there is, there are more bins
+    assert memory.plan(90 * REAL, 3 * REAL, 31, 255, 8, 32 * GB)[::2] == (8, 512)
+    assert memory.plan(90 * REAL, 3 * REAL, 31, 255, 8, 16 * GB)[::2] == (16, 2000)
+    assert memory.plan(90 * REAL, 3 * REAL, 31, 255, 1, GB)[::2] == (512, 2000)
+    assert memory.plan(90 * REAL, 3 * REAL, 31, 255, 8, GB).slices is None
+    assert memory.plan(0, 0, 31, 255, 1, 64 << 20) == (1, 20 * 10**6, 512)
     # short k-mers are all of one slice
     assert memory.plan(90 * REAL, 10**5, 9, 255, 8, 32 * GB).slices == 1
     assert memory.plan(90 * REAL, 10**5, 9, 255, 8, 16 * GB).slices is None

@@ -219,7 +219,7 @@ def test_the_memory_chooses_slices(room):
     stand_in(room, "kmc_cut", "#!" + sys.executable + "\nimport sys\nopen('told', 'w').write(' '.join(sys.argv[1:]))\nslices = int(sys.argv[-2][7:])\n"
              "for it in range(slices):\n    open('%s.%d' % (sys.argv[-1], it), 'w')\n")
     stand_in(room, "kmc_list", "#!/bin/sh\nexit 0\n")
-    done = room.run("count", "-k31", "--memory", "500M", "big.fastq", "-o", "dump")
+    done = room.run("count", "-k31", "--memory", "200M", "--threads", "4", "big.fastq", "-o", "dump")
     assert done.status == 0 and "one run would take " in done.err and " slices, one after the other; files in " in done.err and "GB" in done.err, done
     slices = int(content(room.path("told")).split()[-2][len("-slices"):])
     assert 4 <= slices <= 16 and "%d slices" % slices in done.err, (slices, done)

@@ -108,9 +108,9 @@ def settled(client, setting, found, format_name, megabytes):
     if plan.slices is None and not setting.slices:
         raise Fault("the memory of a worker, %s, is estimated to be too little for each number of slices: give a higher --memory" % memory.human(room))
     slices = setting.slices or min(memory.MOST_SLICES, max(plan.slices, count))
-    slices = min(slices, setting.bins or shared.MOST_BINS)
-    if slices > shared.FEW_SLICES and not setting.bins:
-        setting.bins = shared.MOST_BINS
+    slices = min(slices, setting.bins or memory.MOST_BINS)
+    if not setting.bins and (slices > memory.FEW_SLICES or not setting.slices and plan.bins != memory.BINS):
+        setting.bins = memory.MOST_BINS
     return made, slices, memory.disk(symbols) + memory.disk_of_dumps(listed, setting.k)
 
 
