@@ -77,8 +77,8 @@ fn head_of(bytes: &[u8; HEAD]) -> Head
     }
 }
 
-/// Reads so many bytes behind those of a vector, a block at a time: where fewer come, no more memory was asked for than for
-/// those and one block.
+/// Reads so many bytes behind those of a vector, a block at a time: where fewer come, the vector has grown by what came and at most
+/// one block.
 fn read_body<R: Read>(
     reader: &mut Counted<R>,
     out: &mut Vec<u8>,

@@ -41,12 +41,16 @@ pub record HasRoomForReads (reads symbols : ℕ) (v : FeederState) : Type 0 wher
       → (length s.rows < reads) × (length (concat s.rows) < symbols)
   pub open_read : (at : IsSomewhere v.scan) → length (open_symbols at.spot.stage at.spot.read (strip_last carriage_return at.front)) < symbols
 
--- what was fed last, at most so many bytes, came to a feeder that had room, or to that of the beginning: a round that is full takes nothing
-pub record IsFilled (reads symbols block : ℕ) (overlap : ℕ) (format : Format) (text : List ℕ) (taken : List (List ℕ)) (old new : FeederState)
-    : Type 0 where
+-- the reader gave bytes, and then at most so many that were fed last: these came to a feeder that had room, or to that of the beginning, so a round
+-- that is full takes nothing
+pub record IsFilled (reads symbols block : ℕ) (overlap : ℕ) (format : Format) (from to : Option (List ℕ)) (text : List ℕ) (taken : List (List ℕ))
+    (old new : FeederState) : Type 0 where
   pub earlier : FeederState
+  pub between : Option (List ℕ)
   pub front : List ℕ
   pub last : List ℕ
+  pub gave_front : Consumes from between front
+  pub gave_last : Consumes between to last
   pub before : StandsCut overlap format (text ++ front) taken earlier
   pub after : StandsCut overlap format ((text ++ front) ++ last) taken new
   pub most : length last ≤ block

@@ -1,6 +1,6 @@
 //! A round of reads, read and fed block by block.
 ghost use Rattle.std.specs.Prelude.{◌≡◌, ℕ, ◌+◌, ◌-◌, ◌^◌, ◌<◌, ◌≤◌, ◌++◌, List, length, false, OnOk, IsErrOf, Ok};
-ghost use Rattle.std.specs.Io.KnownBytes.{IsAtEnd};
+ghost use Rattle.std.specs.Io.KnownBytes.{Consumes, IsAtEnd};
 ghost use Rattle.kmc_reads.specs.declared.format.Format.{Format};
 ghost use Rattle.kmc_reads.specs.Standing.{StandsCut};
 ghost use Rattle.kmc_stage_one.specs.Fed.{IsFedBy, IsFilled, AreCounts};
@@ -33,6 +33,7 @@ fn read_and_feed<R: Read>(
         → StandsCut overlap format text taken feeder.old
         → OnOk result
         ((last : List ℕ) × (length last ≤ BLOCK)
+        × Consumes (R.remaining reader.old.inner) (R.remaining reader.new.inner) last
         × StandsCut overlap format (text ++ last) taken feeder.new) }
     ensures short { IsErrOf result InputError.TooLong → ⊥ }
 {
@@ -66,7 +67,8 @@ pub fn fill_round<R: Read>(
     ensures filled { (overlap : ℕ) (format : Format) (text : List ℕ) (taken : List (List ℕ))
         → StandsCut overlap format text taken feeder.old
         → OnOk result
-        (IsFilled reads symbols BLOCK overlap format text taken feeder.old feeder.new) }
+        (IsFilled reads symbols BLOCK overlap format (R.remaining reader.old.inner)
+        (R.remaining reader.new.inner) text taken feeder.old feeder.new) }
 {
     let mut block = [0u8; BLOCK];
     for _ in 0..1u64 << 32 {

@@ -65,13 +65,13 @@ pub returns-then-not-more-clause-filled : goal.returns-then-not-more-clause-fill
 returns-then-not-more-clause-filled g c = λ overlap format text taken s.
     let f = c.loop.invariant.way.fed overlap format text taken s in
     filled c.args.reads c.args.symbols BLOCK overlap format _ _ _ _ text taken c.args.feeder.now c.loop.feeder f c.loop.invariant.room
-    c.read_and_feed.new.feeder (c.in_ok-more.ensures.block overlap format _ taken f.stands)
+    _ c.read_and_feed.new.feeder (c.in_ok-more.ensures.block overlap format _ taken f.stands)
 
 pub returns-then-waiting-reads-clause-filled : goal.returns-then-waiting-reads-clause-filled
 returns-then-waiting-reads-clause-filled g c = λ overlap format text taken s.
     let f = c.loop.invariant.way.fed overlap format text taken s in
     filled c.args.reads c.args.symbols BLOCK overlap format _ _ _ _ text taken c.args.feeder.now c.loop.feeder f c.loop.invariant.room
-    c.read_and_feed.new.feeder (c.in_ok-more.ensures.block overlap format _ taken f.stands)
+    _ c.read_and_feed.new.feeder (c.in_ok-more.ensures.block overlap format _ taken f.stands)
 
 pub returns-clause-filled : goal.returns-clause-filled
 returns-clause-filled g c = λ overlap format text taken s.

@@ -29,4 +29,4 @@ returns-in-Err-clause-counts g c = search rules
 
 pub returns-clause-block : goal.returns-clause-block
 returns-clause-block g c = λ overlap format text taken s.
-    (take c.in-Ok.n c.read.new.buf, omega (arith, c.in-Ok.ensures.bound), c.in_ok-feed.ensures.cut overlap format text taken s)
+    (take c.in-Ok.n c.read.new.buf, omega (arith, c.in-Ok.ensures.bound), c.in-Ok.ensures.bytes.0, c.in_ok-feed.ensures.cut overlap format text taken s)
