@@ -107,10 +107,10 @@ def at_once(names):
     return MOST_DUMPS
 
 
-def merged(names, limits, children, setting, output=None, reader=None, sink=None):
-    """Merges these dumps at once, into the output, the file `sink`, or what `reader` reads."""
+def merged(names, limits, children, setting, output=None, reader=None, sink=None, program="kmc_merge", words=()):
+    """Merges these dumps at once, or joins them by another program with these words, into the output, the file `sink`, or what `reader` reads."""
     parts = Parts(names, children)
-    command = [places.find("kmc_merge"), *limits, *parts.given]
+    command = [places.find(program), *words, *limits, *parts.given]
     out = subprocess.PIPE if reader else output.descriptor if output else sink
     merger = children.start(command, pass_fds=parts.pipes, stdin=0 if "-" in names else subprocess.DEVNULL, stdout=out)
     parts.let_go()
@@ -122,8 +122,8 @@ def merged(names, limits, children, setting, output=None, reader=None, sink=None
         status, written = ended(merger)
     parts.judge()
     if status:
-        judge(merger, status, parts, output)
-    setting.report.step("kmc_merge")
+        judge(merger, program, parts, output)
+    setting.report.step(program)
     setting.report.written = written
     children.forget(merger)
 
@@ -146,14 +146,14 @@ def merge(names, limits, children, setting, folder, output=None, reader=None):
     merged(names, limits, children, setting, output, reader)
 
 
-def judge(merger, status, parts, output):
-    """Tells why kmc_merge has not done its work."""
-    text = merger.stderr.read().decode(errors="surrogateescape").strip()
+def judge(merger, program, parts, output):
+    """Tells why a program that merges or joins has not done its work."""
+    text, status = merger.stderr.read().decode(errors="surrogateescape").strip(), merger.returncode
     if status < 0:
-        raise Fault("kmc_merge %s" % signal_of(status))
+        raise Fault("%s %s" % (program, signal_of(status)))
     if "cannot write" in text:
         shown_name = output.shown if output else "the merge of some dumps"
         raise Fault("%s: it cannot be written%s" % (shown_name, output.why() if output else ": no space left on its disk"))
     if text:
-        raise Fault(parts.named(text.replace("kmc_merge: ", "", 1)))
-    judge_silence("kmc_merge", text, status, output)
+        raise Fault(parts.named(text.replace(program + ": ", "", 1)))
+    judge_silence(program, text, status, output)

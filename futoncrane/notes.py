@@ -123,6 +123,18 @@ def check_alike(noted, doing):
                     shown(first), told(other[key]), shown(name), told(note[key]), doing))
 
 
+def check_pair(noted, quiet):
+    """Refuses dumps of unlike slices, and tells of unlike limits: then a k-mer may be in one alone since it is left out of the other."""
+    if len(noted) < 2:
+        return
+    (first, one), (second, other) = noted
+    if one["slices"] != other["slices"]:
+        raise Fault("%s and %s are not of the same slices: they cannot be compared" % (shown(first), shown(second)))
+    if limits_of(one) != limits_of(other):
+        say("%s was counted with %s, and %s with %s: k-mers that one leaves out count as not in it" % (
+            shown(first), limits_of(one), shown(second), limits_of(other)), quiet)
+
+
 def check_sum(noted, number, least, greatest):
     """That these dumps, of so many, can be summed, or joined, within the limits."""
     slices = [(name, note) for name, note in noted if note["slices"]]

@@ -51,6 +51,15 @@ def decimal(name, word):
     return float(word)
 
 
+def one_of(words):
+    """Reads one of some words."""
+    def read(name, word):
+        if word not in words:
+            raise Misuse("value of %s is out of range: %s; it takes %s" % (name, word or "''", ", ".join(words)))
+        return word
+    return read
+
+
 def at_most(most):
     """Reads a whole number from 1 on. One above `most` is taken too: it is the caller's to tell of it."""
     def read(name, word):

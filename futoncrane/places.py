@@ -10,7 +10,8 @@ READS = os.path.join(TOP, "examples", "reads.fastq")
 DUMP = os.path.join(TOP, "examples", "reads.dump")
 
 # the name of a program in a checkout, and where it is installed: Debian's `kmc` is another program
-INSTALLED = {"kmc": "futoncrane-kmc", "kmc_cut": "futoncrane-kmc-cut", "kmc_list": "futoncrane-kmc-list", "kmc_merge": "futoncrane-kmc-merge"}
+INSTALLED = {"kmc": "futoncrane-kmc", "kmc_cut": "futoncrane-kmc-cut", "kmc_list": "futoncrane-kmc-list", "kmc_merge": "futoncrane-kmc-merge",
+             "kmc_db": "futoncrane-kmc-db"}
 
 # a word that no program takes: it answers with its usage; the seconds that it may take; and those that have answered
 QUESTION, PATIENCE, KNOWN = "--who-is-it", 20, set()

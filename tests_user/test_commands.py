@@ -142,6 +142,56 @@ def test_compare_in_many_blocks(room):
         room.counts(wanted, "compare", *(["--" + what] if what else []), "one", "other")
 
 
+CHOICES = {"min": min, "max": max, "sum": lambda a, b: a + b, "diff": lambda a, b: max(a - b, 0), "left": lambda a, b: a, "right": lambda a, b: b}
+
+
+def joined(one, other, combined, least=1, cap=MOST):
+    """The dump of a join, where `combined` tells a k-mer's count by its counts in both dumps, 0 where one lacks it."""
+    first, second = ({word: int(count) for word, count in (line.split(b"\t") for line in it.splitlines())} for it in (one, other))
+    counts = {word: combined(first.get(word, 0), second.get(word, 0)) for word in first.keys() | second.keys()}
+    return b"".join(b"%b\t%d\n" % (word, min(counts[word], cap)) for word in sorted(counts) if counts[word] >= max(least, 1))
+
+
+def test_dumps_are_joined(room):
+    program("kmc_db")
+    text = content(READS)
+    middle = len(b"".join(text.splitlines(keepends=True)[:320]))
+    one, other = plainly(text[:middle], 21, 1), plainly(text[middle:], 21, 1)
+    room.write("one.dump", one)
+    room.write("other one.dump.gz", gzip.compress(other))
+    names = ["one.dump", "other one.dump.gz"]
+    for name, choose in CHOICES.items():
+        either = joined(one, other, lambda a, b: choose(a, b) if a and b else a + b)
+        both = joined(one, other, lambda a, b: choose(a, b) if a and b else 0)
+        assert either and (both or name == "diff"), name
+        room.counts(either, "union", "--count", name, *names)
+        room.counts(both, "intersect", "--count", name, *names)
+    room.counts(joined(one, other, lambda a, b: a + b), "union", *names)
+    room.counts(joined(one, other, min), "intersect", *names)
+    room.counts(joined(one, other, lambda a, b: 0 if b else a), "subtract", *names)
+    room.counts(joined(one, other, lambda a, b: max(a - b, 0)), "subtract", "--counts", *names)
+    room.counts(joined(other, one, lambda a, b: 0 if b else a), "subtract", "-", "one.dump", text=other)
+    room.counts(joined(one, other, lambda a, b: a + b, 3, 9), "union", "--min", "3", "--cap", "9", *names)
+    room.write("empty", b"")
+    room.counts(one, "union", "one.dump", "empty")
+    room.counts(b"", "intersect", "empty", "one.dump")
+
+
+def test_a_join_names_what_is_wrong(room):
+    program("kmc_db")
+    whole = wanted_dump()
+    room.write("whole", whole)
+    room.write("shorter", plainly(content(READS), 20))
+    room.write("unsorted", b"".join(reversed(whole.splitlines(keepends=True))))
+    for name in ("union", "intersect", "subtract"):
+        room.refuses(1, "shorter: line 1", words=[name, "whole", "shorter", "-o", "out"])
+        room.refuses(1, "unsorted: line 2", words=[name, "whole", "unsorted", "-o", "out"])
+        room.refuses(1, "absent", words=[name, "whole", "absent", "-o", "out"])
+        room.refuses(2, "stands twice", words=[name, "whole", "whole", "-o", "out"])
+    room.refuses(2, "it takes min, max, sum, diff, left, right", words=["union", "--count", "mean", "whole", "shorter"])
+    room.refuses(2, "no option --count", words=["subtract", "--count", "min", "whole", "shorter"])
+
+
 def test_compare_names_what_is_wrong(room):
     whole = wanted_dump()
     room.write("whole", whole)
@@ -203,7 +253,7 @@ def test_merge_names_what_is_wrong(room):
 
 
 def test_doctor_finds_all_well(room):
-    for name in ("kmc_merge", "kmc_cut", "kmc_list"):
+    for name in ("kmc_merge", "kmc_cut", "kmc_list", "kmc_db"):
         program(name)
     ran = room.run("doctor")
     assert ran.status == 0 and ran.out.endswith(b"\nall is well\n") and ran.err == "" and b"\ndistributed  " in ran.out, ran
@@ -215,7 +265,7 @@ def test_doctor_finds_all_well(room):
 def test_doctor_finds_what_is_wrong(room):
     room.stand_in("#!/bin/sh\ncat > /dev/null\nprintf 'ACGT\\t1\\n'\n")
     ran = room.run("doctor")
-    assert ran.status == 1 and b"FAILED  kmc counts the example: the dump is another one" in ran.out and all(name + b" MISSING" in ran.out for name in (b"kmc_merge   ", b"kmc_cut     ", b"kmc_list    ")), ran
+    assert ran.status == 1 and b"FAILED  kmc counts the example: the dump is another one" in ran.out and all(name + b" MISSING" in ran.out for name in (b"kmc_merge   ", b"kmc_cut     ", b"kmc_list    ", b"kmc_db      ")), ran
     room.stand_in("#!/bin/sh\nexit 1\n", "kmc_merge")
     assert room.run("doctor").status == 1
 

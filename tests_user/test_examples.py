@@ -20,7 +20,7 @@ def shell_lines(text):
 
 
 def test_the_lines_of_readme_run(room):
-    for it in ("kmc_merge", "kmc_cut", "kmc_list"):
+    for it in ("kmc_merge", "kmc_cut", "kmc_list", "kmc_db"):
         program(it)
     os.symlink(os.path.join(TOP, "examples"), room.path("examples"))
     environment = dict(room.environment, PATH=os.path.join(TOP, "futoncrane") + ":" + os.environ["PATH"])

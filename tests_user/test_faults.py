@@ -178,7 +178,7 @@ def test_the_lines_of_pages_run(room):
     ran = subprocess.run(["bash", "-euc", line], cwd=room.folder, env=environment, stdout=subprocess.PIPE)
     counts = [int(it.split()[1]) for it in plainly(content(READS), 21, 1, cap=10000).splitlines()]
     assert ran.stdout.decode() == "".join("%d %d\n" % (it, counts.count(it)) for it in sorted(set(counts))), ran
-    for name in ("futoncrane", "kmc", "kmc_cut", "kmc_list", "kmc_merge"):
+    for name in ("futoncrane", "kmc", "kmc_cut", "kmc_list", "kmc_merge", "kmc_db"):
         text = content(os.path.join(TOP, "docs", name + ".1")).decode().partition(".Sh SEE ALSO")[2]
         others = {"futoncrane", "kmc", "kmc_cut", "kmc_list", "kmc_merge"} - {name}
         cited = set(re.findall(r"^\.(?:Xr|Nm) (?:futoncrane-)?([a-z_-]+)", text, re.M))

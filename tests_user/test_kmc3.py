@@ -35,7 +35,8 @@ def halves(room):
 
 def test_what_one_types_there_and_here(room):
     need_kmc3()
-    program("kmc_merge")
+    for it in ("kmc_merge", "kmc_db"):
+        program(it)
     halves(room)
     for name in "ab":
         database(room, name, name + ".fastq", "-k21", "-fq", "-ci1", "-cs100000")
@@ -49,6 +50,13 @@ def test_what_one_types_there_and_here(room):
         ran = room.run(*words, "a.dump", "b.dump")
         theirs = kmc3_dump(room, "c")
         assert ran.status == 0 and theirs and [it.split()[0] for it in ran.out.splitlines()] == [it.split()[0] for it in theirs.splitlines()], operation
+    for operation, words in (("intersect", ["intersect"]), ("union", ["union"]), ("kmers_subtract", ["subtract"]), ("counters_subtract", ["subtract", "--counts"])):
+        quiet(room, "kmc_tools", "-t1", "simple", "a", "b", operation, "c")
+        room.counts(kmc3_dump(room, "c"), *words, "a.dump", "b.dump")
+    for choice in ("min", "max", "sum", "diff", "left", "right"):
+        for operation in ("intersect", "union"):
+            quiet(room, "kmc_tools", "-t1", "simple", "a", "b", operation, "c", "-oc" + choice, "-ci1")
+            room.counts(kmc3_dump(room, "c"), operation, "--count", choice, "a.dump", "b.dump")
     quiet(room, "kmc_tools", "-t1", "simple", "a", "b", "union", "c", "-ocsum")
     room.counts(kmc3_dump(room, "c"), "merge", "--min", "1", "--cap", "none", "a.dump", "b.dump")
     quiet(room, "kmc_tools", "-t1", "transform", "a", "reduce", "c", "-ci5")

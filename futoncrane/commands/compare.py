@@ -3,10 +3,10 @@ import bisect
 
 from futoncrane.children import Children
 from futoncrane.dumps import Dump
-from futoncrane.faults import Fault, Misuse, shown
+from futoncrane.faults import Fault, Misuse
 from futoncrane.options import Option
 from futoncrane.output import text_output
-from futoncrane import notes, report, shared
+from futoncrane import notes, shared
 
 USAGE = "[--common | --first | --second | --same] [-o FILE] FIRST.dump SECOND.dump"
 TEXT = """
@@ -58,22 +58,10 @@ def lines_of(what, one, other):
     return [b"%b\t%b\n" % (word, count) for word, count in kept.items() if word not in dropped]
 
 
-def check(noted, quiet):
-    """Refuses dumps of unlike slices, and tells of unlike limits: then a k-mer may be in one alone since it is left out of the other."""
-    if len(noted) < 2:
-        return
-    (first, one), (second, other) = noted
-    if one["slices"] != other["slices"]:
-        raise Fault("%s and %s are not of the same slices: they cannot be compared" % (shown(first), shown(second)))
-    if notes.limits_of(one) != notes.limits_of(other):
-        report.say("%s was counted with %s, and %s with %s: k-mers that one leaves out count as not in it" % (
-            shown(first), notes.limits_of(one), shown(second), notes.limits_of(other)), quiet)
-
-
 def main(asked):
     if len(asked.files) != 2 or asked.files == ["-", "-"]:
         raise Misuse("two dumps are wanted")
-    check(notes.of_dumps(asked.files, "compared", asked.quiet), asked.quiet)
+    notes.check_pair(notes.of_dumps(asked.files, "compared", asked.quiet), asked.quiet)
     both = in_first = in_second = 0
     with Children() as children, text_output(asked.out, children) as lines:
         first, second = (Dump(name, children) for name in asked.files)

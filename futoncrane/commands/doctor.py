@@ -54,11 +54,11 @@ def counted(names, out, **others):
         return dump.read()
 
 
-def merged(paths, limits):
-    """What kmc_merge writes of these dumps."""
-    ran = subprocess.run([places.find("kmc_merge"), *limits, *paths], stdin=subprocess.DEVNULL, stdout=subprocess.PIPE, stderr=subprocess.PIPE)
+def merged(program, words):
+    """What a program that merges or joins writes of the dumps that these words name."""
+    ran = subprocess.run([places.find(program), *words], stdin=subprocess.DEVNULL, stdout=subprocess.PIPE, stderr=subprocess.PIPE)
     if ran.returncode:
-        raise Fault("kmc_merge ended with status %d: %s" % (ran.returncode, ran.stderr.decode(errors="replace").strip()))
+        raise Fault("%s ended with status %d: %s" % (program, ran.returncode, ran.stderr.decode(errors="replace").strip()))
     return ran.stdout
 
 
@@ -87,7 +87,8 @@ def trials(folder):
     yield "two files together", lambda: counted(halves(reads, folder), out) == wanted
     yield "kmc_cut and kmc_list count it in slices", lambda: counted([places.READS], out, slices=3, directory=folder) == wanted
     whole = {"least": 1, "cap": options.MOST}
-    yield "kmc_merge sums its parts", lambda: sum_of_parts(halves(reads, folder), folder, whole) == wanted
+    for program, words in (("kmc_merge", []), ("kmc_db", ["union"])):
+        yield "%s sums its parts" % program, lambda: sum_of_parts(program, words, halves(reads, folder), folder, whole) == wanted
     for kind, path in packed_examples(reads, folder):
         program = os.path.basename(packing.unpacker(kind, path)[0])
         yield "%s, by %s" % (kind, program if program in packing.KINDS[kind][2] else "this Python"), lambda path=path: counted([path], out) == wanted
@@ -100,12 +101,12 @@ def halves(reads, folder):
     return [write(os.path.join(folder, "half-%d" % number), b"".join(part)) for number, part in enumerate((lines[:middle], lines[middle:]))]
 
 
-def sum_of_parts(paths, folder, whole):
-    """The merge of the dumps of parts."""
+def sum_of_parts(program, words, paths, folder, whole):
+    """The sum of the dumps of parts, by one of the programs that can make it."""
     dumps = [os.path.join(folder, "dump-%d" % number) for number, _ in enumerate(paths)]
     for path, dump in zip(paths, dumps):
         counted([path], dump, **whole)
-    return merged(dumps, ["-ci2", "-cx1000000000", "-cs255"])
+    return merged(program, [*words, "-ci2", "-cx1000000000", "-cs255", *dumps])
 
 
 def tell_programs():

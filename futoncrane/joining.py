@@ -1,0 +1,49 @@
+"""The join of two dumps by kmc_db: what the commands union, intersect and subtract share."""
+from futoncrane import merging, notes, run, shared
+from futoncrane.children import Children
+from futoncrane.faults import Misuse, shown
+from futoncrane.inputs import is_same_file
+from futoncrane.options import MOST, Option, number, one_of
+from futoncrane.output import Output
+
+CHOICES = ("min", "max", "sum", "diff", "left", "right")
+TEXT = """
+Both dumps must have been made with the same -k, and with or without --forward alike: where DUMP.json stands beside a dump that is looked
+at. They may be packed, and are read once, side by side. The work is done by kmc_db, whose answer is proved.
+
+The limits judge the count that the answer has for a k-mer, and every k-mer is listed unless they are given.
+"""
+LIMITS = [
+    Option(["--min"], "least", "COUNT", number(0, MOST), 1, "k-mers with a lower count in the answer are left out (1)", ["-ci", "--ci"]),
+    Option(["--max"], "greatest", "COUNT", number(0, MOST, MOST), MOST, "k-mers with a higher count in the answer are left out (none: no limit)", ["-cx", "--cx"]),
+    Option(["--cap"], "cap", "COUNT", number(1, MOST, MOST), MOST, "the greatest count that is shown, or none (none)", ["-cs", "--cs"]),
+]
+OPTIONS = [*LIMITS, shared.JSON, shared.QUIET, shared.OUT]
+
+
+def choice(default):
+    """The option that chooses the count of a k-mer of both dumps."""
+    return Option(["--count"], "choice", "WHICH", one_of(CHOICES), default, "the count of a k-mer that both dumps list, from its two counts: the lesser "
+                  "(min), the greater (max), their sum, the first less the second (diff; none where that is not above 0), the first (left) or the "
+                  "second (right); %s where it is not given" % default)
+
+
+def join(command, operation, asked, words=()):
+    """Joins the two dumps that are asked for, by an operation of kmc_db."""
+    names = asked.files
+    if len(names) != 2:
+        raise Misuse("two dumps are wanted")
+    if asked.out is not None and any(is_same_file(name, asked.out) for name in names if name != "-"):
+        raise Misuse("%s: it is read, and cannot be written at the same time" % shown(asked.out))
+    merging.check_names(names)
+    setting = shared.settings(asked)
+    noted = notes.of_dumps(names, "joined", asked.quiet)
+    notes.check_pair(noted, asked.quiet)
+    with Children() as children, Output(asked.out, children, threads=setting.threads) as output:
+        limits = ["-ci%d" % asked.least, "-cx%d" % asked.greatest, "-cs%d" % asked.cap]
+        merging.merged(names, limits, children, setting, output, program="kmc_db", words=[operation, *words])
+        note = notes.of_sum(noted, names, asked, asked.quiet)
+        notes.finish(output, note, setting.report, asked.quiet)
+    setting.k, setting.forward = (note["k"], note["strands"] == notes.APART) if note else (None, None)
+    run.tell(command, setting, asked, names)
+    return 0
