@@ -14,22 +14,12 @@ use Rattle.kmc_sum.specs.declared.error.SumError.{SumError}
 use Rattle.kmc_sum.specs.declared.error.SourceFault.{SourceFault}
 use Rattle.kmc_sum.specs.declared.error.SourceFault.TheVariants.{Line, Read}
 
--- an error that a `?` hands on
-pub handed_on : {T E : Type 0} (r : Result T E) (e : E) (P : E → Type 0) → IsErrAnd r (λ x. x ≡ e) → P e → IfErr r P
-handed_on (Ok x) e P made h = tt
-handed_on (Err d) e P made h = subst P (sym made) h
-
 -- a source by how it is at fault
 pub by_fault : (k : ℕ) (starts nows : List (Option (List ℕ))) (olds news : List ℕ) (source : ℕ) (fault : SourceFault)
     → ((line : ℕ) (f : LineFault) → fault ≡ Line line f → IsFirstLineFault k starts nows source line f) → (fault ≡ Read → HasFailed source olds news)
     → IsFaultOf k starts nows olds news source fault
 by_fault k starts nows olds news source Read first read = read refl
 by_fault k starts nows olds news source (Line line f) first read = first line f refl
-
--- no read had failed before
-pub fault_since : (k : ℕ) (starts nows : List (Option (List ℕ))) (olds others news : List ℕ) (source : ℕ) (fault : SourceFault) → others ≡ olds
-    → IsFaultOf k starts nows others news source fault → IsFaultOf k starts nows olds news source fault
-fault_since k starts nows olds others news source fault same h = subst (λ l. IsFaultOf k starts nows l news source fault) same h
 
 module _ {R W : Type 0} (remaining : R → Option (List ℕ)) (contents : W → Option (List ℕ)) (l : Limits) (starts : List (Option (List ℕ)))
     (readers read : List (Watched R)) (writer written : Watched W) where

@@ -1,5 +1,5 @@
 -- The texts of sources, and the dump of their sum.
-use Rattle.std.proofs.Common.{◌≡◌, ℕ, suc, ◌+◌, ◌*◌, ◌<◌, ◌≤◌, List, [], ◌∷◌, length, get_or, map, Option, refl, sym, subst, ◌∙◌, arith, append-nil}
+use Rattle.std.proofs.Common.{◌≡◌, ℕ, suc, ◌<◌, List, [], ◌∷◌, length, get_or, map, Option, refl, sym, subst, ◌∙◌, arith, append-nil}
 use Rattle.std.proofs.KnownBytes.{Appends-nil}
 use Rattle.std.proofs.lemmas.List.{length-map, get_or-map}
 use Rattle.std.specs.List.{AllZip}
@@ -7,17 +7,11 @@ use Rattle.std.specs.Io.KnownBytes.{Consumes}
 use Rattle.kmc_count.specs.declared.limits.Limits.{Limits}
 use Rattle.kmc_lists.specs.Line.{text_of}
 use Rattle.kmc_sum.specs.Listed.{IsLength, AreListed, Lists}
-use Rattle.kmc_sum.specs.Faults.{GaveFront}
-use Rattle.kmc_sum.specs.Heads.{head_at}
-use Rattle.kmc_sum.specs.declared.heads.Head.{Head}
-use Rattle.kmc_sum.specs.declared.source.Room.{Room}
-use Rattle.kmc_sum.proofs.Advances.{source_like}
-use Rattle.kmc_sum.specs.Sources.{AreSources, GaveFronts, left_at, list_at, no_lists}
+use Rattle.kmc_sum.specs.Sources.{GaveFronts, left_at, list_at, no_lists}
 use Rattle.kmc_sum.specs.State.{IsBegun, IsSumWritten}
-use Rattle.kmc_sum.proofs.Openings.{none_sum, gave_none, list_none}
+use Rattle.kmc_sum.proofs.Openings.{none_sum}
 use Rattle.kmc_sum.proofs.Steps.{IsWritten}
-use Rattle.kmc_sum.proofs.Rooms.{goes_nowhere}
-use Rattle.kmc_sum.proofs.Tallies.{empty_dump}
+use Rattle.kmc_sum.specs.Lemmas.Tallies.{empty_dump}
 
 texts_list : (k : ℕ) (lists : List (List (List ℕ × ℕ))) → ((i : ℕ) → i < length lists → AreListed k (list_at lists i)) → AllZip (Lists k)
     (map text_of lists) lists
@@ -59,27 +53,4 @@ begun_none k l starts nows old gave = record {
   pairs = [];
   dump = empty_dump l (no_lists starts) (none_sum starts);
   text = ([], ([], refl), Appends-nil old);
-}
-
--- nothing was read
-pub gave_nothing : (k : ℕ) (starts : List (Option (List ℕ))) → GaveFronts k starts starts (no_lists starts)
-gave_nothing k starts = record {
-  lists_long = length-map starts (λ _. []);
-  each = λ i inside.
-      let here = gave_none k (left_at starts i) (left_at starts i) [] [] refl (goes_nowhere (left_at starts i) [] [] refl) in
-      ([], subst (λ (t : List (List ℕ × ℕ)). GaveFront k (left_at starts i) (left_at starts i) t []) (sym (list_none starts i inside)) here);
-}
-
--- the tree is built over the heads
-pub sources_built : {T : Type 0} (left : T → Option (List ℕ)) (readers : List T) (k : ℕ) (nows : List (Option (List ℕ))) (rooms : List Room)
-    (heads built : List Head) (lists : List (List (List ℕ × ℕ)))
-    → ((j : ℕ) → length heads ≤ 2 * j → head_at built j ≡ head_at heads j) → length heads ≡ 2 * length readers → AreSources k
-    (map left readers) nows rooms heads lists → AreSources k (map left readers) nows rooms built lists
-sources_built left readers k nows rooms heads built lists leaves long are = record {
-  nows_long = are.nows_long;
-  lists_long = are.lists_long;
-  each = λ i room inside.
-      let starts = map left readers in
-      source_like k (left_at starts i) _ _ _ _ _ _ _ _ refl refl (sym
-      (leaves (length starts + i) (omega (arith, long, length-map readers left)))) refl (are.each i room inside);
 }

@@ -3,7 +3,7 @@ use Rattle.std.proofs.Common.{◌≡◌, ◌≢◌, ℕ, ◌+◌, ◌<◌, ◌�
 use Rattle.std.proofs.lemmas.Bool.{cases_eq, cases_lt}
 use Rattle.std.proofs.lemmas.List.Sums.{sum_by-cons}
 use Rattle.std.proofs.lemmas.List.{length-set, length-map, get_or-set_same, get_or-set_other, get_or-map, map-set}
-use Rattle.std.specs.Io.KnownBytes.{Consumes, IsAtEnd}
+use Rattle.std.specs.Io.KnownBytes.{IsAtEnd}
 use Rattle.kmc_base.specs.Packed.{unpack}
 use Rattle.kmc_lists.specs.Line.{text_of}
 use Rattle.kmc_sum.specs.Line.{IsLineOf}
@@ -22,17 +22,10 @@ use Rattle.kmc_sum.specs.declared.error.SourceFault.TheVariants.{Line as AtLine,
 use Rattle.kmc_sum.specs.declared.line.Line.{Line}
 use Rattle.kmc_sum.specs.declared.heads.Head.{Head}
 use Rattle.kmc_sum.specs.declared.source.Room.{Room}
-use Rattle.kmc_sum.proofs.Rooms.{goes_nowhere}
-use Rattle.kmc_sum.proofs.Tallies.{rising_none}
-use Rattle.kmc_sum.proofs.Advances.{source_like, fault_after, left_now}
-use Rattle.kmc_sum.proofs.Gave.{line_pair, line_splits, listed_first, front_taken, gave_fewer, of_other_length}
-
--- a source has given bytes and no line
-pub gave_none : (m : ℕ) (a b : Option (List ℕ)) (before rest : List ℕ) → before ≡ [] → GoesOn a b before rest → GaveFront m a b [] rest
-gave_none m a b before rest none goes = record {
-  listed = record { each = tt; rising = rising_none };
-  bytes = subst (Consumes a b) (sym (goes.are ∙ ap (λ (l : List ℕ). l ++ goes.bytes) none)) goes.gave;
-}
+use Rattle.kmc_sum.specs.Lemmas.Beginnings.{gave_none, goes_nowhere, list_none}
+use Rattle.kmc_sum.specs.Lemmas.Tallies.{rising_none}
+use Rattle.kmc_sum.specs.Lemmas.Advances.{source_like, fault_after, left_now}
+use Rattle.kmc_sum.specs.Lemmas.Gave.{line_pair, line_splits, listed_first, front_taken, gave_fewer, of_other_length}
 
 module _ (a b : Option (List ℕ)) (before rest : List ℕ) (none : before ≡ []) (goes : GoesOn a b before rest) where
   module _ (l : Line) (is : IsLineOf l rest) where
@@ -143,9 +136,6 @@ module _ (k found n i : ℕ) (starts nows : List (Option (List ℕ))) (rooms : L
         let old = before.fresh j r (omega arith) high in
         (subst IsFresh (sym (get_or-set_other rooms i j room r differ)) old.0, get_or-set_other nows i j now None differ ∙ old.1);
   }
-
-pub list_none : (starts : List (Option (List ℕ))) (i : ℕ) → i < length starts → list_at (no_lists starts) i ≡ []
-list_none starts i inside = get_or-map (λ _. []) starts i None [] inside
 
 pub none_sum : (starts : List (Option (List ℕ))) (x : List ℕ) → sum_of (no_lists starts) x ≡ 0
 none_sum [] x = refl

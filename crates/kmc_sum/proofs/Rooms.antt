@@ -1,15 +1,12 @@
 -- The bytes of a room.
-use Rattle.std.proofs.Common.{◌≡◌, ◌≢◌, ℕ, ◌+◌, ◌-◌, ◌≤◌, Vec, List, [], ◌++◌, length, take, drop, Option, refl, sym, ap, ◌∙◌, arith, append_assoc, append-nil, length-drop}
-use Rattle.std.proofs.KnownBytes.{Consumes-nil, Consumes-trans, Consumes-kept}
+use Rattle.std.proofs.Common.{◌≡◌, ◌≢◌, ℕ, ◌+◌, ◌-◌, ◌≤◌, Vec, List, [], ◌++◌, length, take, drop, Option, refl, sym, ap, ◌∙◌, arith, append_assoc, length-drop}
+use Rattle.std.proofs.KnownBytes.{Consumes-trans, Consumes-kept}
 use Rattle.std.proofs.lemmas.List.{length-take-le, drop-take, drop-drop, with_items_is}
 use Rattle.std.specs.Vec.{with_items}
 use Rattle.std.specs.Global.{Global}
 use Rattle.std.specs.Io.KnownBytes.{Keeps}
 use Rattle.kmc_device.specs.Room.{CameBehind}
 use Rattle.kmc_sum.specs.Source.{GoesOn}
-
-pub goes_nowhere : (a : Option (List ℕ)) (xs ys : List ℕ) → ys ≡ xs → GoesOn a a xs ys
-goes_nowhere a xs ys e = record { bytes = []; gave = Consumes-nil a; are = e ∙ sym (append-nil xs) }
 
 pub goes_trans : (a b c : Option (List ℕ)) (xs ys zs : List ℕ) → GoesOn a b xs ys → GoesOn b c ys zs → GoesOn a c xs zs
 goes_trans a b c xs ys zs p q = record {

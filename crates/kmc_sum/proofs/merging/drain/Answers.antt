@@ -7,13 +7,15 @@ use Rattle.kmc_device.specs.Lemmas.Devices.{gathered_out}
 use Rattle.kmc_sum.specs.Heads.{rank, head_at}
 use Rattle.kmc_sum.specs.Sources.{AreReady}
 use Rattle.kmc_sum.specs.State.{IsBegun}
-use Rattle.kmc_sum.proofs.Advances.{first_inside, first_leaf, first_fits}
-use Rattle.kmc_sum.proofs.Answers.{fault_since, given_up}
+use Rattle.kmc_sum.specs.Lemmas.Advances.{first_inside, first_leaf, first_fits}
+use Rattle.kmc_sum.proofs.Answers.{given_up}
+use Rattle.kmc_sum.specs.Lemmas.Causes.{fault_since}
 use Rattle.kmc_sum.proofs.Merges.{sum_written}
-use Rattle.kmc_sum.proofs.Counted.{taken_more, too_many}
-use Rattle.kmc_sum.proofs.Gave.{less_packed}
-use Rattle.kmc_sum.proofs.Written.{out_front, out_more}
-use Rattle.kmc_sum.proofs.Steps.{so_same, so_next, so_start, so_like, room_of, begun_before, begun_put, ends_before, ends_in_front, ends_after, written}
+use Rattle.kmc_sum.specs.Lemmas.Counted.{taken_more, too_many}
+use Rattle.kmc_sum.specs.Lemmas.Gave.{less_packed}
+use Rattle.kmc_sum.specs.Lemmas.Written.{out_front, out_more}
+use Rattle.kmc_sum.specs.Lemmas.Taken.{room_of}
+use Rattle.kmc_sum.proofs.Steps.{so_same, so_next, so_start, so_like, begun_before, begun_put, ends_before, ends_in_front, ends_after, written}
 use Rattle.kmc_sum.proofs.merging.drain.Goals as goal
 use Rattle.kmc_sum.proofs.merging.drain.Goals.{then-next-packed, else-next-packed+in-Ok, else-loop-step-test, then-loop-step-test+then-not-heads}
 

@@ -4,7 +4,7 @@ use Rattle.kmc_sum.specs.Sum.{sum_of}
 use Rattle.kmc_sum.specs.Heads.{rank, head_at, IsTree}
 use Rattle.kmc_sum.specs.Sources.{AreReady, AreSources}
 use Rattle.kmc_sum.specs.State.{IsSoFar}
-use Rattle.kmc_sum.proofs.Counted.{HaveTaken}
+use Rattle.kmc_sum.specs.Lemmas.Counted.{HaveTaken}
 use Rattle.kmc_sum.proofs.merging.drain.Given as goal
 
 -- the lines so far are taken, and none that is left is below the open word

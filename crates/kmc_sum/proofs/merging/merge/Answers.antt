@@ -1,6 +1,7 @@
 use Rattle.std.proofs.Common.{refl, arith}
 use Rattle.std.proofs.lemmas.Grind.{common_steps}
-use Rattle.kmc_sum.proofs.Merges.{begun_none, gave_nothing}
+use Rattle.kmc_sum.proofs.Merges.{begun_none}
+use Rattle.kmc_sum.specs.Lemmas.Beginnings.{gave_nothing}
 use Rattle.kmc_sum.proofs.merging.merge.Goals as goal
 
 pub returns-in-Err : goal.returns-in-Err

@@ -3,7 +3,8 @@ use Rattle.std.proofs.lemmas.Grind.{common_steps}
 use Rattle.kmc_device.specs.Device.{Watched}
 use Rattle.kmc_sum.proofs.Answers.{after_opening, given_up}
 use Rattle.kmc_sum.proofs.Openings.{none_sum}
-use Rattle.kmc_sum.proofs.Merges.{begun_none, sources_built}
+use Rattle.kmc_sum.proofs.Merges.{begun_none}
+use Rattle.kmc_sum.specs.Lemmas.Beginnings.{sources_built}
 use Rattle.kmc_sum.proofs.merging.merge_in.Goals as goal
 
 pub returns-in_err-k : goal.returns-in_err-k

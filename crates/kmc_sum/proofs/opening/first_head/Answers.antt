@@ -4,7 +4,8 @@ use Rattle.kmc_base.specs.Packed.{unpack}
 use Rattle.kmc_sum.specs.Faults.{IsFaultAt}
 use Rattle.kmc_sum.specs.declared.error.LineFault.{LineFault}
 use Rattle.kmc_sum.specs.declared.error.LineFault.TheVariants.{OtherLength, Malformed}
-use Rattle.kmc_sum.proofs.Openings.{gave_none, gave_first, other_first, first_live, malformed_first, first_ended}
+use Rattle.kmc_sum.proofs.Openings.{gave_first, other_first, first_live, malformed_first, first_ended}
+use Rattle.kmc_sum.specs.Lemmas.Beginnings.{gave_none}
 use Rattle.kmc_sum.proofs.opening.first_head.Goals as goal
 
 pub returns-then-line-k-clause-fault : goal.returns-then-line-k-clause-fault

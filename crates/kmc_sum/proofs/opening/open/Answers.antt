@@ -4,9 +4,9 @@ use Rattle.std.proofs.lemmas.Grind.{common_steps}
 use Rattle.kmc_device.specs.Device.{Watched}
 use Rattle.kmc_device.specs.Lemmas.Devices.{on_err}
 use Rattle.kmc_sum.specs.Sources.{AreReady}
-use Rattle.kmc_sum.proofs.Advances.{failed_at, failed_after, kept_at}
+use Rattle.kmc_sum.specs.Lemmas.Advances.{failed_at, failed_after, kept_at}
 use Rattle.kmc_sum.proofs.Openings.{all_ready, all_sources, begun_next, fault_opened, reader_opened, reader_lost}
-use Rattle.kmc_sum.proofs.Answers.{handed_on}
+use Rattle.kmc_sum.specs.Lemmas.Causes.{handed_on}
 use Rattle.kmc_sum.proofs.opening.open.Goals as goal
 
 pub loop-i-preserved : goal.loop-i-preserved

@@ -1,6 +1,6 @@
 use Rattle.std.proofs.Common.{◌≡◌, ℕ, List, [], ◌∷◌, ◌++◌, sym, subst, arith}
 use Rattle.kmc_base.specs.Packed.{unpack}
-use Rattle.kmc_sum.proofs.Gave.{other_length, not_rising, goes_up, malformed_next}
+use Rattle.kmc_sum.specs.Lemmas.Gave.{other_length, not_rising, goes_up, malformed_next}
 use Rattle.kmc_sum.specs.declared.error.LineFault.{LineFault}
 use Rattle.kmc_sum.specs.declared.error.LineFault.TheVariants.{OtherLength, NotRising}
 use Rattle.kmc_sum.specs.Faults.{GaveFront, IsFaultAt, line_after}

@@ -4,8 +4,9 @@ use Rattle.kmc_device.specs.Device.{Watched}
 use Rattle.kmc_device.specs.Lemmas.Devices.{on_err}
 use Rattle.kmc_sum.specs.Heads.{rank, head_at}
 use Rattle.kmc_sum.specs.Sources.{AreReady}
-use Rattle.kmc_sum.proofs.Advances.{inside_after, settled_after, ready_after, behind_after, failed_at, kept_at, source_was, sources_went_on, source_at_fault, source_lost}
-use Rattle.kmc_sum.proofs.Answers.{by_fault, handed_on}
+use Rattle.kmc_sum.specs.Lemmas.Advances.{inside_after, settled_after, ready_after, behind_after, failed_at, kept_at, source_was, sources_went_on, source_at_fault, source_lost}
+use Rattle.kmc_sum.proofs.Answers.{by_fault}
+use Rattle.kmc_sum.specs.Lemmas.Causes.{handed_on}
 use Rattle.kmc_sum.proofs.sources.advance.Goals as goal
 
 pub next_head-requires : goal.next_head-requires

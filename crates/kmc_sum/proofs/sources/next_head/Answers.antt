@@ -1,7 +1,7 @@
 use Rattle.std.proofs.Common.{◌≡◌, ◌++◌, Err, refl, ap, subst, arith}
 use Rattle.std.proofs.lemmas.Grind.{common_steps}
 use Rattle.kmc_base.specs.Lemmas.Powers.{pow_some}
-use Rattle.kmc_sum.proofs.Gave.{source_ends, ends_some, lost_front}
+use Rattle.kmc_sum.specs.Lemmas.Gave.{source_ends, ends_some, lost_front}
 use Rattle.kmc_sum.specs.Heads.{pending}
 use Rattle.kmc_sum.specs.Faults.{IsFaultAt, line_after}
 use Rattle.kmc_sum.proofs.sources.next_head.Goals as goal

@@ -1,7 +1,7 @@
 use Rattle.std.proofs.Common.{sym, ap, ◌∙◌}
 use Rattle.kmc_base.specs.Packed.{unpack}
 use Rattle.kmc_lists.specs.Line.{text_of}
-use Rattle.kmc_sum.proofs.Written.{none_kept, out_same, word_put}
+use Rattle.kmc_sum.specs.Lemmas.Written.{none_kept, out_same, word_put}
 use Rattle.kmc_sum.proofs.writing.put_pair.Goals as goal
 
 pub returns-in_ok-put_line-in-Some-clause-text : goal.returns-in_ok-put_line-in-Some-clause-text

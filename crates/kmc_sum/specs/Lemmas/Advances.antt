@@ -14,8 +14,8 @@ use Rattle.kmc_sum.specs.Faults.{GaveFront, IsFaultAt}
 use Rattle.kmc_sum.specs.declared.error.LineFault.{LineFault}
 use Rattle.kmc_sum.specs.declared.error.LineFault.TheVariants.{OtherLength}
 use Rattle.kmc_sum.specs.Sources.{IsSource, AreReady, AreSources, GaveFronts, failures_of, left_at, list_at, with_first}
-use Rattle.kmc_sum.proofs.Gave.{gave_fewer, begins_other}
-use Rattle.kmc_sum.proofs.Trees.{same_winner, least, leaf}
+use Rattle.kmc_sum.specs.Lemmas.Gave.{gave_fewer, begins_other}
+use Rattle.kmc_sum.specs.Lemmas.Trees.{same_winner, least, leaf}
 
 pub source_like : (k : ℕ) (start a b : Option (List ℕ)) (r s : Room) (h g : Head) (t u : List (List ℕ × ℕ)) → a ≡ b → r ≡ s → h ≡ g → t ≡ u
     → IsSource k start a r h t → IsSource k start b s g u

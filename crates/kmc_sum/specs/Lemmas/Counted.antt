@@ -8,7 +8,7 @@ use Rattle.kmc_sum.specs.Refusals.{HaveTooMany}
 use Rattle.kmc_sum.specs.Sources.{AreSources, list_at, with_first}
 use Rattle.kmc_sum.specs.declared.heads.Head.{Head}
 use Rattle.kmc_sum.specs.declared.source.Room.{Room}
-use Rattle.kmc_sum.proofs.Steps.{fronts_of}
+use Rattle.kmc_sum.specs.Lemmas.Taken.{fronts_of}
 
 -- at least so many lines were taken
 pub record HaveTaken (k : ℕ) (starts nows : List (Option (List ℕ))) (rooms : List Room) (heads : List Head) (steps : ℕ) : Type 0 where
