@@ -4,8 +4,9 @@ KMC := ./kmc
 KMC_MERGE := ./kmc_merge
 KMC_CUT := ./kmc_cut
 KMC_LIST := ./kmc_list
+KMC_DB := ./kmc_db
 # the programs of users
-PROGRAMS = $(KMC) $(KMC_MERGE) $(KMC_CUT) $(KMC_LIST)
+PROGRAMS = $(KMC) $(KMC_MERGE) $(KMC_CUT) $(KMC_LIST) $(KMC_DB)
 # programs that the scripts in bench/ try
 REFUSED := ./try_refused_growths
 BODIES := ./try_damaged_bodies
@@ -17,6 +18,7 @@ NAME := futoncrane-kmc
 MERGE_NAME := futoncrane-kmc-merge
 CUT_NAME := futoncrane-kmc-cut
 LIST_NAME := futoncrane-kmc-list
+DB_NAME := futoncrane-kmc-db
 BIN = $(DESTDIR)$(PREFIX)/bin
 MAN = $(DESTDIR)$(PREFIX)/share/man/man1
 
@@ -24,7 +26,7 @@ MAN = $(DESTDIR)$(PREFIX)/share/man/man1
 
 # all programs in one call, since most of what they stand on is the same
 all:
-	$(call built,kmc kmc_merge kmc_cut kmc_list)
+	$(call built,kmc kmc_merge kmc_cut kmc_list kmc_db)
 	@$(MAKE) --no-print-directory count
 
 # call built,CRATES: what the programs stand on is proved, several libraries at a time, then they are, and are built
@@ -63,7 +65,8 @@ test: tests-user
 
 # call installed,FILE,PAGE,NAME: the program, and its page, which then speaks of the names of this installation
 RENAMED = s/^\.Xr kmc 1/.Xr $(NAME) 1/; s/^\.Xr kmc_merge 1/.Xr $(MERGE_NAME) 1/; s/^\.Xr kmc_cut 1/.Xr $(CUT_NAME) 1/; \
-	s/^\.Xr kmc_list 1/.Xr $(LIST_NAME) 1/; /^\.Dl/ { s/\<kmc_merge /$(MERGE_NAME) /; s/\<kmc_cut /$(CUT_NAME) /; s/\<kmc_list /$(LIST_NAME) /; s/\<kmc -/$(NAME) -/ }
+	s/^\.Xr kmc_list 1/.Xr $(LIST_NAME) 1/; s/^\.Xr kmc_db 1/.Xr $(DB_NAME) 1/; \
+	/^\.Dl/ { s/\<kmc_merge /$(MERGE_NAME) /; s/\<kmc_cut /$(CUT_NAME) /; s/\<kmc_list /$(LIST_NAME) /; s/\<kmc_db /$(DB_NAME) /; s/\<kmc -/$(NAME) -/ }
 define installed
 	install -m 755 $(1) "$(BIN)/$(3)"
 	sed 's/^\.Nm $(2)$$/.Nm $(3)/; s/^\.Dt [A-Z_]* /.Dt $(3) /; $(RENAMED)' docs/$(2).1 > "$(MAN)/$(3).1"
@@ -76,10 +79,11 @@ install: $(PROGRAMS)
 	$(call installed,$(KMC_MERGE),kmc_merge,$(MERGE_NAME))
 	$(call installed,$(KMC_CUT),kmc_cut,$(CUT_NAME))
 	$(call installed,$(KMC_LIST),kmc_list,$(LIST_NAME))
-	build/lay_out.sh "$(DESTDIR)$(PREFIX)" "kmc=$(NAME)" "kmc_merge=$(MERGE_NAME)" "kmc_cut=$(CUT_NAME)" "kmc_list=$(LIST_NAME)"
+	$(call installed,$(KMC_DB),kmc_db,$(DB_NAME))
+	build/lay_out.sh "$(DESTDIR)$(PREFIX)" "kmc=$(NAME)" "kmc_merge=$(MERGE_NAME)" "kmc_cut=$(CUT_NAME)" "kmc_list=$(LIST_NAME)" "kmc_db=$(DB_NAME)"
 
 uninstall:
-	rm -f $(foreach name,$(NAME) $(MERGE_NAME) $(CUT_NAME) $(LIST_NAME),"$(BIN)/$(name)" "$(MAN)/$(name).1")
+	rm -f $(foreach name,$(NAME) $(MERGE_NAME) $(CUT_NAME) $(LIST_NAME) $(DB_NAME),"$(BIN)/$(name)" "$(MAN)/$(name).1")
 	build/lay_out.sh --remove "$(DESTDIR)$(PREFIX)"
 
 # an archive and a Debian package that need neither the kit nor a compiler; build/try_dist.sh tries both in an empty root

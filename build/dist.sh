@@ -15,19 +15,21 @@ umask 022
 mkdir -p dist "$work/built"
 rm -f dist/futoncrane-"$version"-x86_64.tar.gz dist/futoncrane_"$version"_amd64.deb dist/SHA256SUMS
 
-for program in kmc kmc_merge kmc_cut kmc_list; do
+for program in kmc kmc_merge kmc_cut kmc_list kmc_db; do
     build/link_alone.sh "$program" "$work/built/$program"
 done
 "$work/built/kmc" < examples/reads.fastq | cmp - examples/reads.dump
 "$work/built/kmc" -ci1 < examples/reads.fastq > "$work/all"
 "$work/built/kmc_merge" "$work/all" | cmp - examples/reads.dump
+"$work/built/kmc_db" intersect "$work/all" "$work/all" | cmp - examples/reads.dump
 "$work/built/kmc_cut" -slices2 "$work/reads" < examples/reads.fastq
 for slice in 0 1; do "$work/built/kmc_list" "$work/reads.$slice" > "$work/slice.$slice"; done
 "$work/built/kmc_merge" -ci1 "$work/slice.0" "$work/slice.1" | cmp - examples/reads.dump
 
 # laid_out ROOT: the programs, the command, pages, completions and the example below ROOT
 laid_out() {
-    make -s install DESTDIR="$1" PREFIX= KMC="$work/built/kmc" KMC_MERGE="$work/built/kmc_merge" KMC_CUT="$work/built/kmc_cut" KMC_LIST="$work/built/kmc_list"
+    make -s install DESTDIR="$1" PREFIX= KMC="$work/built/kmc" KMC_MERGE="$work/built/kmc_merge" KMC_CUT="$work/built/kmc_cut" \
+        KMC_LIST="$work/built/kmc_list" KMC_DB="$work/built/kmc_db"
     rm "$1/share/futoncrane/folders" # which folders are new is seen where it is unpacked
 }
 

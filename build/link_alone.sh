@@ -1,7 +1,8 @@
 #!/bin/sh
 # Links a program that was built here once more, against the system's static C library, so that it runs on any Linux on x86-64.
 #
-# usage: build/link_alone.sh PROGRAM OUT       (PROGRAM is kmc, kmc_merge, kmc_cut or kmc_list; its object file is crates/PROGRAM/out/PROGRAM.o)
+# usage: build/link_alone.sh PROGRAM OUT       (PROGRAM is kmc, kmc_merge, kmc_cut, kmc_list or kmc_db; its object file is
+# crates/PROGRAM/out/PROGRAM.o)
 #
 # The object file and the two archives are those that the kit's linker takes. The kit has no static C library, so the system's gcc links
 # (Debian's packages gcc and libc6-dev). The words behind -Wl are those of the kit's linker.

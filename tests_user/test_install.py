@@ -7,13 +7,13 @@ import sys
 
 from room import READS, TOP, content, need, program, wanted_dump
 
-NAMES = {"kmc": "counter", "kmc_merge": "summer", "kmc_cut": "cutter", "kmc_list": "lister"}
+NAMES = {"kmc": "counter", "kmc_merge": "summer", "kmc_cut": "cutter", "kmc_list": "lister", "kmc_db": "joiner"}
 
 
 def made(room, target):
     """A target of the top for the programs that are tried here; -o keeps make from proving and building them anew."""
     words = ["make", "-s", "-C", TOP, target, "DESTDIR=" + room.path("root"), "PREFIX=/opt/k"]
-    for variable, name in (("KMC", "kmc"), ("KMC_MERGE", "kmc_merge"), ("KMC_CUT", "kmc_cut"), ("KMC_LIST", "kmc_list")):
+    for variable, name in (("KMC", "kmc"), ("KMC_MERGE", "kmc_merge"), ("KMC_CUT", "kmc_cut"), ("KMC_LIST", "kmc_list"), ("KMC_DB", "kmc_db")):
         words += ["-o", program(name), "%s=%s" % (variable, program(name))]
         words.append("%s=%s" % (variable.replace("KMC", "NAME") if name == "kmc" else variable[len("KMC_"):] + "_NAME", NAMES[name]))
     ran = subprocess.run(words, stdout=subprocess.PIPE, stderr=subprocess.PIPE)

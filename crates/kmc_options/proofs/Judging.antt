@@ -10,7 +10,7 @@ use Rattle.clap.specs.declared.error.kind.ErrorKind.{ErrorKind}
 use Rattle.kmc_options.specs.CommandLine.{command, found, is_accepted}
 use Rattle.kmc_options.specs.Words.{Word}
 use Rattle.kmc_options.specs.declared.program.Program.{Program}
-use Rattle.kmc_options.specs.declared.program.Program.TheVariants.{Kmc, KmcMerge, KmcCut, KmcList}
+use Rattle.kmc_options.specs.declared.program.Program.TheVariants.{Kmc, KmcMerge, KmcCut, KmcList, KmcDb}
 
 is_plain : (p : Program) → is_simple (command p) ≡ true
 unfolding clap_on_literals
@@ -18,6 +18,7 @@ is_plain Kmc = refl
 is_plain KmcMerge = refl
 is_plain KmcCut = refl
 is_plain KmcList = refl
+is_plain KmcDb = refl
 
 is_judged : (p : Program) → is_simple_and_free (command p) ≡ true
 unfolding clap_on_literals
@@ -25,6 +26,7 @@ is_judged Kmc = refl
 is_judged KmcMerge = refl
 is_judged KmcCut = refl
 is_judged KmcList = refl
+is_judged KmcDb = refl
 
 pub plain : (p : Program) (a : App) → a ≡ command p → is_simple a ≡ true
 plain p a e = ap is_simple e ∙ is_plain p

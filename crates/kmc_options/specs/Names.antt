@@ -3,7 +3,7 @@ use Rattle.std.specs.Prelude.{ℕ, List, [], ◌∷◌, codes}
 use Rattle.kmc_options.specs.declared.named.Flag.{Flag}
 use Rattle.kmc_options.specs.declared.named.Flag.TheVariants.{Fa, Fq, Fm, B}
 use Rattle.kmc_options.specs.declared.program.Program.{Program}
-use Rattle.kmc_options.specs.declared.program.Program.TheVariants.{Kmc, KmcMerge, KmcCut, KmcList}
+use Rattle.kmc_options.specs.declared.program.Program.TheVariants.{Kmc, KmcMerge, KmcCut, KmcList, KmcDb}
 use Rattle.kmc_options.specs.declared.setting.Setting.{Setting}
 use Rattle.kmc_options.specs.declared.setting.Setting.TheVariants.{K, P, N, Ci, Cx, Cs, Sp, Sr}
 
@@ -17,6 +17,7 @@ settings_of Kmc = settings
 settings_of KmcMerge = Ci ∷ Cx ∷ Cs ∷ []
 settings_of KmcCut = K ∷ P ∷ N ∷ Sp ∷ []
 settings_of KmcList = Ci ∷ Cx ∷ Cs ∷ Sr ∷ []
+settings_of KmcDb = Ci ∷ Cx ∷ Cs ∷ []
 
 -- the name of an option, without hyphens
 abbrev pub name_of : Setting → List ℕ
@@ -35,6 +36,7 @@ usage_of Kmc = codes "usage: kmc [-fa|-fq|-fm] [-k<len>] [-p<len>] [-ci<n>] [-cx
 usage_of KmcMerge = codes "usage: kmc_merge [-ci<n>] [-cx<n>] [-cs<n>] a.dump b.dump .."
 usage_of KmcCut = codes "usage: kmc_cut [-fa|-fq|-fm] [-k<len>] [-p<len>] [-n<bins>] [-sp<n>] -slices<S> [--force] <prefix>"
 usage_of KmcList = codes "usage: kmc_list [-ci<n>] [-cx<n>] [-cs<n>] [-sr<n>] [-b] <file> .."
+usage_of KmcDb = codes "usage: kmc_db union|intersect|subtract|counters-subtract [-oc<choice>] [-ci<n>] [-cx<n>] [-cs<n>] a.dump b.dump"
 
 -- the flags
 abbrev pub flags : List Flag
@@ -46,6 +48,7 @@ flags_of Kmc = flags
 flags_of KmcMerge = []
 flags_of KmcCut = Fa ∷ Fq ∷ Fm ∷ []
 flags_of KmcList = B ∷ []
+flags_of KmcDb = []
 
 abbrev pub flag_name : Flag → List ℕ
 flag_name Fa = codes "fa"

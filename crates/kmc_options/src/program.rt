@@ -15,9 +15,11 @@ pub enum Program {
     KmcCut,
     /// Lists a slice.
     KmcList,
+    /// Joins dumps.
+    KmcDb,
 }
 
-const MERGE_OPTIONS: [Setting; 3] = [Setting::Ci, Setting::Cx, Setting::Cs];
+const LIMIT_OPTIONS: [Setting; 3] = [Setting::Ci, Setting::Cx, Setting::Cs];
 
 const CUT_OPTIONS: [Setting; 4] = [Setting::K, Setting::P, Setting::N, Setting::Sp];
 
@@ -44,6 +46,9 @@ impl Program {
             }
             Program::KmcList =>
                 "usage: kmc_list [-ci<n>] [-cx<n>] [-cs<n>] [-sr<n>] [-b] <file> ..",
+            Program::KmcDb => {
+                "usage: kmc_db union|intersect|subtract|counters-subtract [-oc<choice>] [-ci<n>] [-cx<n>] [-cs<n>] a.dump b.dump"
+            }
         }
     }
 
@@ -53,9 +58,10 @@ impl Program {
     {
         match self {
             Program::Kmc => &OPTIONS,
-            Program::KmcMerge => &MERGE_OPTIONS,
+            Program::KmcMerge => &LIMIT_OPTIONS,
             Program::KmcCut => &CUT_OPTIONS,
             Program::KmcList => &LIST_OPTIONS,
+            Program::KmcDb => &LIMIT_OPTIONS,
         }
     }
 
@@ -68,6 +74,7 @@ impl Program {
             Program::KmcMerge => &[],
             Program::KmcCut => &CUT_FLAGS,
             Program::KmcList => &LIST_FLAGS,
+            Program::KmcDb => &[],
         }
     }
 }

@@ -7,7 +7,7 @@ use Rattle.kmc_options.specs.CommandLine.{command, flag_rule, option_rule, plain
 use Rattle.kmc_options.specs.Names.{flags_of, settings_of}
 use Rattle.kmc_options.specs.declared.named.Flag.{Flag}
 use Rattle.kmc_options.specs.declared.program.Program.{Program}
-use Rattle.kmc_options.specs.declared.program.Program.TheVariants.{Kmc, KmcMerge, KmcCut, KmcList}
+use Rattle.kmc_options.specs.declared.program.Program.TheVariants.{Kmc, KmcMerge, KmcCut, KmcList, KmcDb}
 use Rattle.kmc_options.specs.declared.setting.Setting.{Setting}
 use Rattle.kmc_options.proofs.command.command.Goals as goal
 
@@ -23,6 +23,7 @@ built Kmc = refl
 built KmcMerge = refl
 built KmcCut = refl
 built KmcList = refl
+built KmcDb = refl
 
 pub returns : goal.returns
 unfolding with_options with_flags

@@ -1,0 +1,4 @@
+mod Answers
+mod Asked
+mod Numbers
+mod Steps

@@ -1,0 +1,9 @@
+pub mod Answer
+pub mod Join
+pub mod Messages
+pub mod Operation
+pub mod Program
+pub mod RefusalNumbers
+pub mod Request
+pub mod State
+pub mod Words

@@ -1,0 +1,37 @@
+-- What the words of a command line ask for, and what was written.
+use Rattle.std.specs.Prelude.{◌≡◌, ℕ, List, length, Option}
+use Rattle.kmc_options.specs.Words.{Word}
+use Rattle.kmc_count.specs.declared.limits.Limits.{Limits}
+use Rattle.kmc_device.specs.Device.{Watched}
+use Rattle.kmc_sum.specs.Answer.{IsCause}
+use Rattle.kmc_sum.specs.declared.error.SumError.{SumError}
+use Rattle.kmc_join.specs.Request.{IsRequest}
+use Rattle.kmc_join.specs.State.{IsBegun, IsJoinWritten}
+use Rattle.kmc_join.specs.declared.operation.Operation.{Operation}
+
+-- the words ask for an operation on two files within limits, and two readers gave bytes
+pub record AreRead (words : List Word) : Type 0 where
+  pub operation : Operation
+  pub limits : Limits
+  pub files : List Word
+  pub request : IsRequest words operation limits files
+  pub starts : List (Option (List ℕ))
+  pub nows : List (Option (List ℕ))
+  pub each : length starts ≡ length files
+
+-- the dump of the join of what the readers gave for the words was written
+pub record IsAnswered (words : List Word) (old new : Option (List ℕ)) : Type 0 where
+  pub read : AreRead words
+  pub lines : ℕ
+  pub written : IsJoinWritten read.operation read.limits read.starts read.nows lines old new
+
+-- the join for the words was given up for a cause, by the readers' numbers of failures before and after, and a front of the dump of the
+-- join of what they gave first was written
+pub record IsGivenUp {W : Type 0} (words : List Word) (contents : W → Option (List ℕ)) (writer written : Watched W) : Type 0 where
+  pub read : AreRead words
+  pub olds : List ℕ
+  pub news : List ℕ
+  pub error : SumError
+  pub cause : IsCause read.starts read.nows olds news writer.failures written.failures error
+  pub k : ℕ
+  pub begun : IsBegun k read.operation read.limits read.starts read.nows (contents writer.inner) (contents written.inner)

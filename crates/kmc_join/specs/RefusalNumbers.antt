@@ -1,0 +1,16 @@
+-- The numbers of the refusals.
+use Rattle.std.specs.Prelude.{ℕ}
+use Rattle.kmc_join.specs.declared.request.JoinRequestError.{JoinRequestError}
+use Rattle.kmc_join.specs.declared.request.JoinRequestError.TheVariants as request_error
+use Rattle.kmc_join.specs.declared.fault.JoinFault.{JoinFault}
+use Rattle.kmc_join.specs.declared.fault.JoinFault.TheVariants as fault
+
+abbrev pub number_of_request_error : JoinRequestError → ℕ
+number_of_request_error request_error.Usage = 1
+number_of_request_error (request_error.OutOfRange _) = 2
+number_of_request_error request_error.Memory = 3
+
+abbrev pub number_of_fault : JoinFault → ℕ
+number_of_fault (fault.Request _) = 1
+number_of_fault (fault.NotOpened _) = 2
+number_of_fault (fault.Join _) = 3

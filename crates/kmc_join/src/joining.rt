@@ -1,0 +1,125 @@
+//! The dump of the join of two dumps.
+ghost use Rattle.std.specs.Prelude.{◌≡◌, ℕ, ◌*◌, ◌-◌, ◌^◌, ◌<◌, List, length, Option, slice_index_or};
+ghost use Rattle.kmc_sum.specs.Heads.{IsTree};
+ghost use Rattle.kmc_sum.specs.Listed.{IsLength};
+ghost use Rattle.kmc_sum.specs.Sources.{IsFresh, AreReady, AreSources, lefts_of, no_lists};
+ghost use Rattle.kmc_join.specs.Answer.{IsJoinAnswer};
+
+use crate::operation::Operation;
+use kmc_count::Limits;
+use kmc_device::Counted;
+use kmc_sum::{
+    Head, OutputBuffer, Room, SumError, advance, build, heads_for, open, put_pair, rooms_for,
+};
+use std::alloc::Global;
+use std::io::{Read, Write};
+
+/// Takes all lines of the two sources, least word first, and writes the dump of their join.
+fn drain<R: Read, W: Write>(
+    readers: &mut [Counted<R>],
+    rooms: &mut [Room],
+    heads: &mut [Head],
+    k: usize,
+    operation: Operation,
+    limits: &Limits,
+    writer: &mut Counted<W>,
+) -> Result<u64, SumError>
+    requires ready { AreReady k (length readers.old) rooms.old heads.old }
+    requires two { length readers.old ≡ 2 }
+    requires tree { IsTree heads.old }
+    requires long { IsLength k }
+    requires writer { writer.old.failures < 2 ^ 64 - 1 }
+    ensures { (starts : List (Option (List ℕ)))
+        → AreSources k starts (lefts_of R.remaining readers.old) rooms.old heads.old (no_lists starts)
+        → IsJoinAnswer R.remaining W.contents operation limits.now starts readers.old readers.new
+        writer.old writer.new result }
+{
+    let mut buffer = OutputBuffer::new();
+    let mut lines: u64 = 0;
+    let mut packed: u128 = 0;
+    let mut counts = [0u64; 2];
+    for _step in 0..u64::MAX - 1 {
+        if !heads[1].live {
+            break;
+        }
+        let next = heads[1].packed;
+        if next != packed {
+            let number = operation.combined(counts[0], counts[1]);
+            match put_pair(writer, &mut buffer, limits, k, packed, number) {
+                Ok(put) => lines += put,
+                Err(_) => return Err(SumError::Write),
+            }
+            packed = next;
+            counts = [0; 2];
+        }
+        counts[heads[1].source] = heads[1].count;
+        advance(readers, rooms, heads, k)?;
+    }
+    if heads[1].live {
+        return Err(SumError::TooLong);
+    }
+    let number = operation.combined(counts[0], counts[1]);
+    match put_pair(writer, &mut buffer, limits, k, packed, number) {
+        Ok(put) => match buffer.flush_into(writer) {
+            Ok(()) => Ok(lines + put),
+            Err(_) => Err(SumError::Write),
+        },
+        Err(_) => Err(SumError::Write),
+    }
+}
+
+/// Opens the two sources and writes the dump of their join, with rooms and heads that are there.
+fn join_in<R: Read, W: Write>(
+    readers: &mut [Counted<R>],
+    rooms: &mut [Room],
+    heads: &mut [Head],
+    operation: Operation,
+    limits: &Limits,
+    writer: &mut Counted<W>,
+) -> Result<u64, SumError>
+    requires two { length readers.old ≡ 2 }
+    requires rooms { (length rooms.old ≡ length readers.old)
+        × ((i : ℕ) (room : _) → i < length readers.old
+        → IsFresh (slice_index_or rooms.old i room)) }
+    requires heads { length heads.old ≡ 2 * length readers.old }
+    requires writer { writer.old.failures < 2 ^ 64 - 1 }
+    ensures { IsJoinAnswer R.remaining W.contents operation limits.now
+        (lefts_of R.remaining readers.old) readers.old readers.new writer.old writer.new result }
+{
+    let k = open(readers, rooms, heads)?;
+    build(heads);
+    drain(readers, rooms, heads, k, operation, limits, writer)
+}
+
+/// Reads the dumps of two sources side by side, a block of each at a time, and writes the dump of their join, the numbers that it gives
+/// words within the limits; says how many lines it has. It takes 64 KiB a source and a buffer for what is written. After a refusal what
+/// went out is a front of the dump of what the sources gave before it.
+pub fn join<R: Read, W: Write>(
+    alloc: Global,
+    readers: &mut [Counted<R>],
+    operation: Operation,
+    limits: &Limits,
+    writer: &mut Counted<W>,
+) -> Result<u64, SumError>
+    requires two { length readers.old ≡ 2 }
+    requires writer { writer.old.failures < 2 ^ 64 - 1 }
+    ensures { IsJoinAnswer R.remaining W.contents operation limits.now
+        (lefts_of R.remaining readers.old) readers.old readers.new writer.old writer.new result }
+{
+    let mut rooms = match rooms_for(alloc, 2) {
+        Ok(rooms) => rooms,
+        Err(_) => return Err(SumError::Memory),
+    };
+    let mut heads = match heads_for(alloc, 4) {
+        Ok(heads) => heads,
+        Err(_) => return Err(SumError::Memory),
+    };
+    join_in(
+        readers,
+        rooms.as_mut_slice(),
+        heads.as_mut_slice(),
+        operation,
+        limits,
+        writer,
+    )
+}

@@ -1,0 +1,10 @@
+//! Tests of joins, by public calls alone: each operation on two worked dumps, limits, dumps at fault, devices that fail, and the command
+//! line. Nothing stands on this crate.
+#![tactic(auto)]
+
+#[cfg(test)]
+mod devices;
+#[cfg(test)]
+mod operations;
+#[cfg(test)]
+mod words;

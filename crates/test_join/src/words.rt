@@ -1,0 +1,92 @@
+//! Command lines of the program that joins, and what they ask for.
+use kmc_join::{Choice, JoinRequest, JoinRequestError, Operation, asked_for};
+use kmc_options::Setting;
+use std::alloc::{AllocError, Global};
+use std::process::Abort;
+
+/// The words of a line.
+fn words_of(alloc: Global, line: &str) -> Result<Vec<String>, AllocError> {
+    let mut words = Vec::new(alloc);
+    for word in line.split_whitespace() {
+        words.push(String::from_str(alloc, word)?)?;
+    }
+    Ok(words)
+}
+
+fn asked(
+    rt: &(impl Abort + Alloc<A = Global>),
+    line: &str,
+) -> Result<JoinRequest, JoinRequestError> {
+    asked_for(rt.alloc(), words_of(rt.alloc(), line).expect(rt, "memory"))
+}
+
+/// Asserts that the line asks for this operation on `a` and `b`.
+fn asks(rt: &(impl Abort + Alloc<A = Global>), line: &str, operation: Operation) {
+    let request = asked(rt, line).expect(rt, line);
+    assert_eq!(rt; request.operation, operation, "{line}");
+    assert_eq!(rt; request.files.len(), 2, "{line}");
+    assert_eq!(rt; request.files[0].as_str(), "a", "{line}");
+    assert_eq!(rt; request.files[1].as_str(), "b", "{line}");
+}
+
+fn asks_nothing(rt: &(impl Abort + Alloc<A = Global>), line: &str, error: JoinRequestError) {
+    assert_eq!(rt; asked(rt, line).err(), Some(error), "{line}");
+}
+
+#[test]
+fn an_operation_has_its_own_choice(rt: HostRuntime) {
+    asks(&rt, "union a b", Operation::Union(Choice::Sum));
+    asks(&rt, "intersect a b", Operation::Intersect(Choice::Min));
+    asks(&rt, "subtract a b", Operation::Subtract);
+    let counters = Operation::CountersSubtract(Choice::Diff);
+    asks(&rt, "counters-subtract a b", counters);
+}
+
+#[test]
+fn a_choice_stands_anywhere(rt: HostRuntime) {
+    asks(&rt, "-ocmax union a b", Operation::Union(Choice::Max));
+    asks(&rt, "union a -ocleft b", Operation::Union(Choice::Left));
+    asks(
+        &rt,
+        "intersect -ci3 a b -ocsum",
+        Operation::Intersect(Choice::Sum),
+    );
+    asks(
+        &rt,
+        "intersect a b --ci 3 -ocright",
+        Operation::Intersect(Choice::Right),
+    );
+    asks(&rt, "union a b -ocdiff", Operation::Union(Choice::Diff));
+    asks(&rt, "union a b -ocmin", Operation::Union(Choice::Min));
+}
+
+#[test]
+fn limits_are_taken(rt: HostRuntime) {
+    let limits = asked(&rt, "union -ci3 -cx70 --cs=9 a b")
+        .expect(&rt, "limits")
+        .limits;
+    assert_eq!(rt; [limits.ci, limits.cx, limits.cs], [3, 70, 9]);
+    let usual = asked(&rt, "union a b").expect(&rt, "no limits").limits;
+    assert_eq!(rt; [usual.ci, usual.cx, usual.cs], [2, 1_000_000_000, 255]);
+}
+
+#[test]
+fn words_that_ask_for_nothing_are_told(rt: HostRuntime) {
+    for line in [
+        "",
+        "union",
+        "union a",
+        "union a b c",
+        "join a b",
+        "union -ocmean a b",
+        "union -oc a b",
+        "union -ocmin -ocmin a b",
+        "subtract -ocmin a b",
+        "union -k31 a b",
+        "union -ci1 -ci1 a b",
+    ] {
+        asks_nothing(&rt, line, JoinRequestError::Usage);
+    }
+    let cs = JoinRequestError::OutOfRange(Setting::Cs);
+    asks_nothing(&rt, "union -cs0 a b", cs);
+}
