@@ -1,11 +1,11 @@
 -- Codes that are copied out of packed codes, from any place on.
 use Rattle.std.proofs.Common.{◌≡◌, ℕ, zero, suc, ◌+◌, ◌-◌, ◌*◌, ◌/◌, ◌%◌, ◌^◌, ◌<◌, ◌≤◌, List, [], ◌∷◌, ◌++◌, length, get_or, take, drop, refl, sym, ap, ◌∙◌, arith, append_assoc, length-append}
-use Rattle.std.proofs.lemmas.List.{take-take, drop-drop, drop-take, take_all, length-take-le}
-use Rattle.std.proofs.Math.Seq.{take-add, drop-cons}
+use Rattle.std.proofs.lemmas.List.{take-take, drop-drop, drop-take, take_all, take_rest, length-take-le}
+use Rattle.std.proofs.Math.Seq.{take-add, take-append-add, drop-cons}
 use Rattle.kmc_base.specs.Words.{window}
 use Rattle.kmc_base.specs.Lemmas.Windows.{length_window, window_front}
 use Rattle.kmc_base.specs.Record.{packed_codes, spelling, codes_in}
-use Rattle.kmc_base.specs.Lemmas.Codes.{length_codes, codes_join, drop_codes}
+use Rattle.kmc_base.specs.Lemmas.Codes.{length_codes, codes_join, take_codes, drop_codes}
 
 -- ---- windows
 
@@ -16,6 +16,26 @@ window_within n m p q xs h =
     let parts : m ≡ q + d = omega arith in
     ap (λ t. take n (drop q (take t (drop p xs)))) parts ∙ ap (take n) (drop-take q d (drop p xs)) ∙ take-take n d (drop q (drop p xs)) (omega arith)
     ∙ ap (take n) (drop-drop q p xs)
+
+-- codes within sixteen bytes
+pub window_in_sixteen : (packed bytes : List ℕ) (start n : ℕ) → n ≤ 61 → bytes ≡ take 16 (take (length packed - start / 4) (drop (start / 4) packed))
+    → window n (codes_in bytes) (start % 4) ≡ window n (codes_in packed) start
+window_in_sixteen packed bytes start n few is =
+    let q = start / 4 in
+    let place : 4 * q + start % 4 ≡ start = omega arith in
+    let spread : codes_in bytes ≡ window 64 (codes_in packed) (4 * q) =
+    ap codes_in (is ∙ ap (take 16) (take_rest packed q)) ∙ take_codes 16 (drop q packed) ∙ ap (take 64) (drop_codes q packed) in
+    ap (λ (t : List ℕ). window n t (start % 4)) spread ∙ window_within n 64 (4 * q) (start % 4) (codes_in packed) (omega arith)
+    ∙ ap (window n (codes_in packed)) place
+
+-- a record with bytes behind it is cut back
+pub record_kept : (old pushed longer bytes new : List ℕ) (count n end : ℕ) → pushed ≡ old ++ count ∷ [] → longer ≡ pushed ++ bytes → end ≡ length old + 1 + n
+    → new ≡ take end longer → new ≡ old ++ count ∷ take n bytes
+record_kept old pushed longer bytes new count n end first more long is =
+    let all : longer ≡ pushed ++ bytes = more in
+    let at : end ≡ length pushed + n = omega (arith, long, ap length first, length-append old (count ∷ [])) in
+    is ∙ (λ i. take (at i) (all i)) ∙ take-append-add pushed bytes n ∙ ap (λ (t : List ℕ). t ++ take n bytes) first
+    ∙ append_assoc old (count ∷ []) (take n bytes)
 
 -- ---- the codes of two bytes
 

@@ -4,6 +4,7 @@ pub mod Counted
 pub mod Keys
 pub mod Members
 pub mod Mirrored
+pub mod NumberBytes
 pub mod Orders
 pub mod Packing
 pub mod Packs

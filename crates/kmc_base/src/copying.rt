@@ -1,7 +1,7 @@
 //! Records that are copied out of packed codes, in which they begin at any place.
 ghost use Rattle.std.specs.Prelude.{◌≡◌, ◌+◌, ◌-◌, ◌*◌, ◌<◌, ◌≤◌, ◌++◌, [], ◌∷◌, length, take, drop, slice_index, OnOk, OnErr};
 ghost use Rattle.kmc_base.specs.Words.{window};
-ghost use Rattle.kmc_base.specs.Record.{packed_codes, spelling, codes_in};
+ghost use Rattle.kmc_base.specs.Record.{packed_codes, spelling, codes_in, size_of};
 
 use std::alloc::AllocError;
 
@@ -42,9 +42,45 @@ fn last_byte_from(packed: &[u8], i: usize, skipped: usize, kept: usize) -> u8
     byte - byte % (1 << (8 - 2 * kept))
 }
 
-/// Appends the record of a super-k-mer of so many symbols, whose codes begin at a place of packed codes; `out` stays as it was
+/// The codes of sixteen bytes behind so many that are skipped, packed from the first byte on, and zeros behind the last.
+fn moved_codes(bytes: &[u8; 16], skipped: usize, symbols: usize) -> [u8; 16]
+    requires some { 1 ≤ symbols }
+    requires inside { skipped + symbols ≤ 64 }
+    ensures { take (size_of symbols) result ≡ packed_codes (window symbols (codes_in bytes.now) skipped) }
+{
+    let codes = u128::from_be_bytes(*bytes) << (2 * skipped);
+    let behind = 128 - 2 * symbols;
+    ((codes >> behind) << behind).to_be_bytes()
+}
+
+/// Appends the record of a super-k-mer whose codes stand in sixteen bytes, behind so many that are skipped; `out` stays as it was
 /// where its growth is refused.
-pub fn push_record_from(
+fn push_short_record(
+    bytes: &[u8; 16],
+    skipped: usize,
+    symbols: usize,
+    k: usize,
+    out: &mut Vec<u8>,
+) -> Result<(), AllocError>
+    requires some { 1 ≤ symbols }
+    requires least { k ≤ symbols }
+    requires most { symbols ≤ k + 255 }
+    requires inside { skipped + symbols ≤ 64 }
+    ensures ok { OnOk result (out.new.items
+        ≡ out.old.items ++ spelling k (window symbols (codes_in bytes.now) skipped)) }
+    ensures err { OnErr result (out.new.items ≡ out.old.items) }
+{
+    let codes = moved_codes(bytes, skipped, symbols);
+    out.reserve(17)?;
+    let end = out.len() + 1 + (symbols + 3) / 4;
+    out.push_reserved((symbols - k) as u8);
+    out.extend_from_slice(&codes)?;
+    out.truncate(end);
+    Ok(())
+}
+
+/// Appends the record of a super-k-mer byte by byte; `out` stays as it was where its growth is refused.
+fn push_long_record(
     packed: &[u8],
     start: usize,
     symbols: usize,
@@ -69,4 +105,32 @@ pub fn push_record_from(
     }
     out.push_reserved(last_byte_from(packed, first + last, skipped, symbols - 4 * last));
     Ok(())
+}
+
+/// The most symbols of a record whose codes stand in sixteen bytes, in whichever place of a byte they begin.
+const MOST_AT_ONCE: usize = 61;
+
+/// Appends the record of a super-k-mer of so many symbols, whose codes begin at a place of packed codes; `out` stays as it was
+/// where its growth is refused. A record of at most 61 symbols is copied at once where sixteen bytes are there from its first.
+pub fn push_record_from(
+    packed: &[u8],
+    start: usize,
+    symbols: usize,
+    k: usize,
+    out: &mut Vec<u8>,
+) -> Result<(), AllocError>
+    requires some { 1 ≤ symbols }
+    requires least { k ≤ symbols }
+    requires most { symbols ≤ k + 255 }
+    requires inside { start + symbols ≤ 4 * length packed.now }
+    ensures ok { OnOk result (out.new.items
+        ≡ out.old.items ++ spelling k (window symbols (codes_in packed.now) start)) }
+    ensures err { OnErr result (out.new.items ≡ out.old.items) }
+{
+    if symbols <= MOST_AT_ONCE
+        && let Some(bytes) = packed[start / 4..].first_chunk()
+    {
+        return push_short_record(bytes, start % 4, symbols, k, out);
+    }
+    push_long_record(packed, start, symbols, k, out)
 }

@@ -1,5 +1,5 @@
 //! How codes are packed.
-ghost use Rattle.std.specs.Prelude.{◌≡◌, ◌+◌, ◌*◌, ◌/◌, ◌<◌, ◌≤◌, ◌++◌, length, drop, slice_index, vec_len, vec_capacity, OnOk};
+ghost use Rattle.std.specs.Prelude.{◌≡◌, ◌+◌, ◌*◌, ◌/◌, ◌<◌, ◌≤◌, ◌++◌, length, drop, replicate, slice_index, vec_len, vec_capacity, OnOk};
 ghost use Rattle.std.specs.List.{AllByRecursion};
 ghost use Rattle.kmc_base.specs.Record.{packed_codes, size_of};
 
@@ -60,13 +60,15 @@ pub fn push_packed(codes: &[u8], out: &mut Vec<u8>)
     }
 }
 
-/// Packs codes, four a byte, into a vector that is to be used again: they take the place of what it had.
+/// Packs codes, four a byte, into a vector that is to be used again: they take the place of what it had. Sixteen zero bytes stand
+/// behind them, so that sixteen bytes can be read from where any code lies.
 pub fn pack_codes(codes: &[u8], packed: &mut Vec<u8>) -> Result<(), AllocError>
     requires { AllByRecursion (λ c. c < 4) codes.now }
-    ensures { OnOk result (packed.new.items ≡ packed_codes codes.now) }
+    ensures { OnOk result (packed.new.items ≡ packed_codes codes.now ++ replicate 16 0) }
 {
     packed.clear();
-    packed.reserve((codes.len() + 3) / 4)?;
+    packed.reserve((codes.len() + 3) / 4 + 16)?;
     push_packed(codes, packed);
+    packed.extend_from_slice(&[0; 16])?;
     Ok(())
 }

@@ -5,7 +5,7 @@ use Rattle.kmc_base.specs.Words.{windows}
 use Rattle.kmc_base.specs.Record.{spelling, IsSpelled, codes_in, size_of}
 use Rattle.kmc_record.specs.Shapes.{Sizes}
 use Rattle.kmc_record.specs.Parts.{Parcel, IsPart, capped}
-use Rattle.kmc_record.specs.Bodies.{AreRecordsOfBin, BeginsWithOtherBin, Belong}
+use Rattle.kmc_record.specs.Bodies.{BeginsWithOtherBin, Belong}
 use Rattle.kmc_base.specs.Lemmas.Whole.{begins_there, first_codes, rest_at, spelled_there}
 use Rattle.kmc_record.specs.Lemmas.Grown.{part_grown}
 

@@ -1,5 +1,5 @@
 -- Parts while the segments and the reads of a chunk are taken in.
-use Rattle.std.proofs.Common.{◌≡◌, ℕ, ◌+◌, ◌<◌, ◌≤◌, nat_le, true, List, [], ◌∷◌, ◌++◌, length, map, get_or, take, sym, ap, subst, ◌∙◌, arith, append-nil, append_assoc, drop}
+use Rattle.std.proofs.Common.{◌≡◌, ℕ, ◌+◌, ◌<◌, ◌≤◌, nat_le, true, List, [], ◌∷◌, ◌++◌, length, map, get_or, take, sym, ap, subst, ◌∙◌, arith, append-nil, append_assoc, drop, replicate}
 use Rattle.std.proofs.lemmas.List.{take_more, map_push, drop-drop}
 use Rattle.std.proofs.lemmas.List.FromFn.{length-map-range_with_len, get_or-map-range_with_len, fill_by_all}
 use Rattle.std.proofs.lemmas.Bool.Decides.{nat_tests}
@@ -12,6 +12,7 @@ use Rattle.kmc_base.specs.Record.{packed_codes, codes_in}
 use Rattle.kmc_record.specs.Shapes.{Sizes}
 use Rattle.kmc_record.specs.Parts.{Parcel, grown, empty_part, bin_runs, bin_super_kmers, all_segments}
 use Rattle.kmc_record.specs.GrowingParts.{AreForBins, HaveGrown, HaveTaken}
+use Rattle.kmc_base.specs.Lemmas.Codes.{codes_join}
 use Rattle.kmc_base.specs.Lemmas.Whole.{flat_push}
 use Rattle.kmc_base.specs.Lemmas.Stretching.{long_enough, first_apart}
 use Rattle.kmc_base.specs.Lemmas.Spelled.{codes_packed, zeros_to_byte}
@@ -36,20 +37,27 @@ taken_one shape s runs a b cut h = (
       (λ j. sym (append-nil (bin_runs shape.k shape.n j s.codes runs))) h,
 )
 
+-- the zeros behind a segment's codes
+abbrev behind : List ℕ → List ℕ
+behind codes = zeros_to_byte codes ++ codes_in (replicate 16 0)
+
 -- the codes of a segment's bytes are its own, and zeros behind them
-segment_codes : (codes bytes : List ℕ) → All (λ c. c < 4) codes → bytes ≡ packed_codes codes → codes_in bytes ≡ codes ++ zeros_to_byte codes
-segment_codes codes bytes small is = ap codes_in is ∙ codes_packed codes (recursion_from_All (λ (c : ℕ). c < 4) codes small)
+segment_codes : (codes bytes : List ℕ) → All (λ c. c < 4) codes → bytes ≡ packed_codes codes ++ replicate 16 0 → codes_in bytes ≡ codes ++ behind codes
+segment_codes codes bytes small is =
+    ap codes_in is ∙ codes_join (packed_codes codes) (replicate 16 0)
+    ∙ ap (λ (t : List ℕ). t ++ codes_in (replicate 16 0)) (codes_packed codes (recursion_from_All (λ (c : ℕ). c < 4) codes small))
+    ∙ append_assoc codes (zeros_to_byte codes) (codes_in (replicate 16 0))
 
 pub packed_runs : (shape : Sizes) (k m : ℕ) (codes bytes : List ℕ) (runs runs2 : List Run) → k ≡ shape.k → m ≡ shape.m → All (λ c. c < 4) codes → bytes
-    ≡ packed_codes codes → runs2 ≡ runs → All (IsRunOf k m codes) runs → All (IsRunOf shape.k shape.m (codes_in bytes)) runs2
+    ≡ packed_codes codes ++ replicate 16 0 → runs2 ≡ runs → All (IsRunOf k m codes) runs → All (IsRunOf shape.k shape.m (codes_in bytes)) runs2
 packed_runs shape k m codes bytes runs runs2 ek em small is same h =
     subst (λ (rs : List Run). All (IsRunOf shape.k shape.m (codes_in bytes)) rs) (sym same)
     (subst (λ (w : List ℕ). All (IsRunOf shape.k shape.m w) runs) (sym (segment_codes codes bytes small is))
-    (runs_before shape.k shape.m codes (zeros_to_byte codes) runs
+    (runs_before shape.k shape.m codes (behind codes) runs
     (subst (λ (x : Sizes). All (IsRunOf x.k x.m codes) runs) (λ t. record { k = ek t; m = em t; n = 0 }) h)))
 
 pub codes_taken : (shape : Sizes) (k m start : ℕ) (codes bytes : List ℕ) (runs runs2 : List Run) (a b : List Parcel) → k ≡ shape.k → m ≡ shape.m
-    → All (λ c. c < 4) codes → bytes ≡ packed_codes codes → runs2 ≡ runs → k ≤ length codes
+    → All (λ c. c < 4) codes → bytes ≡ packed_codes codes ++ replicate 16 0 → runs2 ≡ runs → k ≤ length codes
     → IsCut k m codes runs → All (IsRunOf k m codes) runs → HaveGrown shape.k (λ j. bin_runs shape.k shape.n j (codes_in bytes) runs2) a b
     → HaveTaken shape (long_enough shape.k (record { start = start; codes = codes } ∷ [])) a b
 codes_taken shape k m start codes bytes runs runs2 a b ek em small is same long cut each g =
@@ -57,7 +65,7 @@ codes_taken shape k m start codes bytes runs runs2 a b ek em small is same long 
     let each2 : All (IsRunOf shape.k m codes) runs = subst (λ (x : ℕ). All (IsRunOf x m codes) runs) ek each in
     let own : (j : ℕ) → bin_runs shape.k shape.n j (codes_in bytes) runs2 ≡ bin_runs shape.k shape.n j codes runs =
     λ j. (λ t. bin_runs shape.k shape.n j (segment_codes codes bytes small is t) (same t))
-    ∙ bin_runs_before shape.k m shape.n j codes (zeros_to_byte codes) runs each2 in
+    ∙ bin_runs_before shape.k m shape.n j codes (behind codes) runs each2 in
     let g2 : HaveGrown shape.k (λ j. bin_runs shape.k shape.n j codes runs) a b =
     grown_as shape.k (λ j. bin_runs shape.k shape.n j (codes_in bytes) runs2) (λ j. bin_runs shape.k shape.n j codes runs) a b own g in
     let test : nat_le shape.k (length codes) ≡ true = grind (arith, nat_tests) in

@@ -5,21 +5,14 @@ use Rattle.std.proofs.lemmas.Nat.{pow-add, div-mul-add, mod-mul-add, one_shl}
 use Rattle.kmc_base.specs.declared.strands.Strands.{Strands}
 use Rattle.kmc_base.specs.declared.strands.Strands.TheVariants.{Joined, Apart}
 use Rattle.kmc_base.specs.Bytes.{turned}
-use Rattle.kmc_base.specs.Packed.{pack, pack_after}
+use Rattle.kmc_base.specs.Packed.{pack}
 use Rattle.kmc_base.specs.Strands.{key, packed_key}
 use Rattle.kmc_base.specs.Words.{complement, rev_comp}
-use Rattle.kmc_base.specs.Lemmas.Packs.{AreCodes, pack_after_is, pack_fits, pack_canonical, length_rev_comp, codes_rev_comp}
+use Rattle.kmc_base.specs.Lemmas.Packs.{AreCodes, pack_parts, pack_fits, pack_canonical, length_rev_comp, codes_rev_comp}
 use Rattle.kmc_base.specs.Lemmas.Powers.{pow_quad, pow_some, pow_up}
 use Rattle.kmc_base.specs.Lemmas.Rolling.{codes_drop, codes_front}
 use Rattle.kmc_base.specs.Record.{quarters, codes_in}
 use Rattle.kmc_base.specs.Lemmas.Codes.{are_codes, length_codes, codes_join}
-
-pack_join : (p : ℕ) (xs ys : List ℕ) → pack_after p (xs ++ ys) ≡ pack_after (pack_after p xs) ys
-pack_join p [] ys = refl
-pack_join p (x ∷ xs) ys = pack_join (p * 4 + x) xs ys
-
-pack_parts : (xs ys : List ℕ) → pack (xs ++ ys) ≡ pack xs * 4 ^ length ys + pack ys
-pack_parts xs ys = pack_join 0 xs ys ∙ pack_after_is (pack xs) ys
 
 rev_comp_join : (xs ys : List ℕ) → rev_comp (xs ++ ys) ≡ rev_comp ys ++ rev_comp xs
 rev_comp_join xs ys = ap reverse (map-append complement xs ys) ∙ reverse-append (map complement xs) (map complement ys)

@@ -1,5 +1,5 @@
 -- Parts: the records of one chunk for one bin.
-use Rattle.std.specs.Prelude.{◌≡◌, ℕ, ◌+◌, ◌-◌, ◌^◌, ◌%◌, ◌<◌, ◌++◌, min, nat_eq, nat_lt, List, [], ◌∷◌, length, map}
+use Rattle.std.specs.Prelude.{◌≡◌, ℕ, ◌+◌, ◌-◌, ◌^◌, ◌<◌, ◌++◌, min, nat_eq, nat_lt, List, [], ◌∷◌, length, map}
 use Rattle.std.specs.List.{All, flat_map, filter, range_with_len}
 use Rattle.kmc_base.specs.Words.{windows}
 use Rattle.kmc_base.specs.Stretches.{Stretch, segments_of}

@@ -62,6 +62,13 @@ pub pack_after_is : (p : ℕ) (xs : List ℕ) → pack_after p xs ≡ p * 4 ^ le
 pack_after_is p [] = omega arith
 pack_after_is p (c ∷ cs) = up p c (4 ^ length cs) _ (pow-succ' 4 (length cs)) (pack cs) _ _ (pack_after_is (p * 4 + c) cs) (pack_after_is (0 * 4 + c) cs)
 
+pack_join : (p : ℕ) (xs ys : List ℕ) → pack_after p (xs ++ ys) ≡ pack_after (pack_after p xs) ys
+pack_join p [] ys = refl
+pack_join p (x ∷ xs) ys = pack_join (p * 4 + x) xs ys
+
+pub pack_parts : (xs ys : List ℕ) → pack (xs ++ ys) ≡ pack xs * 4 ^ length ys + pack ys
+pack_parts xs ys = pack_join 0 xs ys ∙ pack_after_is (pack xs) ys
+
 unpack_after : (p n : ℕ) (xs : List ℕ) → AreCodes xs → unpack (n + length xs) (pack_after p xs) ≡ unpack n p ++ xs
 unpack_after p n [] h = rw add-zero (sym (append_nil_of (unpack n p)))
   where

@@ -29,7 +29,7 @@ body_push k ss s front b h spelled is = record {
 abbrev pub first_codes : ℕ → List ℕ → List ℕ
 first_codes n bytes = take n (codes_in (take (size_of n) (drop 1 bytes)))
 
-bytes_take : (n : ℕ) (bs : List ℕ) → AreBytes bs → AreBytes (take n bs)
+pub bytes_take : (n : ℕ) (bs : List ℕ) → AreBytes bs → AreBytes (take n bs)
 bytes_take zero bs h = tt
 bytes_take (suc n) [] h = tt
 bytes_take (suc n) (b ∷ bs) h = (h.0, bytes_take n bs h.1)

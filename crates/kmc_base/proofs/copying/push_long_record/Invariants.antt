@@ -1,7 +1,7 @@
 use Rattle.std.proofs.Common.{◌≡◌, ◌+◌, ◌-◌, ◌*◌, ◌≤◌, ◌++◌, ◌∷◌, take, vec_len, vec_capacity}
 use Rattle.kmc_base.specs.Words.{window}
 use Rattle.kmc_base.specs.Record.{packed_codes, codes_in}
-use Rattle.kmc_base.proofs.copying.push_record_from.Given as goal
+use Rattle.kmc_base.proofs.copying.push_long_record.Given as goal
 
 -- the bytes appended so far are the first of the record, and there is room for the others
 abbrev pub invariant-loop-j : goal.invariant-loop-j
