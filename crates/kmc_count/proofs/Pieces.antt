@@ -1,6 +1,6 @@
 -- The words of a super-k-mer are those of a front and of what goes on k - 1 codes before the front's end.
 use Rattle.std.proofs.Common.{◌≡◌, ℕ, ◌+◌, ◌*◌, ◌-◌, ◌≤◌, List, ◌++◌, length, take, drop, map, refl, sym, ap, ◌∙◌, arith, length-drop}
-use Rattle.std.proofs.lemmas.List.{length-take-le, drop-drop, drop-take, take-take}
+use Rattle.std.proofs.lemmas.List.{length-take-le, drop-drop, drop-take, take-take, take_rest}
 use Rattle.std.proofs.lemmas.List.Sums.{sum_by-append}
 use Rattle.std.specs.List.{range_with_len, sum_by, All}
 use Rattle.kmc_base.specs.declared.strands.Strands.{Strands}
@@ -8,7 +8,8 @@ use Rattle.kmc_base.specs.Strands.{key, keys}
 use Rattle.kmc_base.specs.Words.{window}
 use Rattle.kmc_base.specs.Lemmas.Rolling.{codes_front}
 use Rattle.kmc_base.specs.Lemmas.Places.{places_append, places_moved}
-use Rattle.kmc_base.specs.Record.{codes_in}
+use Rattle.kmc_base.specs.Record.{codes_in, size_of}
+use Rattle.kmc_base.specs.Lemmas.Whole.{first_codes}
 use Rattle.kmc_record.specs.RecordKeys.{key_words, GainsWords, IsRecordKey}
 use Rattle.kmc_base.specs.Lemmas.Codes.{length_codes, are_codes, take_codes, drop_codes}
 use Rattle.kmc_record.specs.Lemmas.Taken.{IsRecord}
@@ -54,6 +55,11 @@ module _ (strands : Strands) (k : ℕ) (s : List ℕ) (n : ℕ) (some : 1 ≤ k)
 -- the first codes of the first bytes
 pub first_of_bytes : (n m : ℕ) (bs : List ℕ) → n ≤ 4 * m → take n (codes_in (take m bs)) ≡ take n (codes_in bs)
 first_of_bytes n m bs inside = ap (take n) (take_codes m bs) ∙ take-take n (4 * m) (codes_in bs) inside
+
+-- the codes of a record, in the bytes behind its first one
+pub codes_there : (n : ℕ) (rest : List ℕ) → take n (codes_in (take (length rest - 1) (drop 1 rest))) ≡ first_codes n rest
+codes_there n rest =
+    ap (λ (t : List ℕ). take n (codes_in t)) (take_rest rest 1) ∙ sym (first_of_bytes n (size_of n) (drop 1 rest) (omega arith))
 
 pub front_is_record : (k n : ℕ) (bs : List ℕ) → k ≤ n → n ≤ 4 * length bs → IsRecord k (take n (codes_in bs))
 front_is_record k n bs least most =

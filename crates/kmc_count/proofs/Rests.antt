@@ -1,5 +1,5 @@
 -- The bytes of a body from a place on, and the record there; results that are told apart.
-use Rattle.std.proofs.Common.{◌≡◌, ℕ, ◌+◌, ◌-◌, ◌*◌, ◌<◌, ◌≤◌, Result, Ok, Err, List, length, get_or, take, drop, All, ◌∙◌, arith, subst, length-drop, Fits, w64}
+use Rattle.std.proofs.Common.{◌≡◌, ℕ, ◌+◌, ◌-◌, ◌*◌, ◌<◌, ◌≤◌, Result, Ok, Err, List, length, get_or, take, drop, All, ap, ◌∙◌, arith, subst, length-drop, Fits, w64}
 use Rattle.std.specs.Result.{IsErrAnd, IsErrOf}
 use Rattle.std.proofs.lemmas.List.{length-take-le, take_rest}
 use Rattle.std.proofs.lemmas.Result.{err_from_is_err_and}
@@ -20,13 +20,17 @@ some_left offset body less = omega (arith, rest_long offset body, less)
 pub enough : (n k b : ℕ) → n ≡ b + k → k ≤ n
 enough n k b is = omega (arith, is)
 
-pub record_long : (n : ℕ) (rest : List ℕ) → 1 + size_of n ≤ length rest → length (take (1 + size_of n - 1) (drop 1 rest)) ≡ size_of n
+record_long : (n : ℕ) (rest : List ℕ) → 1 + size_of n ≤ length rest → length (take (1 + size_of n - 1) (drop 1 rest)) ≡ size_of n
 record_long n rest inside =
     let same : 1 + size_of n - 1 ≡ size_of n = omega arith in
     length-take-le (1 + size_of n - 1) (drop 1 rest) (omega (arith, inside, length-drop 1 rest)) ∙ same
 
 pub inside_record : (n : ℕ) (rest : List ℕ) → 1 + size_of n ≤ length rest → n ≤ 4 * length (take (1 + size_of n - 1) (drop 1 rest))
 inside_record n rest inside = omega (arith, record_long n rest inside)
+
+-- it stands in the bytes behind its first one
+pub inside_rest : (n : ℕ) (rest : List ℕ) → 1 + size_of n ≤ length rest → n ≤ 4 * length (take (length rest - 1) (drop 1 rest))
+inside_rest n rest inside = omega (arith, inside, ap length (take_rest rest 1), length-drop 1 rest)
 
 -- ---- how large a record is
 

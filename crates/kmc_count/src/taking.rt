@@ -24,8 +24,7 @@ fn push_piece(
     ensures { OnOk result (GainsWords rule.strands rule.k numbers.old.items numbers.new.items
         (take symbols (codes_in bytes.now))) }
 {
-    let size = (symbols + 3) / 4;
-    numbers.push(record_key(&bytes[..size], symbols, rule.strands))?;
+    numbers.push(record_key(bytes, symbols, rule.strands))?;
     Ok(())
 }
 
@@ -55,7 +54,7 @@ fn push_pieces(
     requires long { rule.k ≤ symbols }
     requires short { short ≤ MOST_KEY_SYMBOLS }
     requires inside { symbols ≤ 4 * length bytes.now }
-    requires few { length bytes.now < 1000 }
+    requires few { symbols < 1000 }
     requires on { short < symbols → (1 ≤ on) × (4 * on + rule.k ≤ short + 1) }
     ensures { OnOk result (GainsWords rule.strands rule.k numbers.old.items numbers.new.items
         (take symbols (codes_in bytes.now))) }
@@ -69,8 +68,8 @@ fn push_pieces(
     Ok(())
 }
 
-/// Takes in one record more: as the numbers of its pieces of at most `short` symbols, or where no four words fit one, word by
-/// word.
+/// Takes in one record more, the first symbols of the bytes: as the numbers of its pieces of at most `short` symbols, or where no
+/// four words fit one, word by word.
 fn take_record<W: PackedKmer + Drop>(
     numbers: &mut Vec<u128>,
     items: &mut Vec<W>,
@@ -84,8 +83,8 @@ fn take_record<W: PackedKmer + Drop>(
     requires beside { 2 * rule.k + bits ≤ 2 * W.most }
     requires short { short ≤ MOST_KEY_SYMBOLS }
     requires long { rule.k ≤ symbols }
-    requires size { length bytes.now ≡ size_of symbols }
-    requires few { length bytes.now < 1000 }
+    requires inside { symbols ≤ 4 * length bytes.now }
+    requires few { symbols < 1000 }
     ensures { OnOk result ((ss : List (List ℕ))
         → IsTaken rule.strands rule.k bits numbers.old.items (map W.number items.old.items) ss
         → IsTaken rule.strands rule.k bits numbers.new.items (map W.number items.new.items)
@@ -95,7 +94,9 @@ fn take_record<W: PackedKmer + Drop>(
     if symbols <= short || on > 0 {
         push_pieces(numbers, bytes, symbols, rule, short, on)?;
     } else {
-        push_record(items, rule, bytes, symbols, Weight { bits, times: 1 })?;
+        let size = (symbols + 3) / 4;
+        let weight = Weight { bits, times: 1 };
+        push_record(items, rule, &bytes[..size], symbols, weight)?;
     }
     Ok(())
 }
@@ -131,15 +132,7 @@ pub fn take_body<W: PackedKmer + Drop>(
             Err(fault) => return Err(BodyError::Damaged(fault, offset)),
         };
         let size = (symbols + 3) / 4;
-        take_record(
-            numbers,
-            items,
-            &rest[1..1 + size],
-            symbols,
-            rule,
-            bits,
-            short,
-        )?;
+        take_record(numbers, items, &rest[1..], symbols, rule, bits, short)?;
         offset += 1 + size;
     }
     Ok(())

@@ -1,5 +1,5 @@
 -- A record in a number of 128 bits.
-use Rattle.std.proofs.Common.{◌≡◌, ℕ, ◌+◌, ◌-◌, ◌*◌, ◌/◌, ◌%◌, ◌^◌, ◌<◌, ◌≤◌, List, length, refl, sym, ap, ◌∙◌, arith, le_refl, mod-eq_of_lt}
+use Rattle.std.proofs.Common.{◌≡◌, ℕ, ◌+◌, ◌-◌, ◌*◌, ◌/◌, ◌^◌, ◌<◌, ◌≤◌, List, length, refl, sym, ap, ◌∙◌, arith, le_refl}
 use Rattle.std.proofs.lemmas.Nat.{pow-add, mul-le, div-mul-add}
 use Rattle.kmc_base.specs.declared.strands.Strands.{Strands}
 use Rattle.kmc_base.specs.Packed.{pack, unpack}
@@ -7,7 +7,7 @@ use Rattle.kmc_base.specs.Strands.{key}
 use Rattle.kmc_record.specs.RecordKeys.{codes_of, symbols_of, packed_symbols}
 use Rattle.kmc_base.specs.Lemmas.Keys.{key_is_word}
 use Rattle.kmc_base.specs.Lemmas.Packs.{AreCodes, pack_fits, unpack_pack}
-use Rattle.kmc_base.specs.Lemmas.Powers.{pow_quad, pow_some}
+use Rattle.kmc_base.specs.Lemmas.Powers.{pow_some}
 
 -- the number of n packed symbols
 abbrev pub laid : ℕ → ℕ → ℕ
@@ -41,14 +41,6 @@ module _ (n p : ℕ) (most : n ≤ 61) where
       let whole : 4 ^ n * 4 ^ (64 - n) ≡ 4 ^ 64 = sym join ∙ ap (λ e. 4 ^ e) parts in
       let up : (p + 1) * 4 ^ (64 - n) ≤ 4 ^ n * 4 ^ (64 - n) = mul-le (p + 1) (4 ^ (64 - n)) (4 ^ n) (4 ^ (64 - n)) (omega arith) (le_refl (4 ^ (64 - n))) in
       omega (arith, whole, up, n_below)
-
-  -- as the shift and the sum give it
-  pub laid_shifted : p < 4 ^ n → p * 2 ^ (128 - 2 * n) % 2 ^ 128 + n ≡ laid n p
-  laid_shifted fits =
-      let e : 128 - 2 * n ≡ 2 * (64 - n) = omega arith in
-      let shift : 2 ^ (128 - 2 * n) ≡ 4 ^ (64 - n) = ap (λ d. 2 ^ d) e ∙ sym (pow_quad (64 - n)) in
-      let below : p * 4 ^ (64 - n) < 2 ^ 128 = omega (arith, laid_fits fits) in
-      ap (λ t. p * t % 2 ^ 128 + n) shift ∙ ap (λ t. t + n) (mod-eq_of_lt below)
 
 module _ (strands : Strands) (s : List ℕ) (h : AreCodes s) where
   pub key_fits : pack (key strands s) < 4 ^ length s

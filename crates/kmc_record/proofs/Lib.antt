@@ -1,4 +1,5 @@
 mod Belonging
+mod Bytewise
 mod Chunks
 mod Faultless
 mod Filling

@@ -10,17 +10,16 @@ use kmc_base::Strands;
 /// The most symbols of a record that fits 128 bits with its length.
 pub const MOST_KEY_SYMBOLS: usize = 61;
 
-/// The number of a record of 1 to 61 symbols, which stand in at most 16 bytes: of the lesser of it and its reverse complement, where
-/// both strands are one.
+/// The number of the record of the first 1 to 61 symbols of the bytes: of the lesser of it and its reverse complement, where both
+/// strands are one.
 pub fn record_key(bytes: &[u8], symbols: usize, strands: Strands) -> u128
     requires some { 1 ≤ symbols }
     requires most { symbols ≤ MOST_KEY_SYMBOLS }
     requires inside { symbols ≤ 4 * length bytes.now }
-    requires few { length bytes.now ≤ 16 }
     ensures symbols { symbols_of result ≡ symbols }
     ensures codes { codes_of result ≡ key strands (take symbols (codes_in bytes.now)) }
 {
-    (packed_record(bytes, symbols, strands) << (128 - 2 * symbols)) + symbols as u128
+    packed_record(bytes, symbols, strands) + symbols as u128
 }
 
 /// The bytes of the number of a record, with its symbols in front.

@@ -1,9 +1,9 @@
 -- Numbers as bytes, the highest first, and the codes in them.
-use Rattle.std.proofs.Common.{◌≡◌, ℕ, zero, suc, ◌+◌, ◌*◌, ◌/◌, ◌%◌, ◌^◌, ◌<◌, List, [], ◌∷◌, ◌++◌, length, get_or, map, refl, sym, ap, ◌∙◌, arith}
+use Rattle.std.proofs.Common.{◌≡◌, ℕ, zero, suc, ◌+◌, ◌*◌, ◌/◌, ◌%◌, ◌^◌, ◌<◌, List, [], ◌∷◌, ◌++◌, length, get_or, map, reverse, refl, sym, ap, ◌∙◌, arith}
 use Rattle.std.proofs.lemmas.List.FromFn.{fill_by_all}
 use Rattle.std.proofs.lemmas.Nat.{pow-add}
 use Rattle.std.proofs.Math.Nat.{pow-succ'}
-use Rattle.std.specs.Int.{byte_at, bytes_high_first, from_be_bytes, w128}
+use Rattle.std.specs.Int.{byte_at, bytes_high_first, from_be_bytes, from_le_bytes, w128}
 use Rattle.std.specs.List.{range_with_len}
 use Rattle.kmc_base.specs.Packed.{unpack, pack, pack_after}
 use Rattle.kmc_base.specs.Lemmas.Packing.{unpack_split}
@@ -58,16 +58,24 @@ byte_more p b w small =
     ap (λ q. pack_after q w) e
 
 -- a number with more bytes behind it
-abbrev bytes_after : ℕ → List ℕ → ℕ
+abbrev pub bytes_after : ℕ → List ℕ → ℕ
 bytes_after p [] = p
 bytes_after p (b ∷ bs) = bytes_after (p * 256 + b) bs
 
-packed_bytes : (p : ℕ) (bs : List ℕ) → AreBytes bs → pack_after p (codes_in bs) ≡ bytes_after p bs
+pub packed_bytes : (p : ℕ) (bs : List ℕ) → AreBytes bs → pack_after p (codes_in bs) ≡ bytes_after p bs
 packed_bytes p [] h = refl
 packed_bytes p (b ∷ bs) h = byte_more p b (codes_in bs) h.0 ∙ packed_bytes (p * 256 + b) bs h.1
 
+each_read : (bs : List ℕ) → length bs ≡ 16 → bs ≡ map (λ i. get_or bs i 0) (range_with_len 0 16)
+each_read bs long = fill_by_all (λ i. get_or bs i 0) bs 16 0 long (λ j l. refl)
+
 pub number_of_bytes : (bs : List ℕ) → length bs ≡ 16 → AreBytes bs → from_be_bytes w128 bs ≡ pack (codes_in bs)
 number_of_bytes bs long small =
-    let all : bs ≡ map (λ i. get_or bs i 0) (range_with_len 0 16) = fill_by_all (λ i. get_or bs i 0) bs 16 0 long (λ j l. refl) in
     let sum : from_be_bytes w128 bs ≡ bytes_after 0 (map (λ i. get_or bs i 0) (range_with_len 0 16)) = omega arith in
-    sum ∙ ap (bytes_after 0) (sym all) ∙ sym (packed_bytes 0 bs small)
+    sum ∙ ap (bytes_after 0) (sym (each_read bs long)) ∙ sym (packed_bytes 0 bs small)
+
+-- the first of them lowest
+pub number_low_first : (bs : List ℕ) → length bs ≡ 16 → from_le_bytes w128 bs ≡ bytes_after 0 (reverse bs)
+number_low_first bs long =
+    let sum : from_le_bytes w128 bs ≡ bytes_after 0 (reverse (map (λ i. get_or bs i 0) (range_with_len 0 16))) = omega arith in
+    sum ∙ ap (λ (t : List ℕ). bytes_after 0 (reverse t)) (sym (each_read bs long))

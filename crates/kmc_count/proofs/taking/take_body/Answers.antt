@@ -3,9 +3,10 @@ use Rattle.std.proofs.lemmas.Result.{IfOk-from_err}
 use Rattle.kmc_base.specs.Record.{size_of, IsBodyOf}
 use Rattle.kmc_record.specs.RecordKeys.{IsTaken}
 use Rattle.kmc_record.specs.Lemmas.Taken.{none_taken}
-use Rattle.kmc_base.specs.Lemmas.Whole.{first_codes, next_body, next_inside, rest_at, same_codes}
+use Rattle.kmc_base.specs.Lemmas.Whole.{first_codes, next_body, next_inside, rest_at}
 use Rattle.kmc_record.specs.Lemmas.Whole.{stops_there}
-use Rattle.kmc_count.proofs.Rests.{some_left, enough, record_long, few_symbols, symbols_fit, size_fits, some_size, all_of, few_bytes, less_left, found_fault, no_error, no_memory, no_damage}
+use Rattle.kmc_count.proofs.Rests.{some_left, enough, inside_rest, few_symbols, symbols_fit, size_fits, all_of, less_left, found_fault, no_error, no_memory, no_damage}
+use Rattle.kmc_count.proofs.Pieces.{codes_there}
 use Rattle.kmc_count.proofs.taking.take_body.Goals as goal
 
 pub loop-offset-init : goal.loop-offset-init
@@ -42,7 +43,7 @@ loop-offset-preserved g c =
         next_body rule.k n c.loop-offset.offset c.args.body.now (λ i. omega (arith, c.type_inv.body i)) found.count found.inside found.rest _ h.0 h.1
             (λ _. c.loop-offset.offset + (1 + size_of n)),
         subst (λ (w : List ℕ). IsTaken rule.strands rule.k c.args.bits c.take_record.new.numbers.items
-            (map g.W.PackedKmer.number c.take_record.new.items.items) (h.0 ++ w ∷ [])) (same_codes n rest) (c.in_ok-take_record.ensures h.0 h.2),
+            (map g.W.PackedKmer.number c.take_record.new.items.items) (h.0 ++ w ∷ [])) (codes_there n rest) (c.in_ok-take_record.ensures h.0 h.2),
       );
     }
 
@@ -73,9 +74,6 @@ take_record-requires-clause-short g c = c.requires.short
 pub take_record-requires-clause-long : goal.take_record-requires-clause-long
 take_record-requires-clause-long g c = enough c.in-Ok.symbols c.args.rule.k _ c.in-Ok.ensures.count
 
-pub take_record-requires-clause-size : goal.take_record-requires-clause-size
-take_record-requires-clause-size g c = record_long c.in-Ok.symbols (rest_at c.loop-offset.offset c.args.body.now) c.in-Ok.ensures.inside
-
 pub returns-in_err-take_record-clause-ok : goal.returns-in_err-take_record-clause-ok
 returns-in_err-take_record-clause-ok g c = IfOk-from_err _ _ c.from_residual.ensures.0
 
@@ -105,27 +103,6 @@ overflow_add-size g c =
     c.in-Ok.ensures.inside c.in-Ok.ensures.rest c.args.rule.within.1 in
     symbols_fit c.in-Ok.symbols few
 
-pub overflow_add-size-in-loop-offset : goal.overflow_add-size-in-loop-offset
-overflow_add-size-in-loop-offset g c =
-    let few = few_symbols c.args.rule.k c.in-Ok.symbols c.loop-offset.offset c.args.body.now (λ i. omega (arith, c.type_inv.body i)) c.in-Ok.ensures.count
-    c.in-Ok.ensures.inside c.in-Ok.ensures.rest c.args.rule.within.1 in
-    size_fits c.in-Ok.symbols few
-
-pub slice_bounds-take_record-count : goal.slice_bounds-take_record-count
-slice_bounds-take_record-count g c = some_size c.in-Ok.symbols
-
-pub slice_bounds-take_record-start : goal.slice_bounds-take_record-start
-slice_bounds-take_record-start g c = some_size c.in-Ok.symbols
-
-pub slice_bounds-take_record-end : goal.slice_bounds-take_record-end
-slice_bounds-take_record-end g c = c.in-Ok.ensures.inside
-
-pub take_record-requires-clause-few : goal.take_record-requires-clause-few
-take_record-requires-clause-few g c =
-    let few = few_symbols c.args.rule.k c.in-Ok.symbols c.loop-offset.offset c.args.body.now (λ i. omega (arith, c.type_inv.body i)) c.in-Ok.ensures.count
-    c.in-Ok.ensures.inside c.in-Ok.ensures.rest c.args.rule.within.1 in
-    few_bytes c.in-Ok.symbols (rest_at c.loop-offset.offset c.args.body.now) few c.in-Ok.ensures.inside
-
 pub overflow_add-offset : goal.overflow_add-offset
 overflow_add-offset g c =
     let few = few_symbols c.args.rule.k c.in-Ok.symbols c.loop-offset.offset c.args.body.now (λ i. omega (arith, c.type_inv.body i)) c.in-Ok.ensures.count
@@ -139,3 +116,12 @@ pub returns-clause-ok : goal.returns-clause-ok
 returns-clause-ok g c =
     let h = c.loop-offset.invariant.records in
     (h.0, subst (IsBodyOf c.args.rule.k h.0) (take_all c.loop-offset.offset c.args.body.now c.loop-offset-test.false) h.1, h.2)
+
+pub take_record-requires-clause-inside : goal.take_record-requires-clause-inside
+take_record-requires-clause-inside g c = inside_rest c.in-Ok.symbols (rest_at c.loop-offset.offset c.args.body.now) c.in-Ok.ensures.inside
+
+pub take_record-requires-clause-few : goal.take_record-requires-clause-few
+take_record-requires-clause-few g c =
+    let few = few_symbols c.args.rule.k c.in-Ok.symbols c.loop-offset.offset c.args.body.now (λ i. omega (arith, c.type_inv.body i)) c.in-Ok.ensures.count
+    c.in-Ok.ensures.inside c.in-Ok.ensures.rest c.args.rule.within.1 in
+    omega (arith, few)

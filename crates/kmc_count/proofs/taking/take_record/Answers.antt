@@ -1,12 +1,10 @@
-use Rattle.std.proofs.Common.{◌≡◌, ℕ, ◌+◌, ◌*◌, ◌/◌, ◌≤◌, List, length, map, take, arith}
+use Rattle.std.proofs.Common.{ℕ, ◌+◌, ◌/◌, List, [], ◌∷◌, ◌++◌, map, take, subst, arith, length-take}
 use Rattle.kmc_base.specs.Lemmas.Weights.{pow_two_some}
 use Rattle.kmc_base.specs.Record.{codes_in}
+use Rattle.kmc_record.specs.RecordKeys.{IsTaken}
 use Rattle.kmc_record.specs.Lemmas.Taken.{pieces_taken, words_taken}
-use Rattle.kmc_count.proofs.Pieces.{front_is_record}
+use Rattle.kmc_count.proofs.Pieces.{first_of_bytes, front_is_record}
 use Rattle.kmc_count.proofs.taking.take_record.Goals as goal
-
-inside_of : (bs : List ℕ) (n : ℕ) → length bs ≡ (n + 3) / 4 → n ≤ 4 * length bs
-inside_of bs n size = omega (arith, size)
 
 pub returns-in_ok-push_pieces : goal.returns-in_ok-push_pieces
 returns-in_ok-push_pieces g c = λ ss taken.
@@ -21,5 +19,9 @@ returns-in_ok-push_record g c = λ ss taken.
     let rule = c.args.rule in
     let bs = c.args.bytes.now in
     let n = c.args.symbols in
-    words_taken rule.strands rule.k c.args.bits c.args.numbers.now.items (map num c.args.items.now.items) _ ss (take n (codes_in bs))
-    (front_is_record rule.k n bs c.requires.long (inside_of bs n c.requires.size)) c.in_ok-push_record.ensures (pow_two_some c.args.bits) taken
+    subst (λ (s : List ℕ). IsTaken rule.strands rule.k c.args.bits c.args.numbers.now.items (map num c.push_record.new.words.items) (ss ++ s ∷ []))
+    (first_of_bytes n ((n + 3) / 4) bs (omega arith))
+    (words_taken rule.strands rule.k c.args.bits c.args.numbers.now.items (map num c.args.items.now.items) _ ss
+    (take n (codes_in (take ((n + 3) / 4) bs))) (front_is_record rule.k n (take ((n + 3) / 4) bs) c.requires.long
+    (omega (arith, length-take ((n + 3) / 4) bs, c.requires.inside)))
+    c.in_ok-push_record.ensures (pow_two_some c.args.bits) taken)
