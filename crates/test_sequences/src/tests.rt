@@ -1,6 +1,7 @@
 //! The tests, by what they call.
 mod bins;
 mod codes_and_words;
+mod copied_records;
 mod given;
 mod keys;
 mod reads;
