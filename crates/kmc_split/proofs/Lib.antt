@@ -1,4 +1,5 @@
 mod Bins
+mod Fronts
 mod Grouping
 mod Kept
 mod MinimaOfParts

@@ -1,12 +1,14 @@
 //! The cut of a segment.
-ghost use Rattle.std.specs.Prelude.{◌≡◌, ℕ, ◌+◌, ◌<◌, ◌≤◌, List, length, OnOk};
+ghost use Rattle.std.specs.Prelude.{◌≡◌, ℕ, ◌+◌, ◌<◌, ◌≤◌, List, length, map, OnOk};
 ghost use Rattle.std.specs.List.{All};
 ghost use Rattle.kmc_base.specs.Words.{windows};
+ghost use Rattle.kmc_split.specs.Candidates.{AreCandidates};
 ghost use Rattle.kmc_split.specs.Cut.{IsCut, IsRunOf, run_words};
 
 use crate::marking::candidates;
 use crate::minima::window_minima;
 use crate::mmer::{MOST_SHORT, Mmer};
+use crate::rooms::grow;
 use crate::runs::{Run, group, push_row};
 use crate::signatures::{MAX_M, Sig};
 use std::alloc::{AllocError, Global};
@@ -44,6 +46,57 @@ fn cut_whole(words: usize, runs: &mut Vec<Run>) -> Result<(), AllocError>
     push_row(Sig::of_value(0), 0, words, runs)
 }
 
+/// The candidates of all m-mers of the codes, at the front of the room.
+fn offer_in<V: Mmer>(codes: &[u8], m: usize, room: &mut [V])
+    requires some { 1 ≤ m }
+    requires most { m ≤ MAX_M }
+    requires held { m ≤ V.most }
+    requires within { m ≤ length codes.now }
+    requires long { length codes.now + 1 ≤ length room.old + m }
+    requires codes { All (λ c. c < 4) codes.now }
+    ensures { AreCandidates m codes.now (map V.number room.new) }
+{
+    let n = codes.len() - (m - 1);
+    candidates(codes, m, &mut room[..n]);
+}
+
+/// The candidates of all m-mers of the codes, at the front of `values`, which grows with the codes.
+fn offer<V: Mmer + Drop>(codes: &[u8], m: usize, values: &mut Vec<V>) -> Result<(), AllocError>
+    requires some { 1 ≤ m }
+    requires most { m ≤ MAX_M }
+    requires held { m ≤ V.most }
+    requires within { m ≤ length codes.now }
+    requires codes { All (λ c. c < 4) codes.now }
+    ensures { OnOk result (AreCandidates m codes.now (map V.number values.new.items)) }
+{
+    grow(values, codes.len() - (m - 1), V::of_packed(0))?;
+    offer_in(codes, m, values);
+    Ok(())
+}
+
+/// The cut of a segment from the candidates of all its m-mers, at the front of `values`.
+fn cut_offered<V: Mmer + Drop>(
+    codes: &[u8],
+    k: usize,
+    m: usize,
+    values: &mut Vec<V>,
+    spare: &mut Vec<V>,
+    ends: &mut Vec<usize>,
+    runs: &mut Vec<Run>,
+) -> Result<(), AllocError>
+    requires some { 1 ≤ m }
+    requires most { m ≤ MAX_M }
+    requires within { m ≤ k }
+    requires long { k ≤ length codes.now }
+    requires codes { All (λ c. c < 4) codes.now }
+    requires are { AreCandidates m codes.now (map V.number values.old.items) }
+    ensures { OnOk result (IsCut k m codes.now runs.new.items) }
+{
+    let n = codes.len() - (m - 1);
+    let count = window_minima(values, spare, n, k - (m - 1))?;
+    group(&values[..count], m, ends, runs)
+}
+
 /// The cut of a segment by m-mers of one symbol or more.
 fn cut_by<V: Mmer + Drop>(
     codes: &[u8],
@@ -62,16 +115,14 @@ fn cut_by<V: Mmer + Drop>(
     requires codes { All (λ c. c < 4) codes.now }
     ensures { OnOk result (IsCut k m codes.now runs.new.items) }
 {
-    values.resize(codes.len() - (m - 1), V::of_packed(0))?;
-    candidates(codes, m, values);
-    window_minima(values, spare, k - (m - 1))?;
-    group(values, m, ends, runs)
+    offer(codes, m, values)?;
+    cut_offered(codes, k, m, values, spare, ends, runs)
 }
 
 /// The cut of a segment takes the place of what `runs` had; after an error `runs` has nothing of use.
 ///
-/// A run is a maximal stretch of words of one signature, cut after each 256th word. One pass over the codes for
-/// each doubling of the k - m + 1 places of a word, and none where m is 0; `scratch` and `runs` are to be used again.
+/// A run is a maximal stretch of words of one signature, cut after each 256th word. A few passes over the codes, one more each time
+/// that a word has four times as many m-mers, and none where m is 0; `scratch` and `runs` are to be used again.
 pub fn cut(
     codes: &[u8],
     k: usize,

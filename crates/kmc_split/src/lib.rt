@@ -13,6 +13,7 @@ mod mmer;
 mod plain;
 mod remainders;
 mod rolling;
+mod rooms;
 mod runs;
 mod signatures;
 mod values;

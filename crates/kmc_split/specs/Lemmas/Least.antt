@@ -13,7 +13,7 @@ use Rattle.kmc_base.specs.Lemmas.Powers.{pow_some}
 use Rattle.kmc_split.specs.declared.runs.Run.{Run}
 use Rattle.kmc_split.specs.Cut.{AreRuns, IsCut}
 use Rattle.kmc_split.specs.Signature.{is_allowed, least, signature_of}
-use Rattle.kmc_split.specs.Candidates.{value_or, candidate, packed_candidate, unmarked}
+use Rattle.kmc_split.specs.Candidates.{value_or, candidate, packed_candidate, AreCandidates, unmarked}
 use Rattle.kmc_split.specs.Minima.{low}
 use Rattle.kmc_base.specs.Lemmas.Windows.{length_window}
 use Rattle.kmc_split.specs.Lemmas.Lowest.{low_shift}
@@ -206,15 +206,13 @@ module _ (at bt : ℕ → ℕ) (end : ℕ) (same : (i : ℕ) → i < end → at 
 -- ---- the cut, from candidates, least values and runs
 
 pub cut_is : (m k : ℕ) (codes values lowest : List ℕ) (runs : List Run) → 1 ≤ m → m ≤ k → k ≤ length codes → AreCodes codes
-    → length values + m ≡ length codes + 1
-    → ((i : ℕ) → i < length values → slice_index values i ≡ candidate m (window m codes i)) → ((i : ℕ) → i < length values → slice_index values i < 4 ^ m)
-    → length lowest + (k - (m - 1)) ≡ length values + 1 → ((i : ℕ) → i < length lowest → slice_index lowest i ≡ low (slice_index values) (k - (m - 1)) i)
+    → AreCandidates m codes values
+    → length lowest + k ≡ length codes + 1 → ((i : ℕ) → i < length lowest → slice_index lowest i ≡ low (slice_index values) (k - (m - 1)) i)
     → AreRuns (λ i. unmarked m (slice_index lowest i)) 0 (length lowest) runs → IsCut k m codes runs
-cut_is m k codes values lowest runs some within long are_codes values_long is fit lowest_long least_each h =
+cut_is m k codes values lowest runs some within long are_codes are lowest_long least_each h =
     let count : length lowest ≡ length codes + 1 - k = omega arith in
     let width : k - (m - 1) ≡ suc (k - m) = omega arith in
     same_runs (λ i. unmarked m (slice_index lowest i)) (λ i. signature_of m (window k codes i)) (length codes + 1 - k)
     (λ i inside. ap (unmarked m) (least_each i (omega arith) ∙ ap (λ (w : ℕ). low (slice_index values) w i) width)
-    ∙ signature_at m (k - m) k i codes (slice_index values) some (omega arith) (omega arith) are_codes
-    (λ j h. is j (omega arith)) (λ j h. fit j (omega arith)))
+    ∙ signature_at m (k - m) k i codes (slice_index values) some (omega arith) (omega arith) are_codes are.each are.fit)
     0 runs (subst (λ (n : ℕ). AreRuns (λ i. unmarked m (slice_index lowest i)) 0 n runs) count h)

@@ -1,5 +1,5 @@
 -- The least value of a window, by its bounds.
-use Rattle.std.proofs.Common.{◌≡◌, ℕ, zero, suc, ◌+◌, ◌<◌, ◌≤◌, ◌-◌, ◌^◌, List, length, take, drop, slice_index, min, refl, sym, ap, ◌∙◌, arith, ◌⊎◌, inl, inr, add-zero}
+use Rattle.std.proofs.Common.{◌≡◌, ℕ, zero, suc, ◌+◌, ◌*◌, ◌<◌, ◌≤◌, ◌-◌, ◌^◌, List, length, take, drop, slice_index, min, refl, sym, ap, ◌∙◌, arith, ◌⊎◌, inl, inr, add-zero}
 use Rattle.std.proofs.lemmas.List.{get_or-take, get_or-drop}
 use Rattle.kmc_base.specs.Lemmas.Powers.{pow_up}
 use Rattle.kmc_split.specs.Minima.{low}
@@ -53,6 +53,19 @@ module _ (at : ℕ → ℕ) where
             | inl h ↦ inl (low_le w i j from h)
             | inr h ↦ inr (low_le w (i + d) j h (omega arith))
           ]
+
+  -- four neighbouring windows make one
+  pub low_join_four : (w i : ℕ) → 1 ≤ w
+      → min (min (low at w i) (low at w (i + w))) (min (low at w (i + 2 * w)) (low at w (i + 3 * w))) ≡ low at (4 * w) i
+  low_join_four w i some =
+      let front = low_join w w i some (omega arith) in
+      let back = low_join w w (i + 2 * w) some (omega arith) in
+      let both = low_join (w + w) (w + w) i (omega arith) (omega arith) in
+      let third : i + 3 * w ≡ i + 2 * w + w = omega arith in
+      let half : i + 2 * w ≡ i + (w + w) = omega arith in
+      let whole : w + w + (w + w) ≡ 4 * w = omega arith in
+      ap (λ (j : ℕ). min (min (low at w i) (low at w (i + w))) (min (low at w (i + 2 * w)) (low at w j))) third
+      ∙ (λ t. min (front t) (back t)) ∙ ap (λ (j : ℕ). min (low at (w + w) i) (low at (w + w) j)) half ∙ both ∙ ap (λ (n : ℕ). low at n i) whole
 
 -- the least values of a list's windows are below what its values are below
 pub minima_fit : (most w : ℕ) (values minima : List ℕ) → 1 ≤ w → length minima + w ≡ length values + 1

@@ -1,4 +1,4 @@
-use Rattle.std.proofs.Common.{◌≡◌, ℕ, ◌%◌, ◌↔◌, IsTrue, List, subst}
+use Rattle.std.proofs.Common.{◌≡◌, ℕ, ◌↔◌, IsTrue, List, subst}
 use Rattle.std.specs.List.{All}
 use Rattle.kmc_base.specs.Words.{windows}
 use Rattle.kmc_split.specs.Signature.{bin_of}
