@@ -9,7 +9,7 @@ use Rattle.kmc_base.specs.Words.{complement, rev_comp}
 use Rattle.kmc_base.specs.Record.{quarters, codes_in}
 use Rattle.kmc_base.specs.Lemmas.Codes.{are_codes, length_codes, codes_join}
 use Rattle.kmc_base.specs.Lemmas.NumberBytes.{bytes_after, packed_bytes}
-use Rattle.kmc_base.specs.Lemmas.Packs.{pack_fits}
+use Rattle.kmc_base.specs.Lemmas.Packs.{pack_fits, rev_comp_join}
 use Rattle.kmc_base.specs.Lemmas.Spelled.{AreBytes}
 
 -- ---- each byte by itself
@@ -113,9 +113,6 @@ module _ (ds : List ℕ) (long : length ds ≡ 16) (small : AreBytes ds) where
       ∙ ap (λ t. t + number turned) (sum_is _ _ _ _ last_is third_is second_is first_is) ∙ all_turned
 
 -- ---- the other strand
-
-pub rev_comp_join : (xs ys : List ℕ) → rev_comp (xs ++ ys) ≡ rev_comp ys ++ rev_comp xs
-rev_comp_join xs ys = ap reverse (map-append complement xs ys) ∙ reverse-append (map complement xs) (map complement ys)
 
 quarters_turned : (b : ℕ) → quarters (turned b) ≡ rev_comp (quarters b)
 quarters_turned b =

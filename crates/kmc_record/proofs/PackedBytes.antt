@@ -8,12 +8,11 @@ use Rattle.kmc_base.specs.declared.strands.Strands.TheVariants.{Joined, Apart}
 use Rattle.kmc_base.specs.Packed.{pack}
 use Rattle.kmc_base.specs.Strands.{key, packed_key}
 use Rattle.kmc_base.specs.Words.{rev_comp}
-use Rattle.kmc_base.specs.Lemmas.Packs.{AreCodes, pack_parts, pack_fits, pack_canonical, length_rev_comp, codes_rev_comp}
+use Rattle.kmc_base.specs.Lemmas.Packs.{AreCodes, pack_parts, pack_fits, pack_canonical, length_rev_comp, codes_rev_comp, rev_comp_join}
 use Rattle.kmc_base.specs.Lemmas.Powers.{pow_quad, pow_some}
 use Rattle.kmc_base.specs.Lemmas.Rolling.{codes_drop, codes_front}
 use Rattle.kmc_base.specs.Record.{codes_in}
 use Rattle.kmc_base.specs.Lemmas.Codes.{take_codes}
-use Rattle.kmc_record.proofs.Bytewise.{rev_comp_join}
 
 -- the first symbols of bytes are those of sixteen of them
 pub first_of_sixteen : (n : ℕ) (bs padded : List ℕ) → n < 64 → n ≤ 4 * length bs → take (length bs) padded ≡ take 16 bs

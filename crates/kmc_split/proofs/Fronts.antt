@@ -1,5 +1,5 @@
--- A list whose front was read or written.
-use Rattle.std.proofs.Common.{◌≡◌, ℕ, ◌<◌, ◌++◌, List, length, map, take, slice_index, sym, ap, ◌∙◌, arith}
+-- The numbers of a list whose front was read or written.
+use Rattle.std.proofs.Common.{◌≡◌, ℕ, ◌<◌, ◌++◌, List, [], ◌∷◌, length, map, refl, take, slice_index, sym, ap, ◌∙◌, arith}
 use Rattle.std.proofs.lemmas.List.{length-map, map-append, take-map, get_or-take, get_or_append_left}
 
 -- the number at a place of the front
@@ -14,3 +14,8 @@ pub front_number : {X : Type 0} (f : X → ℕ) (front rest : List X) (i : ℕ) 
 front_number f front rest i inside =
     ap (λ (ns : List ℕ). slice_index ns i) (map-append f front rest)
     ∙ get_or_append_left (map f front) (map f rest) 0 i (omega (arith, length-map front f))
+
+-- a number of 16 bits is its own
+pub own_numbers : (xs : List ℕ) → map (λ (n : ℕ). n) xs ≡ xs
+own_numbers [] = refl
+own_numbers (x ∷ xs) = ap (λ (l : List ℕ). x ∷ l) (own_numbers xs)

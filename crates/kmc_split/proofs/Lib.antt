@@ -3,6 +3,7 @@ mod Fronts
 mod Grouping
 mod Kept
 mod MinimaOfParts
+mod Overlaps
 mod Pairs
 mod Rolled
 mod RowEnds

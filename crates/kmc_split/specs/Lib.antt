@@ -4,6 +4,7 @@ pub mod CutSuperKmers
 pub mod Laws
 pub mod Lemmas
 pub mod Minima
+pub mod Quads
 pub mod Rows
 pub mod Signature
 pub mod SuperKmer

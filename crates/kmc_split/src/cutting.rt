@@ -5,10 +5,9 @@ ghost use Rattle.kmc_base.specs.Words.{windows};
 ghost use Rattle.kmc_split.specs.Candidates.{AreCandidates};
 ghost use Rattle.kmc_split.specs.Cut.{IsCut, IsRunOf, run_words};
 
-use crate::marking::candidates;
 use crate::minima::window_minima;
 use crate::mmer::{MOST_SHORT, Mmer};
-use crate::rooms::grow;
+use crate::offering::{offer, offer_short};
 use crate::runs::{Run, group, push_row};
 use crate::signatures::{MAX_M, Sig};
 use std::alloc::{AllocError, Global};
@@ -16,6 +15,8 @@ use std::alloc::{AllocError, Global};
 /// Room that a cut works in, to be used again for the next segment.
 #[derive(Drop)]
 pub struct Scratch {
+    quads: Vec<u8>,
+    turned: Vec<u8>,
     values: Vec<u16>,
     spare: Vec<u16>,
     wide_values: Vec<u32>,
@@ -27,6 +28,8 @@ impl Scratch {
     /// Empty room, which grows with the longest segment that is cut in it.
     pub fn new(alloc: Global) -> Scratch {
         Scratch {
+            quads: Vec::new(alloc),
+            turned: Vec::new(alloc),
             values: Vec::new(alloc),
             spare: Vec::new(alloc),
             wide_values: Vec::new(alloc),
@@ -44,34 +47,6 @@ fn cut_whole(words: usize, runs: &mut Vec<Run>) -> Result<(), AllocError>
 {
     runs.clear();
     push_row(Sig::of_value(0), 0, words, runs)
-}
-
-/// The candidates of all m-mers of the codes, at the front of the room.
-fn offer_in<V: Mmer>(codes: &[u8], m: usize, room: &mut [V])
-    requires some { 1 ≤ m }
-    requires most { m ≤ MAX_M }
-    requires held { m ≤ V.most }
-    requires within { m ≤ length codes.now }
-    requires long { length codes.now + 1 ≤ length room.old + m }
-    requires codes { All (λ c. c < 4) codes.now }
-    ensures { AreCandidates m codes.now (map V.number room.new) }
-{
-    let n = codes.len() - (m - 1);
-    candidates(codes, m, &mut room[..n]);
-}
-
-/// The candidates of all m-mers of the codes, at the front of `values`, which grows with the codes.
-fn offer<V: Mmer + Drop>(codes: &[u8], m: usize, values: &mut Vec<V>) -> Result<(), AllocError>
-    requires some { 1 ≤ m }
-    requires most { m ≤ MAX_M }
-    requires held { m ≤ V.most }
-    requires within { m ≤ length codes.now }
-    requires codes { All (λ c. c < 4) codes.now }
-    ensures { OnOk result (AreCandidates m codes.now (map V.number values.new.items)) }
-{
-    grow(values, codes.len() - (m - 1), V::of_packed(0))?;
-    offer_in(codes, m, values);
-    Ok(())
 }
 
 /// The cut of a segment from the candidates of all its m-mers, at the front of `values`.
@@ -97,26 +72,60 @@ fn cut_offered<V: Mmer + Drop>(
     group(&values[..count], m, ends, runs)
 }
 
-/// The cut of a segment by m-mers of one symbol or more.
-fn cut_by<V: Mmer + Drop>(
+/// The cut of a segment by m-mers whose candidates take 16 bits.
+fn cut_short(
     codes: &[u8],
     k: usize,
     m: usize,
-    values: &mut Vec<V>,
-    spare: &mut Vec<V>,
-    ends: &mut Vec<usize>,
+    scratch: &mut Scratch,
     runs: &mut Vec<Run>,
 ) -> Result<(), AllocError>
     requires some { 1 ≤ m }
-    requires most { m ≤ MAX_M }
-    requires room { m ≤ V.most }
+    requires most { m ≤ MOST_SHORT }
     requires within { m ≤ k }
     requires long { k ≤ length codes.now }
     requires codes { All (λ c. c < 4) codes.now }
     ensures { OnOk result (IsCut k m codes.now runs.new.items) }
 {
-    offer(codes, m, values)?;
+    let Scratch {
+        quads,
+        turned,
+        values,
+        spare,
+        wide_values: _,
+        wide_spare: _,
+        ends,
+    } = scratch;
+    offer_short(codes, m, quads, turned, values)?;
     cut_offered(codes, k, m, values, spare, ends, runs)
+}
+
+/// The cut of a segment by m-mers whose candidates take 32 bits.
+fn cut_wide(
+    codes: &[u8],
+    k: usize,
+    m: usize,
+    scratch: &mut Scratch,
+    runs: &mut Vec<Run>,
+) -> Result<(), AllocError>
+    requires some { 1 ≤ m }
+    requires most { m ≤ MAX_M }
+    requires within { m ≤ k }
+    requires long { k ≤ length codes.now }
+    requires codes { All (λ c. c < 4) codes.now }
+    ensures { OnOk result (IsCut k m codes.now runs.new.items) }
+{
+    let Scratch {
+        quads: _,
+        turned: _,
+        values: _,
+        spare: _,
+        wide_values,
+        wide_spare,
+        ends,
+    } = scratch;
+    offer(codes, m, wide_values)?;
+    cut_offered(codes, k, m, wide_values, wide_spare, ends, runs)
 }
 
 /// The cut of a segment takes the place of what `runs` had; after an error `runs` has nothing of use.
@@ -139,18 +148,11 @@ pub fn cut(
     ensures each { OnOk result (All (IsRunOf k m codes.now) runs.new.items) }
     ensures words { OnOk result (run_words k codes.now runs.new.items ≡ windows k codes.now) }
 {
-    let Scratch {
-        values,
-        spare,
-        wide_values,
-        wide_spare,
-        ends,
-    } = scratch;
     if m == 0 {
         cut_whole(codes.len() - (k - 1), runs)
     } else if m <= MOST_SHORT {
-        cut_by(codes, k, m, values, spare, ends, runs)
+        cut_short(codes, k, m, scratch, runs)
     } else {
-        cut_by(codes, k, m, wide_values, wide_spare, ends, runs)
+        cut_wide(codes, k, m, scratch, runs)
     }
 }

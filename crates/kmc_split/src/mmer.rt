@@ -15,18 +15,27 @@ const AAA: u8 = 0;
 
 const ACA: u8 = 4;
 
-/// Whether a canonical form of m codes may be a signature, given a mark for each code but the first: alike for each width.
+/// Whether a canonical form of m codes may be a signature, given a mark for each code but the first: alike for each width, where m is
+/// that of the forbidden beginnings or more.
 macro_rules! allowed {
     ($packed:expr, $m:expr, $marks:expr, $number:ty) => {{
-        if $m < HEAD {
-            return true;
-        }
         // a mark at each A but the first code: where both bits of its pair are zero
         let a = $marks - (($packed | ($packed >> 1)) & $marks);
         let apart = (a & (a >> 2)) == 0;
         let head = $packed >> (2 * ($m - HEAD));
         (head != <$number>::from(AAA)) & (head != <$number>::from(ACA)) & apart
     }};
+}
+
+/// Whether a canonical form of 3 to 8 codes may be a signature, given a mark for each code but the first: it has no branch.
+pub(crate) fn is_allowed_long(packed: u16, m: usize, marks: u16) -> bool
+    requires some { HEAD ≤ m }
+    requires most { m ≤ MOST_SHORT }
+    requires fits { packed < 4 ^ m }
+    requires marks { marks ≡ pair_marks (m - 1) }
+    ensures { result ≡ is_allowed (unpack m packed) }
+{
+    allowed!(packed, m, marks, u16)
 }
 
 /// An unsigned number in which the m codes of an m-mer lie, two bits each, the last one lowest.
@@ -82,7 +91,10 @@ impl Mmer for u16 {
     }
 
     fn is_allowed_with(self, m: usize, marks: u16) -> bool {
-        allowed!(self, m, marks, u16)
+        if m < HEAD {
+            return true;
+        }
+        is_allowed_long(self, m, marks)
     }
 }
 
@@ -108,6 +120,9 @@ impl Mmer for u32 {
     }
 
     fn is_allowed_with(self, m: usize, marks: u32) -> bool {
+        if m < HEAD {
+            return true;
+        }
         allowed!(self, m, marks, u32)
     }
 }

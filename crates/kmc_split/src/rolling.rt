@@ -37,7 +37,7 @@ pub(crate) fn canonical_values<V: Mmer>(codes: &[u8], m: usize, out: &mut [V])
 
 /// The weight of the code that has j codes after it. Not a shift: the compiler would turn each product with it into
 /// shifts by a variable, which cost more.
-fn weight(j: usize) -> u32
+pub(crate) fn weight(j: usize) -> u32
     requires { j < MAX_M }
     ensures { result ≡ 4 ^ j }
 {

@@ -66,8 +66,12 @@ pack_join : (p : ℕ) (xs ys : List ℕ) → pack_after p (xs ++ ys) ≡ pack_af
 pack_join p [] ys = refl
 pack_join p (x ∷ xs) ys = pack_join (p * 4 + x) xs ys
 
+-- a word in two parts
 pub pack_parts : (xs ys : List ℕ) → pack (xs ++ ys) ≡ pack xs * 4 ^ length ys + pack ys
 pack_parts xs ys = pack_join 0 xs ys ∙ pack_after_is (pack xs) ys
+
+pub rev_comp_join : (xs ys : List ℕ) → rev_comp (xs ++ ys) ≡ rev_comp ys ++ rev_comp xs
+rev_comp_join xs ys = ap reverse (map-append complement xs ys) ∙ reverse-append (map complement xs) (map complement ys)
 
 unpack_after : (p n : ℕ) (xs : List ℕ) → AreCodes xs → unpack (n + length xs) (pack_after p xs) ≡ unpack n p ++ xs
 unpack_after p n [] h = rw add-zero (sym (append_nil_of (unpack n p)))

@@ -16,13 +16,13 @@ pub returns-then-m-eq0-clause-words : goal.returns-then-m-eq0-clause-words
 returns-then-m-eq0-clause-words c = on_ok_weaker c.cut_whole.result (λ h. words_are c.args.k 0 c.args.codes.now _ c.requires.some c.requires.long h) (c.cut_whole.ensures c.args.k c.args.codes.now (omega arith))
 
 pub returns-then-m-le-MOST_SHORT-clause-each : goal.returns-then-m-le-MOST_SHORT-clause-each
-returns-then-m-le-MOST_SHORT-clause-each c = on_ok_weaker c.cut_by.result (λ h. runs_are c.args.k c.args.m c.args.codes.now _ c.requires.some c.requires.long h) c.cut_by.ensures
+returns-then-m-le-MOST_SHORT-clause-each c = on_ok_weaker c.cut_short.result (λ h. runs_are c.args.k c.args.m c.args.codes.now _ c.requires.some c.requires.long h) c.cut_short.ensures
 
 pub returns-then-m-le-MOST_SHORT-clause-words : goal.returns-then-m-le-MOST_SHORT-clause-words
-returns-then-m-le-MOST_SHORT-clause-words c = on_ok_weaker c.cut_by.result (λ h. words_are c.args.k c.args.m c.args.codes.now _ c.requires.some c.requires.long h) c.cut_by.ensures
+returns-then-m-le-MOST_SHORT-clause-words c = on_ok_weaker c.cut_short.result (λ h. words_are c.args.k c.args.m c.args.codes.now _ c.requires.some c.requires.long h) c.cut_short.ensures
 
 pub returns-else-m-le-MOST_SHORT-clause-each : goal.returns-else-m-le-MOST_SHORT-clause-each
-returns-else-m-le-MOST_SHORT-clause-each c = on_ok_weaker c.cut_by-else-m-le-MOST_SHORT.result (λ h. runs_are c.args.k c.args.m c.args.codes.now _ c.requires.some c.requires.long h) c.cut_by-else-m-le-MOST_SHORT.ensures
+returns-else-m-le-MOST_SHORT-clause-each c = on_ok_weaker c.cut_wide.result (λ h. runs_are c.args.k c.args.m c.args.codes.now _ c.requires.some c.requires.long h) c.cut_wide.ensures
 
 pub returns-else-m-le-MOST_SHORT-clause-words : goal.returns-else-m-le-MOST_SHORT-clause-words
-returns-else-m-le-MOST_SHORT-clause-words c = on_ok_weaker c.cut_by-else-m-le-MOST_SHORT.result (λ h. words_are c.args.k c.args.m c.args.codes.now _ c.requires.some c.requires.long h) c.cut_by-else-m-le-MOST_SHORT.ensures
+returns-else-m-le-MOST_SHORT-clause-words c = on_ok_weaker c.cut_wide.result (λ h. words_are c.args.k c.args.m c.args.codes.now _ c.requires.some c.requires.long h) c.cut_wide.ensures

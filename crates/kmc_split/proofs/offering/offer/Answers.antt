@@ -2,7 +2,7 @@ use Rattle.std.proofs.Common.{List, map, subst, sym, arith}
 use Rattle.std.proofs.lemmas.List.{with_items_is}
 use Rattle.kmc_base.specs.Lemmas.Powers.{pow_some}
 use Rattle.kmc_split.specs.Candidates.{AreCandidates}
-use Rattle.kmc_split.proofs.cutting.offer.Goals as goal
+use Rattle.kmc_split.proofs.offering.offer.Goals as goal
 
 pub of_packed-requires : goal.of_packed-requires
 of_packed-requires g c = omega (arith, pow_some g.V.Mmer.most)

@@ -1,7 +1,7 @@
 use Rattle.std.proofs.Common.{◌≡◌, ℕ, ◌-◌, ◌^◌, ◌<◌, ◌++◌, length, drop, subst, sym, ◌∙◌, arith, length-append, length-drop}
 use Rattle.std.proofs.lemmas.List.{length-map, length-take-le}
 use Rattle.kmc_split.proofs.Fronts.{front_number}
-use Rattle.kmc_split.proofs.cutting.offer_in.Goals as goal
+use Rattle.kmc_split.proofs.offering.offer_in.Goals as goal
 
 pub returns : goal.returns
 returns g c =
