@@ -5,7 +5,7 @@ use Rattle.std.proofs.lemmas.Nat.{and_block, and_mask}
 use Rattle.std.proofs.lemmas.Nat.Bits.{and_high}
 use Rattle.kmc_base.specs.Bytes.{turned}
 use Rattle.kmc_base.specs.Packed.{pack}
-use Rattle.kmc_base.specs.Words.{complement, rev_comp}
+use Rattle.kmc_base.specs.Words.{rev_comp}
 use Rattle.kmc_base.specs.Record.{quarters, codes_in}
 use Rattle.kmc_base.specs.Lemmas.Codes.{are_codes, length_codes, codes_join}
 use Rattle.kmc_base.specs.Lemmas.NumberBytes.{bytes_after, packed_bytes}

@@ -110,10 +110,9 @@ module _ (codes : List ℕ) (are : AreCodes codes) where
         go false = omega (arith, pow_some m)
 
     -- where the values are those of the overlaps
-    pub are_candidates : (m n : ℕ) (values : List ℕ) → 4 ≤ m → m ≤ 8 → length codes + 1 ≤ length values + m → length codes < n + m
+    pub are_candidates : (m n : ℕ) (values : List ℕ) → 4 ≤ m → m ≤ 8 → length codes < n + m
         → ((i : ℕ) → i < n → slice_index values i ≡ packed_candidate m (lesser_strand (m - 4) quads turned i)) → AreCandidates m codes values
-    are_candidates m n values some most long all is = record {
-      long = long;
+    are_candidates m n values some most all is = record {
       each = λ i inside.
           let here = lesser_holds_at m i some most inside in
           is i (omega arith) ∙ packed_candidate_is m (lesser_strand (m - 4) quads turned i) (window m codes i) here.fits here.is;

@@ -20,7 +20,6 @@ packed_candidate m p = cond (is_allowed (unpack m p)) p (4 ^ m - 1)
 
 -- the values begin with the candidates of all m-mers of the codes
 pub record AreCandidates (m : ℕ) (codes values : List ℕ) : Type 0 where
-  pub long : length codes + 1 ≤ length values + m
   pub each : (i : ℕ) → i + m ≤ length codes → slice_index values i ≡ candidate m (window m codes i)
   pub fit : (i : ℕ) → i + m ≤ length codes → slice_index values i < 4 ^ m
 

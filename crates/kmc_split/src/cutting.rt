@@ -8,6 +8,7 @@ ghost use Rattle.kmc_split.specs.Cut.{IsCut, IsRunOf, run_words};
 use crate::minima::window_minima;
 use crate::mmer::{MOST_SHORT, Mmer};
 use crate::offering::{offer, offer_short};
+use crate::rooms::ROW;
 use crate::runs::{Run, group, push_row};
 use crate::signatures::{MAX_M, Sig};
 use std::alloc::{AllocError, Global};
@@ -49,7 +50,7 @@ fn cut_whole(words: usize, runs: &mut Vec<Run>) -> Result<(), AllocError>
     push_row(Sig::of_value(0), 0, words, runs)
 }
 
-/// The cut of a segment from the candidates of all its m-mers, at the front of `values`.
+/// The cut of a segment from the candidates of all its m-mers, at the front of `values`, which has a row of room behind them.
 fn cut_offered<V: Mmer + Drop>(
     codes: &[u8],
     k: usize,
@@ -64,6 +65,7 @@ fn cut_offered<V: Mmer + Drop>(
     requires within { m ≤ k }
     requires long { k ≤ length codes.now }
     requires codes { All (λ c. c < 4) codes.now }
+    requires room { length codes.now + ROW < length values.old.items + m }
     requires are { AreCandidates m codes.now (map V.number values.old.items) }
     ensures { OnOk result (IsCut k m codes.now runs.new.items) }
 {

@@ -3,7 +3,7 @@ ghost use Rattle.std.specs.Prelude.{◌≡◌, ℕ, ◌+◌, ◌-◌, ◌*◌, �
 ghost use Rattle.kmc_split.specs.Minima.{low};
 
 use crate::mmer::Mmer;
-use crate::rooms::grow;
+use crate::rooms::{ROW, grow, whole_rows};
 use std::alloc::AllocError;
 use std::mem;
 
@@ -56,9 +56,9 @@ fn widen<V: Mmer>(values: &[V], width: usize, next: usize, n: usize, out: &mut [
     requires reach { 2 * width < next → next ≡ 4 * width }
     requires read { n + (next - width) ≤ length values.now }
     requires written { n ≤ length out.old }
-    ensures { (at : ℕ → ℕ)
-        → ((i : ℕ) → i < n + (next - width) → slice_index (map V.number values.now) i ≡ low at width i)
-        → (i : ℕ) → i < n → slice_index (map V.number out.new) i ≡ low at next i }
+    ensures { (at : ℕ → ℕ) (i : ℕ) → i < n
+        → ((j : ℕ) → i ≤ j → j ≤ i + (next - width) → slice_index (map V.number values.now) j ≡ low at width j)
+        → slice_index (map V.number out.new) i ≡ low at next i }
 {
     if next - width > width {
         lower_of_four(values, width, n, out);
@@ -68,7 +68,7 @@ fn widen<V: Mmer>(values: &[V], width: usize, next: usize, n: usize, out: &mut [
 }
 
 /// The least of each w of the n values in a row stand at the front of `values` after it, and it gives how many they are. Each pass
-/// makes windows wider, so that it is vector code.
+/// makes windows wider, so that it is vector code, and goes through whole rows: `values` has a row of room behind the n.
 pub(crate) fn window_minima<V: Mmer + Drop>(
     values: &mut Vec<V>,
     spare: &mut Vec<V>,
@@ -77,20 +77,20 @@ pub(crate) fn window_minima<V: Mmer + Drop>(
 ) -> Result<usize, AllocError>
     requires some { 1 ≤ w }
     requires most { w ≤ n }
-    requires long { n ≤ length values.old.items }
+    requires room { n + ROW ≤ length values.old.items }
     ensures count { IfOk result (λ count. count + w ≡ n + 1) }
     ensures within { IfOk result (λ count. count ≤ length values.new.items) }
     ensures each { IfOk result (λ count. (i : ℕ) → i < count
         → slice_index (map V.number values.new.items) i
         ≡ low (slice_index (map V.number values.old.items)) w i) }
 {
-    grow(spare, n, V::of_packed(0))?;
+    grow(spare, n + ROW, V::of_packed(0))?;
     let mut width = 1;
     let mut count = n;
     while width < w {
         let next = next_width(width, w);
         count -= next - width;
-        widen(values, width, next, count, spare);
+        widen(values, width, next, whole_rows(count), spare);
         mem::swap(values, spare);
         width = next;
     }

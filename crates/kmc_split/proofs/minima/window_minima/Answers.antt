@@ -23,6 +23,6 @@ loop-width-preserved g c =
       there = omega (arith, ap length old_is, kept.here);
       each = λ j inside.
           ap (λ (l : List g.row.V.Denot). slice_index (map f l) j) new_is
-          ∙ c.widen.ensures at (λ i less. ap (λ (l : List g.row.V.Denot). slice_index (map f l) i) c.deref.ensures.value ∙ kept.each i (omega arith))
-          j inside;
+          ∙ c.widen.ensures at j (omega (arith, c.whole_rows.ensures.least))
+          (λ i from to. ap (λ (l : List g.row.V.Denot). slice_index (map f l) i) c.deref.ensures.value ∙ kept.each i (omega arith));
     }

@@ -8,8 +8,8 @@ invariant-loop-width g l = record {
   some : 1 ≤ l.width;
   most : l.width ≤ l.w;
   count : l.count + l.width ≡ l.n + 1;
-  here : l.n ≤ length l.values.items;
-  there : l.n ≤ length l.spare.items;
+  here : l.n + 16 ≤ length l.values.items;
+  there : l.n + 16 ≤ length l.spare.items;
   each : (j : ℕ) → j < l.count → slice_index (map g.V.Mmer.number l.values.items) j
       ≡ low (slice_index (map g.V.Mmer.number l.initial.values.items)) l.width j;
 }

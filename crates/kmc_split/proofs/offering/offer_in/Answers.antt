@@ -1,5 +1,5 @@
-use Rattle.std.proofs.Common.{◌≡◌, ℕ, ◌-◌, ◌^◌, ◌<◌, ◌++◌, length, drop, subst, sym, ◌∙◌, arith, length-append, length-drop}
-use Rattle.std.proofs.lemmas.List.{length-map, length-take-le}
+use Rattle.std.proofs.Common.{◌≡◌, ℕ, ◌-◌, ◌^◌, ◌<◌, length, drop, subst, sym, ◌∙◌, arith}
+use Rattle.std.proofs.lemmas.List.{length-take-le}
 use Rattle.kmc_split.proofs.Fronts.{front_number}
 use Rattle.kmc_split.proofs.offering.offer_in.Goals as goal
 
@@ -14,7 +14,6 @@ returns g c =
     let rest = drop n room in
     let few : length out ≡ n = c.candidates.auto.out ∙ length-take-le n room (omega (arith, c.requires.long)) in
     record {
-      long = omega (arith, length-map (out ++ rest) f, length-append out rest, length-drop n room, c.requires.long, few);
       each = λ i inside. front_number f out rest i (omega arith) ∙ c.candidates.ensures.each i (omega arith);
       fit = λ i inside. subst (λ (x : ℕ). x < 4 ^ m) (sym (front_number f out rest i (omega arith))) (c.candidates.ensures.fit i (omega arith));
     }
