@@ -34,6 +34,7 @@ SECTIONS = [
     ("feeding", "What futoncrane takes beside the program", ["bench/feeding.sh"], False),
     ("slices", "Slices: what does not fit one memory", ["bench/slices.sh"], False),
     ("merge", "Merging two dumps of 5.6 million lines", ["bench/merge_time.sh"], True),
+    ("joins", "Joining two dumps beside kmc_tools simple", ["bench/joins.sh"], False),
     ("fuzz", "Hostile texts and options (make fuzz)", ["bench/fuzz.py", "--seed", "7"], True),
     ("hostile", "Refused memory (make hostile)", ["bench/hostile.py"], True),
     ("damaged", "Damaged bodies (make damaged)", ["bench/damaged.py", "--seed", "5"], True),

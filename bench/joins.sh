@@ -1,0 +1,55 @@
+#!/bin/sh
+# Compares kmc_db with `kmc_tools simple` of KMC 3: union, intersection, and both differences of two sets of reads that share half of their genome.
+# The answers must be equal. Prints a Markdown table.
+#
+# usage: bench/joins.sh
+#
+# Wants `kmc` and `kmc_tools` (Debian's package kmc) and GNU time. READS (1500000), K (31) and ROUNDS (3) are variables: so many reads of 100
+# symbols are simulated for each side. Ours reads two dumps and writes one; KMC's reads two databases and writes one, and its dump is made
+# apart, for comparison alone. A row has the least wall time of either. The files lie in a folder of $TMPDIR or /tmp, which is removed at
+# the end.
+set -eu
+top=$(cd "$(dirname "$0")/.." && pwd)
+reads=${READS:-1500000}
+k=${K:-31}
+rounds=${ROUNDS:-3}
+work=$(mktemp -d)
+trap 'rm -rf "$work"' EXIT
+cd "$work"
+mkdir files
+
+# half of the second side's reads are those of the first
+python3 "$top/bench/simulate_reads.py" "$reads" 100 5000000 1 > first.fq
+{ head -n $((reads * 2)) first.fq; python3 "$top/bench/simulate_reads.py" $((reads / 2)) 100 5000000 2; } > second.fq
+for side in first second; do
+    kmc "-k$k" -fq -ci1 -cs1000000 -t4 "$side.fq" "$side" files > log 2>&1
+    "$top/kmc" "-k$k" -ci1 -cs1000000 -sp4 -sr4 < "$side.fq" > "$side.dump"
+    rm "$side.fq"
+done
+
+# best NAME: the line of the least wall time, memory in MB
+best() {
+    sort -n "$1.times" | head -1 | awk '{ printf "%.2f | %.2f | %.0f", $1, $2, $3 / 1024 }'
+}
+
+echo "| operation | k-mers of both sides, millions | of the answer | ours: wall s | user s | MB | kmc_tools: wall s | user s | MB | wall, ours / kmc_tools |"
+echo "|---|---|---|---|---|---|---|---|---|---|"
+read_in=$(cat first.dump second.dump | wc -l)
+while read -r name theirs; do
+    rm -f ./*.times
+    round=0
+    while [ "$round" -lt "$rounds" ]; do
+        /usr/bin/time -a -o ours.times -f '%e %U %M' "$top/kmc_db" "$name" -ci1 -cs4294967295 first.dump second.dump > ours.dump
+        /usr/bin/time -a -o theirs.times -f '%e %U %M' kmc_tools -t4 simple first second "$theirs" joined -cs4294967295 > log 2>&1
+        round=$((round + 1))
+    done
+    kmc_tools -t4 transform joined dump -s theirs.dump > log 2>&1
+    cmp ours.dump theirs.dump
+    echo "$name | $read_in | $(wc -l < ours.dump) | $(best ours) | $(best theirs)" |
+        awk -F ' [|] ' '{ printf "| %s | %.1f | %.1f | %s | %s | %s | %s | %s | %s | %.2f |\n", $1, $2 / 1e6, $3 / 1e6, $4, $5, $6, $7, $8, $9, $4 / $7 }'
+done <<END
+intersect intersect
+union union
+subtract kmers_subtract
+counters-subtract counters_subtract
+END
