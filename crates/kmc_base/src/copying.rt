@@ -3,6 +3,7 @@ ghost use Rattle.std.specs.Prelude.{◌≡◌, ◌+◌, ◌-◌, ◌*◌, ◌<�
 ghost use Rattle.kmc_base.specs.Words.{window};
 ghost use Rattle.kmc_base.specs.Record.{packed_codes, spelling, codes_in, size_of};
 
+use crate::number_bytes::high_bytes_first;
 use std::alloc::AllocError;
 
 /// The byte at a place, and 0 behind the last.
@@ -50,7 +51,7 @@ fn moved_codes(bytes: &[u8; 16], skipped: usize, symbols: usize) -> [u8; 16]
 {
     let codes = u128::from_be_bytes(*bytes) << (2 * skipped);
     let behind = 128 - 2 * symbols;
-    ((codes >> behind) << behind).to_be_bytes()
+    high_bytes_first((codes >> behind) << behind)
 }
 
 /// Appends the record of a super-k-mer whose codes stand in sixteen bytes, behind so many that are skipped; `out` stays as it was

@@ -11,6 +11,7 @@ use Rattle.kmc_base.specs.Lemmas.Codes.{are_codes, length_codes, codes_join}
 use Rattle.kmc_base.specs.Lemmas.NumberBytes.{bytes_after, packed_bytes}
 use Rattle.kmc_base.specs.Lemmas.Packs.{pack_fits, rev_comp_join}
 use Rattle.kmc_base.specs.Lemmas.Spelled.{AreBytes}
+use Rattle.kmc_base.specs.Lemmas.Whole.{bytes_append}
 
 -- ---- each byte by itself
 
@@ -129,10 +130,6 @@ codes_turned (b ∷ bs) =
     ap (λ (t : List ℕ). codes_in (map turned t)) (reverse-append (b ∷ []) bs) ∙ ap codes_in (map-append turned (reverse bs) (b ∷ []))
     ∙ codes_join (map turned (reverse bs)) (turned b ∷ []) ∙ (λ i. codes_turned bs i ++ quarters_turned b i)
     ∙ sym (rev_comp_join (quarters b) (codes_in bs))
-
-bytes_append : (xs ys : List ℕ) → AreBytes xs → AreBytes ys → AreBytes (xs ++ ys)
-bytes_append [] ys h k = k
-bytes_append (x ∷ xs) ys h k = (h.0, bytes_append xs ys h.1 k)
 
 pub bytes_reverse : (bs : List ℕ) → AreBytes bs → AreBytes (reverse bs)
 bytes_reverse [] h = tt

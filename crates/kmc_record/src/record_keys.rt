@@ -5,7 +5,7 @@ ghost use Rattle.kmc_base.specs.Record.{codes_in};
 ghost use Rattle.kmc_record.specs.RecordKeys.{codes_of, symbols_of};
 
 use crate::packed::packed_record;
-use kmc_base::Strands;
+use kmc_base::{Strands, high_bytes_first};
 
 /// The most symbols of a record that fits 128 bits with its length.
 pub const MOST_KEY_SYMBOLS: usize = 61;
@@ -26,8 +26,5 @@ pub fn record_key(bytes: &[u8], symbols: usize, strands: Strands) -> u128
 pub fn key_bytes(key: u128) -> [u8; 16]
     ensures { take (symbols_of key) (codes_in result) ≡ codes_of key }
 {
-    let mut bytes = [0; 16];
-    bytes[..8].copy_from_slice(&((key >> 64) as u64).to_be_bytes());
-    bytes[8..].copy_from_slice(&((key % (1 << 64)) as u64).to_be_bytes());
-    bytes
+    high_bytes_first(key)
 }

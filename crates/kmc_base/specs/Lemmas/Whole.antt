@@ -39,6 +39,10 @@ bytes_drop zero bs h = h
 bytes_drop (suc n) [] h = tt
 bytes_drop (suc n) (b ∷ bs) h = bytes_drop n bs h.1
 
+pub bytes_append : (xs ys : List ℕ) → AreBytes xs → AreBytes ys → AreBytes (xs ++ ys)
+bytes_append [] ys h k = k
+bytes_append (x ∷ xs) ys h k = (h.0, bytes_append xs ys h.1 k)
+
 head_and_rest : (bytes : List ℕ) (n : ℕ) → 0 < length bytes → take (1 + n) bytes ≡ get_or bytes 0 0 ∷ take n (drop 1 bytes)
 head_and_rest [] n some = absurd (omega arith)
 head_and_rest (b ∷ bs) n some = let e : 1 + n ≡ suc n = omega arith in rw e refl
