@@ -1,5 +1,6 @@
 //! Records that are copied out of packed codes, in which they begin at any place.
 ghost use Rattle.std.specs.Prelude.{◌≡◌, ◌+◌, ◌-◌, ◌*◌, ◌<◌, ◌≤◌, ◌++◌, [], ◌∷◌, length, take, drop, slice_index, OnOk, OnErr};
+ghost use Rattle.std.specs.Int.{bytes_high_first};
 ghost use Rattle.kmc_base.specs.Words.{window};
 ghost use Rattle.kmc_base.specs.Record.{packed_codes, spelling, codes_in, size_of};
 
@@ -43,15 +44,17 @@ fn last_byte_from(packed: &[u8], i: usize, skipped: usize, kept: usize) -> u8
     byte - byte % (1 << (8 - 2 * kept))
 }
 
-/// The codes of sixteen bytes behind so many that are skipped, packed from the first byte on, and zeros behind the last.
-fn moved_codes(bytes: &[u8; 16], skipped: usize, symbols: usize) -> [u8; 16]
+/// The number whose bytes, the highest first, have the codes of sixteen bytes behind so many that are skipped, packed from the first
+/// byte on, and zeros behind the last.
+fn moved_codes(bytes: &[u8; 16], skipped: usize, symbols: usize) -> u128
     requires some { 1 ≤ symbols }
     requires inside { skipped + symbols ≤ 64 }
-    ensures { take (size_of symbols) result ≡ packed_codes (window symbols (codes_in bytes.now) skipped) }
+    ensures { take (size_of symbols) (bytes_high_first 16 result)
+        ≡ packed_codes (window symbols (codes_in bytes.now) skipped) }
 {
     let codes = u128::from_be_bytes(*bytes) << (2 * skipped);
     let behind = 128 - 2 * symbols;
-    high_bytes_first((codes >> behind) << behind)
+    (codes >> behind) << behind
 }
 
 /// Appends the record of a super-k-mer whose codes stand in sixteen bytes, behind so many that are skipped; `out` stays as it was
@@ -71,7 +74,7 @@ fn push_short_record(
         ≡ out.old.items ++ spelling k (window symbols (codes_in bytes.now) skipped)) }
     ensures err { OnErr result (out.new.items ≡ out.old.items) }
 {
-    let codes = moved_codes(bytes, skipped, symbols);
+    let codes = high_bytes_first(moved_codes(bytes, skipped, symbols));
     out.reserve(17)?;
     let end = out.len() + 1 + (symbols + 3) / 4;
     out.push_reserved((symbols - k) as u8);

@@ -9,7 +9,6 @@ use Rattle.kmc_base.proofs.copying.moved_codes.Goals as goal
 pub returns : goal.returns
 returns c =
     let bytes = c.args.bytes.now in
-    rw c.high_bytes_first.ensures
-    (bytes_begin (codes_in bytes) (are_codes bytes) (omega (arith, length_codes bytes, c.told-bytes)) c.args.skipped c.args.symbols c.requires.some
+    bytes_begin (codes_in bytes) (are_codes bytes) (omega (arith, length_codes bytes, c.told-bytes)) c.args.skipped c.args.symbols c.requires.some
     c.requires.inside c.from_be_bytes.result
-    (c.from_be_bytes.ensures ∙ number_of_bytes bytes c.told-bytes (bytes_each bytes c.fits-bytes)))
+    (c.from_be_bytes.ensures ∙ number_of_bytes bytes c.told-bytes (bytes_each bytes c.fits-bytes))

@@ -1,4 +1,4 @@
-use Rattle.std.proofs.Common.{◌≡◌, ◌-◌, List, [], ◌++◌, ◌∷◌, ℕ, length, ap, ◌∙◌, arith, rules, vec_len}
+use Rattle.std.proofs.Common.{◌≡◌, ◌-◌, List, [], ◌++◌, ◌∷◌, ℕ, length, take, ap, ◌∙◌, arith, rules, vec_len}
 use Rattle.kmc_base.specs.Words.{window}
 use Rattle.kmc_base.specs.Record.{codes_in, size_of}
 use Rattle.kmc_base.specs.Lemmas.Windows.{length_window}
@@ -14,7 +14,7 @@ returns-clause-ok c =
     let counted : vec_len c.args.out.now ≡ length old = search rules in
     let long : length w ≡ n = length_window n c.args.skipped (codes_in c.args.bytes.now) (omega (arith, length_codes c.args.bytes.now, c.told-bytes)) in
     let count : n - c.args.k ≡ length w - c.args.k = omega (arith, long) in
-    record_kept old c.push_reserved.new.self.items c.extend_from_slice.new.self.items c.moved_codes-codes.result _ (n - c.args.k) (size_of n) _
+    record_kept old c.push_reserved.new.self.items c.extend_from_slice.new.self.items c.high_bytes_first-codes.result _ (n - c.args.k) (size_of n) _
     (c.push_reserved.ensures.items ∙ ap (λ (t : List ℕ). t ++ (n - c.args.k) ∷ []) c.in_ok-reserve.ensures.items)
     c.in_ok-extend_from_slice.ensures.items (omega (arith, counted, c.len.ensures, c.in_ok-reserve.ensures.len)) c.truncate.ensures.items
-    ∙ (λ i. old ++ count i ∷ c.moved_codes-codes.ensures i)
+    ∙ (λ i. old ++ count i ∷ (ap (take (size_of n)) c.high_bytes_first-codes.ensures ∙ c.moved_codes.ensures) i)
