@@ -26,7 +26,6 @@ pub use key_rule::KeyRule;
 pub use keys::packed_key;
 pub use kmer::{Kmer, MAX_K, letter_of};
 pub use number_bytes::high_bytes_first;
-pub use other_strand::turned;
 pub use packed_kmer::{MOST_WEIGHT_BITS, PackedKmer};
 pub use plain::{code, push_keys, segments};
 pub use segment::Segment;

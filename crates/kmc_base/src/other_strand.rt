@@ -20,7 +20,7 @@ static OTHER_STRAND: [u8; 256] = [
 ];
 
 /// The reverse complement of the four codes of a byte.
-pub fn turned(byte: u8) -> u8
+pub(crate) fn turned(byte: u8) -> u8
     ensures { result ≡ turned byte }
 {
     OTHER_STRAND[byte as usize]
