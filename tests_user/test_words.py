@@ -8,7 +8,7 @@ import sys
 
 from room import TOP, content, need
 
-COMMANDS = ("count", "cut", "list", "merge", "histogram", "size", "compare", "union", "intersect", "subtract", "solid", "genomescope", "cluster", "doctor")
+COMMANDS = ("count", "cut", "list", "merge", "histogram", "size", "compare", "solid", "genomescope", "cluster", "doctor")
 
 
 def text_of(*path):
@@ -61,8 +61,7 @@ def test_an_option_stands_once(room):
 
 
 def test_numbers_of_files_are_told(room):
-    for name in ("compare", "union", "intersect", "subtract"):
-        room.refuses(2, "two dumps", words=[name, "a"])
+    room.refuses(2, "two dumps", words=["compare", "a"])
     room.refuses(2, "no dump", words=["merge"])
     room.refuses(1, "0: No such file", words=["merge", *map(str, range(1001))])
     room.refuses(2, "no file", words=["list"])
@@ -90,9 +89,9 @@ def test_completions_and_page_have_each_option(room):
 def test_bash_completes(room):
     room.write("completion", completion("bash"))
     script = """source "$1"; complete_it() { COMP_WORDS=("$@"); COMP_CWORD=$(($# - 1)); _futoncrane; echo "${COMPREPLY[*]}"; }
-        complete_it futoncrane hi; complete_it futoncrane count --m; complete_it futoncrane compare --s; complete_it futoncrane subtract --c; complete_it futoncrane cluster --w"""
+        complete_it futoncrane hi; complete_it futoncrane count --m; complete_it futoncrane compare --s; complete_it futoncrane cluster --w"""
     ran = subprocess.run(["bash", "-c", script, "bash", room.path("completion")], stdout=subprocess.PIPE)
-    assert ran.stdout.decode().split("\n") == ["histogram", "--min --max --memory", "--second --same", "--counts --cap", "--workers", ""], ran
+    assert ran.stdout.decode().split("\n") == ["histogram", "--min --max --memory", "--second --same", "--workers", ""], ran
     if shutil.which("shellcheck"):
         assert subprocess.run(["shellcheck", "-S", "warning", room.path("completion")]).returncode == 0
 
@@ -109,7 +108,7 @@ def test_zsh_reads_its_completion(room):
 
 def test_pages_have_no_fault(room):
     need("mandoc")
-    for name in ("futoncrane.1", "kmc.1", "kmc_cut.1", "kmc_list.1", "kmc_merge.1", "kmc_db.1"):
+    for name in ("futoncrane.1", "kmc.1", "kmc_cut.1", "kmc_db.1", "kmc_list.1", "kmc_merge.1"):
         ran = subprocess.run(["mandoc", "-Tlint", os.path.join(TOP, "docs", name)], stdout=subprocess.PIPE, stderr=subprocess.DEVNULL)
         # that a page which is not installed is not found says nothing of this one
         told = [line for line in ran.stdout.decode().splitlines() if "referenced manual not found" not in line]
@@ -121,7 +120,7 @@ def test_one_version_stands_everywhere(room):
     assert re.fullmatch(r"[0-9]+\.[0-9]+\.[0-9]+", version)
     places = {("CITATION.cff",): r"^version: (\S+)$", ("packaging", "docker", "Dockerfile"): r"^ARG VERSION=(\S+)$",
               ("packaging", "bioconda", "meta.yaml"): r'version = "([^"]+)"', ("CHANGELOG.md",): r"^# v?([0-9.]+)", ("docs", "futoncrane.1"): r"describes version (\S+)\.$",
-              **{("docs", name): r"describes version (\S+)\.$" for name in ("kmc.1", "kmc_cut.1", "kmc_list.1", "kmc_merge.1", "kmc_db.1")}}
+              **{("docs", name): r"describes version (\S+)\.$" for name in ("kmc.1", "kmc_cut.1", "kmc_db.1", "kmc_list.1", "kmc_merge.1")}}
     for path, pattern in places.items():
         found = re.search(pattern, text_of(*path), re.MULTILINE)
         assert found and found[1] == version, "%s says %s, and VERSION %s" % ("/".join(path), found and found[1], version)

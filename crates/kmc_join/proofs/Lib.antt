@@ -2,3 +2,4 @@ mod Answers
 mod Asked
 mod Numbers
 mod Steps
+mod Tallies

@@ -46,6 +46,13 @@ same_without c d x same y = go (same_word x y) refl
     go true e = ap (λ b. cond b 0 (c y)) e ∙ sym (ap (λ b. cond b 0 (d y)) e)
     go false e = ap (λ b. cond b 0 (c y)) e ∙ same y e ∙ sym (ap (λ b. cond b 0 (d y)) e)
 
+-- a reader gave the lines of its list to its end
+pub gave_text : (k : ℕ) (starts nows : List (Option (List ℕ))) (lists : List (List (List ℕ × ℕ))) → GaveLists k starts nows lists
+    → (i : ℕ) → i < length starts → GaveAll (left_at starts i) (left_at nows i) (text_of (list_at lists i))
+gave_text k starts nows lists gave i inside =
+    let here = gave.each i inside in
+    (subst (Consumes (left_at starts i) (left_at nows i)) (append-nil (text_of (list_at lists i))) here.0.bytes, here.1)
+
 -- a word of which nothing is taken
 abbrev pub no_counts : List ℕ
 no_counts = 0 ∷ 0 ∷ []
@@ -229,11 +236,6 @@ module _ (k : ℕ) (operation : Operation) (l : Limits) (small : l.cx ≤ 2 ^ 63
 
   -- both sources have ended
   module _ (two : length starts ≡ 2) (long : IsLength k) (gave : GaveLists k starts nows so.lists) where
-    given : (i : ℕ) → i < length starts → GaveAll (left_at starts i) (left_at nows i) (text_of (list_at so.lists i))
-    given i inside =
-        let here = gave.each i inside in
-        (subst (Consumes (left_at starts i) (left_at nows i)) (append-nil (text_of (list_at so.lists i))) here.0.bytes, here.1)
-
     pub written : (m total : ℕ) (new' : Option (List ℕ)) → m ≡ n → Appends old new' (text_of so.pairs ++ text_of (kept_pair l x m))
         → total ≡ lines + length (kept_pair l x m) → IsJoinWritten operation l starts nows total old new'
     written m total new' is text long_by =
@@ -242,8 +244,8 @@ module _ (k : ℕ) (operation : Operation) (l : Limits) (small : l.cx ≤ 2 ^ 63
         record {
           first = text_of (list_at so.lists 0);
           second = text_of (list_at so.lists 1);
-          first_gave = given 0 one;
-          second_gave = given 1 other;
+          first_gave = gave_text k starts nows so.lists gave 0 one;
+          second_gave = gave_text k starts nows so.lists gave 1 other;
           pairs = so.pairs ++ kept_pair l x m;
           join = record {
             k = k;

@@ -1,4 +1,5 @@
 pub mod Answer
+pub mod Histogram
 pub mod Join
 pub mod Messages
 pub mod Operation
@@ -6,4 +7,5 @@ pub mod Program
 pub mod RefusalNumbers
 pub mod Request
 pub mod State
+pub mod Tally
 pub mod Words

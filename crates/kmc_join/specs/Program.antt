@@ -1,12 +1,15 @@
 -- What the words of a command line ask for, and what was written.
-use Rattle.std.specs.Prelude.{◌≡◌, ℕ, List, length, Option}
+use Rattle.std.specs.Prelude.{◌≡◌, ◌⊎◌, ℕ, List, true, length, Option}
 use Rattle.kmc_options.specs.Words.{Word}
 use Rattle.kmc_count.specs.declared.limits.Limits.{Limits}
 use Rattle.kmc_device.specs.Device.{Watched}
 use Rattle.kmc_sum.specs.Answer.{IsCause}
 use Rattle.kmc_sum.specs.declared.error.SumError.{SumError}
+use Rattle.kmc_join.specs.Histogram.{IsHistogramWritten}
 use Rattle.kmc_join.specs.Request.{IsRequest}
 use Rattle.kmc_join.specs.State.{IsBegun, IsJoinWritten}
+use Rattle.kmc_join.specs.Tally.{IsHistogramCause}
+use Rattle.kmc_join.specs.Words.{asks_for_histogram}
 use Rattle.kmc_join.specs.declared.operation.Operation.{Operation}
 
 -- the words ask for an operation on two files within limits, and two readers gave bytes
@@ -35,3 +38,28 @@ pub record IsGivenUp {W : Type 0} (words : List Word) (contents : W → Option (
   pub cause : IsCause read.starts read.nows olds news writer.failures written.failures error
   pub k : ℕ
   pub begun : IsBegun k read.operation read.limits read.starts read.nows (contents writer.inner) (contents written.inner)
+
+-- the words ask for a histogram, and that of what a reader gave was written
+pub record IsHistogramAnswered (words : List Word) (old new : Option (List ℕ)) : Type 0 where
+  pub asks : asks_for_histogram words ≡ true
+  pub start : Option (List ℕ)
+  pub now : Option (List ℕ)
+  pub written : IsHistogramWritten start now old new
+
+-- the words ask for a histogram, which was given up for a cause, by the reader's number of failures before and after
+pub record IsHistogramGivenUp {W : Type 0} (words : List Word) (contents : W → Option (List ℕ)) (writer written : Watched W) : Type 0 where
+  pub asks : asks_for_histogram words ≡ true
+  pub starts : List (Option (List ℕ))
+  pub nows : List (Option (List ℕ))
+  pub olds : List ℕ
+  pub news : List ℕ
+  pub error : SumError
+  pub cause : IsHistogramCause contents starts nows olds news writer written error
+
+-- what the words ask for was written
+abbrev pub IsDone : List Word → Option (List ℕ) → Option (List ℕ) → Type 0
+IsDone words old new = IsAnswered words old new ⊎ IsHistogramAnswered words old new
+
+-- it was given up for a cause
+abbrev pub IsLeft : {W : Type 0} → List Word → (W → Option (List ℕ)) → Watched W → Watched W → Type 0
+IsLeft words contents writer written = IsGivenUp words contents writer written ⊎ IsHistogramGivenUp words contents writer written

@@ -1,11 +1,18 @@
--- The words of a command line that choose the number of a word of both dumps, and the names of the operations.
-use Rattle.std.specs.Prelude.{◌&&◌, ◌==◌, Bool, not, is_some, List, [], ◌∷◌, length, Option, Some, None, option_map, if◌then◌else◌, codes}
+-- The words of a command line that ask for a histogram, those that choose the number of a word of both dumps, and the names of the operations.
+use Rattle.std.specs.Prelude.{◌&&◌, ◌==◌, Bool, false, not, is_some, List, [], ◌∷◌, length, Option, Some, None, option_map, if◌then◌else◌, codes}
 use Rattle.std.specs.Str.{bytes_eq}
-use Rattle.kmc_options.specs.Words.{Word, rest_after}
+use Rattle.kmc_options.specs.Words.{Word, is_file_name, rest_after}
 use Rattle.kmc_join.specs.declared.operation.Choice.{Choice}
 use Rattle.kmc_join.specs.declared.operation.Choice.TheVariants.{Min, Max, Sum, Diff, Left, Right}
 use Rattle.kmc_join.specs.declared.operation.Operation.{Operation}
 use Rattle.kmc_join.specs.declared.operation.Operation.TheVariants.{Intersect, Union, Subtract, CountersSubtract}
+
+-- the words are `histogram` and the name of a file
+abbrev pub asks_for_histogram : List Word → Bool
+asks_for_histogram [] = false
+asks_for_histogram (name ∷ []) = false
+asks_for_histogram (name ∷ file ∷ []) = bytes_eq name (codes "histogram") && is_file_name file
+asks_for_histogram (name ∷ file ∷ more ∷ words) = false
 
 -- an option `-oc`, with what it chooses glued to it
 abbrev pub is_choice : Word → Bool

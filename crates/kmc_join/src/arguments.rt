@@ -1,18 +1,23 @@
-//! The program: from its arguments to the dump of the join and the exit status.
-ghost use Rattle.std.specs.Prelude.{◌≡◌, ◌≢◌, ℕ, ◌-◌, ◌^◌, ◌<◌, ◌≤◌, ◌⊎◌, List, length, map, MatchResult, string_bytes};
+//! The program: from its arguments to the dump of the join, or the histogram, and the exit status.
+ghost use Rattle.std.specs.Prelude.{◌≡◌, ◌≢◌, ℕ, ◌-◌, ◌^◌, ◌<◌, ◌≤◌, ◌⊎◌, List, length, map, MatchResult, string_bytes, true};
 ghost use Rattle.std.specs.Process.{exit_status};
 ghost use Rattle.kmc_options.specs.Words.{Word};
 ghost use Rattle.kmc_sum.specs.Answer.{IsCause};
-ghost use Rattle.kmc_sum.specs.Sources.{failures_of, lefts_of};
+ghost use Rattle.kmc_sum.specs.Sources.{failures_of, left_at, lefts_of};
 ghost use Rattle.kmc_sum.specs.declared.error.SumError.TheVariants.{Memory};
 ghost use Rattle.kmc_join.specs.Request.{Explains};
-ghost use Rattle.kmc_join.specs.Program.{IsAnswered, IsGivenUp};
+ghost use Rattle.kmc_join.specs.Histogram.{IsHistogramWritten};
+ghost use Rattle.kmc_join.specs.Program.{IsAnswered, IsDone, IsGivenUp, IsHistogramAnswered, IsHistogramGivenUp, IsLeft};
 ghost use Rattle.kmc_join.specs.State.{IsBegun, IsJoinWritten};
+ghost use Rattle.kmc_join.specs.Tally.{IsHistogramCause};
+ghost use Rattle.kmc_join.specs.Words.{asks_for_histogram};
 
 use crate::fault::{JoinFault, Message, unnamed};
+use crate::histograms::histogram;
 use crate::joining::join;
 use crate::operation::Operation;
 use crate::request::{JoinRequestError, asked_for};
+use crate::words::asks_for_histogram;
 use kmc_count::Limits;
 use kmc_device::Counted;
 use kmc_options::{arguments, ended};
@@ -123,23 +128,105 @@ pub fn join_files<T: Files + Eprint + Alloc<A = Global>, W: Write>(
     )
 }
 
-/// The whole program: [`join_files`] of the words that the process was given.
+/// Reads the reader of one file to its end, and writes the histogram of the dump that it lists. A fault is shown in one line on standard
+/// error, but for a write to a pipe whose other end is closed. The exit status is 0 where the histogram was written and no device failed,
+/// and else 1.
+pub fn histogram_reader<T: Eprint + Alloc<A = Global>, R: Read, W: Write>(
+    rt: &T,
+    files: &[String],
+    readers: &mut [Counted<R>],
+    writer: &mut Counted<W>,
+) -> ExitCode
+    requires one { length readers.old ≡ 1 }
+    requires writer { writer.old.failures < 2 ^ 64 - 1 }
+    ensures done { exit_status result ≡ 0 → IsHistogramWritten (left_at (lefts_of R.remaining readers.old) 0)
+        (left_at (lefts_of R.remaining readers.new) 0) (W.contents writer.old.inner) (W.contents writer.new.inner)
+        × (failures_of readers.new ≡ failures_of readers.old)
+        × (writer.new.failures ≡ writer.old.failures) }
+    ensures failed { exit_status result ≡ 1
+        → (error : SumError) × IsHistogramCause W.contents (lefts_of R.remaining readers.old)
+        (lefts_of R.remaining readers.new) (failures_of readers.old) (failures_of readers.new)
+        writer.old writer.new error }
+    ensures statuses { exit_status result ≤ 1 }
+{
+    match histogram(rt.alloc(), readers, writer) {
+        Ok(()) => ExitCode::from(0),
+        Err(error) => {
+            let fault = JoinFault::Join(error);
+            ended(rt, Message { files, fault }, writer.is_pipe_closed())
+        }
+    }
+}
+
+/// Reads the file that the words name, and writes the histogram of the dump that it lists. The exit status is 0 where it was written, and
+/// else 1.
+fn histogram_file<T: Files + Eprint + Alloc<A = Global>, W: Write>(
+    rt: &T,
+    words: &[String],
+    writer: &mut Counted<W>,
+) -> ExitCode
+    requires asks { asks_for_histogram (map string_bytes words.now) ≡ true }
+    requires writer { writer.old.failures < 2 ^ 64 - 1 }
+    ensures done { exit_status result ≡ 0
+        → IsHistogramAnswered (map string_bytes words.now) (W.contents writer.old.inner)
+        (W.contents writer.new.inner)
+        × (writer.new.failures ≡ writer.old.failures) }
+    ensures failed { exit_status result ≡ 1 → (writer.new ≡ writer.old)
+        ⊎ IsHistogramGivenUp (map string_bytes words.now) W.contents writer.old writer.new }
+    ensures statuses { exit_status result ≤ 1 }
+{
+    let files = &words[1..];
+    let mut readers = match opened(rt, files) {
+        Ok(readers) => readers,
+        Err(fault) => return ended(rt, Message { files, fault }, false),
+    };
+    histogram_reader(rt, files, readers.as_mut_slice(), writer)
+}
+
+/// Does what the words ask for: [`join_files`], or the histogram of a file where they are `histogram` and its name. A fault is shown in
+/// one line on standard error, but for a write to a pipe whose other end is closed. The exit status is 0 where what they ask for was
+/// written, 2 where they ask for nothing, and else 1.
+pub fn run_words<T: Files + Eprint + Alloc<A = Global>, W: Write>(
+    rt: &T,
+    words: Vec<String>,
+    writer: &mut Counted<W>,
+) -> ExitCode
+    requires { writer.old.failures < 2 ^ 64 - 1 }
+    ensures done { exit_status result ≡ 0
+        → IsDone (map string_bytes words.items) (W.contents writer.old.inner)
+        (W.contents writer.new.inner)
+        × (writer.new.failures ≡ writer.old.failures) }
+    ensures misused { exit_status result ≡ 2
+        → ((e : JoinRequestError) × (e ≢ JoinRequestError.Memory)
+        × Explains (map string_bytes words.items) e)
+        × (writer.new ≡ writer.old) }
+    ensures failed { exit_status result ≡ 1 → (writer.new ≡ writer.old)
+        ⊎ IsLeft (map string_bytes words.items) W.contents writer.old writer.new }
+    ensures statuses { exit_status result ≤ 2 }
+{
+    if asks_for_histogram(&words) {
+        return histogram_file(rt, &words, writer);
+    }
+    join_files(rt, words, writer)
+}
+
+/// The whole program: [`run_words`] of the words that the process was given.
 pub fn program<T: Files + Env + Eprint + Alloc<A = Global>, W: Write>(
     rt: &T,
     writer: &mut Counted<W>,
 ) -> ExitCode
     requires { writer.old.failures < 2 ^ 64 - 1 }
     ensures done { exit_status result ≡ 0 → (words : List Word)
-        × IsAnswered words (W.contents writer.old.inner) (W.contents writer.new.inner)
+        × IsDone words (W.contents writer.old.inner) (W.contents writer.new.inner)
         × (writer.new.failures ≡ writer.old.failures) }
     ensures misused { exit_status result ≡ 2 → writer.new ≡ writer.old }
     ensures failed { exit_status result ≡ 1 → (writer.new ≡ writer.old)
         ⊎ ((words : List Word)
-        × IsGivenUp words W.contents writer.old writer.new) }
+        × IsLeft words W.contents writer.old writer.new) }
     ensures statuses { exit_status result ≤ 2 }
 {
     match arguments(rt) {
-        Ok(Some(words)) => join_files(rt, words, writer),
+        Ok(Some(words)) => run_words(rt, words, writer),
         Ok(None) => ended(
             rt,
             unnamed(JoinFault::Request(JoinRequestError::Usage)),

@@ -10,14 +10,14 @@ use kmc_sum::SumError;
 use std::alloc::AllocError;
 use std::fmt;
 
-/// Why the program ends without its dump. The files are numbered from 0, in the order of the words.
+/// Why the program ends without what it was asked for. The files are numbered from 0, in the order of the words.
 #[derive(Clone, Copy, Debug, PartialEq, Eq)]
 pub enum JoinFault {
     /// The words ask for nothing.
     Request(JoinRequestError),
     /// This file cannot be opened.
     NotOpened(usize),
-    /// The join of the files was given up.
+    /// The join of the files, or the histogram of one, was given up.
     Join(SumError),
 }
 

@@ -1,11 +1,22 @@
-//! The words of a command line that choose the number of a word of both dumps, and the names of the operations.
+//! The words of a command line that ask for a histogram, those that choose the number of a word of both dumps, and the names of the
+//! operations.
 ghost use Rattle.std.specs.Prelude.{◌≡◌, IfOk, map, string_bytes};
 ghost use Rattle.std.specs.List.{filter};
-ghost use Rattle.kmc_join.specs.Words.{choice_named, choice_of, is_choice, is_no_choice, operation_named};
+ghost use Rattle.kmc_join.specs.Words.{asks_for_histogram, choice_named, choice_of, is_choice, is_no_choice, operation_named};
 
 use crate::operation::{Choice, Operation};
-use kmc_options::rest_after;
+use kmc_options::{is_file_name, rest_after};
 use std::alloc::{AllocError, Global};
+
+/// Whether the words are `histogram` and the name of a file.
+pub(crate) fn asks_for_histogram(words: &[String]) -> bool
+    ensures { result ≡ asks_for_histogram (map string_bytes words.now) }
+{
+    match words {
+        [name, file] => name.as_str() == "histogram" && is_file_name(file.as_str()),
+        _ => false,
+    }
+}
 
 /// Whether the word is an option `-oc`.
 fn is_choice(word: &str) -> bool

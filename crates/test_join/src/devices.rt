@@ -78,7 +78,7 @@ fn refuses(
 }
 
 /// The refusal of a source.
-fn at(source: usize, fault: SourceFault) -> SumError {
+pub fn at(source: usize, fault: SourceFault) -> SumError {
     SumError::Source(SourceError { source, fault })
 }
 

@@ -1,9 +1,11 @@
-//! Tests of joins, by public calls alone: each operation on two worked dumps, limits, dumps at fault, devices that fail, and the command
-//! line. Nothing stands on this crate.
+//! Tests of joins and of histograms, by public calls alone: each operation on two worked dumps, limits, dumps at fault, devices that
+//! fail, and the command line. Nothing stands on this crate.
 #![tactic(auto)]
 
 #[cfg(test)]
 mod devices;
+#[cfg(test)]
+mod histograms;
 #[cfg(test)]
 mod operations;
 #[cfg(test)]
