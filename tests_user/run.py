@@ -3,9 +3,9 @@
 
 usage: make tests-user, or tests_user/run.py [WORD ..]      (WORD: tests with this word in their name, or of this file)
 
-The programs kmc, kmc_cut, kmc_list, kmc_merge and kmc_db are those at the top, or in the folder FUTONCRANE_BIN. A test is a function test_NAME(room) in
-a file test_FILE.py, which unittest runs. One whose tools are not installed is skipped, and says what is missing. The last line is
-'N passed, M failed, K skipped', and the status is 1 where a test failed.
+The programs kmc, kmc_cut, kmc_list, kmc_merge and kmc_db are those at the top, or in the folder FUTONCRANE_BIN. A test is a function
+test_NAME(room) in a file test_FILE.py, which unittest runs. One whose tools are not installed is skipped, and says what is missing. The last
+line is 'N passed, M failed, K skipped', and the status is 1 where a test failed.
 """
 import collections
 import importlib

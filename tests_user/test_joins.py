@@ -1,0 +1,81 @@
+"""kmc_db by itself: joins and histograms against a plain count made here, what it refuses, and how it ends."""
+import random
+
+from room import program
+from test_programs import MOST, ended
+
+USAGE = (b"usage: kmc_db union|intersect|subtract|counters-subtract [-oc<choice>] [-ci<n>] [-cx<n>] [-cs<n>] a.dump b.dump, "
+         b"or kmc_db histogram a.dump\n")
+CHOICES = {"min": min, "max": max, "sum": lambda a, b: a + b, "diff": lambda a, b: max(a - b, 0), "left": lambda a, b: a, "right": lambda a, b: b}
+OWN = {"union": "sum", "intersect": "min", "counters-subtract": "diff", "subtract": None}
+
+
+def joined(operation, choice, first, second):
+    """The number of each word of either dump, 0 where it is left out."""
+    numbers = {}
+    for word in {*first, *second}:
+        a, b = first.get(word, 0), second.get(word, 0)
+        both = 0 if operation == "subtract" else CHOICES[choice](a, b)
+        alone = {"union": a or b, "intersect": 0}.get(operation, a)
+        numbers[word] = both if a and b else alone
+    return numbers
+
+
+def text_of(numbers):
+    return "".join("%s\t%d\n" % it for it in sorted(numbers.items())).encode()
+
+
+def a_dump(dice, k):
+    words = {"".join(dice.choices("ACGT", k=k)) for _ in range(dice.choice((0, 1, 9, 300)))}
+    return {word: dice.choice((1, 2, 3, dice.randrange(1, 50), MOST)) for word in words}
+
+
+def test_dumps_are_joined_as_counted_here(room):
+    program("kmc_db")
+    dice = random.Random(5)
+    for _ in range(60):
+        k = dice.choice((1, 2, 4, 31, 64))
+        first, second = a_dump(dice, k), a_dump(dice, k)
+        names = room.write("first", text_of(first)), room.write("second", text_of(second))
+        operation = dice.choice(sorted(OWN))
+        choice = OWN[operation] and dice.choice((None, *CHOICES))
+        ci, cx, cs = dice.choice((0, 1, 3)), dice.choice((20, MOST)), dice.choice((1, 9, MOST))
+        words = (operation, *(["-oc" + choice] if choice else []), "-ci%d" % ci, "-cx%d" % cx, "-cs%d" % cs)
+        numbers = joined(operation, choice or OWN[operation], first, second)
+        wanted = text_of({word: min(n, cs) for word, n in numbers.items() if n and ci <= n <= cx})
+        assert ended(room, "kmc_db", *words, *names) == (0, wanted, b""), words
+
+
+def test_a_histogram_is_as_counted_here(room):
+    program("kmc_db")
+    dice = random.Random(6)
+    for k in (1, 4, 31):
+        counts = list(a_dump(dice, k).items())
+        rows = {}
+        for _, count in counts:
+            rows[count] = rows.get(count, 0) + 1
+        wanted = "".join("%d\t%d\n" % it for it in sorted(rows.items())).encode()
+        assert ended(room, "kmc_db", "histogram", room.write("a.dump", text_of(dict(counts)))) == (0, wanted, b""), k
+
+
+def test_a_join_refuses_wrong_words(room):
+    program("kmc_db")
+    room.write("a", "AC\t2\n")
+    for words in ([], ["union"], ["union", "a"], ["union", "a", "a", "a"], ["join", "a", "a"], ["union", "-ocmean", "a", "a"], ["union", "-oc", "a", "a"],
+                  ["union", "-ocmin", "-ocmax", "a", "a"], ["subtract", "-ocmin", "a", "a"], ["union", "-k31", "a", "a"], ["histogram"],
+                  ["histogram", "-ci1", "a"], ["histogram", "a", "a"], ["--help"]):
+        assert ended(room, "kmc_db", *words) == (2, b"", USAGE), words
+    assert ended(room, "kmc_db", "union", "-cs0", "a", "a") == (2, b"", b"kmc_db: value of -cs is out of range\n")
+
+
+def test_a_join_names_the_file_at_fault(room):
+    program("kmc_db")
+    room.write("a", "AC\t2\nCA\t1\n")
+    room.write("b", "AC\t2\nCAA\t1\n")
+    status, _, told = ended(room, "kmc_db", "union", "a", "b")
+    assert (status, told) == (1, b"kmc_db: b: line 2 has a word of another length\n"), told
+    assert ended(room, "kmc_db", "histogram", "b") == (1, b"", b"kmc_db: b: line 2 has a word of another length\n")
+    assert ended(room, "kmc_db", "union", "a", "c") == (1, b"", b"kmc_db: c: cannot be opened\n")
+    with open("/dev/full", "wb") as full:
+        for words in (("union", "a", "a"), ("histogram", "a")):
+            assert ended(room, "kmc_db", *words, out=full) == (1, None, b"kmc_db: cannot write\n"), words
