@@ -1,4 +1,5 @@
 //! Signatures and the cut: worked rows, refusals, and a table from an independent program.
+mod lengths;
 mod rows;
 
 use crate::tests::given::{
