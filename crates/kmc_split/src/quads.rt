@@ -1,4 +1,4 @@
-//! The candidates of m-mers of 4 to 8 codes: two bytes of four codes that overlap make one, so that places need not be gone through in a row.
+//! The candidates of m-mers of 4 to 8 codes: two bytes of four codes that overlap make one, so that no place waits for the one before.
 ghost use Rattle.std.specs.Prelude.{◌≡◌, ℕ, ◌+◌, ◌-◌, ◌*◌, ◌^◌, ◌<◌, ◌≤◌, length, slice_index};
 ghost use Rattle.std.specs.List.{All};
 ghost use Rattle.kmc_split.specs.Candidates.{pair_marks, packed_candidate};

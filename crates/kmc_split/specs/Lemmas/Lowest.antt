@@ -1,5 +1,5 @@
 -- The least value of a window, by its bounds.
-use Rattle.std.proofs.Common.{◌≡◌, ℕ, zero, suc, ◌+◌, ◌*◌, ◌<◌, ◌≤◌, ◌-◌, ◌^◌, List, length, take, drop, slice_index, min, refl, sym, ap, ◌∙◌, arith, ◌⊎◌, inl, inr, add-zero}
+use Rattle.std.proofs.Common.{◌≡◌, ℕ, zero, suc, ◌+◌, ◌*◌, ◌<◌, ◌≤◌, ◌-◌, ◌^◌, List, take, drop, slice_index, min, refl, sym, ap, ◌∙◌, arith, ◌⊎◌, inl, inr, add-zero}
 use Rattle.std.proofs.lemmas.List.{get_or-take, get_or-drop}
 use Rattle.kmc_base.specs.Lemmas.Powers.{pow_up}
 use Rattle.kmc_split.specs.Minima.{low}
@@ -66,16 +66,6 @@ module _ (at : ℕ → ℕ) where
       let whole : w + w + (w + w) ≡ 4 * w = omega arith in
       ap (λ (j : ℕ). min (min (low at w i) (low at w (i + w))) (min (low at w (i + 2 * w)) (low at w j))) third
       ∙ (λ t. min (front t) (back t)) ∙ ap (λ (j : ℕ). min (low at (w + w) i) (low at (w + w) j)) half ∙ both ∙ ap (λ (n : ℕ). low at n i) whole
-
--- the least values of a list's windows are below what its values are below
-pub minima_fit : (most w : ℕ) (values minima : List ℕ) → 1 ≤ w → length minima + w ≡ length values + 1
-    → ((i : ℕ) → i < length minima → slice_index minima i ≡ low (slice_index values) w i) → ((i : ℕ) → i < length values → slice_index values i ≤ most)
-    → (i : ℕ) → i < length minima → slice_index minima i ≤ most
-minima_fit most w values minima some long is fit i inside =
-    let found = low_is (slice_index values) w i some in
-    let below : slice_index values found.0 ≤ most = fit found.0 (omega arith) in
-    let here : slice_index minima i ≡ slice_index values found.0 = is i inside ∙ found.3 in
-    omega arith
 
 -- the candidates of two rows of places agree
 pub low_shift : (at bt : ℕ → ℕ) (w i j : ℕ) → ((d : ℕ) → d ≤ w → at (i + d) ≡ bt (j + d)) → low at (suc w) i ≡ low bt (suc w) j
