@@ -1,11 +1,11 @@
 """Dumps as they are read: lines of a k-mer, a tab and its count, in the order of the k-mers."""
-import collections
 import operator
 import re
 import signal
 import subprocess
 
-from futoncrane import packing
+from futoncrane import packing, places
+from futoncrane.children import ended, signal_of, told
 from futoncrane.faults import Fault, reason, shown
 from futoncrane.feeding import judge_unpacker, not_unpacked
 
@@ -27,13 +27,29 @@ def blocks(stream):
         yield rest
 
 
-def histogram_of(stream, k):
-    """The number of k-mers of each count in a dump that kmc writes."""
-    numbers, cut = collections.Counter(), operator.itemgetter(slice(k + 1, None))
-    for block in blocks(stream):
-        numbers.update(map(cut, block.split(b"\n")))
-    del numbers[b""]  # what stands behind the last line feed of a block
-    return {int(count): numbers[count] for count in sorted(numbers, key=int)}
+class Histogram:
+    """How many k-mers of a dump have each count, by kmc_db, whose answer is proved: `read` has it read a dump while a program writes that, and
+    `numbers` gives the answer once this program has ended well."""
+
+    def __init__(self, children):
+        self.children, self.rows, self.fault = children, {}, None
+
+    def read(self, stream):
+        child = self.children.start([places.find("kmc_db"), "histogram", "/dev/stdin"], stdin=stream, stdout=subprocess.PIPE)
+        stream.close()
+        rows = [tuple(map(int, line.split())) for line in child.stdout]
+        status, _ = ended(child)
+        if status:
+            self.fault = "kmc_db %s" % signal_of(status) if status < 0 else told(child)
+            if ": line " not in self.fault:  # a line that is none may be the end of a dump whose program failed, which tells its own fault
+                raise Fault(self.fault)
+        self.children.forget(child)
+        self.rows = dict(rows)
+
+    def numbers(self):
+        if self.fault:
+            raise Fault(self.fault)
+        return self.rows
 
 
 class Dump:

@@ -25,10 +25,12 @@ EXAMPLES = ["futoncrane histogram -k 21 --png histogram.png reads_1.fastq.gz rea
 
 def numbers_of(asked, setting, children):
     """The number of k-mers of each count in the reads of the files, or in dumps."""
-    found = {}
-    run.read(asked.files, asked.out, setting, children, lambda stream: found.update(dumps.histogram_of(stream, setting.k)))
-    setting.report.take(found)
-    return found
+    found = dumps.Histogram(children)
+    run.read(asked.files, asked.out, setting, children, found.read)
+    setting.report.step("kmc_db")
+    numbers = found.numbers()
+    setting.report.take(numbers)
+    return numbers
 
 
 def main(asked):
