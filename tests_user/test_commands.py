@@ -195,7 +195,9 @@ def test_a_join_names_what_is_wrong(room):
 def test_compare_names_what_is_wrong(room):
     whole = wanted_dump()
     room.write("whole", whole)
-    room.refuses(1, "25 symbols in whole and 20 in shorter", words=["compare", "whole", room.write("shorter", plainly(content(READS), 20))])
+    room.write("shorter", plainly(content(READS), 20))
+    room.refuses(1, "shorter: line 1 has a word of another length", words=["compare", "whole", "shorter"])
+    room.refuses(1, "25 symbols in whole and 20 in shorter", words=["compare", "--common", "whole", "shorter"])
     room.refuses(1, "unsorted: line 2", words=["compare", "whole", room.write("unsorted", b"".join(reversed(whole.splitlines(keepends=True))))])
     room.refuses(1, "absent", words=["compare", "whole", "absent"])
     lines = whole.splitlines(keepends=True)
