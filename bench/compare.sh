@@ -37,6 +37,8 @@ done
 shift $((OPTIND - 1))
 work=$(mktemp -d)
 trap 'rm -rf "$work"' EXIT
+# as futoncrane starts the program: what is freed goes back to the system
+freed=MALLOC_MMAP_THRESHOLD_=65536
 
 # text_of WORKLOAD: makes its text where it is not there, and prints its name
 text_of() {
@@ -110,7 +112,7 @@ for workload in "$@"; do
         round=0
         while [ "$round" -lt "$rounds" ]; do
             for threads in $counts; do
-                timed "ours_$threads" "$top/kmc -k$k $options $own -sp$threads -sr$threads < $text > $work/ours.dump"
+                timed "ours_$threads" "$freed $top/kmc -k$k $options $own -sp$threads -sr$threads < $text > $work/ours.dump"
                 theirs memory "-k$k $options -r" "$threads" "$text"
                 cmp "$work/ours.dump" "$work/theirs.dump"
                 theirs files "-k$k $options" "$threads" "$text"

@@ -26,6 +26,8 @@ texts=${TEXTS:-$work}
 trap 'touch "$work/ended"; wait; rm -rf "$work"' EXIT
 cd "$work"
 whole="-ci1 -cx9223372036854775808 -cs9223372036854775808"
+# as futoncrane starts the programs: what is freed goes back to the system
+freed=MALLOC_MMAP_THRESHOLD_=65536
 
 # text_of WORKLOAD READS: makes its text where it is not there, and calls it `reads`
 text_of() {
@@ -78,18 +80,18 @@ unwatch() {
 }
 
 in_one_run() {
-    timed one "$top/kmc -k$k -sp$threads -sr$threads < reads > one.dump"
+    timed one "$freed $top/kmc -k$k -sp$threads -sr$threads < reads > one.dump"
 }
 
 in_slices() {
     watch cut
-    timed cut "$top/kmc_cut -k$k -sp$threads -slices$slices cut/part < reads"
+    timed cut "$freed $top/kmc_cut -k$k -sp$threads -slices$slices cut/part < reads"
     cat cut/part.* | wc -c > records
     number=0
     dumps=''
     : > list.times
     while [ "$number" -lt "$slices" ]; do
-        timed list "$top/kmc_list -sr$threads cut/part.$number > cut/dump.$number"
+        timed list "$freed $top/kmc_list -sr$threads cut/part.$number > cut/dump.$number"
         rm "cut/part.$number"
         dumps="$dumps cut/dump.$number"
         number=$((number + 1))
@@ -180,7 +182,7 @@ text_of short "$(($(reads_of short) / 4))"
 for times in ${CUT_TIMES:-1 4 16}; do
     mkdir cut
     rm -f peak.times
-    for _ in $(seq "$times"); do cat reads; done | timed peak "$top/kmc_cut -k$k -sp$threads -slices$slices cut/part"
+    for _ in $(seq "$times"); do cat reads; done | timed peak "$freed $top/kmc_cut -k$k -sp$threads -slices$slices cut/part"
     rm -rf cut
     echo "| $(wc -c < reads | awk -v times="$times" '{ printf "%.1f", times * $1 / 1e9 }') | $(best peak | cut -d ' ' -f 3) |"
 done
