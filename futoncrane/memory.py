@@ -130,7 +130,7 @@ def addresses(room, threads):
 
 def environment():
     """The environment of a program that counts. What it frees, from blocks of 64 KiB on, goes back to the system at once: the C library keeps
-    it otherwise, which takes a quarter more memory and saves no time. What the user says of that stays."""
+    it otherwise, which takes up to two thirds more memory and saves no time. What the user says of that stays."""
     return dict({"MALLOC_MMAP_THRESHOLD_": str(GIVEN_BACK)}, **os.environ)
 
 
