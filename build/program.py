@@ -83,7 +83,7 @@ def build(name, jobs):
     began, is_program = time.time(), os.path.isfile(f"crates/{name}/src/main.rt")
     made = f"out/{name}" if is_program else f"out/rlib/{name}.rlib"
     mark = f"crates/{name}/out/rlib/{name}.built-from-{sum_of(name)}"
-    if os.path.isfile(mark) and os.path.isfile(f"crates/{name}/{made}"):
+    if os.path.isfile(mark) and os.path.exists(f"crates/{name}/{made}"):  # a library is a folder
         return
     shutil.rmtree(os.path.dirname(mark), ignore_errors=True)
     os.makedirs(os.path.dirname(mark))
