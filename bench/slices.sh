@@ -9,12 +9,13 @@
 #
 #   short   SHORT_READS (6000000: 1.3 GB) reads of 100 symbols from a genome of 20 million (30-fold), FASTQ
 #   hifi    LONG_READS (20000: 600 MB) reads of 15,000 symbols from a genome of 10 million (30-fold) with errors in 2 of 1000, FASTQ
+#   plant, fly, plant_fifth, fly_fifth    as bench/compare.sh has them, which are not among those where none is named
 #
-# SLICES (8), THREADS (4), ROUNDS (3) and K (25) are variables too. The programs run in turn, ROUNDS times each; a row has the run with the
-# least wall time. KMC's sorted dump is part of its time. The disk is that of the files of the meantime, without reads and dump, looked at
-# five times a second. FOLDER (of $TMPDIR or /tmp) has the files, as /dev/shm for a file system in memory, which are removed at the end; the
-# texts lie there too, or stay in the folder TEXTS for the next time. The second table has the steps of the slices; the third has the peak of kmc_cut on a quarter of the short reads, as
-# often as CUT_TIMES (1 4 16: 0.3, 1.3 and 5 GB) say.
+# SLICES (8), THREADS (4), ROUNDS (3), K (25) and KMC_GB (2: the memory that KMC 3 is given) are variables too. The programs run in turn,
+# ROUNDS times each; a row has the run with the least wall time. KMC's sorted dump is part of its time. The disk is that of the files of the
+# meantime, without reads and dump, looked at five times a second. FOLDER (of $TMPDIR or /tmp) has the files, as /dev/shm for a file system
+# in memory, which are removed at the end; the texts lie there too, or stay in the folder TEXTS for the next time. The second table has the
+# steps of the slices; the third has the peak of kmc_cut on a quarter of the short reads, as often as CUT_TIMES (1 4 16: 0.3, 1.3 and 5 GB) say.
 set -eu
 top=$(cd "$(dirname "$0")/.." && pwd)
 slices=${SLICES:-8}
@@ -29,9 +30,14 @@ whole="-ci1 -cx9223372036854775808 -cs9223372036854775808"
 # as futoncrane starts the programs: what is freed goes back to the system
 freed=MALLOC_MMAP_THRESHOLD_=65536
 
-# text_of WORKLOAD READS: makes its text where it is not there, and calls it `reads`
-text_of() {
-    text="$texts/slices_$1_$2"
+. "$top/bench/texts.sh"
+
+# linked WORKLOAD READS: makes its text where it is not there, and calls it `reads`
+linked() {
+    case $1 in
+        plant* | fly*) text=$(text_of "$1") ;;
+        *) text="$texts/slices_$1_$2" ;;
+    esac
     if [ ! -f "$text" ]; then
         case $1 in
             short) python3 "$top/bench/simulate_reads.py" "$2" 100 20000000 1 > "$text.part" ;;
@@ -47,6 +53,7 @@ reads_of() {
     case $1 in
         short) echo "${SHORT_READS:-6000000}" ;;
         hifi) echo "${LONG_READS:-20000}" ;;
+        plant* | fly*) echo all ;;
         *) echo "slices.sh: no workload $1" >&2; return 2 ;;
     esac
 }
@@ -109,7 +116,7 @@ in_slices() {
 in_kmc3() {
     watch theirs
     mkdir theirs/files
-    timed kmc3 "kmc -k$k -ci2 -m2 -t$threads reads theirs/base theirs/files > log 2>&1 && kmc_tools -t$threads transform theirs/base dump -s kmc3.dump >> log 2>&1"
+    timed kmc3 "kmc -k$k -ci2 -m${KMC_GB:-2} -t$threads reads theirs/base theirs/files > log 2>&1 && kmc_tools -t$threads transform theirs/base dump -s kmc3.dump >> log 2>&1"
     unwatch
     cmp one.dump kmc3.dump
     rm -rf theirs
@@ -150,7 +157,7 @@ echo "| reads | run | wall s | user s | MB | disk MB | wall, as a part of one ru
 echo "|---|---|---|---|---|---|---|---|"
 for workload; do
     many=$(reads_of "$workload")
-    text_of "$workload" "$many"
+    linked "$workload" "$many"
     size=$(awk -v bytes="$(wc -c < reads)" 'BEGIN { printf "%.1f GB", bytes / 1e9 }')
     symbols=$(awk 'NR % 4 == 2 { n += length($0) } END { print n }' reads)
     rm -f ./*.times
@@ -178,7 +185,7 @@ cat steps
 echo
 echo "| input of kmc_cut, GB | peak MB |"
 echo "|---|---|"
-text_of short "$(($(reads_of short) / 4))"
+linked short "$(($(reads_of short) / 4))"
 for times in ${CUT_TIMES:-1 4 16}; do
     mkdir cut
     rm -f peak.times
