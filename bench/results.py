@@ -4,7 +4,7 @@
 usage: make results    (or bench/results.py [SECTION ..], to measure some sections and keep the others)
 
 The sections are those of the list below, in order. Programs run in turn, but nothing else should run beside them: the machine's load at the
-beginning and at the end of each section is written down. All of it takes some forty minutes; the variable ROUNDS (3) says how often the
+beginning and at the end of each section is written down. All of it takes some sixty minutes; the variable ROUNDS (3) says how often the
 comparisons with KMC 3 run each program, THREADS (1 4) with how many threads. Wants what the scripts want.
 """
 import os
@@ -17,12 +17,14 @@ TOP = os.path.dirname(os.path.dirname(os.path.abspath(__file__)))
 RESULTS = os.path.join(TOP, "bench", "RESULTS.md")
 ROUNDS = os.environ.get("ROUNDS", "3")  # how often the comparisons with KMC 3 run each program
 THREADS = os.environ.get("THREADS", "1 4")  # the numbers of threads
+LARGE = os.environ.get("LARGE", "plant fly").split()  # the large texts, or a fifth of each: LARGE="plant_fifth fly_fifth"
 
 # variables of the scripts that are told with their figures, where they are set
-TOLD = ("SHORT_READS", "LONG_READS", "CUT_TIMES", "SLICES", "K", "FOLDER")
+TOLD = ("SHORT_READS", "LONG_READS", "CUT_TIMES", "SLICES", "K", "KMC_GB", "FOLDER")
 
 # name, heading, command, whether the last line alone is kept
 SECTIONS = [
+    ("size", "At the size that users have, k 31", ["bench/compare.sh", "-r", ROUNDS, "-k", "31", "-t", "4", *LARGE], False),
     ("kmc3", "Time and memory beside KMC 3, k 25", ["bench/compare.sh", "-r", ROUNDS, "-t", THREADS], False),
     ("k", "Other lengths of words, short reads", ["bench/compare.sh", "-r", ROUNDS, "-k", "1 2 3 4 5 6 7 8 9 10 11 12 31 55", "-t", "4", "short"], False),
     ("deep", "Short words, 88-fold", ["bench/compare.sh", "-r", ROUNDS, "-k", "1 2 3 4 5 6 7 8 9 10 11 12", "-t", "4", "deep"], False),
@@ -112,18 +114,31 @@ def told_of(sections, name):
     return found.group(1) if found else "not measured"
 
 
-def of_four_threads(sections):
-    """The cells of the rows of the comparison with KMC 3 that have four threads."""
-    rows = [[cell.strip() for cell in row.strip("|").split("|")] for row in rows_of(sections, "kmc3")[2:]]
+def of_four_threads(sections, name="kmc3"):
+    """The cells of the rows of a comparison with KMC 3 that have four threads."""
+    rows = [[cell.strip() for cell in row.strip("|").split("|")] for row in rows_of(sections, name)[2:]]
     return [cells for cells in rows if cells[2] == "4"]
 
 
+# the rows of README's table, with what each text is
+HEADLINE = {
+    "plant": "24 million reads of 150 bases, 7.5 GB",
+    "plant_fifth": "4.8 million reads of 150 bases, 1.5 GB",
+    "fly": "240,000 reads of 15,000 bases, 7.2 GB",
+    "fly_fifth": "48,000 reads of 15,000 bases, 1.4 GB",
+    "short": "1.5 million reads of 100 bases, 0.3 GB",
+    "genome": "a genome of 100 million bases, each k-mer listed",
+}
+
+
 def headline(sections):
-    """README's sentence: how much of KMC 3's time and memory is taken."""
-    time_parts, memory_parts = (sorted(float(cells[it]) for cells in of_four_threads(sections)) for it in (10, 11))
-    return ["Beside KMC 3.2.1, with four threads and k 25, it takes %.2f to %.2f of the time and %.2f to %.2f of the memory, on five kinds of reads" % (
-                time_parts[0], time_parts[-1], memory_parts[0], memory_parts[-1]),
-            "(measured %s; [bench/RESULTS.md](bench/RESULTS.md), [docs/KMC3.md](docs/KMC3.md))." % told_of(sections, "kmc3")]
+    """README's table: how much of KMC 3's time and memory is taken, on large and small reads and a genome."""
+    rows = [cells for name in ("size", "kmc3") for cells in of_four_threads(sections, name) if cells[0] in HEADLINE]
+    lines = ["| four threads | k | seconds | KMC 3 | time, of KMC 3's | memory, of KMC 3's |", "|---|---|---|---|---|---|"]
+    lines += ["| %s | %s | %s | %s | %s | %s |" % (HEADLINE[cells[0]], cells[1], cells[3], cells[6], cells[10], cells[11]) for cells in rows]
+    dates = sorted({told_of(sections, name) for name in ("size", "kmc3") if name in sections})
+    return [*lines, "", "KMC 3.2.1 in the faster of its two modes, with its sorted dump; the dumps are equal byte for byte (measured %s;" % " and ".join(dates),
+            "[bench/RESULTS.md](bench/RESULTS.md), [docs/KMC3.md](docs/KMC3.md))."]
 
 
 def table(sections):
