@@ -109,6 +109,7 @@ pub(crate) fn cut_rounds<T: Threads + Wait + Sync, R: Read, W: Write, G: Gate + 
         (map (λ w. W.contents w.inner) writers.new)) }
 {
     let settings = &dealing.settings;
+    let mut bins = Bins::new(dealing.alloc, settings.shape)?;
     let mut feeder = Feeder::new(dealing.alloc, settings.format);
     let most = reader.reads() + max_reads;
     let mut more = match fill_round(
@@ -125,14 +126,15 @@ pub(crate) fn cut_rounds<T: Threads + Wait + Sync, R: Read, W: Write, G: Gate + 
         if !more {
             return cut_last_round(rt, feeder, writers, counts, dealing);
         }
-        let (bins, goes_on) = match next_bins(rt, dealing, reader, &mut feeder, most) {
+        let (next, goes_on) = match next_bins(rt, dealing, bins, reader, &mut feeder, most) {
             Ok(next) => next,
             Err(e) => return Err(told(e)),
         };
-        match write_bins(writers, counts, &bins) {
+        match write_bins(writers, counts, &next) {
             Ok(()) => more = goes_on,
             Err(s) => return Err(CutError::Write(s)),
         }
+        bins = next;
     }
     Err(CutError::TooLong)
 }

@@ -4,6 +4,7 @@ ghost use Rattle.std.specs.Io.KnownBytes.{IsAtEnd};
 ghost use Rattle.kmc_reads.specs.declared.format.Format.{Format};
 ghost use Rattle.kmc_reads.specs.Standing.{StandsCut};
 ghost use Rattle.kmc_stage_one.specs.Fed.{AreCounts, AreCountsOf};
+ghost use Rattle.kmc_store.specs.Bins.{empty_bins};
 ghost use Rattle.kmc_slices.specs.Rounds.{IsRound, IsRoundError};
 
 use kmc_device::Counted;
@@ -12,19 +13,37 @@ use kmc_reads::{Feeder, InputError};
 use kmc_stage_one::{Dealing, feed_round, take_round};
 use kmc_store::Bins;
 use kmc_store::laws::empty_bins_hold_no_reads;
+use std::alloc::{AllocError, Global};
 use std::io::Read;
 use std::sync::Wait;
 use std::thread::Threads;
 
-/// Fresh bins of the reads that wait in the feeder, made in threads while this thread reads and feeds the next round, and
-/// whether the text goes on. No read is made once `most` of them gave bytes.
+/// The bins without their records. Their bodies keep their memory, so that those of the next round need not grow anew.
+pub(crate) fn emptied(alloc: Global, bins: Bins) -> Result<Bins, AllocError>
+    ensures { IfOk result (λ b. b ≡ empty_bins bins.shape) }
+{
+    let shape = bins.shape();
+    let mut bodies = Vec::with_capacity(alloc, shape.n())?;
+    let mut words = Vec::with_capacity(alloc, shape.n())?;
+    for mut body in bins.into_bodies() {
+        body.clear();
+        bodies.push(body)?;
+        words.push(0)?;
+    }
+    Ok(Bins::of_bodies(shape, bodies, words))
+}
+
+/// The bins of the reads that wait in the feeder, made in threads while this thread reads and feeds the next round, and
+/// whether the text goes on. No read is made once `most` of them gave bytes. They take the memory of the bins of another round.
 pub(crate) fn next_bins<T: Threads + Wait + Sync, R: Read, G: Gate + Sync>(
     rt: &T,
     dealing: &Dealing<'_, G>,
+    last: Bins,
     reader: &mut Counted<R>,
     feeder: &mut Feeder,
     most: u64,
 ) -> Result<(Bins, bool), InputError>
+    requires shape { last.shape ≡ dealing.now.settings.shape }
     requires failures { reader.old.failures < 2 ^ 64 - 1 }
     requires reads { reader.old.reads ≤ most }
     ensures shape { IfOk result (λ p. p.0.shape ≡ dealing.now.settings.shape) }
@@ -46,9 +65,8 @@ pub(crate) fn next_bins<T: Threads + Wait + Sync, R: Read, G: Gate + Sync>(
         (R.remaining reader.new.inner) reader.old.reads reader.new.reads text taken feeder.new) }
 {
     empty_bins_hold_no_reads();
-    let shape = dealing.settings.shape;
-    let mut bins = Bins::new(dealing.alloc, shape)?;
-    let round = take_round(feeder, dealing.alloc, shape)?;
+    let mut bins = emptied(dealing.alloc, last)?;
+    let round = take_round(feeder, dealing.alloc, dealing.settings.shape)?;
     let (stored, fed) = feed_round(rt, &mut bins, &round, dealing, reader, feeder, most);
     let more = fed?;
     stored?;

@@ -18,7 +18,7 @@ use std::sync::Wait;
 use std::thread::Threads;
 
 /// A round of a cut is full with so many symbols: two rounds and the records of one are most of its memory.
-const ROUND: usize = 1 << 23;
+const ROUND: usize = 1 << 24;
 
 /// The headers, the rounds and the ends: the end of a file is written once all rounds are.
 fn cut_files<T: Threads + Wait + Sync, R: Read, W: Write, G: Gate + Sync>(

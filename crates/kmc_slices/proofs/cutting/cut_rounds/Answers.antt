@@ -1,7 +1,8 @@
 use Rattle.std.proofs.Common.{◌≡◌, ◌<◌, ◌^◌, ◌+◌, ◌-◌, ℕ, List, [], ◌++◌, Ok, OnErr, length, map, slice_index, refl, sym, ap, subst, ◌∙◌, arith}
 use Rattle.kmc_device.specs.Device.{Watched}
-use Rattle.kmc_device.specs.Lemmas.Devices.{on_ok, on_ok_then}
+use Rattle.kmc_device.specs.Lemmas.Devices.{on_err, on_ok, on_ok_then}
 use Rattle.kmc_record.specs.Shapes.{Sizes}
+use Rattle.kmc_store.specs.Bins.{BinList}
 use Rattle.kmc_stage_one.specs.Fed.{AreCountsOf}
 use Rattle.kmc_stage_one.specs.Rounds.{HoldsPieces}
 use Rattle.kmc_stage_one.specs.Lemmas.Fed.{counts_on, risen, unfaulted}
@@ -10,6 +11,11 @@ use Rattle.kmc_slices.specs.Rounds.{AreLastRounds, AreRounds, AreUnended}
 use Rattle.kmc_slices.proofs.Rounds.{rounds_unended}
 use Rattle.kmc_slices.proofs.Told.{last_cause, last_counts, refused_since, taken_since, told_cause, told_counts, told_writes, writes_on}
 use Rattle.kmc_slices.proofs.cutting.cut_rounds.Goals as goal
+
+pub returns-in_err-bins-clause-left : goal.returns-in_err-bins-clause-left
+returns-in_err-bins-clause-left g c = λ olds before.
+    on_err c.from_residual.result _ (rounds_unended c.args.dealing.now.settings.shape c.args.dealing.now.limit
+    (length c.args.writers.now) olds [] _ c.args.counts.now before)
 
 pub returns-in-Err-clause-cause : goal.returns-in-Err-clause-cause
 returns-in-Err-clause-cause g c =
@@ -35,6 +41,7 @@ loop-init g c =
       below = r.below;
       under = r.under;
       ended = λ e. c.in-Ok.ensures.at_end (ap Ok e);
+      shaped = ap (λ (b : BinList). b.shape) c.in_ok-bins.ensures;
       wide = refl;
       counted = refl;
       same = refl;
@@ -173,6 +180,7 @@ loop-preserved g c =
       below = r.below;
       under = r.under;
       ended = c.in-Ok-next_bins.ensures.at_end;
+      shaped = shaped;
       wide = c.write_bins.auto.writers ∙ inv.wide;
       counted = c.write_bins.auto.counts ∙ inv.counted;
       same = c.in-Ok-write_bins.ensures.kept ∙ inv.same;

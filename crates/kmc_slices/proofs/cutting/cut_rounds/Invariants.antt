@@ -11,6 +11,7 @@ invariant-loop g l = record {
   below : l.reader.reads ≤ l.most;
   under : l.more ≡ false → l.reader.reads < l.most;
   ended : l.more ≡ false → IsAtEnd (g.R.Read.remaining l.reader.inner);
+  shaped : l.bins.shape ≡ l.dealing.settings.shape;
   wide : length l.writers ≡ length l.fn.writers;
   counted : length l.counts ≡ length l.fn.counts;
   same : map (λ w. w.failures) l.writers ≡ map (λ w. w.failures) l.fn.writers;

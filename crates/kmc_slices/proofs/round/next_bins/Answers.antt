@@ -22,7 +22,8 @@ pub returns-clause-round : goal.returns-clause-round
 returns-clause-round g c = λ format text taken s.
     let dealing = c.args.dealing.now in let shape = dealing.settings.shape in let round = c.in_ok-round.round in
     let old = c.args.reader.now in let new = c.feed_round-stored.new.reader in
-    let empty : c.in_ok-bins.bins ≡ empty_bins shape = c.in_ok-bins.ensures in
+    let empty : c.in_ok-bins.bins ≡ empty_bins shape =
+    subst (λ t. c.in_ok-bins.bins ≡ empty_bins t) c.requires.shape c.in_ok-bins.ensures in
     let none = subst (λ (b : BinList). HoldsReads shape [] b.bodies) (sym empty) (c.empty_bins_hold_no_reads.ensures shape) in
     let fed = c.feed_round-stored.ensures.fed (dealing.settings.shape.k - 1) format text (taken ++ round)
     (c.in_ok-round.ensures.stands format text taken s) in
