@@ -70,9 +70,8 @@ def finish(output, note, report, quiet):
     if path and is_ours(path):
         with contextlib.suppress(OSError):
             os.unlink(path)
-    output.finish()
-    if report.is_told or path:
-        report.totals["listed"] = output.lines()
+    output.finish(is_counted=report.is_told or path is not None)
+    report.totals["listed"] = output.lines()
     if note and note["min"] <= 1 and note["max"] is None and not note["slices"]:
         report.totals["distinct"] = report.totals["listed"]
     if path and note:

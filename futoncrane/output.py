@@ -71,6 +71,48 @@ class Counter(threading.Thread):
         os.close(self.source)
 
 
+class Flush(threading.Thread):
+    """Has what is written to a file go to the disk while more is written, so that little is left to wait for at the end."""
+    SECONDS = 1
+
+    def __init__(self, file):
+        super().__init__(daemon=True)
+        self.file, self.over = file, threading.Event()
+
+    def run(self):
+        while not self.over.wait(self.SECONDS):
+            with contextlib.suppress(OSError):  # the wait at the end tells
+                os.fdatasync(self.file)
+
+    def end(self):
+        self.over.set()
+        self.join()
+
+
+class Lines(threading.Thread):
+    """Counts the lines of a plain file that the memory still holds, from a place on; none of another file."""
+
+    def __init__(self, path, place):
+        super().__init__(daemon=True)
+        self.count = self.file = None
+        with contextlib.suppress(OSError):
+            self.file = open(path, "rb", buffering=0)  # now: the file may have another name before the thread runs
+            self.file.seek(place)
+
+    def run(self):
+        with contextlib.suppress(OSError, AttributeError), self.file as file:
+            kind = os.fstat(file.fileno())
+            if stat.S_ISREG(kind.st_mode) and kind.st_size <= of_machine() // 2:
+                self.count = sum(block.count(b"\n") for block in iter(lambda: file.read(BLOCK), b""))
+
+
+def begun(thread):
+    """Starts a thread. It holds signals back for good: they are the main thread's."""
+    with held_signals():
+        thread.start()
+    return thread
+
+
 class Output:
     """The answer's file. `descriptor` is what a program writes to; `finish` gives the file its name. Left before, it leaves nothing.
     `is_made` tells whether it is a file of its own, and no device, pipe or standard output."""
@@ -78,7 +120,7 @@ class Output:
     def __init__(self, name, children, is_last=True, threads=1, form="text"):
         self.name, self.children, self.is_last, self.threads, self.form = name, children, is_last, threads, form
         self.shown = "standard output" if name is None else shown(name)
-        self.work = self.packer = self.packing = self.counter = None
+        self.work = self.packer = self.packing = self.counter = self.counted = self.flush = None
         self.is_made, self.start = False, 0
         self.descriptor = self.file = 1
 
@@ -107,11 +149,11 @@ class Output:
         self.packer = self.children.start(command, stdin=source, stdout=self.file)
         os.close(source)
         source, self.descriptor = os.pipe()
-        self.counter = Counter(source, sink)
-        with held_signals():  # the thread holds them back for good: they are the main thread's
-            self.counter.start()
+        self.counter = begun(Counter(source, sink))
 
     def __exit__(self, *fault):
+        if self.flush:
+            self.flush.end()
         for descriptor in {self.descriptor, self.file} - {1, None}:
             with contextlib.suppress(OSError):
                 os.close(descriptor)
@@ -131,6 +173,7 @@ class Output:
             TEMPORARY.add(self.work)
         self.descriptor = self.file
         os.fchmod(self.file, mode)
+        self.flush = begun(Flush(self.file))
 
     def let_go(self):
         """Closes what a program writes to, once that program has it: the packer sees the end when the program ends."""
@@ -138,8 +181,8 @@ class Output:
             os.close(self.descriptor)
             self.descriptor = None
 
-    def finish(self):
-        """Waits until all is on the disk, and gives the file its name."""
+    def finish(self, is_counted=False):
+        """Waits until all is on the disk, and gives the file its name. Meanwhile its lines are counted, if they are wanted."""
         self.let_go()
         if self.packer:
             self.counter.join()
@@ -147,9 +190,12 @@ class Output:
             if status:
                 raise Fault("%s: it cannot be packed by %s (%s)%s" % (
                     self.shown, self.packing, signal_of(status) or told(self.packer) or "status %d" % status, self.why()))
+        if is_counted and not self.packer and (self.is_made or self.name is None):
+            self.counted = begun(Lines(self.work or "/proc/self/fd/1", self.start))
         if self.work is None:
             return
         try:
+            self.flush.end()
             os.fsync(self.file)
             if self.is_last:
                 too_late()
@@ -165,20 +211,13 @@ class Output:
             raise Fault("%s: %s" % (self.shown, reason(fault))) from None
 
     def lines(self):
-        """How many lines the answer has, where it is packed, or a plain file that the memory still holds; else none."""
+        """How many lines the answer has, where it is packed, or where they were counted; else none."""
         if self.counter:
             return self.counter.lines
-        if self.name and not self.is_made:
+        if self.counted is None:
             return None
-        try:
-            with open(self.name or "/proc/self/fd/1", "rb", buffering=0) as file:
-                kind = os.fstat(file.fileno())
-                if not stat.S_ISREG(kind.st_mode) or kind.st_size > of_machine() // 2:
-                    return None
-                file.seek(self.start)
-                return sum(block.count(b"\n") for block in iter(lambda: file.read(BLOCK), b""))
-        except OSError:
-            return None
+        self.counted.join()
+        return self.counted.count
 
     def is_closed(self):
         """Whether nobody reads any more what is written."""
