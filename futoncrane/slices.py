@@ -3,7 +3,7 @@ the dumps, which share no word, are merged. kmc_cut, kmc_list and kmc_merge do i
 import os
 import subprocess
 
-from futoncrane import folders, memory, merging, places, progress, shared
+from futoncrane import folders, memory, merging, places, progress, ranges, shared
 from futoncrane.children import TEMPORARY, ended, held_signals, told
 from futoncrane.faults import Fault, Misuse, shown
 from futoncrane.memory import human
@@ -101,7 +101,8 @@ class Work:
         if not self._is_cut():
             self._cut()
         dumps = [self._list(number) for number in range(self.slices)]
-        merging.merge(dumps, merging.WHOLE, self.children, self.setting, lambda: self.path, output, reader)
+        if reader or not ranges.merged(dumps, merging.WHOLE, self.children, self.setting, output):
+            merging.merge(dumps, merging.WHOLE, self.children, self.setting, lambda: self.path, output, reader)
         if not self.kept:
             folders.dropped(self.path)
 
