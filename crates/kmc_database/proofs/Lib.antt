@@ -1,0 +1,9 @@
+mod Beginnings
+mod Bytes
+mod Exits
+mod Gathering
+mod Ranges
+mod ReadBack
+mod SoFar
+mod Tables
+mod Words

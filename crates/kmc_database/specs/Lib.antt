@@ -1,0 +1,11 @@
+pub mod Answer
+pub mod Beginning
+pub mod Begun
+pub mod Ending
+pub mod Files
+pub mod Form
+pub mod Laws
+pub mod Layout
+pub mod Numbers
+pub mod RefusalNumbers
+pub mod Rows

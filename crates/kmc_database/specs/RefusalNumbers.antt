@@ -1,0 +1,14 @@
+-- The numbers of the refusals.
+use Rattle.std.specs.Prelude.{ℕ}
+use Rattle.kmc_database.specs.declared.error.PackError.{PackError}
+use Rattle.kmc_database.specs.declared.error.PackError.TheVariants.{Source, Empty, Prefix, TooGreat, WritePrefix, WriteSuffix, Memory, TooLong}
+
+abbrev pub number_of_pack_error : PackError → ℕ
+number_of_pack_error (Source _) = 1
+number_of_pack_error Empty = 2
+number_of_pack_error (Prefix _) = 3
+number_of_pack_error (TooGreat _) = 4
+number_of_pack_error WritePrefix = 5
+number_of_pack_error WriteSuffix = 6
+number_of_pack_error Memory = 7
+number_of_pack_error TooLong = 8
