@@ -2,20 +2,15 @@
 use Rattle.std.proofs.Common.{◌≡◌, ℕ, zero, suc, ◌^◌, ◌<◌, ◌≤◌, ◌⊎◌, inl, inr, cond, true, false, max, unwrap_or, List, [], ◌∷◌, ◌++◌, Option, Some, None, refl, sym, ap, subst, ◌∙◌, arith}
 use Rattle.std.specs.Io.KnownBytes.{Consumes}
 use Rattle.kmc_base.specs.Packed.{unpack}
-use Rattle.kmc_device.specs.Device.{GaveAll, RisesByOne, Watched}
-use Rattle.kmc_sum.specs.Faults.{GaveFront, IsFaultAt}
+use Rattle.kmc_device.specs.Device.{GaveAll, Watched}
+use Rattle.kmc_sum.specs.Faults.{GaveFront}
 use Rattle.kmc_sum.specs.Heads.{pending}
 use Rattle.kmc_sum.specs.Listed.{IsLength}
 use Rattle.kmc_sum.specs.Refusals.{BeginsWith}
 use Rattle.kmc_sum.specs.Source.{unread}
 use Rattle.kmc_sum.specs.Sources.{Agrees, IsSource}
-use Rattle.kmc_sum.specs.declared.error.LineFault.{LineFault}
-use Rattle.kmc_sum.specs.declared.error.LineFault.TheVariants.{OtherLength}
-use Rattle.kmc_sum.specs.declared.error.SourceFault.{SourceFault}
-use Rattle.kmc_sum.specs.declared.error.SourceFault.TheVariants.{Line, Read}
 use Rattle.kmc_sum.specs.declared.heads.Head.{Head}
 use Rattle.kmc_sum.specs.declared.source.Room.{Room}
-use Rattle.kmc_database.specs.Answer.{Failures, IsSourceFault}
 use Rattle.kmc_database.specs.Beginning.{IsBeginning}
 use Rattle.kmc_database.specs.Form.{form_of, IsAskedLength}
 use Rattle.kmc_database.specs.Layout.{IsLayout, layout_of}
@@ -57,24 +52,6 @@ agrees found k is = go found is
     go (suc n) e = inr (omega (arith, e))
 
 -- ---- refusals
-
-pub source_fault : (o : PackOptions) (sound : (k : ℕ) → o.k ≡ Some k → IsLength k) (start now : Option (List ℕ)) (old new : Failures)
-    (fault : SourceFault) → (fault ≡ Read → RisesByOne old.reader new.reader)
-    → ((line : ℕ) (f : LineFault) → fault ≡ Line line f → (m : ℕ) × IsLength m × IsFaultAt m start now line f
-    × (f ≡ OtherLength → (m ≡ unwrap_or o.k 0) ⊎ (2 ≤ line)))
-    → IsSourceFault o start now old new fault
-source_fault o sound start now old new Read read line = read refl
-source_fault o sound start now old new (Line n f) read line =
-    let h = line n f refl in (
-      h.0,
-      h.1,
-      h.2,
-      λ other. known h.1 (h.3 other),
-    )
-  where
-    known : {m : ℕ} → IsLength m → (m ≡ unwrap_or o.k 0) ⊎ (2 ≤ n) → (o.k ≡ Some m) ⊎ (2 ≤ n)
-    known long (inl same) = inl (some_asked o.k sound _ long.0 (sym same))
-    known long (inr two) = inr two
 
 -- a source that is at its end gave nothing
 pub gave_nothing : (k : ℕ) (start now : Option (List ℕ)) (room : Room) (head : Head) → head.live ≡ false → IsSource k start now room head []

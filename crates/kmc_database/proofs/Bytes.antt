@@ -1,6 +1,8 @@
 -- The bytes of numbers, from both sides.
-use Rattle.std.proofs.Common.{◌≡◌, ℕ, zero, suc, ◌+◌, ◌-◌, ◌*◌, ◌/◌, ◌%◌, ◌^◌, ◌<◌, ◌≤◌, List, [], ◌∷◌, length, take, drop, refl, sym, ap, subst, ◌∙◌, arith, take_all}
+use Rattle.std.proofs.Common.{◌≡◌, ℕ, zero, suc, ◌+◌, ◌-◌, ◌*◌, ◌/◌, ◌%◌, ◌^◌, ◌<◌, ◌≤◌, List, [], ◌∷◌, length, get_or, take, drop, refl, sym, ap, subst, ◌∙◌, arith, take_all}
 use Rattle.std.proofs.Math.ListN.{drop_of_length-le}
+use Rattle.std.proofs.Math.Pow.{pow_mono}
+use Rattle.std.proofs.lemmas.Nat.{pow-add}
 use Rattle.std.proofs.Math.Nat.{div-div-eq-div-mul, pow-succ'}
 use Rattle.std.specs.Int.{byte_at, bytes_high_first, bytes_low_first, to_le_bytes, w32, w64}
 use Rattle.std.specs.List.{AllByRecursion}
@@ -75,3 +77,29 @@ packed_high s n =
     let none : drop (4 * s) (codes_in bs) ≡ [] =
     ap (drop (4 * s)) codes ∙ drop_of_length-le (unpack (4 * s) n) (omega (arith, length_unpack (4 * s) n)) in
     ap packed_codes (sym all) ∙ packed_back (4 * s) bs (are_bytes s n) size (subst (AllByRecursion (λ c. c ≡ 0)) (sym none) tt)
+
+-- ---- how much bytes hold
+
+pub bits_of_bytes : (c : ℕ) → 2 ^ (8 * c) ≡ 256 ^ c
+bits_of_bytes zero = refl
+bits_of_bytes (suc c) =
+    let more : 8 * suc c ≡ 8 + 8 * c = omega arith in
+    ap (λ e. 2 ^ e) more ∙ pow-add 2 8 (8 * c) ∙ omega (arith, bits_of_bytes c, pow-succ' 256 c)
+
+-- seven bytes and fewer leave room for one more in a `u64`
+pub few_held : (i : ℕ) → i < 8 → 256 ^ i ≤ 2 ^ 56
+few_held i few =
+    let most : 8 * i ≤ 56 = omega (arith, few) in
+    let up : 2 ^ (8 * i) ≤ 2 ^ 56 = pow_mono most in
+    subst (λ n. n ≤ 2 ^ 56) (bits_of_bytes i) up
+
+-- a number that fits its bytes
+pub low_same : (k a b : ℕ) → a < 256 ^ k → b < 256 ^ k → low_first k a ≡ low_first k b → a ≡ b
+low_same zero a b ha hb e = omega arith
+low_same (suc k) a b ha hb e =
+    let head : a % 256 ≡ b % 256 = ap (λ (t : List ℕ). get_or t 0 0) e in
+    let rest : low_first k (a / 256) ≡ low_first k (b / 256) = ap (drop 1) e in
+    let power : 256 ^ suc k ≡ 256 * 256 ^ k = pow-succ' 256 k in
+    let fa : a / 256 < 256 ^ k = omega (arith, ha, power) in
+    let fb : b / 256 < 256 ^ k = omega (arith, hb, power) in
+    omega (arith, head, low_same k (a / 256) (b / 256) fa fb rest)

@@ -2,6 +2,7 @@ mod Beginnings
 mod Bytes
 mod Exits
 mod Gathering
+mod HeaderParts
 mod Ranges
 mod ReadBack
 mod SoFar

@@ -1,6 +1,5 @@
 -- The files of a database tell its pairs.
 use Rattle.std.proofs.Common.{◌≡◌, ℕ, zero, suc, ◌+◌, ◌-◌, ◌*◌, ◌/◌, ◌%◌, ◌^◌, ◌<◌, ◌≤◌, ◌⊎◌, inl, inr, cond, nat_lt, List, [], ◌∷◌, ◌++◌, length, get_or, take, drop, refl, sym, ap, subst, ◌∙◌, arith, length-append, length-drop}
-use Rattle.std.proofs.Math.Nat.{pow-succ'}
 use Rattle.std.proofs.lemmas.Bool.{le-ltb, lt-ltb}
 use Rattle.std.proofs.lemmas.Bool.Decides.{nat_tests}
 use Rattle.std.proofs.lemmas.List.{append_cancel_left, append_cancel_right, drop_at, length-take-le, take-append-drop, take_at}
@@ -20,13 +19,13 @@ use Rattle.kmc_base.specs.Lemmas.Spelled.{codes_packed, length_packed, zeros_to_
 use Rattle.kmc_count.specs.Dump.{words_of}
 use Rattle.kmc_count.specs.Lemmas.PackedRuns.{cmp_packed}
 use Rattle.kmc_sum.specs.Listed.{AreListed, IsPair}
-use Rattle.kmc_database.specs.Files.{CountsFit, header_of, IsDatabase, limits_of, prefix_file, prefix_marker, strands_of, suffix_file, suffix_marker}
+use Rattle.kmc_database.specs.Files.{CountsFit, header_of, IsDatabase, limits_of, prefix_marker, strands_of, suffix_file, suffix_marker}
 use Rattle.kmc_database.specs.Layout.{IsLayout}
 use Rattle.kmc_database.specs.Numbers.{low_first}
 use Rattle.kmc_database.specs.Rows.{entries, first_part, number_below, row_of, rows_of, table_of}
 use Rattle.kmc_database.specs.declared.form.Form.{Form}
 use Rattle.kmc_database.specs.declared.layout.Layout.{Layout}
-use Rattle.kmc_database.proofs.Bytes.{length_low}
+use Rattle.kmc_database.proofs.Bytes.{length_low, low_same}
 use Rattle.kmc_database.proofs.Words.{part_fits, part_is, quotient_up}
 
 -- two texts with fronts of one length
@@ -36,17 +35,6 @@ cut_same xs ys us vs long e =
       sym (take_at xs ys n refl) ∙ ap (take n) e ∙ take_at us vs n (sym long),
       sym (drop_at xs ys n refl) ∙ ap (drop n) e ∙ drop_at us vs n (sym long),
     )
-
--- a number that fits its bytes
-pub low_same : (k a b : ℕ) → a < 256 ^ k → b < 256 ^ k → low_first k a ≡ low_first k b → a ≡ b
-low_same zero a b ha hb e = omega arith
-low_same (suc k) a b ha hb e =
-    let head : a % 256 ≡ b % 256 = ap (λ (t : List ℕ). get_or t 0 0) e in
-    let rest : low_first k (a / 256) ≡ low_first k (b / 256) = ap (drop 1) e in
-    let power : 256 ^ suc k ≡ 256 * 256 ^ k = pow-succ' 256 k in
-    let fa : a / 256 < 256 ^ k = omega (arith, ha, power) in
-    let fb : b / 256 < 256 ^ k = omega (arith, hb, power) in
-    omega (arith, head, low_same k (a / 256) (b / 256) fa fb rest)
 
 codes_back : (s : List ℕ) → AreCodes s → take (length s) (codes_in (packed_codes s)) ≡ s
 codes_back s h = ap (take (length s)) (codes_packed s h) ∙ take_at s (zeros_to_byte s) (length s) refl
@@ -190,13 +178,6 @@ module _ (l : Layout) (is : IsLayout l) where
 
   -- ---- the table
 
-  pub length_entries : (pairs : List (List ℕ × ℕ)) (a n : ℕ)
-      → length (flat_map (λ i. low_first 8 (number_below l pairs i)) (range_with_len a n)) ≡ 8 * n
-  length_entries pairs a zero = refl
-  length_entries pairs a (suc n) =
-      let f = λ (i : ℕ). low_first 8 (number_below l pairs i) in
-      omega (arith, length-append (f a) (flat_map f (range_with_len (a + 1) n)), length_low 8 (number_below l pairs a), length_entries pairs (a + 1) n)
-
   entries_same : (pairs others : List (List ℕ × ℕ)) (a n : ℕ) → length pairs < 2 ^ 64 → length others < 2 ^ 64
       → flat_map (λ i. low_first 8 (number_below l pairs i)) (range_with_len a n)
       ≡ flat_map (λ i. low_first 8 (number_below l others i)) (range_with_len a n)
@@ -226,25 +207,70 @@ module _ (l : Layout) (is : IsLayout l) where
       → (i : ℕ) → i < 4 ^ l.prefix → number_below l pairs i ≡ number_below l others i
   tables_same pairs others few few' e i inside = entries_same pairs others 0 (4 ^ l.prefix) few few' e i (omega arith) (omega (arith, inside))
 
-pub one_list : (f : Form) (pairs others : List (List ℕ × ℕ)) (prefix_bytes suffix_bytes : List ℕ) → IsDatabase f pairs prefix_bytes suffix_bytes
-    → IsDatabase f others prefix_bytes suffix_bytes → pairs ≡ others
-one_list f pairs others prefix_bytes suffix_bytes h g =
+-- ---- the header
+
+-- two texts with ends of one length
+cut_end : (xs ys us vs : List ℕ) → length ys ≡ length vs → xs ++ ys ≡ us ++ vs → (xs ≡ us) × (ys ≡ vs)
+cut_end xs ys us vs long e =
+    cut_same xs ys us vs (omega (arith, long, ap length e, length-append xs ys, length-append us vs)) e
+
+header_long : (f : Form) (rows : ℕ) → length (header_of f.layout rows (limits_of f) (strands_of f)) ≡ 72
+header_long f rows = refl
+
+-- one header tells one layout
+layout_same : (f g : Form) (m n : ℕ) → IsLayout f.layout → IsLayout g.layout
+    → header_of f.layout m (limits_of f) (strands_of f) ≡ header_of g.layout n (limits_of g) (strands_of g) → f.layout ≡ g.layout
+layout_same f g m n hf hg e =
     let l = f.layout in
-    let suffixes : suffix_file l pairs ≡ suffix_file l others = sym h.suffix ∙ g.suffix in
+    let l' = g.layout in
+    let to_k : List ℕ = low_first 4 l.k ++ low_first 4 0 in
+    let to_k' : List ℕ = low_first 4 l'.k ++ low_first 4 0 in
+    let to_counter = to_k ++ low_first 4 l.counter in
+    let to_counter' = to_k' ++ low_first 4 l'.counter in
+    let to_prefix = to_counter ++ low_first 4 l.prefix in
+    let to_prefix' = to_counter' ++ low_first 4 l'.prefix in
+    let to_limits = to_prefix ++ limits_of f in
+    let to_limits' = to_prefix' ++ limits_of g in
+    let to_rows = to_limits ++ low_first 8 m in
+    let to_rows' = to_limits' ++ low_first 8 n in
+    let to_strands = to_rows ++ strands_of f in
+    let to_strands' = to_rows' ++ strands_of g in
+    let to_version = to_strands ++ low_first 4 0 in
+    let to_version' = to_strands' ++ low_first 4 0 in
+    let to_size = to_version ++ low_first 4 64 in
+    let to_size' = to_version' ++ low_first 4 64 in
+    let size = (cut_end to_size prefix_marker to_size' prefix_marker refl e).0 in
+    let version = (cut_end to_version (low_first 4 64) to_version' (low_first 4 64) refl size).0 in
+    let strands = (cut_end to_strands (low_first 4 0) to_strands' (low_first 4 0) refl version).0 in
+    let rows = (cut_end to_rows (strands_of f) to_rows' (strands_of g) refl strands).0 in
+    let limits = (cut_end to_limits (low_first 8 m) to_limits' (low_first 8 n) refl rows).0 in
+    let prefix = cut_end to_prefix (limits_of f) to_prefix' (limits_of g) refl limits in
+    let counter = cut_end to_counter (low_first 4 l.prefix) to_counter' (low_first 4 l'.prefix) refl prefix.0 in
+    let k = cut_end to_k (low_first 4 l.counter) to_k' (low_first 4 l'.counter) refl counter.0 in
+    let front = cut_end (low_first 4 l.k) (low_first 4 0) (low_first 4 l'.k) (low_first 4 0) refl k.0 in
+    let k_same = low_same 4 l.k l'.k (omega (arith, hf.long)) (omega (arith, hg.long)) front.0 in
+    let counter_same = low_same 4 l.counter l'.counter (omega (arith, hf.counter)) (omega (arith, hg.counter)) k.1 in
+    let prefix_same = low_same 4 l.prefix l'.prefix (omega (arith, hf.most)) (omega (arith, hg.most)) counter.1 in
+    (λ i. record { k = k_same i; prefix = prefix_same i; counter = counter_same i })
+
+pub one_list : (f g : Form) (pairs others : List (List ℕ × ℕ)) (prefix_bytes suffix_bytes : List ℕ) → IsDatabase f pairs prefix_bytes suffix_bytes
+    → IsDatabase g others prefix_bytes suffix_bytes → (pairs ≡ others) × (f.layout ≡ g.layout)
+one_list f g pairs others prefix_bytes suffix_bytes h d =
+    let l = f.layout in
+    let cut = cut_end (prefix_marker ++ table_of l pairs) (header_of l (length pairs) (limits_of f) (strands_of f))
+    (prefix_marker ++ table_of g.layout others) (header_of g.layout (length others) (limits_of g) (strands_of g))
+    (header_long f (length pairs) ∙ sym (header_long g (length others))) (sym h.prefix ∙ d.prefix) in
+    let same = layout_same f g (length pairs) (length others) h.layout d.layout cut.1 in
+    let suffixes : suffix_file l pairs ≡ suffix_file l others = sym h.suffix ∙ d.suffix ∙ ap (λ (m : Layout). suffix_file m others) (sym same) in
     let rows : rows_of l pairs ≡ rows_of l others =
     append_cancel_left suffix_marker (rows_of l pairs) (rows_of l others)
     (append_cancel_right (suffix_marker ++ rows_of l pairs) (suffix_marker ++ rows_of l others) suffix_marker suffixes) in
-    let prefixes : prefix_file f pairs ≡ prefix_file f others = sym h.prefix ∙ g.prefix in
-    let long : length (prefix_marker ++ table_of l pairs) ≡ length (prefix_marker ++ table_of l others) =
-    omega (
-      arith,
-      length-append prefix_marker (table_of l pairs),
-      length-append prefix_marker (table_of l others),
-      length_entries l h.layout pairs 0 (4 ^ l.prefix),
-      length_entries l h.layout others 0 (4 ^ l.prefix),
-    ) in
-    let starts = (cut_same (prefix_marker ++ table_of l pairs) (header_of l (length pairs) (limits_of f) (strands_of f))
-    (prefix_marker ++ table_of l others) (header_of l (length others) (limits_of f) (strands_of f)) long prefixes).0 in
+    let starts : prefix_marker ++ table_of l pairs ≡ prefix_marker ++ table_of l others =
+    cut.0 ∙ ap (λ (m : Layout). prefix_marker ++ table_of m others) (sym same) in
     let tables : table_of l pairs ≡ table_of l others = append_cancel_left prefix_marker (table_of l pairs) (table_of l others) starts in
-    pairs_same l h.layout pairs others h.listed.each g.listed.each h.listed.rising g.listed.rising h.fit g.fit rows
-    (tables_same l h.layout pairs others h.few g.few tables)
+    let listed = subst (λ (m : Layout). AreListed m.k others) (sym same) d.listed in
+    let fit = subst (λ (m : Layout). CountsFit m others) (sym same) d.fit in (
+      pairs_same l h.layout pairs others h.listed.each listed.each h.listed.rising listed.rising h.fit fit rows
+          (tables_same l h.layout pairs others h.few d.few tables),
+      same,
+    )

@@ -26,3 +26,7 @@ IsAskedLength (Some asked) k = k ≡ asked
 -- where a length of words is asked for, it is one that a dump may have
 abbrev pub IsOptions : PackOptions → Type 0
 IsOptions o = (k : ℕ) → o.k ≡ Some k → IsLength k
+
+-- the length that is asked for has no layout
+abbrev pub IsMisfit : PackOptions → ℕ → Type 0
+IsMisfit o k = (o.k ≡ Some k) × (IsLayout (layout_of k o.prefix o.counter) → ⊥)

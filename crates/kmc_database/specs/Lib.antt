@@ -4,6 +4,7 @@ pub mod Begun
 pub mod Ending
 pub mod Files
 pub mod Form
+pub mod Header
 pub mod Laws
 pub mod Layout
 pub mod Numbers

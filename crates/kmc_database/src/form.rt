@@ -1,7 +1,7 @@
 //! What is asked for of a database, and the form that it has.
-ghost use Rattle.std.specs.Prelude.{◌≡◌};
+ghost use Rattle.std.specs.Prelude.{◌≡◌, MatchOption};
 
-use crate::layout::Layout;
+use crate::layout::{Layout, layout_for};
 use kmc_base::Strands;
 
 /// The form of a database: how words and counts lie in it, and what its header tells of how they were counted. These words occur `least`
@@ -27,7 +27,18 @@ pub struct PackOptions {
 }
 
 impl PackOptions {
-    ghost use Rattle.kmc_database.specs.Form.{form_of};
+    ghost use Rattle.kmc_database.specs.Form.{form_of, IsMisfit, IsOptions};
+
+    /// The length of words that is asked for, where it has no layout.
+    pub(crate) fn misfit(&self) -> Option<usize>
+        ensures { MatchOption result (IsOptions self.now) (IsMisfit self.now) }
+    {
+        let k = self.k?;
+        match layout_for(k, self.prefix, self.counter) {
+            Some(_) => None,
+            None => Some(k),
+        }
+    }
 
     /// The form of a database with this layout.
     pub(crate) fn form(&self, layout: Layout) -> Form

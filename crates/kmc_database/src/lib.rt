@@ -8,7 +8,9 @@ mod form;
 mod header;
 pub mod laws;
 mod layout;
+mod number;
 mod packing;
+mod reading;
 mod row;
 mod table;
 
@@ -16,3 +18,4 @@ pub use error::PackError;
 pub use form::{Form, PackOptions};
 pub use layout::{Layout, MOST_PREFIX, counter_bytes, layout_for, usual_prefix};
 pub use packing::pack;
+pub use reading::{FormFault, Header, read_header};

@@ -139,12 +139,14 @@ pub fn pack<R: Read, W: Write>(
     prefix: &mut Counted<W>,
     suffix: &mut Counted<W>,
 ) -> Result<u64, PackError>
-    requires options { IsOptions options.now }
     requires prefix { prefix.old.failures < 2 ^ 64 - 1 }
     requires suffix { suffix.old.failures < 2 ^ 64 - 1 }
     ensures { IsPackAnswer R.remaining W.contents options.now (R.remaining reader.old.inner)
         reader.old reader.new prefix.old prefix.new suffix.old suffix.new result }
 {
+    if let Some(k) = options.misfit() {
+        return Err(PackError::Prefix(k));
+    }
     let mut room = match Room::new(alloc) {
         Ok(room) => room,
         Err(_) => return Err(PackError::Memory),

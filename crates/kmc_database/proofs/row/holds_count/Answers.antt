@@ -1,14 +1,9 @@
-use Rattle.std.proofs.Common.{◌≡◌, ℕ, zero, suc, ◌+◌, ◌*◌, ◌/◌, ◌^◌, ◌<◌, ◌≤◌, nat_eq, IsTrue, refl, sym, ap, subst, ◌∙◌, arith}
-use Rattle.std.proofs.Math.Nat.{div-eq_of_lt, lt-div-mul-add, pow-succ'}
+use Rattle.std.proofs.Common.{◌≡◌, ℕ, ◌+◌, ◌*◌, ◌/◌, ◌^◌, ◌<◌, ◌≤◌, nat_eq, IsTrue, sym, ap, subst, ◌∙◌, arith}
+use Rattle.std.proofs.Math.Nat.{div-eq_of_lt, lt-div-mul-add}
 use Rattle.std.proofs.lemmas.Bool.Decides.{nat_tests}
-use Rattle.std.proofs.lemmas.Nat.{pow-add, pow_pos}
+use Rattle.std.proofs.lemmas.Nat.{pow_pos}
+use Rattle.kmc_database.proofs.Bytes.{bits_of_bytes}
 use Rattle.kmc_database.proofs.row.holds_count.Goals as goal
-
-power : (c : ℕ) → 2 ^ (8 * c) ≡ 256 ^ c
-power zero = refl
-power (suc c) =
-    let more : 8 * suc c ≡ 8 + 8 * c = omega arith in
-    ap (λ e. 2 ^ e) more ∙ pow-add 2 8 (8 * c) ∙ omega (arith, power c, pow-succ' 256 c)
 
 is_none : (n d : ℕ) → 1 ≤ d → IsTrue (nat_eq (n / d) 0) → n < d
 is_none n d some test =
@@ -26,6 +21,6 @@ pub returns : goal.returns
 returns c =
     let n = c.args.layout.now.counter in
     let some : 1 ≤ 2 ^ (8 * n) = pow_pos (8 * n) in (
-      λ test. subst (λ d. c.args.count < d) (power n) (is_none c.args.count (2 ^ (8 * n)) some test),
-      λ less. is_small c.args.count (2 ^ (8 * n)) (subst (λ d. c.args.count < d) (sym (power n)) less),
+      λ test. subst (λ d. c.args.count < d) (bits_of_bytes n) (is_none c.args.count (2 ^ (8 * n)) some test),
+      λ less. is_small c.args.count (2 ^ (8 * n)) (subst (λ d. c.args.count < d) (sym (bits_of_bytes n)) less),
     )
