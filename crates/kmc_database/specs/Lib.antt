@@ -7,6 +7,7 @@ pub mod Form
 pub mod Header
 pub mod Laws
 pub mod Layout
+pub mod Messages
 pub mod Numbers
 pub mod RefusalNumbers
 pub mod Rows

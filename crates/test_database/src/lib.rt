@@ -10,3 +10,5 @@ mod headers;
 mod packs;
 #[cfg(test)]
 mod refusals;
+#[cfg(test)]
+mod told;
