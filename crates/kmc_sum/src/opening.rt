@@ -45,7 +45,7 @@ pub fn heads_for(alloc: Global, count: usize) -> Result<Vec<Head>, AllocError>
 }
 
 /// The first head of a source, and the length of its word, which is `k` unless that is 0.
-fn first_head<R: Read>(
+pub fn first_head<R: Read>(
     reader: &mut Counted<R>,
     room: &mut Room,
     source: usize,

@@ -56,7 +56,7 @@ fn shift(bytes: &mut [u8], from: usize, to: usize)
 }
 
 /// Reads until enough bytes for a line are there, or nothing is left.
-fn fill<R: Read>(reader: &mut Counted<R>, room: &mut Room) -> Result<(), SourceFault>
+pub fn fill<R: Read>(reader: &mut Counted<R>, room: &mut Room) -> Result<(), SourceFault>
     requires { IsRoom room.old }
     ensures room { IsRoom room.new }
     ensures lines { room.new.lines ≡ room.old.lines }

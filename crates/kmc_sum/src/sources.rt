@@ -15,7 +15,7 @@ use kmc_device::Counted;
 use std::io::Read;
 
 /// The head of a source behind one with the word `packed` of `k` codes.
-fn next_head<R: Read>(
+pub fn next_head<R: Read>(
     reader: &mut Counted<R>,
     room: &mut Room,
     source: usize,

@@ -1,0 +1,10 @@
+mod Beginnings
+mod Bytes
+mod Exits
+mod Gathering
+mod HeaderParts
+mod Ranges
+mod ReadBack
+mod SoFar
+mod Tables
+mod Words

@@ -1,0 +1,13 @@
+pub mod Answer
+pub mod Beginning
+pub mod Begun
+pub mod Ending
+pub mod Files
+pub mod Form
+pub mod Header
+pub mod Laws
+pub mod Layout
+pub mod Messages
+pub mod Numbers
+pub mod RefusalNumbers
+pub mod Rows

@@ -1,0 +1,24 @@
+-- The numbers of the refusals.
+use Rattle.std.specs.Prelude.{ℕ}
+use Rattle.kmc_database.specs.declared.error.PackError.{PackError}
+use Rattle.kmc_database.specs.declared.error.PackError.TheVariants.{Source, Empty, Prefix, TooGreat, WritePrefix, WriteSuffix, Memory, TooLong}
+use Rattle.kmc_database.specs.declared.reading.FormFault.{FormFault}
+use Rattle.kmc_database.specs.declared.reading.FormFault.TheVariants.{Marker, Newer, Version, Size, Mode, NoLayout}
+
+abbrev pub number_of_pack_error : PackError → ℕ
+number_of_pack_error (Source _) = 1
+number_of_pack_error Empty = 2
+number_of_pack_error (Prefix _) = 3
+number_of_pack_error (TooGreat _) = 4
+number_of_pack_error WritePrefix = 5
+number_of_pack_error WriteSuffix = 6
+number_of_pack_error Memory = 7
+number_of_pack_error TooLong = 8
+
+abbrev pub number_of_form_fault : FormFault → ℕ
+number_of_form_fault Marker = 1
+number_of_form_fault Newer = 2
+number_of_form_fault Version = 3
+number_of_form_fault Size = 4
+number_of_form_fault Mode = 5
+number_of_form_fault NoLayout = 6

@@ -1,0 +1,14 @@
+//! Tests of databases, by public calls alone: worked bytes, words and counts of many widths, dumps at fault, and devices that fail.
+//! Nothing stands on this crate.
+#![tactic(auto)]
+
+#[cfg(test)]
+mod devices;
+#[cfg(test)]
+mod headers;
+#[cfg(test)]
+mod packs;
+#[cfg(test)]
+mod refusals;
+#[cfg(test)]
+mod told;
