@@ -1,5 +1,5 @@
 -- What words ask of the programs that cut, list and merge.
-use Rattle.std.specs.Prelude.{◌≡◌, ◌≤◌, ◌∷◌, ℕ, true, false, List, [], Some, length, map, option_and_then, string_bytes}
+use Rattle.std.specs.Prelude.{◌≡◌, ◌≤◌, ◌∷◌, ℕ, true, false, List, [], None, Some, length, map, option_and_then, string_bytes}
 use Rattle.std.specs.List.{filter, list_any}
 use Rattle.kmc_options.specs.Words.{Word, number_of, is_file_name}
 use Rattle.kmc_options.specs.declared.program.Program.{Program}
@@ -8,7 +8,7 @@ use Rattle.kmc_options.specs.declared.run_params.Params.{Params}
 use Rattle.kmc_options.specs.declared.setting.Setting.{Setting}
 use Rattle.kmc_options.specs.CommandLine.{found}
 use Rattle.kmc_options.specs.Glued.{long_forms}
-use Rattle.kmc_options.specs.Options.{AreGiven, HasProgramQueue, first_out_of_range, is_taken}
+use Rattle.kmc_options.specs.Options.{AreGiven, HasProgramQueue, HasProgramSignatures, first_out_of_range, is_taken}
 use Rattle.kmc_options.specs.Spelling.{is_slices, is_other, is_force, slices_text}
 use Rattle.kmc_options.specs.SliceWords.{joined}
 use Rattle.kmc_options.specs.declared.slices.cutting.CutRequest.{CutRequest}
@@ -42,6 +42,7 @@ pub record IsCutRequest (words : List Word) (r : CutRequest) : Type 0 where
   pub slices_word : filter is_slices (joined words) ≡ word ∷ []
   pub slices : IsNumberOfSlices word r.params.n r.slices
   pub given : AreGiven (found KmcCut (options_of words)) r.params
+  pub signatures : HasProgramSignatures (found KmcCut (options_of words)) r.params
   pub queue : HasProgramQueue r.params
   pub force : r.force ≡ list_any is_force (joined words)
 
@@ -49,6 +50,12 @@ pub record IsCutRequest (words : List Word) (r : CutRequest) : Type 0 where
 pub record IsOutOfRange (program : Program) (words : List Word) (s : Setting) : Type 0 where
   pub taken : is_taken program (options_of words) ≡ true
   pub first : first_out_of_range (found program (options_of words)) ≡ Some s
+
+-- the words are a prefix, a number of slices and options, each in its range, and the number of slices is out of its own
+pub record IsSlicesOutOfRange (words : List Word) : Type 0 where
+  pub asks : AsksForCut words
+  pub in_range : first_out_of_range (found KmcCut (options_of words)) ≡ None
+  pub none : (r : CutRequest) → IsCutRequest words r → ⊥
 
 -- the words are names of files, at least one and at most so many, and options of the program
 pub record AsksForFiles (program : Program) (most : ℕ) (words : List Word) : Type 0 where

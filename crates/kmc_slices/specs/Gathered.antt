@@ -44,7 +44,7 @@ IsOfSlice old new = (new.shape ≡ old.shape) × (new.slices ≡ old.slices) × 
 abbrev pub IsFirstFileFault : Option (List ℕ) → Option (List ℕ) → SliceFault → Type 0
 IsFirstFileFault old new (Header e) = IsHeaderFault old new e
 IsFirstFileFault old new (Other h) = ⊥
-IsFirstFileFault old new (Behind e) = (shape : Sizes) × (S s : ℕ) × IsFaultBehind shape S s old new (replicate shape.n []) e
+IsFirstFileFault old new (Behind e) = (shape : Sizes) × (S s : ℕ) × IsSlicing shape S s × IsFaultBehind shape S s old new (replicate shape.n []) e
 
 -- the header of a slice was read, and nothing behind it
 abbrev pub GaveHeader : Option (List ℕ) → Option (List ℕ) → Type 0

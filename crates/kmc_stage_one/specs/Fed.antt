@@ -1,5 +1,5 @@
 -- What was read and fed, the room that a feeder has, and the numbers of a reading.
-use Rattle.std.specs.Prelude.{◌≡◌, ◌⊎◌, ℕ, ◌+◌, ◌<◌, ◌≤◌, Bool, true, false, List, ◌++◌, length, Option, Result, Ok, Err}
+use Rattle.std.specs.Prelude.{◌≡◌, ◌⊎◌, ℕ, ◌+◌, ◌^◌, ◌<◌, ◌≤◌, Bool, true, false, List, ◌++◌, length, Option, Result, Ok, Err}
 use Rattle.std.specs.List.{concat}
 use Rattle.std.specs.Io.BufRead.{strip_last}
 use Rattle.std.specs.Io.KnownBytes.{Consumes, IsAtEnd}
@@ -7,7 +7,7 @@ use Rattle.kmc_reads.specs.declared.error.ReadsError.{ReadsError}
 use Rattle.kmc_reads.specs.declared.format.Format.{Format}
 use Rattle.kmc_reads.specs.Reads.{reads_of}
 use Rattle.kmc_reads.specs.Lines.{carriage_return}
-use Rattle.kmc_reads.specs.Standing.{FeederState, StandsCut, IsSomewhere, open_symbols}
+use Rattle.kmc_reads.specs.Standing.{FeederState, StandsCut, IsHandedOut, IsSomewhere, open_symbols}
 use Rattle.kmc_reads.specs.declared.input_error.InputError.{InputError}
 use Rattle.kmc_reads.specs.declared.input_error.InputError.TheVariants.{Memory, Read, Faulty, TooLong}
 
@@ -41,6 +41,16 @@ pub record HasRoomForReads (reads symbols : ℕ) (v : FeederState) : Type 0 wher
       → (length s.rows < reads) × (length (concat s.rows) < symbols)
   pub open_read : (at : IsSomewhere v.scan) → length (open_symbols at.spot.stage at.spot.read (strip_last carriage_return at.front)) < symbols
 
+-- so many reads wait in the feeder, or so many symbols of them, or an open read has so many that can be handed out
+abbrev pub IsFull : ℕ → ℕ → FeederState → Type 0
+IsFull reads symbols v = (overlap : ℕ) (format : Format) (text : List ℕ) (taken : List (List ℕ)) (s : StandsCut overlap format text taken v)
+    (at : IsSomewhere v.scan) → (reads ≤ length s.rows) ⊎ ((symbols ≤ length (concat s.rows))
+    ⊎ (symbols ≤ length (open_symbols at.spot.stage at.spot.read (strip_last carriage_return at.front))))
+
+-- where the text goes on after a round, the round is full, or 2^32 reads gave bytes
+pub record IsWholeRound (reads symbols before after : ℕ) (v : FeederState) (r : Result Bool InputError) : Type 0 where
+  pub full : r ≡ Ok true → IsFull reads symbols v ⊎ (before + 2 ^ 32 ≤ after)
+
 -- the reader gave bytes, and then at most so many that were fed last: these came to a feeder that had room, or to that of the beginning, so a round
 -- that is full takes nothing
 pub record IsFilled (reads symbols block : ℕ) (overlap : ℕ) (format : Format) (from to : Option (List ℕ)) (text : List ℕ) (taken : List (List ℕ))
@@ -55,6 +65,13 @@ pub record IsFilled (reads symbols block : ℕ) (overlap : ℕ) (format : Format
   pub after : StandsCut overlap format ((text ++ front) ++ last) taken new
   pub most : length last ≤ block
   pub room : (earlier ≡ old) ⊎ HasRoomForReads reads symbols earlier
+
+-- what waited in the feeder was handed out, and then one round was fed
+pub record IsNextRound (reads symbols block overlap : ℕ) (from to : Option (List ℕ)) (new : FeederState) : Type 0 where
+  pub emptied : FeederState
+  pub handed : IsHandedOut overlap emptied.scan
+  pub filled : (format : Format) (text : List ℕ) (taken : List (List ℕ)) → StandsCut overlap format text taken emptied
+      → IsFilled reads symbols block overlap format from to text taken emptied new
 
 -- how many reads gave bytes, at most so many, and how many calls failed, by the cause of a refusal
 abbrev pub AreCountsOf : ℕ → ℕ → ℕ → ℕ → ℕ → InputError → Type 0

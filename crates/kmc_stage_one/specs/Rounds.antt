@@ -1,5 +1,5 @@
 -- A text that is read in rounds.
-use Rattle.std.specs.Prelude.{◌≡◌, ℕ, ◌-◌, ◌≤◌, List, [], length, Option, None, Ok}
+use Rattle.std.specs.Prelude.{◌≡◌, ℕ, ◌-◌, ◌*◌, ◌^◌, ◌≤◌, min, List, [], length, Option, None, Ok}
 use Rattle.std.specs.List.{flat_map}
 use Rattle.std.specs.Io.KnownBytes.{Consumes}
 use Rattle.kmc_device.specs.Device.{GaveAll}
@@ -14,6 +14,10 @@ use Rattle.kmc_store.specs.Holds.{HoldsReads}
 use Rattle.kmc_reads.specs.declared.input_error.InputError.{InputError}
 use Rattle.kmc_reads.specs.declared.input_error.InputError.TheVariants.{Memory, Read, Faulty, TooLong}
 use Rattle.kmc_stage_one.specs.Fed.{IsRefused}
+
+-- so many reads fill a round: a batch for each splitter, as far as 64 bits tell
+abbrev pub reads_of_round : ℕ → ℕ → ℕ
+reads_of_round splitters batch = min (splitters * batch) (2 ^ 64 - 1)
 
 -- the bins hold the reads, each as its pieces of at most so many symbols
 abbrev pub HoldsPieces : Sizes → ℕ → List (List ℕ) → List (List ℕ) → Type 0

@@ -3,7 +3,7 @@ ghost use Rattle.std.specs.Prelude.{◌≡◌, ℕ, ◌+◌, ◌-◌, ◌^◌, �
 ghost use Rattle.std.specs.Io.KnownBytes.{Consumes, IsAtEnd};
 ghost use Rattle.kmc_reads.specs.declared.format.Format.{Format};
 ghost use Rattle.kmc_reads.specs.Standing.{StandsCut};
-ghost use Rattle.kmc_stage_one.specs.Fed.{IsFedBy, IsFilled, AreCounts};
+ghost use Rattle.kmc_stage_one.specs.Fed.{IsFedBy, IsFilled, IsWholeRound, AreCounts};
 
 use kmc_device::Counted;
 use kmc_reads::laws::fault_stays;
@@ -46,8 +46,8 @@ fn read_and_feed<R: Read>(
     Ok(n > 0)
 }
 
-/// Reads and feeds until so many reads wait, or so many symbols of them or of an open read, or the text ends. The answer is
-/// whether it goes on. A round that is full takes nothing more. No read is made once `most` of them gave bytes: then the input is
+/// Reads and feeds until so many reads wait, or so many symbols of them or of an open read, or the text ends, or 2^32 reads gave
+/// bytes. The answer is whether it goes on. A round that is full takes nothing more. No read is made once `most` of them gave bytes: then the input is
 /// too long. A faulty text is refused with its first fault, as soon as the line is read that has it.
 pub fn fill_round<R: Read>(
     reader: &mut Counted<R>,
@@ -69,6 +69,7 @@ pub fn fill_round<R: Read>(
         → OnOk result
         (IsFilled reads symbols BLOCK overlap format (R.remaining reader.old.inner)
         (R.remaining reader.new.inner) text taken feeder.old feeder.new) }
+    ensures full { IsWholeRound reads symbols reader.old.reads reader.new.reads feeder.new result }
 {
     let mut block = [0u8; BLOCK];
     for _ in 0..1u64 << 32 {

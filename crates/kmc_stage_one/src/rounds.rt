@@ -4,10 +4,11 @@ ghost use Rattle.std.specs.Io.KnownBytes.{IsAtEnd};
 ghost use Rattle.kmc_reads.specs.declared.format.Format.{Format};
 ghost use Rattle.kmc_reads.specs.Cuts.{AreCut};
 ghost use Rattle.kmc_reads.specs.Reads.{reads_of};
-ghost use Rattle.kmc_reads.specs.Standing.{StandsCut};
+ghost use Rattle.kmc_reads.specs.Standing.{IsHandedOut, StandsCut};
 ghost use Rattle.kmc_stage_one.specs.Lemmas.Stored.{AreStored, AreStoredBy};
-ghost use Rattle.kmc_stage_one.specs.Fed.{IsFedBy, AreCounts, AreCountsOf};
-ghost use Rattle.kmc_stage_one.specs.Rounds.{HoldsPieces, HoldsInput, IsInputError};
+ghost use Rattle.kmc_stage_one.specs.Fed.{IsFedBy, IsFilled, IsNextRound, IsWholeRound, AreCounts, AreCountsOf};
+ghost use Rattle.kmc_stage_one.specs.Rounds.{HoldsPieces, HoldsInput, IsInputError, reads_of_round};
+ghost use Rattle.kmc_stage_one.specs.declared.round.TheConstants.{BLOCK};
 
 use crate::dealing::{Dealing, store_round};
 use crate::round::fill_round;
@@ -28,7 +29,7 @@ const ROUND: usize = 1 << 25;
 
 /// So many reads fill a round: `batch` for each splitter, as far as a `usize` tells.
 pub fn round_of(settings: &RoundSettings) -> usize
-    ensures { result ≡ min (settings.now.queue.writers * settings.now.batch) (2 ^ 64 - 1) }
+    ensures { result ≡ reads_of_round settings.now.queue.writers settings.now.batch }
 {
     settings.queue.writers.saturating_mul(settings.batch)
 }
@@ -62,6 +63,13 @@ pub fn feed_round<T: Threads + Wait + Sync, R: Read, G: Gate + Sync>(
         → IsFedBy overlap format (R.remaining reader.old.inner)
         (R.remaining reader.new.inner) reader.old.reads reader.new.reads text taken feeder.new result.1 }
     ensures at_end { result.1 ≡ Ok false → IsAtEnd (R.remaining reader.new.inner) }
+    ensures filled { (overlap : ℕ) (format : Format) (text : List ℕ) (taken : List (List ℕ))
+        → StandsCut overlap format text taken feeder.old
+        → OnOk result.1
+        (IsFilled (reads_of_round dealing.now.settings.queue.writers dealing.now.settings.batch) dealing.now.symbols BLOCK
+        overlap format (R.remaining reader.old.inner) (R.remaining reader.new.inner) text taken feeder.old feeder.new) }
+    ensures full { IsWholeRound (reads_of_round dealing.now.settings.queue.writers dealing.now.settings.batch)
+        dealing.now.symbols reader.old.reads reader.new.reads feeder.new result.1 }
 {
     let reads = round_of(&dealing.settings);
     let symbols = dealing.symbols;
@@ -118,6 +126,7 @@ pub fn take_round(feeder: &mut Feeder, alloc: Global, shape: Shape) -> Result<Re
     ensures memory { (format : Format) (text : List ℕ) (taken : List (List ℕ))
         → StandsCut (shape.k - 1) format text taken feeder.old
         → OnErr result (StandsCut (shape.k - 1) format text taken feeder.new) }
+    ensures handed { OnOk result (IsHandedOut (shape.k - 1) feeder.new.scan) }
 {
     feeder.take_open(alloc, shape.k() - 1)
 }
@@ -143,6 +152,9 @@ fn next_round<T: Threads + Wait + Sync, R: Read, G: Gate + Sync>(
         (R.remaining reader.new.inner) before reader.new.reads bins.new feeder.new result }
     ensures counts { AreCounts most reader.old.reads reader.new.reads reader.old.failures reader.new.failures result }
     ensures at_end { result ≡ Ok false → IsAtEnd (R.remaining reader.new.inner) }
+    ensures held { OnOk result (IsNextRound
+        (reads_of_round dealing.now.settings.queue.writers dealing.now.settings.batch) dealing.now.symbols BLOCK
+        (dealing.now.settings.shape.k - 1) (R.remaining reader.old.inner) (R.remaining reader.new.inner) feeder.new) }
 {
     let round = take_round(feeder, dealing.alloc, dealing.settings.shape)?;
     let (stored, fed) = feed_round(rt, bins, &round, dealing, reader, feeder, most);

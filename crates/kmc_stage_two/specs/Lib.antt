@@ -3,3 +3,4 @@ pub mod Laws
 pub mod Lemmas
 pub mod Shares
 pub mod Stages
+pub mod Widths

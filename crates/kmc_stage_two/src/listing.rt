@@ -1,6 +1,7 @@
 //! Stage two: each bin is counted by itself, and their lists make one dump.
 ghost use Rattle.std.specs.Prelude.{◌≡◌, ◌≤◌, IfOk};
 ghost use Rattle.kmc_stage_two.specs.Bodies.{AreListsOfBodies};
+ghost use Rattle.kmc_stage_two.specs.Widths.{AreNarrow};
 ghost use Rattle.kmc_lists.specs.Listed.{spelled};
 ghost use Rattle.kmc_lists.specs.Lists.{lists_of};
 ghost use Rattle.kmc_lists.specs.Ordered.{CanBeMerged, whole};
@@ -31,6 +32,7 @@ pub fn lists_of_bins<R: Threads + Sync>(
 ) -> Result<BinLists, AllocError>
     requires threads { 1 ≤ threads }
     ensures each { IfOk result (λ lists. AreListsOfBodies strands bins.shape.k limits.now bins.bodies (lists_of lists)) }
+    ensures width { IfOk result (AreNarrow bins.shape.k limits.now.cs) }
     ensures merge { IfOk result (λ lists. CanBeMerged bins.shape.k (lists_of lists)) }
     ensures all { IfOk result (λ lists. IsDumpOfBins strands bins.shape.k limits.now bins.bodies
         (spelled bins.shape.k (whole (lists_of lists)))) }

@@ -3,6 +3,7 @@ ghost use Rattle.std.specs.Prelude.{ℕ, ◌≤◌, map, IfOk, IsErrOf};
 ghost use Rattle.kmc_record.specs.declared.fault.RecordFault.{RecordFault};
 ghost use Rattle.kmc_count.specs.Bodies.{IsFirstDamaged};
 ghost use Rattle.kmc_stage_two.specs.Bodies.{AreListsOfBodies, BodiesWantMemory};
+ghost use Rattle.kmc_stage_two.specs.Widths.{AreNarrow, HaveNarrowCounts};
 ghost use Rattle.kmc_lists.specs.Lists.{sized_lists, lists_of};
 
 use crate::bins::list_bodies;
@@ -29,6 +30,7 @@ fn list_sized<R: Threads + Sync, W: PackedKmer + Drop + Send + Sync>(
     requires threads { 1 ≤ threads }
     ensures ok { IfOk result (λ lists. AreListsOfBodies rule.strands rule.k limits.now
         (map (λ b. b.items) bodies.items) (sized_lists lists)) }
+    ensures width { IfOk result (HaveNarrowCounts limits.now.cs) }
     ensures damaged { (fault : RecordFault) (offset : ℕ)
         → IsErrOf result (BodyError.Damaged fault offset)
         → IsFirstDamaged rule.k fault offset (map (λ b. b.items) bodies.items) }
@@ -61,6 +63,7 @@ pub fn list_bins<R: Threads + Sync>(
     requires threads { 1 ≤ threads }
     ensures ok { IfOk result (λ lists. AreListsOfBodies strands k limits.now
         (map (λ b. b.items) bodies.items) (lists_of lists)) }
+    ensures width { IfOk result (AreNarrow k limits.now.cs) }
     ensures damaged { (fault : RecordFault) (offset : ℕ)
         → IsErrOf result (BodyError.Damaged fault offset)
         → IsFirstDamaged k fault offset (map (λ b. b.items) bodies.items) }

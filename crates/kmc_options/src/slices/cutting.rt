@@ -1,7 +1,7 @@
 //! What the words of a command line ask of the program that cuts.
 ghost use Rattle.std.specs.Prelude.{◌≡◌, IfOk, IsErrOf, MatchOption, ℕ, map, string_bytes};
 ghost use Rattle.kmc_options.specs.declared.setting.Setting.{Setting};
-ghost use Rattle.kmc_options.specs.Requests.{AsksForCut, IsCutRequest, IsNumberOfSlices, IsOutOfRange};
+ghost use Rattle.kmc_options.specs.Requests.{AsksForCut, IsCutRequest, IsNumberOfSlices, IsOutOfRange, IsSlicesOutOfRange};
 ghost use Rattle.kmc_options.specs.declared.slices.cutting.CutRequestError.TheVariants.{Memory};
 
 use crate::command_line::settings;
@@ -85,9 +85,8 @@ pub fn cut_request(alloc: Global, words: Vec<String>) -> Result<CutRequest, CutR
     ensures asked { IfOk result (IsCutRequest (map string_bytes words.items)) }
     ensures usage { IsErrOf result CutRequestError.Usage → AsksForCut (map string_bytes words.items) → ⊥ }
     ensures range { (s : Setting) → IsErrOf result (CutRequestError.OutOfRange s)
-        → IsOutOfRange Program.KmcCut (map string_bytes words.items) s }
-    ensures slices { IsErrOf result CutRequestError.Slices
-        → (r : _) → IsCutRequest (map string_bytes words.items) r → ⊥ }
+        → AsksForCut (map string_bytes words.items) × IsOutOfRange Program.KmcCut (map string_bytes words.items) s }
+    ensures slices { IsErrOf result CutRequestError.Slices → IsSlicesOutOfRange (map string_bytes words.items) }
 {
     let SortedWords {
         names,

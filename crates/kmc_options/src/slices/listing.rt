@@ -52,7 +52,7 @@ pub fn list_request(alloc: Global, words: Vec<String>) -> Result<ListRequest, Li
     ensures asked { IfOk result (IsListRequest (map string_bytes words.items)) }
     ensures usage { IsErrOf result ListRequestError.Usage → AsksForList (map string_bytes words.items) → ⊥ }
     ensures range { (s : Setting) → IsErrOf result (ListRequestError.OutOfRange s)
-        → IsOutOfRange Program.KmcList (map string_bytes words.items) s }
+        → AsksForList (map string_bytes words.items) × IsOutOfRange Program.KmcList (map string_bytes words.items) s }
 {
     match files_request(alloc, Program::KmcList, MOST_FILES, words) {
         Ok(FilesRequest { params, files }) => Ok(ListRequest { params, files }),

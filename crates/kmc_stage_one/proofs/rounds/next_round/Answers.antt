@@ -1,7 +1,8 @@
 use Rattle.std.proofs.Common.{◌≡◌, Bool, ◌+◌, ◌-◌, [], ◌++◌, OnOk, refl, subst, ◌∙◌, arith}
 use Rattle.std.specs.Prelude.{Result, Ok, IsErrAnd}
-use Rattle.kmc_stage_one.specs.Fed.{AreCounts, IsFedBy}
-use Rattle.kmc_stage_one.specs.Rounds.{HoldsPieces}
+use Rattle.kmc_stage_one.specs.declared.round.TheConstants.{BLOCK}
+use Rattle.kmc_stage_one.specs.Fed.{AreCounts, IsFedBy, IsFilled}
+use Rattle.kmc_stage_one.specs.Rounds.{HoldsPieces, reads_of_round}
 use Rattle.kmc_reads.specs.declared.input_error.InputError.TheVariants.{Memory}
 use Rattle.kmc_stage_one.specs.Lemmas.Fed.{counts_err, fed_by, fed_on, memory_on, taken_fed}
 use Rattle.kmc_stage_one.specs.Lemmas.Stored.{stored_err}
@@ -103,3 +104,15 @@ returns-in_err-stored-clause-at_end g c = no_end _ _ c.from_residual-in_err-stor
 
 pub returns-clause-shape : goal.returns-clause-shape
 returns-clause-shape g c = c.feed_round-stored.ensures.shape
+
+pub returns-clause-held : goal.returns-clause-held
+returns-clause-held g c =
+    let d = c.args.dealing.now in let k = d.settings.shape.k - 1 in
+    let old = c.args.reader.now in let new = c.feed_round-stored.new.reader in
+    record {
+      emptied = c.take_round.new.feeder;
+      handed = c.in_ok-round.ensures.handed;
+      filled = λ format text taken s. subst (λ o. OnOk o (IsFilled (reads_of_round d.settings.queue.writers d.settings.batch) d.symbols BLOCK k format
+          (g.R.Read.remaining old.inner) (g.R.Read.remaining new.inner) text taken c.take_round.new.feeder c.feed_round-stored.new.feeder))
+          c.in_ok-more.was (c.feed_round-stored.ensures.filled k format text taken s);
+    }

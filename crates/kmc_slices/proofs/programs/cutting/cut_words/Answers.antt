@@ -12,7 +12,7 @@ returns-in-Ok-clause-done g c = λ status _.
 pub returns-in-Err-clause-misused : goal.returns-in-Err-clause-misused
 returns-in-Err-clause-misused g c = λ status. (
   asks_for_no_cut (map string_bytes c.args.words.items) c.in-Err.error (λ is. c.in-Err.ensures.usage (ap Err is))
-      (λ s is. c.in-Err.ensures.range s (ap Err is)) (λ is. c.in-Err.ensures.slices (ap Err is))
+      (λ s is. (c.in-Err.ensures.range s (ap Err is)).1) (λ is. (c.in-Err.ensures.slices (ap Err is)).none)
       (ap (λ f. status_of (is_misuse f)) (sym c.unnamed.ensures) ∙ sym c.ended.ensures.status ∙ status),
   refl,
   refl,

@@ -20,6 +20,6 @@ returns-in-Err-clause-failed g c = λ status _. inl refl
 pub returns-in-Err-clause-misused : goal.returns-in-Err-clause-misused
 returns-in-Err-clause-misused g c = λ status. (
   asks_for_nothing (map string_bytes c.args.words.items) c.in-Err.error (λ is. c.in-Err.ensures.usage (ap Err is))
-      (λ s is. c.in-Err.ensures.range s (ap Err is)) (ap (λ f. status_of (is_misuse f)) (sym c.unnamed.ensures) ∙ sym c.ended.ensures.status ∙ status),
+      (λ s is. (c.in-Err.ensures.range s (ap Err is)).1) (ap (λ f. status_of (is_misuse f)) (sym c.unnamed.ensures) ∙ sym c.ended.ensures.status ∙ status),
   refl,
 )
