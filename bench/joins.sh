@@ -1,6 +1,7 @@
 #!/bin/sh
 # Compares kmc_db with `kmc_tools simple` of KMC 3: union, intersection, and both differences of two sets of reads that share half of their genome.
-# The answers must be equal. Prints a Markdown table.
+# The answers must be equal. The table of the two stands beside them, which KMC 3 has not: its numbers must add up to the k-mers of the union.
+# Prints a Markdown table.
 #
 # usage: bench/joins.sh
 #
@@ -45,6 +46,9 @@ while read -r name theirs; do
     done
     kmc_tools -t4 transform joined dump -s theirs.dump > log 2>&1
     cmp ours.dump theirs.dump
+    if [ "$name" = union ]; then
+        either=$(wc -l < ours.dump)
+    fi
     echo "$name | $read_in | $(wc -l < ours.dump) | $(best ours) | $(best theirs)" |
         awk -F ' [|] ' '{ printf "| %s | %.1f | %.1f | %s | %s | %s | %s | %s | %s | %.2f |\n", $1, $2 / 1e6, $3 / 1e6, $4, $5, $6, $7, $8, $9, $4 / $7 }'
 done <<END
@@ -53,3 +57,13 @@ union union
 subtract kmers_subtract
 counters-subtract counters_subtract
 END
+
+rm -f ./*.times
+round=0
+while [ "$round" -lt "$rounds" ]; do
+    /usr/bin/time -a -o ours.times -f '%e %U %M' "$top/kmc_db" table first.dump second.dump > rows
+    round=$((round + 1))
+done
+[ "$(awk '{ all += $3 } END { print all + 0 }' rows)" = "$either" ]
+echo "table | $read_in | $(wc -l < rows) | $(best ours)" |
+    awk -F ' [|] ' '{ printf "| %s | %.1f | %d rows | %s | %s | %s | - | - | - | - |\n", $1, $2 / 1e6, $3, $4, $5, $6 }'

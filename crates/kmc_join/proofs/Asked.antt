@@ -1,10 +1,13 @@
 -- What was asked for, and what was read for it.
-use Rattle.std.proofs.Common.{◌≡◌, ℕ, List, length, map, Option, sym, ◌∙◌}
+use Rattle.std.proofs.Common.{◌≡◌, ℕ, List, length, map, Option, Some, sym, ◌∙◌}
 use Rattle.std.proofs.lemmas.List.{length-map}
 use Rattle.kmc_options.specs.Words.{Word}
 use Rattle.kmc_count.specs.declared.limits.Limits.{Limits}
+use Rattle.kmc_device.specs.Device.{Watched}
+use Rattle.kmc_sum.specs.Sources.{lefts_of}
 use Rattle.kmc_join.specs.Request.{IsRequest}
-use Rattle.kmc_join.specs.Program.{AreRead}
+use Rattle.kmc_join.specs.Program.{AreRead, AreTabled}
+use Rattle.kmc_join.specs.TableWords.{table_cap}
 use Rattle.kmc_join.specs.declared.operation.Operation.{Operation}
 
 -- as many readers as files
@@ -18,4 +21,15 @@ are_read words operation limits name files request starts nows many = record {
   starts = starts;
   nows = nows;
   each = many ∙ sym (length-map files name);
+}
+
+-- two readers for a table
+abbrev pub are_tabled : {R : Type 0} (words : List Word) (cap : ℕ) (left : R → Option (List ℕ)) (readers read : List (Watched R))
+    → table_cap words ≡ Some cap → length readers ≡ 2 → AreTabled words
+are_tabled words cap left readers read asks two = record {
+  cap = cap;
+  asks = asks;
+  starts = lefts_of left readers;
+  nows = lefts_of left read;
+  two = length-map readers (λ r. left r.inner) ∙ two;
 }

@@ -1,5 +1,10 @@
+mod Adding
 mod Answers
 mod Asked
+mod Numbering
 mod Numbers
 mod Steps
+mod TableCaps
+mod Tabulations
+mod TakenWords
 mod Tallies

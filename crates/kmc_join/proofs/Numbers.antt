@@ -11,6 +11,7 @@ use Rattle.kmc_base.specs.Lemmas.Members.{Has}
 use Rattle.kmc_count.specs.Dump.{words_of}
 use Rattle.kmc_count.specs.Lemmas.OneDump.{not_below_itself}
 use Rattle.kmc_sum.specs.Heads.{pending}
+use Rattle.kmc_sum.specs.Listed.{IsPair}
 use Rattle.kmc_sum.specs.Sources.{IsSource}
 use Rattle.kmc_sum.specs.Sum.{listed_count}
 use Rattle.kmc_sum.specs.Lemmas.Listed.{none_listed}
@@ -67,3 +68,15 @@ head_apart k start now room head taken live source =
     let is : words_of (taken ++ pending k head) ≡ words_of taken ++ x ∷ [] = ap (λ b. words_of (taken ++ cond b ((x, head.count) ∷ []) [])) live
     ∙ map-append (λ (p : List ℕ × ℕ). p.0) taken ((x, head.count) ∷ []) in
     none_listed x taken (apart (words_of taken) x (subst (IsStrictlySortedBy kmer_cmp) is source.gave.listed.rising))
+
+all_pairs_last : (P : List ℕ × ℕ → Type 0) (ps : List (List ℕ × ℕ)) (p : List ℕ × ℕ) → AllByRecursion P (ps ++ p ∷ []) → P p
+all_pairs_last P [] p h = h.0
+all_pairs_last P (q ∷ ps) p h = all_pairs_last P ps p h.1
+
+-- the count of a source's head is not 0
+pub head_some : (k : ℕ) (start now : Option (List ℕ)) (room : Room) (head : Head) (taken : List (List ℕ × ℕ)) → head.live ≡ true
+    → IsSource k start now room head taken → 1 ≤ head.count
+head_some k start now room head taken live source =
+    let p : List ℕ × ℕ = (unpack k head.packed, head.count) in
+    let is : taken ++ pending k head ≡ taken ++ p ∷ [] = ap (λ b. taken ++ cond b (p ∷ []) []) live in
+    (all_pairs_last (IsPair k) taken p (subst (AllByRecursion (IsPair k)) is source.gave.listed.each)).some

@@ -1,11 +1,17 @@
 pub mod Answer
 pub mod Histogram
 pub mod Join
+pub mod Laws
 pub mod Messages
 pub mod Operation
 pub mod Program
 pub mod RefusalNumbers
 pub mod Request
+pub mod Rows
 pub mod State
+pub mod Table
+pub mod TableWords
+pub mod Tabulation
+pub mod Taking
 pub mod Tally
 pub mod Words

@@ -1,16 +1,20 @@
 -- What the words of a command line ask for, and what was written.
-use Rattle.std.specs.Prelude.{◌≡◌, ◌⊎◌, ℕ, List, true, length, Option}
+use Rattle.std.specs.Prelude.{◌≡◌, ◌≢◌, ◌⊎◌, ℕ, List, true, false, length, Option, Some, None}
 use Rattle.kmc_options.specs.Words.{Word}
 use Rattle.kmc_count.specs.declared.limits.Limits.{Limits}
 use Rattle.kmc_device.specs.Device.{Watched}
 use Rattle.kmc_sum.specs.Answer.{IsCause}
 use Rattle.kmc_sum.specs.declared.error.SumError.{SumError}
 use Rattle.kmc_join.specs.Histogram.{IsHistogramWritten}
-use Rattle.kmc_join.specs.Request.{IsRequest}
+use Rattle.kmc_join.specs.Request.{Explains, IsRequest}
 use Rattle.kmc_join.specs.State.{IsBegun, IsJoinWritten}
+use Rattle.kmc_join.specs.Table.{IsTableWritten}
+use Rattle.kmc_join.specs.TableWords.{table_cap}
+use Rattle.kmc_join.specs.Tabulation.{IsTableCause}
 use Rattle.kmc_join.specs.Tally.{IsHistogramCause}
 use Rattle.kmc_join.specs.Words.{asks_for_histogram}
 use Rattle.kmc_join.specs.declared.operation.Operation.{Operation}
+use Rattle.kmc_join.specs.declared.request.JoinRequestError.{JoinRequestError}
 
 -- the words ask for an operation on two files within limits, and two readers gave bytes
 pub record AreRead (words : List Word) : Type 0 where
@@ -56,10 +60,39 @@ pub record IsHistogramGivenUp {W : Type 0} (words : List Word) (contents : W →
   pub error : SumError
   pub cause : IsHistogramCause contents starts nows olds news writer written error
 
+-- the words ask for a table of two files, and two readers gave bytes
+pub record AreTabled (words : List Word) : Type 0 where
+  pub cap : ℕ
+  pub asks : table_cap words ≡ Some cap
+  pub starts : List (Option (List ℕ))
+  pub nows : List (Option (List ℕ))
+  pub two : length starts ≡ 2
+
+-- the table of what the readers gave for the words was written
+pub record IsTableAnswered (words : List Word) (old new : Option (List ℕ)) : Type 0 where
+  pub read : AreTabled words
+  pub written : IsTableWritten read.cap read.starts read.nows old new
+
+-- the table for the words was given up for a cause, by the readers' numbers of failures before and after
+pub record IsTableGivenUp {W : Type 0} (words : List Word) (contents : W → Option (List ℕ)) (writer written : Watched W) : Type 0 where
+  pub read : AreTabled words
+  pub olds : List ℕ
+  pub news : List ℕ
+  pub error : SumError
+  pub cause : IsTableCause contents read.cap read.starts read.nows olds news writer written error
+
 -- what the words ask for was written
 abbrev pub IsDone : List Word → Option (List ℕ) → Option (List ℕ) → Type 0
-IsDone words old new = IsAnswered words old new ⊎ IsHistogramAnswered words old new
+IsDone words old new = IsAnswered words old new ⊎ (IsHistogramAnswered words old new ⊎ IsTableAnswered words old new)
 
 -- it was given up for a cause
 abbrev pub IsLeft : {W : Type 0} → List Word → (W → Option (List ℕ)) → Watched W → Watched W → Type 0
-IsLeft words contents writer written = IsGivenUp words contents writer written ⊎ IsHistogramGivenUp words contents writer written
+IsLeft words contents writer written =
+    IsGivenUp words contents writer written ⊎ (IsHistogramGivenUp words contents writer written ⊎ IsTableGivenUp words contents writer written)
+
+-- the words ask for nothing, and so for no join
+pub record AskForNothing (words : List Word) (e : JoinRequestError) : Type 0 where
+  pub told : e ≢ JoinRequestError.Memory
+  pub histogram : asks_for_histogram words ≡ false
+  pub table : table_cap words ≡ None
+  pub join : Explains words e

@@ -1,35 +1,30 @@
 -- The state of a join.
-use Rattle.std.specs.Prelude.{◌≡◌, ℕ, ◌<◌, ◌≤◌, List, length, slice_index_or, Option, false}
+use Rattle.std.specs.Prelude.{◌≡◌, ◌≤◌, ℕ, List, length, Option}
 use Rattle.std.specs.Io.KnownBytes.{Appends}
-use Rattle.std.specs.declared.cmp.Ordering.TheVariants.{Less}
-use Rattle.kmc_base.specs.Words.{kmer_cmp}
+use Rattle.std.specs.List.{sum_by}
 use Rattle.kmc_count.specs.declared.limits.Limits.{Limits}
 use Rattle.kmc_count.specs.Dump.{IsDump}
-use Rattle.kmc_count.specs.Occurrences.{same_word}
 use Rattle.kmc_device.specs.Device.{AppendsFront, GaveAll, WritesOut}
 use Rattle.kmc_lists.specs.Line.{text_of}
-use Rattle.kmc_sum.specs.Sources.{AreSources, GaveFronts, left_at, list_at}
-use Rattle.kmc_sum.specs.Sum.{listed_count}
-use Rattle.kmc_sum.specs.Tally.{without}
+use Rattle.kmc_sum.specs.Sources.{GaveFronts, left_at, list_at}
 use Rattle.kmc_sum.specs.declared.heads.Head.{Head}
 use Rattle.kmc_sum.specs.declared.source.Room.{Room}
 use Rattle.kmc_join.specs.Join.{IsJoin, joined}
+use Rattle.kmc_join.specs.Taking.{AreAbreast}
 use Rattle.kmc_join.specs.declared.operation.Operation.{Operation}
 
 -- the number of a word by what was taken from the first two sources
 abbrev pub joined_of : Operation → List (List (List ℕ × ℕ)) → List ℕ → ℕ
 joined_of operation lists = joined operation (list_at lists 0) (list_at lists 1)
 
--- so far lists were taken from the two sources: the open word x has these counts there, all their other words are below it, and the dump
--- of their join but for the open word went out or is gathered
+-- so far lists were taken from the two sources, and the dump of their join went out or is gathered
 pub record IsSoFar (k : ℕ) (operation : Operation) (l : Limits) (starts nows : List (Option (List ℕ))) (rooms : List Room) (heads : List Head)
-    (x : List ℕ) (counts : List ℕ) (lines : ℕ) (old new : Option (List ℕ)) (gathered : List ℕ) : Type 0 where
+    (steps lines : ℕ) (old new : Option (List ℕ)) (gathered : List ℕ) : Type 0 where
   pub lists : List (List (List ℕ × ℕ))
-  pub sources : AreSources k starts nows rooms heads lists
-  pub counted : (i : ℕ) → i < 2 → slice_index_or counts i 0 ≡ listed_count (list_at lists i) x
-  pub below : (i : ℕ) (y : List ℕ) → i < 2 → same_word x y ≡ false → 1 ≤ listed_count (list_at lists i) y → kmer_cmp y x ≡ Less
+  pub abreast : AreAbreast k starts nows rooms heads lists
+  pub many : steps ≤ sum_by length lists
   pub pairs : List (List ℕ × ℕ)
-  pub dump : IsDump (without x (joined_of operation lists)) l pairs
+  pub dump : IsDump (joined_of operation lists) l pairs
   pub out : WritesOut old new (text_of pairs) gathered
   pub count : lines ≡ length pairs
 

@@ -9,19 +9,21 @@ use Rattle.kmc_sum.specs.declared.error.SumError.{SumError}
 use Rattle.kmc_sum.specs.declared.error.SumError.TheVariants.{Source, Write, Memory, TooLong}
 use Rattle.kmc_sum.specs.declared.heads.Head.{Head}
 use Rattle.kmc_sum.specs.declared.source.Room.{Room}
-use Rattle.kmc_join.specs.Histogram.{GaveDump, IsHistogramBegun, IsHistogramWritten, number_of, number_with}
+use Rattle.std.specs.Ordering.{nat_cmp}
+use Rattle.kmc_join.specs.Histogram.{GaveDump, IsHistogramBegun, IsHistogramWritten, number_with}
+use Rattle.kmc_join.specs.Rows.{number_of}
 
 -- so far a list was taken from the source, and its counts are tallied
 pub record IsTallied (k : ℕ) (starts nows : List (Option (List ℕ))) (rooms : List Room) (heads : List Head) (tally : BTreeMap ℕ ℕ) : Type 0 where
   pub lists : List (List (List ℕ × ℕ))
   pub sources : AreSources k starts nows rooms heads lists
-  pub counts : (n : ℕ) → number_of tally n ≡ number_with (list_at lists 0) n
+  pub counts : (n : ℕ) → number_of nat_cmp tally n ≡ number_with (list_at lists 0) n
 
 -- the source gave a dump, and its counts are tallied
 pub record IsWholeTally (start now : Option (List ℕ)) (tally : BTreeMap ℕ ℕ) : Type 0 where
   pub pairs : List (List ℕ × ℕ)
   pub gave : GaveDump start now pairs
-  pub counts : (n : ℕ) → number_of tally n ≡ number_with pairs n
+  pub counts : (n : ℕ) → number_of nat_cmp tally n ≡ number_with pairs n
 
 -- why a source is not tallied; want of memory says nothing of it
 abbrev pub IsTallyCause : List (Option (List ℕ)) → List (Option (List ℕ)) → List ℕ → List ℕ → SumError → Type 0

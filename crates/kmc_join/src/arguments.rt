@@ -1,5 +1,5 @@
 //! The program: from its arguments to the dump of the join, or the histogram, and the exit status.
-ghost use Rattle.std.specs.Prelude.{◌≡◌, ◌≢◌, ℕ, ◌-◌, ◌^◌, ◌<◌, ◌≤◌, ◌⊎◌, List, length, map, MatchResult, string_bytes, true};
+ghost use Rattle.std.specs.Prelude.{◌≡◌, ◌≢◌, ℕ, ◌-◌, ◌^◌, ◌<◌, ◌≤◌, ◌⊎◌, List, length, map, MatchResult, Some, string_bytes, true};
 ghost use Rattle.std.specs.Process.{exit_status};
 ghost use Rattle.kmc_options.specs.Words.{Word};
 ghost use Rattle.kmc_sum.specs.Answer.{IsCause};
@@ -7,8 +7,11 @@ ghost use Rattle.kmc_sum.specs.Sources.{failures_of, left_at, lefts_of};
 ghost use Rattle.kmc_sum.specs.declared.error.SumError.TheVariants.{Memory};
 ghost use Rattle.kmc_join.specs.Request.{Explains};
 ghost use Rattle.kmc_join.specs.Histogram.{IsHistogramWritten};
-ghost use Rattle.kmc_join.specs.Program.{IsAnswered, IsDone, IsGivenUp, IsHistogramAnswered, IsHistogramGivenUp, IsLeft};
+ghost use Rattle.kmc_join.specs.Program.{AskForNothing, IsAnswered, IsDone, IsGivenUp, IsHistogramAnswered, IsHistogramGivenUp, IsLeft, IsTableAnswered, IsTableGivenUp};
 ghost use Rattle.kmc_join.specs.State.{IsBegun, IsJoinWritten};
+ghost use Rattle.kmc_join.specs.Table.{IsTableWritten};
+ghost use Rattle.kmc_join.specs.TableWords.{table_cap};
+ghost use Rattle.kmc_join.specs.Tabulation.{IsTableCause};
 ghost use Rattle.kmc_join.specs.Tally.{IsHistogramCause};
 ghost use Rattle.kmc_join.specs.Words.{asks_for_histogram};
 
@@ -17,6 +20,8 @@ use crate::histograms::histogram;
 use crate::joining::join;
 use crate::operation::Operation;
 use crate::request::{JoinRequestError, asked_for};
+use crate::table_words::table_cap;
+use crate::tables::table;
 use crate::words::asks_for_histogram;
 use kmc_count::Limits;
 use kmc_device::Counted;
@@ -183,9 +188,67 @@ fn histogram_file<T: Files + Eprint + Alloc<A = Global>, W: Write>(
     histogram_reader(rt, files, readers.as_mut_slice(), writer)
 }
 
-/// Does what the words ask for: [`join_files`], or the histogram of a file where they are `histogram` and its name. A fault is shown in
-/// one line on standard error, but for a write to a pipe whose other end is closed. The exit status is 0 where what they ask for was
-/// written, 2 where they ask for nothing, and else 1.
+/// Reads the readers of the two files to their ends, and writes the table of the dumps that they list. A fault is shown in one line on
+/// standard error, but for a write to a pipe whose other end is closed. The exit status is 0 where the table was written and no device
+/// failed, and else 1.
+pub fn table_readers<T: Eprint + Alloc<A = Global>, R: Read, W: Write>(
+    rt: &T,
+    files: &[String],
+    cap: u64,
+    readers: &mut [Counted<R>],
+    writer: &mut Counted<W>,
+) -> ExitCode
+    requires two { length readers.old ≡ 2 }
+    requires writer { writer.old.failures < 2 ^ 64 - 1 }
+    ensures done { exit_status result ≡ 0 → IsTableWritten cap (lefts_of R.remaining readers.old)
+        (lefts_of R.remaining readers.new) (W.contents writer.old.inner) (W.contents writer.new.inner)
+        × (failures_of readers.new ≡ failures_of readers.old)
+        × (writer.new.failures ≡ writer.old.failures) }
+    ensures failed { exit_status result ≡ 1
+        → (error : SumError) × IsTableCause W.contents cap (lefts_of R.remaining readers.old)
+        (lefts_of R.remaining readers.new) (failures_of readers.old) (failures_of readers.new)
+        writer.old writer.new error }
+    ensures statuses { exit_status result ≤ 1 }
+{
+    match table(rt.alloc(), readers, cap, writer) {
+        Ok(()) => ExitCode::from(0),
+        Err(error) => {
+            let fault = JoinFault::Join(error);
+            ended(rt, Message { files, fault }, writer.is_pipe_closed())
+        }
+    }
+}
+
+/// Reads the two files that the words name last, and writes the table of the dumps that they list. The exit status is 0 where it was
+/// written, and else 1.
+fn table_files<T: Files + Eprint + Alloc<A = Global>, W: Write>(
+    rt: &T,
+    words: &[String],
+    cap: u64,
+    writer: &mut Counted<W>,
+) -> ExitCode
+    requires asks { table_cap (map string_bytes words.now) ≡ Some cap }
+    requires long { 3 ≤ length words.now }
+    requires writer { writer.old.failures < 2 ^ 64 - 1 }
+    ensures done { exit_status result ≡ 0
+        → IsTableAnswered (map string_bytes words.now) (W.contents writer.old.inner)
+        (W.contents writer.new.inner)
+        × (writer.new.failures ≡ writer.old.failures) }
+    ensures failed { exit_status result ≡ 1 → (writer.new ≡ writer.old)
+        ⊎ IsTableGivenUp (map string_bytes words.now) W.contents writer.old writer.new }
+    ensures statuses { exit_status result ≤ 1 }
+{
+    let files = &words[words.len() - 2..];
+    let mut readers = match opened(rt, files) {
+        Ok(readers) => readers,
+        Err(fault) => return ended(rt, Message { files, fault }, false),
+    };
+    table_readers(rt, files, cap, readers.as_mut_slice(), writer)
+}
+
+/// Does what the words ask for: [`join_files`], the histogram of a file where they are `histogram` and its name, or the table of two where
+/// they are `table` and their names. A fault is shown in one line on standard error, but for a write to a pipe whose other end is closed. The exit
+/// status is 0 where what they ask for was written, 2 where they ask for nothing, and else 1.
 pub fn run_words<T: Files + Eprint + Alloc<A = Global>, W: Write>(
     rt: &T,
     words: Vec<String>,
@@ -197,8 +260,7 @@ pub fn run_words<T: Files + Eprint + Alloc<A = Global>, W: Write>(
         (W.contents writer.new.inner)
         × (writer.new.failures ≡ writer.old.failures) }
     ensures misused { exit_status result ≡ 2
-        → ((e : JoinRequestError) × (e ≢ JoinRequestError.Memory)
-        × Explains (map string_bytes words.items) e)
+        → ((e : JoinRequestError) × AskForNothing (map string_bytes words.items) e)
         × (writer.new ≡ writer.old) }
     ensures failed { exit_status result ≡ 1 → (writer.new ≡ writer.old)
         ⊎ IsLeft (map string_bytes words.items) W.contents writer.old writer.new }
@@ -206,6 +268,9 @@ pub fn run_words<T: Files + Eprint + Alloc<A = Global>, W: Write>(
 {
     if asks_for_histogram(&words) {
         return histogram_file(rt, &words, writer);
+    }
+    if let Some(cap) = table_cap(&words) {
+        return table_files(rt, &words, cap, writer);
     }
     join_files(rt, words, writer)
 }

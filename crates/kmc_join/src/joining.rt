@@ -2,15 +2,15 @@
 ghost use Rattle.std.specs.Prelude.{◌≡◌, ℕ, ◌*◌, ◌-◌, ◌^◌, ◌<◌, List, length, Option, slice_index_or};
 ghost use Rattle.kmc_sum.specs.Heads.{IsTree};
 ghost use Rattle.kmc_sum.specs.Listed.{IsLength};
-ghost use Rattle.kmc_sum.specs.Sources.{IsFresh, AreReady, AreSources, lefts_of, no_lists};
+ghost use Rattle.kmc_sum.specs.Sources.{IsFresh, AreReady, lefts_of, no_lists};
 ghost use Rattle.kmc_join.specs.Answer.{IsJoinAnswer};
+ghost use Rattle.kmc_join.specs.Taking.{AreAbreast};
 
 use crate::operation::Operation;
+use crate::taking::take_word;
 use kmc_count::Limits;
 use kmc_device::Counted;
-use kmc_sum::{
-    Head, OutputBuffer, Room, SumError, advance, build, heads_for, open, put_pair, rooms_for,
-};
+use kmc_sum::{Head, OutputBuffer, Room, SumError, build, heads_for, open, put_pair, rooms_for};
 use std::alloc::Global;
 use std::io::{Read, Write};
 
@@ -30,40 +30,28 @@ fn drain<R: Read, W: Write>(
     requires long { IsLength k }
     requires writer { writer.old.failures < 2 ^ 64 - 1 }
     ensures { (starts : List (Option (List ℕ)))
-        → AreSources k starts (lefts_of R.remaining readers.old) rooms.old heads.old (no_lists starts)
+        → AreAbreast k starts (lefts_of R.remaining readers.old) rooms.old heads.old (no_lists starts)
         → IsJoinAnswer R.remaining W.contents operation limits.now starts readers.old readers.new
         writer.old writer.new result }
 {
     let mut buffer = OutputBuffer::new();
     let mut lines: u64 = 0;
-    let mut packed: u128 = 0;
-    let mut counts = [0u64; 2];
     for _step in 0..u64::MAX - 1 {
         if !heads[1].live {
             break;
         }
-        let next = heads[1].packed;
-        if next != packed {
-            let number = operation.combined(counts[0], counts[1]);
-            match put_pair(writer, &mut buffer, limits, k, packed, number) {
-                Ok(put) => lines += put,
-                Err(_) => return Err(SumError::Write),
-            }
-            packed = next;
-            counts = [0; 2];
+        let word = take_word(readers, rooms, heads, k)?;
+        let number = operation.combined(word.counts[0], word.counts[1]);
+        match put_pair(writer, &mut buffer, limits, k, word.packed, number) {
+            Ok(put) => lines += put,
+            Err(_) => return Err(SumError::Write),
         }
-        counts[heads[1].source] = heads[1].count;
-        advance(readers, rooms, heads, k)?;
     }
     if heads[1].live {
         return Err(SumError::TooLong);
     }
-    let number = operation.combined(counts[0], counts[1]);
-    match put_pair(writer, &mut buffer, limits, k, packed, number) {
-        Ok(put) => match buffer.flush_into(writer) {
-            Ok(()) => Ok(lines + put),
-            Err(_) => Err(SumError::Write),
-        },
+    match buffer.flush_into(writer) {
+        Ok(()) => Ok(lines),
         Err(_) => Err(SumError::Write),
     }
 }

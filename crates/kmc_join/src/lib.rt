@@ -1,5 +1,5 @@
-//! Two dumps joined word by word: what both list, what either lists, what the first lists and the second does not; the histogram of a
-//! dump; and the program. It stands on kmc_sum, which reads dumps side by side, on kmc_count for limits and on kmc_options for words. The layer above
+//! Two dumps joined word by word: what both list, what either lists, what the first lists and the second does not; the table of their
+//! counts; the histogram of a dump; and the program. It stands on kmc_sum, which reads dumps side by side, on kmc_count for limits and on kmc_options for words. The layer above
 //! calls [`program`].
 #![tactic(auto)]
 
@@ -7,15 +7,25 @@ mod arguments;
 mod fault;
 mod histograms;
 mod joining;
+pub mod laws;
 mod operation;
 mod request;
 mod rows;
+mod table_words;
+mod tables;
+mod tabulating;
+mod taking;
+mod tally;
 mod tallying;
 mod words;
 
-pub use arguments::{histogram_reader, join_files, join_readers, program, run_words};
+pub use arguments::{
+    histogram_reader, join_files, join_readers, program, run_words, table_readers,
+};
 pub use fault::{JoinFault, Message};
 pub use histograms::histogram;
 pub use joining::join;
 pub use operation::{Choice, Operation};
 pub use request::{JoinRequest, JoinRequestError, asked_for};
+pub use table_words::table_cap;
+pub use tables::table;

@@ -1,37 +1,18 @@
 //! How many words of a dump have each count, in a map.
-ghost use Rattle.std.specs.Prelude.{◌≡◌, ◌+◌, ◌-◌, ◌^◌, ◌<◌, ℕ, List, Option, length, OnOk, IfOk, IfErr};
+ghost use Rattle.std.specs.Prelude.{◌≡◌, ◌-◌, ◌^◌, ◌<◌, ℕ, List, Option, length, OnOk, IfOk, IfErr};
+ghost use Rattle.std.specs.Ordering.{nat_cmp};
 ghost use Rattle.kmc_sum.specs.Heads.{IsTree};
 ghost use Rattle.kmc_sum.specs.Listed.{IsLength};
 ghost use Rattle.kmc_sum.specs.Sources.{AreReady, AreSources, failures_of, left_at, lefts_of, no_lists};
-ghost use Rattle.kmc_join.specs.Histogram.{CountsOneMore, HasNoZero, number_of};
+ghost use Rattle.kmc_join.specs.Rows.{HasNoZero};
 ghost use Rattle.kmc_join.specs.Tally.{IsTallyCause, IsWholeTally};
 
+use crate::tally::{Tally, count_key};
 use kmc_device::Counted;
 use kmc_sum::{Head, Room, SumError, advance};
-use std::alloc::{AllocError, Global};
+use std::alloc::Global;
 use std::collections::BTreeMap;
 use std::io::Read;
-
-/// How many words were seen with each count, by the count.
-pub(crate) type Tally = BTreeMap<u64, u64>;
-
-/// How many words were seen with this count.
-fn number_of(tally: &Tally, count: u64) -> u64
-    ensures { result ≡ number_of tally.now count }
-{
-    tally.get(&count).copied().unwrap_or(0)
-}
-
-/// One word more has this count.
-fn count_word(tally: &mut Tally, count: u64) -> Result<(), AllocError>
-    requires sound { HasNoZero tally.old }
-    requires room { number_of tally.old count + 1 < 2 ^ 64 }
-    ensures { OnOk result (CountsOneMore tally.old tally.new count) }
-{
-    let next = number_of(tally, count) + 1;
-    tally.insert(count, next)?;
-    Ok(())
-}
 
 /// Takes all lines of one source, and tallies their counts.
 pub(crate) fn tallied<R: Read>(
@@ -40,12 +21,12 @@ pub(crate) fn tallied<R: Read>(
     rooms: &mut [Room],
     heads: &mut [Head],
     k: usize,
-) -> Result<Tally, SumError>
+) -> Result<Tally<u64>, SumError>
     requires ready { AreReady k (length readers.old) rooms.old heads.old }
     requires one { length readers.old ≡ 1 }
     requires tree { IsTree heads.old }
     requires long { IsLength k }
-    ensures sound { IfOk result HasNoZero }
+    ensures sound { IfOk result (HasNoZero nat_cmp) }
     ensures whole { IfOk result (λ tally. (starts : List (Option (List ℕ)))
         → AreSources k starts (lefts_of R.remaining readers.old) rooms.old heads.old (no_lists starts)
         → IsWholeTally (left_at starts 0) (left_at (lefts_of R.remaining readers.new) 0) tally) }
@@ -60,7 +41,7 @@ pub(crate) fn tallied<R: Read>(
         if !heads[1].live {
             break;
         }
-        match count_word(&mut tally, heads[1].count) {
+        match count_key(&mut tally, heads[1].count) {
             Ok(()) => {}
             Err(_) => return Err(SumError::Memory),
         }

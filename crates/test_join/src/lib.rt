@@ -1,5 +1,5 @@
-//! Tests of joins and of histograms, by public calls alone: each operation on two worked dumps, limits, dumps at fault, devices that
-//! fail, and the command line. Nothing stands on this crate.
+//! Tests of joins, of histograms and of tables, by public calls alone: each operation on two worked dumps, limits, dumps at fault, devices
+//! that fail, and the command line. Nothing stands on this crate.
 #![tactic(auto)]
 
 #[cfg(test)]
@@ -8,5 +8,7 @@ mod devices;
 mod histograms;
 #[cfg(test)]
 mod operations;
+#[cfg(test)]
+mod tables;
 #[cfg(test)]
 mod words;

@@ -1,5 +1,5 @@
 //! Command lines of the program that joins, and what they ask for.
-use kmc_join::{Choice, JoinRequest, JoinRequestError, Operation, asked_for};
+use kmc_join::{Choice, JoinRequest, JoinRequestError, Operation, asked_for, table_cap};
 use kmc_options::Setting;
 use std::alloc::{AllocError, Global};
 use std::process::Abort;
@@ -89,4 +89,30 @@ fn words_that_ask_for_nothing_are_told(rt: HostRuntime) {
     }
     let cs = JoinRequestError::OutOfRange(Setting::Cs);
     asks_nothing(&rt, "union -cs0 a b", cs);
+}
+
+/// The cap of the table that the line asks for.
+fn cap_of(rt: &(impl Abort + Alloc<A = Global>), line: &str) -> Option<u64> {
+    let words = words_of(rt.alloc(), line).expect(rt, "memory");
+    table_cap(&words)
+}
+
+#[test]
+fn a_table_has_a_cap(rt: HostRuntime) {
+    assert_eq!(rt; cap_of(&rt, "table a b"), Some(1000));
+    assert_eq!(rt; cap_of(&rt, "table -cs7 a b"), Some(7));
+    assert_eq!(rt; cap_of(&rt, "table --cs=70000 a b"), Some(70_000));
+    for line in [
+        "",
+        "table a",
+        "table a b c",
+        "table -cs0 a b",
+        "table -cs a b",
+        "table -ci2 a b",
+        "table -cs5 a -b",
+        "tables a b",
+        "table -cs5 -cs5 a b",
+    ] {
+        assert_eq!(rt; cap_of(&rt, line), None, "{line}");
+    }
 }

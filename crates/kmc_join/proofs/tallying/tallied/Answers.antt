@@ -7,7 +7,9 @@ use Rattle.kmc_sum.specs.Lemmas.Advances.{first_inside}
 use Rattle.kmc_sum.specs.Lemmas.Causes.{fault_since, handed_on}
 use Rattle.kmc_sum.specs.Lemmas.Counted.{taken_more, too_many}
 use Rattle.kmc_sum.specs.Lemmas.Taken.{gave_all, room_of}
-use Rattle.kmc_join.proofs.Tallies.{few_more, no_tally, none_seen, tally_next, tally_start, whole_tally}
+use Rattle.std.specs.Ordering.{nat_cmp}
+use Rattle.kmc_join.proofs.Numbering.{few_more, no_tally, none_seen}
+use Rattle.kmc_join.proofs.Tallies.{tally_next, tally_start, whole_tally}
 use Rattle.kmc_join.proofs.tallying.tallied.Goals as goal
 use Rattle.kmc_join.proofs.tallying.tallied.Goals.{else-loop-step-test, then-loop-step-test+then-not-heads}
 
@@ -19,8 +21,8 @@ loop-step-init g c =
       same = refl;
       ready = c.requires.ready;
       tree = c.requires.tree;
-      sound = no_tally c.new-tally.result c.new-tally.ensures.empty;
-      few = λ n. omega (arith, none_seen c.new-tally.result c.new-tally.ensures.empty n);
+      sound = no_tally nat_cmp c.new-tally.result c.new-tally.ensures.empty;
+      few = λ n. omega (arith, none_seen nat_cmp c.new-tally.result c.new-tally.ensures.empty n);
       so = λ starts are. tally_start c.args.k starts _ _ _ c.new-tally.result
           (omega (arith, length-map c.args.readers.now left, are.nows_long, c.requires.one)) c.new-tally.ensures.empty are;
       taken = λ starts are. record { lists = no_lists starts; sources = are; many = omega arith };
@@ -50,10 +52,10 @@ loop-step-preserved g c =
       ready = c.in_ok-advance.ensures.ready;
       tree = c.in_ok-advance.ensures.tree;
       sound = c.in-Ok.ensures.sound;
-      few = few_more c.loop-step.tally c.count_word.new.tally top.count c.loop-step._step c.in-Ok.ensures i.few;
+      few = few_more nat_cmp c.loop-step.tally c.count_key.new.tally top.count c.loop-step._step c.in-Ok.ensures i.few;
       so = λ starts are.
           let so = i.so starts are in
-          tally_next k starts _ _ _ _ c.loop-step.heads _ c.loop-step.tally c.count_word.new.tally so live first
+          tally_next k starts _ _ _ _ c.loop-step.heads _ c.loop-step.tally c.count_key.new.tally so live first
           (omega (arith, inside, length-map c.loop-step.readers left, so.sources.nows_long, so.sources.lists_long)) c.in-Ok.ensures
           (c.in_ok-advance.ensures.sources starts so.lists so.sources);
       taken = λ starts are.

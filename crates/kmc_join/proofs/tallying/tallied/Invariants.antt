@@ -2,7 +2,8 @@ use Rattle.std.proofs.Common.{◌≡◌, ℕ, ◌≤◌, List, length, map, Opti
 use Rattle.kmc_sum.specs.Heads.{IsTree}
 use Rattle.kmc_sum.specs.Sources.{AreReady, AreSources, no_lists}
 use Rattle.kmc_sum.specs.Lemmas.Counted.{HaveTaken}
-use Rattle.kmc_join.specs.Histogram.{HasNoZero, number_of}
+use Rattle.std.specs.Ordering.{nat_cmp}
+use Rattle.kmc_join.specs.Rows.{HasNoZero, number_of}
 use Rattle.kmc_join.specs.Tally.{IsTallied}
 use Rattle.kmc_join.proofs.tallying.tallied.Given as goal
 
@@ -13,8 +14,8 @@ invariant-loop-step g l = record {
   same : map (λ r. r.failures) l.readers ≡ map (λ r. r.failures) l.initial.readers;
   ready : AreReady l.k (length l.readers) l.rooms l.heads;
   tree : IsTree l.heads;
-  sound : HasNoZero l.tally;
-  few : (n : ℕ) → number_of l.tally n ≤ l._step;
+  sound : HasNoZero nat_cmp l.tally;
+  few : (n : ℕ) → number_of nat_cmp l.tally n ≤ l._step;
   so : (starts : List (Option (List ℕ)))
       → AreSources l.k starts (map (λ r. g.R.Read.remaining r.inner) l.initial.readers) l.initial.rooms l.initial.heads (no_lists starts)
       → IsTallied l.k starts (map (λ r. g.R.Read.remaining r.inner) l.readers) l.rooms l.heads l.tally;

@@ -1,0 +1,22 @@
+-- Laws of histograms.
+use Rattle.std.specs.Prelude.{◌≡◌, ◌+◌, ◌≤◌, ◌==◌, ℕ, List, if◌then◌else◌}
+use Rattle.std.specs.List.{sum_by}
+use Rattle.kmc_sum.specs.Listed.{AreListed}
+use Rattle.kmc_sum.specs.Sum.{listed_count}
+use Rattle.kmc_join.specs.Histogram.{IsHistogram}
+
+-- the two lists share no word, and the third has the pairs of both: of (AC, 2), (TT, 7) and (CA, 2) it is (AC, 2), (CA, 2), (TT, 7)
+pub record ArePairsOfBoth (left right both : List (List ℕ × ℕ)) : Type 0 where
+  pub apart : (x : List ℕ) → 1 ≤ listed_count left x → listed_count right x ≡ 0
+  pub each : (x : List ℕ) → listed_count both x ≡ listed_count left x + listed_count right x
+
+-- the number that rows tell of a count, and 0 where they tell none
+abbrev pub told : List (ℕ × ℕ) → ℕ → ℕ
+told rows n = sum_by (λ r. if r.0 == n then r.1 else 0) rows
+
+-- the histogram of the pairs of two lists that share no word is, count by count, the sum of the histograms of each; so those of slices add
+-- up to that of the whole
+abbrev pub HistogramsAdd : Type 0
+HistogramsAdd = (k : ℕ) (left right both : List (List ℕ × ℕ)) (first second whole : List (ℕ × ℕ)) → AreListed k left → AreListed k right
+    → AreListed k both → ArePairsOfBoth left right both → IsHistogram left first → IsHistogram right second → IsHistogram both whole
+    → (n : ℕ) → told whole n ≡ told first n + told second n
