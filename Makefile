@@ -7,10 +7,8 @@ KMC_LIST := ./kmc_list
 KMC_DB := ./kmc_db
 # the programs of users
 PROGRAMS = $(KMC) $(KMC_MERGE) $(KMC_CUT) $(KMC_LIST) $(KMC_DB)
-# programs that the scripts in bench/ try
-REFUSED := ./try_refused_growths
-BODIES := ./try_damaged_bodies
-MANY := ./try_many_threads
+# what the scripts in bench/ try beside them
+HOSTILE := ./try_hostile
 
 # where `make install` puts the programs and their pages, and under which names: Debian's `kmc` is KMC 3
 PREFIX := /usr/local
@@ -38,7 +36,7 @@ endef
 
 SOURCES := crates.txt $(shell find crates -path '*/out' -prune -o -type f -name '*.rt' -print -o -type f -name '*.antt' -print)
 
-$(PROGRAMS) $(REFUSED) $(BODIES) $(MANY): ./%: $(SOURCES)
+$(PROGRAMS) $(HOSTILE): ./%: $(SOURCES)
 	$(call built,$*)
 
 count: $(KMC)
@@ -96,11 +94,11 @@ SEED := 1
 fuzz: $(KMC)
 	KMC="$(abspath $(KMC))" bench/fuzz.py --seed $(SEED)
 
-hostile: $(KMC) $(REFUSED)
-	KMC="$(abspath $(KMC))" REFUSED="$(abspath $(REFUSED))" bench/hostile.py
+hostile: $(KMC) $(HOSTILE)
+	KMC="$(abspath $(KMC))" HOSTILE="$(abspath $(HOSTILE))" bench/hostile.py
 
-damaged: $(BODIES)
-	BODIES="$(abspath $(BODIES))" bench/damaged.py --seed $(SEED)
+damaged: $(HOSTILE)
+	HOSTILE="$(abspath $(HOSTILE))" bench/damaged.py --seed $(SEED)
 
 devices: $(KMC)
 	KMC="$(abspath $(KMC))" bench/devices.py
@@ -108,10 +106,10 @@ devices: $(KMC)
 limits: $(KMC)
 	KMC="$(abspath $(KMC))" bench/system_limits.sh
 
-threads: $(KMC) $(MANY)
+threads: $(KMC) $(HOSTILE)
 	@cd crates/test_queue && rt test > out.log 2>&1 || { cat out.log; rm -f out.log; exit 1; }
 	@rm -f crates/test_queue/out.log
-	KMC="$(abspath $(KMC))" MANY="$(abspath $(MANY))" bench/hostile_threads.sh
+	KMC="$(abspath $(KMC))" HOSTILE="$(abspath $(HOSTILE))" bench/hostile_threads.sh
 
 bench: $(PROGRAMS)
 	bench/compare.sh
@@ -121,7 +119,7 @@ bench: $(PROGRAMS)
 # measures these sections alone
 ONLY :=
 
-results: $(PROGRAMS) $(REFUSED) $(BODIES) $(MANY)
+results: $(PROGRAMS) $(HOSTILE)
 	bench/results.py $(ONLY)
 
 # docs/REFUSALS.md against the code: the number, text and exit status of each refusal
@@ -138,4 +136,4 @@ merges: $(KMC_MERGE)
 	bench/merge_time.sh
 
 clean:
-	rm -rf crates/*/out $(PROGRAMS) $(REFUSED) $(BODIES) $(MANY)
+	rm -rf crates/*/out $(PROGRAMS) $(HOSTILE)

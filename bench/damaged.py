@@ -1,12 +1,12 @@
 #!/usr/bin/env python3
-"""Damaged bodies of records: each verdict of the program try_damaged_bodies against a decoder of its own.
+"""Damaged bodies of records: each verdict of the program try_hostile bodies against a decoder of its own.
 
 usage: damaged.py [--seed N] [--tries N] [--answers]
 
 A body is made of the records of super-k-mers of one bin, then one byte of it is changed, left out or added, or its end cut off,
 or nothing is done to it. The program tells for each body what `count_bin` and `Part::from_body` answer: the dump and the number of
 words, or the first fault and where the record begins that has it. The decoder below is written from the rules of records,
-signatures and bins. The variable BODIES names another program. With --answers no program is run: the rows of standard input are
+signatures and bins. The variable HOSTILE names another program. With --answers no program is run: the rows of standard input are
 answered.
 """
 import argparse
@@ -15,7 +15,7 @@ import random
 import subprocess
 import sys
 
-BODIES = os.environ.get("BODIES", os.path.join(os.path.dirname(os.path.abspath(__file__)), "..", "try_damaged_bodies"))
+HOSTILE = os.environ.get("HOSTILE", os.path.join(os.path.dirname(os.path.abspath(__file__)), "..", "try_hostile"))
 LETTERS = "ACGT"
 
 # ---- the decoder
@@ -157,7 +157,7 @@ def main():
         return
     source = random.Random(asked.seed)
     rows = [row(source) for _ in range(asked.tries)]
-    run = subprocess.run([BODIES], input="".join(line + "\n" for line in rows).encode(), stdout=subprocess.PIPE, timeout=600)
+    run = subprocess.run([HOSTILE, "bodies"], input="".join(line + "\n" for line in rows).encode(), stdout=subprocess.PIPE, timeout=600)
     told = iter(run.stdout.decode().splitlines())
     kinds = {}
     wrong = 0

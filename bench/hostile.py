@@ -13,9 +13,9 @@ only one number in several is tried. An answer is right where it is
 
 The whole answer is that of the model in fuzz.py. The variable KMC names another program.
 
-Then the same calls of the program try_refused_growths are refused one by one. It makes the call that met the refusal once more, with
-what came back, and has to print what crates/try_refused_growths/stdout holds and to end with status 0. The variable REFUSED names
-another program.
+Then the same calls of `try_hostile growths` are refused one by one. It makes the call that met the refusal once more, with what came
+back, and has to print the front of what crates/try_hostile/stdout holds and to end with status 0. The variable HOSTILE names another
+program.
 """
 import argparse
 import collections
@@ -35,7 +35,7 @@ LONG_OUTPUT = 4096
 BATCH = 20  # numbers that a worker is given at a time
 SPARSE = 41  # one number in so many is tried of the longest rows, and of all long ones where all later calls are refused too
 TOP = os.path.join(os.path.dirname(os.path.abspath(__file__)), "..")
-REFUSED = os.environ.get("REFUSED", os.path.join(TOP, "try_refused_growths"))
+HOSTILE = os.environ.get("HOSTILE", os.path.join(TOP, "try_hostile"))
 OUT_OF_MEMORY = (1, b"", b"kmc: out of memory\n")
 USAGE = (fuzz.USAGE[1], b"", fuzz.USAGE[0] + b"\n")
 
@@ -141,22 +141,22 @@ def row(pool, asked, library, name, words, text, step, everything):
 
 
 def again(library):
-    """Refuses each call of try_refused_growths. The number of tries, and of wrong answers."""
-    with open(os.path.join(TOP, "crates", "try_refused_growths", "stdout"), "rb") as file:
-        whole = file.read()
+    """Refuses each call of `try_hostile growths`. The number of tries, and of wrong answers."""
+    with open(os.path.join(TOP, "crates", "try_hostile", "stdout"), "rb") as file:
+        whole = file.read().partition(b"1600 parts")[0]
     kinds = collections.Counter()
     unmet = number = 0
     while unmet < IN_A_ROW:
         number += 1
         told = fuzz.memory_file()
         environment = dict(os.environ, LD_PRELOAD=library, REFUSE_MEMORY=str(number))
-        status, output, error = fuzz.run([], b"", False, environment, ((told, 9),), REFUSED)
+        status, output, error = fuzz.run(["growths"], b"", False, environment, ((told, 9),), HOSTILE)
         met = bool(fuzz.content_of(told))
         os.close(told)
         unmet = 0 if met else unmet + 1
         if status != 0 or output != whole or error.count(b"\n") > met:
             kinds["wrong"] += 1
-            print("hostile: try_refused_growths: call %d refused: status %d, output %s, error %s" % (
+            print("hostile: try_hostile growths: call %d refused: status %d, output %s, error %s" % (
                 number, status, fuzz.shortened(output), fuzz.shortened(error)))
         elif not met:
             kinds["without a refusal"] += 1

@@ -1,17 +1,17 @@
 #!/usr/bin/env bash
-# Runs ./kmc, and ./try_many_threads, many times in a row while other processes keep the processors busy: the same answer each time.
+# Runs ./kmc, and `./try_hostile parts`, many times in a row while other processes keep the processors busy: the same answer each time.
 #
 # usage: bench/hostile_threads.sh [RUNS [BUSY]]
 #
-# RUNS (200) runs of ./kmc in turn with -sp4 -sr4 and -sp16 -sr16, each of 12000 reads, and as many of ./try_many_threads, whose 16
+# RUNS (200) runs of ./kmc in turn with -sp4 -sr4 and -sp16 -sr16, each of 12000 reads, and as many of `./try_hostile parts`, whose 16
 # writers and 8 readers call the queue in threads of their own, and of each test of the queue in which a seat is held (test_queue,
 # held). Each is ended after 120 seconds if it has not ended by then. BUSY (4)
-# processes that do nothing else run beside them. The dump is that of bench/count_plainly.py. The variables KMC, MANY and HELD (the
+# processes that do nothing else run beside them. The dump is that of bench/count_plainly.py. The variables KMC, HOSTILE and HELD (the
 # built tests, as `rt test` leaves them) name other programs.
 set -u
 top=$(cd "$(dirname "$0")/.." && pwd)
 kmc=${KMC:-$top/kmc}
-many=${MANY:-$top/try_many_threads}
+hostile=${HOSTILE:-$top/try_hostile}
 held=${HELD:-$top/crates/test_queue/out/test_queue_tests}
 runs=${1:-200}
 busy=${2:-4}
@@ -46,10 +46,10 @@ while [ "$run" -lt "$runs" ]; do
         wrong=$((wrong + 1))
         echo "threads: run $run with -sp$threads -sr$threads is wrong: status $status, $(head -c 300 "$work/err")"
     fi
-    timeout 120 "$many" > "$work/out" 2> "$work/err"
+    timeout 120 "$hostile" parts > "$work/out" 2> "$work/err"
     status=$?
     tried=$((tried + 1))
-    if [ "$status" -ne 0 ] || [ -s "$work/err" ] || ! cmp -s "$work/out" "$top/crates/try_many_threads/stdout"; then
+    if [ "$status" -ne 0 ] || [ -s "$work/err" ] || ! grep '^1600 parts' "$top/crates/try_hostile/stdout" | cmp -s - "$work/out"; then
         wrong=$((wrong + 1))
         echo "threads: run $run of many threads is wrong: status $status, $(head -c 300 "$work/out" "$work/err")"
     fi

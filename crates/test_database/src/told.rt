@@ -9,11 +9,7 @@ use std::test::Fail;
 use test_support::{BlockReader, Full, NarrowWriter};
 
 /// Passes where a user is told this line of the refusal.
-fn tells(
-    rt: &(impl Abort + Alloc<A = Global>),
-    error: PackError,
-    line: &str,
-) -> Result<(), Fail> {
+fn tells(rt: &(impl Abort + Alloc<A = Global>), error: PackError, line: &str) -> Result<(), Fail> {
     let message = PackMessage {
         dump: "a.dump",
         database: "words",
@@ -69,14 +65,7 @@ fn a_dump_is_packed_for_a_user(rt: HostRuntime) -> Result<(), Fail> {
     let out = NarrowWriter::new(Vec::new(rt.alloc()), 9, 1000, Full::Fails, true);
     let mut suffix = Counted::new(out);
     let options = counts_of(1, 2, 200);
-    let _status = pack_reader(
-        &rt,
-        names,
-        &options,
-        &mut reader,
-        &mut prefix,
-        &mut suffix,
-    );
+    let _status = pack_reader(&rt, names, &options, &mut reader, &mut prefix, &mut suffix);
     let suffix = suffix.into_inner().into_bytes();
     assert_eq!(rt; suffix.as_slice(), b"KMCS\x07\xffKMCS".as_slice());
     assert_eq!(rt; prefix.into_inner().into_bytes().len(), 108);
