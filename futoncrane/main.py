@@ -18,6 +18,7 @@ COMMANDS = {
     "union": "the k-mers of either of two dumps",
     "intersect": "the k-mers of both of two dumps",
     "subtract": "the k-mers of one dump that another one lacks",
+    "table": "how many k-mers have which counts in two dumps",
     "solid": "the k-mers within limits, as FASTA",
     "genomescope": "the histogram as GenomeScope reads it",
     "cluster": "counts on several machines",

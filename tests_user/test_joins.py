@@ -5,7 +5,7 @@ from room import program
 from test_programs import MOST, ended
 
 USAGE = (b"usage: kmc_db union|intersect|subtract|counters-subtract [-oc<choice>] [-ci<n>] [-cx<n>] [-cs<n>] a.dump b.dump, "
-         b"or kmc_db histogram a.dump\n")
+         b"or kmc_db table [-cs<n>] a.dump b.dump, or kmc_db histogram a.dump\n")
 CHOICES = {"min": min, "max": max, "sum": lambda a, b: a + b, "diff": lambda a, b: max(a - b, 0), "left": lambda a, b: a, "right": lambda a, b: b}
 OWN = {"union": "sum", "intersect": "min", "counters-subtract": "diff", "subtract": None}
 
@@ -56,6 +56,35 @@ def test_a_histogram_is_as_counted_here(room):
             rows[count] = rows.get(count, 0) + 1
         wanted = "".join("%d\t%d\n" % it for it in sorted(rows.items())).encode()
         assert ended(room, "kmc_db", "histogram", room.write("a.dump", text_of(dict(counts)))) == (0, wanted, b""), k
+
+
+def test_a_table_is_as_counted_here(room):
+    program("kmc_db")
+    dice = random.Random(7)
+    for _ in range(20):
+        k, cap = dice.choice((1, 4, 31, 64)), dice.choice((1, 3, 1000, MOST))
+        first, second = a_dump(dice, k), a_dump(dice, k)
+        names = room.write("first", text_of(first)), room.write("second", text_of(second))
+        rows = {}
+        for word in {*first, *second}:
+            both = min(first.get(word, 0), cap), min(second.get(word, 0), cap)
+            rows[both] = rows.get(both, 0) + 1
+        wanted = "".join("%d\t%d\t%d\n" % (*both, many) for both, many in sorted(rows.items())).encode()
+        words = () if cap == 1000 else ("-cs%d" % cap,)
+        assert ended(room, "kmc_db", "table", *words, *names) == (0, wanted, b""), (k, cap)
+        room.counts(wanted, "table", *(() if cap == 1000 else ("--cap", str(cap))), *names)
+
+
+def test_an_assembly_is_judged_by_merqurys_formulas(room):
+    program("kmc_db")
+    reads, assembly = room.write("reads", "AAC\t5\nACG\t1\nCCA\t7\n"), room.write("assembly", "AAC\t1\nACG\t2\nGTA\t1\n")
+    shared = b"in both\t2\nin the first alone\t1\nin the second alone\t1\nJaccard index\t0.500000\n"
+    # one of four occurrences is not in the reads: E is 1 less the third root of 3 / 4
+    room.counts(shared + b"completeness\t50.0000\nQV\t10.3886\n", "compare", "--assembly", "--solid", "2", reads, assembly)
+    room.counts(shared + b"completeness\t66.6667\nQV\t10.3886\n", "compare", "--assembly", reads, assembly)
+    whole = b"in both\t3\nin the first alone\t0\nin the second alone\t0\nJaccard index\t1.000000\n"
+    room.counts(whole + b"completeness\t100.0000\nQV\tinf\n", "compare", "--assembly", reads, room.write("same", "AAC\t5\nACG\t1\nCCA\t7\n"))
+    room.refuses(2, "--assembly wants two files", words=["compare", "--assembly", reads, "-"], text=b"")
 
 
 def test_a_join_refuses_wrong_words(room):

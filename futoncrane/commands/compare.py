@@ -1,19 +1,25 @@
-"""futoncrane compare: the k-mers that two dumps share."""
+"""futoncrane compare: the k-mers that two dumps share, and how well an assembly has those of its reads."""
 import bisect
+import math
 import types
 
 from futoncrane.children import Children
 from futoncrane.dumps import BLOCK, Dump
 from futoncrane.faults import Fault, Misuse
 from futoncrane.inputs import is_same_file
-from futoncrane.options import Option
+from futoncrane.options import MOST, Option, number
 from futoncrane.output import Output, text_output
 from futoncrane import merging, notes, report, shared
 
-USAGE = "[--common | --first | --second | --same] [-o FILE] FIRST.dump SECOND.dump"
+USAGE = "[--common | --first | --second | --same | --assembly] [-o FILE] FIRST.dump SECOND.dump"
 TEXT = """
 Writes how many k-mers are in both dumps, in the first alone and in the second alone, and their Jaccard index: the number of k-mers in both
 over the number of those in one or both; of two empty dumps it is 1.
+
+With --assembly the first dump is that of reads and the second that of their assembly, which wants --min 1 --cap none, and two lines more are
+written, by Merqury's formulas. Completeness is how many of a hundred solid k-mers of the reads the assembly has; which are solid --solid
+says. QV is -10 log10 E, where 1 - E, to the power of k, is the part of the assembly's k-mers, each as often as it occurs, that the reads
+have; without any that they lack it is inf. Where the dump of the reads leaves out what was met once, QV is a little less than Merqury's.
 
 Both dumps must have been made with the same -k, and with or without --forward alike: where DUMP.json stands beside a dump that is looked
 at. They may be packed.
@@ -23,9 +29,12 @@ OPTIONS = [
     Option(["--first"], "what", constant="first", text="writes the lines of the first dump whose k-mers are not in the second"),
     Option(["--second"], "what", constant="second", text="writes the lines of the second dump whose k-mers are not in the first"),
     Option(["--same"], "what", constant="same", text="writes the lines that stand in both: k-mers with equal counts"),
+    Option(["--assembly"], "what", constant="assembly", text="tells the completeness and the quality (QV) of the second, an assembly of the first's reads"),
+    Option(["--solid"], "solid", "COUNT", number(1, MOST), 1, "k-mers of the reads that occur so often are solid, with --assembly (1: each that is listed)"),
     shared.QUIET, shared.OUT,
 ]
-EXAMPLES = ["futoncrane compare mother.dump child.dump", "futoncrane compare --second -o new.dump mother.dump child.dump.gz"]
+EXAMPLES = ["futoncrane compare mother.dump child.dump", "futoncrane compare --second -o new.dump mother.dump child.dump.gz",
+            "futoncrane compare --assembly --solid 5 reads.dump assembly.dump"]
 
 
 def ranges(first, second):
@@ -62,7 +71,7 @@ def lines_of(what, one, other):
 
 def is_for_kmc_db(asked):
     """Whether kmc_db can do it: it reads each dump by its name, and gives one count for each k-mer."""
-    return asked.what in (None, "first", "second") and "-" not in asked.files and not is_same_file(*asked.files)
+    return asked.what in (None, "first", "second", "assembly") and "-" not in asked.files and not is_same_file(*asked.files)
 
 
 def alone(asked, children, setting):
@@ -73,22 +82,37 @@ def alone(asked, children, setting):
         output.finish()
 
 
-def numbers(asked, children, setting):
+def table_of(asked, children, setting):
+    """For each two counts that a k-mer has in the first and in the second dump, how many k-mers have them."""
+    rows = []
+    merging.merged(asked.files, [], children, setting, reader=rows.extend, program="kmc_db", words=["table", "-cs%d" % MOST])
+    return [tuple(map(int, row.split())) for row in rows]
+
+
+def numbers(rows):
     """How many k-mers are in both, in the first and in the second."""
-    both = 0
+    return [sum(many for one, other, many in rows if is_in(one, other)) for is_in in (
+        lambda one, other: one and other, lambda one, other: one, lambda one, other: other)]
 
-    def count(stream):
-        nonlocal both
-        for block in iter(lambda: stream.read(BLOCK), b""):
-            both += block.count(b"\n")
 
-    merging.merged(asked.files, merging.WHOLE, children, setting, reader=count, program="kmc_db", words=["intersect"])
-    found = []
-    for name in asked.files:
-        rows = []
-        merging.merged([name], [], children, setting, reader=rows.extend, program="kmc_db", words=["histogram"])
-        found.append(sum(int(row.split()[1]) for row in rows))
-    return [both, *found]
+def quality(rows, k, solid):
+    """The lines of an assembly: its completeness in 100, and its quality."""
+    known = [(other, many) for one, other, many in rows if one >= solid]
+    whole, found = sum(many for _, many in known), sum(many for other, many in known if other)
+    total, only = sum(other * many for _, other, many in rows), sum(other * many for one, other, many in rows if not one)
+    error = 1 - (1 - only / total) ** (1 / k) if total else 0
+    return b"completeness\t%s\nQV\t%s\n" % tuple(text.encode() for text in (
+        "%.4f" % (100 * found / whole) if whole else "none", "%.4f" % (-10 * math.log10(error)) if error > 0 else "inf"))
+
+
+def length_of(names, children):
+    """How many symbols the k-mers have; 1 where no dump has one."""
+    for name in names:
+        dump = Dump(name, children)
+        dump.more()
+        if dump.k:
+            return dump.k
+    return 1
 
 
 def read_here(asked, children, lines):
@@ -107,16 +131,21 @@ def read_here(asked, children, lines):
 def main(asked):
     if len(asked.files) != 2 or asked.files == ["-", "-"]:
         raise Misuse("two dumps are wanted")
+    if asked.what == "assembly" and not is_for_kmc_db(asked):
+        raise Misuse("--assembly wants two files")
     notes.check_pair(notes.of_dumps(asked.files, "compared", asked.quiet), asked.quiet)
     setting = types.SimpleNamespace(quiet=asked.quiet, report=report.Report(False))
     with Children() as children:
-        if is_for_kmc_db(asked) and asked.what:
+        if is_for_kmc_db(asked) and asked.what in ("first", "second"):
             alone(asked, children, setting)
             return 0
         with text_output(asked.out, children) as lines:
-            both, in_first, in_second = (numbers(asked, children, setting) if is_for_kmc_db(asked) else read_here(asked, children, lines))
-            if not asked.what:
+            rows = table_of(asked, children, setting) if is_for_kmc_db(asked) else None
+            both, in_first, in_second = numbers(rows) if rows is not None else read_here(asked, children, lines)
+            if asked.what in (None, "assembly"):
                 index = both / (in_first + in_second - both) if in_first or in_second else 1
                 lines.write(b"in both\t%d\nin the first alone\t%d\nin the second alone\t%d\nJaccard index\t%.6f\n" % (
                     both, in_first - both, in_second - both, index))
+            if asked.what == "assembly":
+                lines.write(quality(rows, length_of(asked.files, children), asked.solid))
     return 0

@@ -1,0 +1,37 @@
+"""futoncrane table: how many k-mers have which counts in two dumps."""
+from futoncrane import merging, notes, shared
+from futoncrane.children import Children
+from futoncrane.faults import Misuse, shown
+from futoncrane.inputs import is_same_file
+from futoncrane.options import MOST, Option, number
+from futoncrane.output import Output
+
+USAGE = "[--cap COUNT] [-o FILE] FIRST.dump SECOND.dump"
+TEXT = """
+Writes a line for each two counts that a k-mer of either dump has: the count in the first, a tab, the count in the second, a tab, how many
+k-mers have both. A count of 0 says that the dump does not list the k-mer. The lines rise. Spectra of reads by the copies in their assembly
+are drawn from it, and how alike two samples are.
+
+Both dumps must have been made with the same -k, and with or without --forward alike: where DUMP.json stands beside a dump that is looked
+at. They may be packed, and are read once, side by side. The work is done by kmc_db, whose answer is proved.
+"""
+OPTIONS = [
+    Option(["--cap"], "cap", "COUNT", number(1, MOST, MOST), 1000, "greater counts are taken for this, or for none (1000)", ["-cs", "--cs"]),
+    shared.QUIET, shared.OUT,
+]
+EXAMPLES = ["futoncrane table --cap 200 -o spectra.txt reads.dump assembly.dump"]
+
+
+def main(asked):
+    names = asked.files
+    if len(names) != 2:
+        raise Misuse("two dumps are wanted")
+    if asked.out is not None and any(is_same_file(name, asked.out) for name in names if name != "-"):
+        raise Misuse("%s: it is read, and cannot be written at the same time" % shown(asked.out))
+    merging.check_names(names)
+    setting = shared.settings(asked)
+    notes.check_pair(notes.of_dumps(names, "compared", asked.quiet), asked.quiet)
+    with Children() as children, Output(asked.out, children) as output:
+        merging.merged(names, [], children, setting, output, program="kmc_db", words=["table", "-cs%d" % asked.cap])
+        output.finish()
+    return 0
