@@ -1,4 +1,4 @@
-//! The program `kmc_db`: two dumps, joined, on standard output. On a fault it writes one line to standard error and ends with the
+//! The program `kmc_db`: two dumps, joined or told of, on standard output. On a fault it writes one line to standard error and ends with the
 //! fault's status. All of it is `kmc_join`'s.
 #![tactic(auto)]
 
@@ -9,5 +9,5 @@ use std::process::ExitCode;
 
 fn main(rt: HostRuntime) -> ExitCode {
     let mut writer = Counted::new(io::writer(&rt));
-    program(&rt, &mut writer)
+    program(&rt, rt.reader(), &mut writer)
 }

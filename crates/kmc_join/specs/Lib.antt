@@ -3,6 +3,7 @@ pub mod Histogram
 pub mod Join
 pub mod Laws
 pub mod Messages
+pub mod Operand
 pub mod Operation
 pub mod Program
 pub mod RefusalNumbers

@@ -1,12 +1,13 @@
 //! The program: from its arguments to the dump of the join, or the histogram, and the exit status.
-ghost use Rattle.std.specs.Prelude.{◌≡◌, ◌≢◌, ℕ, ◌-◌, ◌^◌, ◌<◌, ◌≤◌, ◌⊎◌, List, length, map, MatchResult, Some, string_bytes, true};
+ghost use Rattle.std.specs.Prelude.{◌≡◌, ◌≢◌, ℕ, ◌-◌, ◌^◌, ◌<◌, ◌≤◌, ◌⊎◌, List, length, map, Some, string_bytes, true};
 ghost use Rattle.std.specs.Process.{exit_status};
 ghost use Rattle.kmc_options.specs.Words.{Word};
 ghost use Rattle.kmc_sum.specs.Answer.{IsCause};
 ghost use Rattle.kmc_sum.specs.Sources.{failures_of, left_at, lefts_of};
-ghost use Rattle.kmc_sum.specs.declared.error.SumError.TheVariants.{Memory};
+ghost use Rattle.kmc_sum.specs.declared.error.SumError.{SumError};
 ghost use Rattle.kmc_join.specs.Request.{Explains};
 ghost use Rattle.kmc_join.specs.Histogram.{IsHistogramWritten};
+ghost use Rattle.kmc_join.specs.Operand.{full_names};
 ghost use Rattle.kmc_join.specs.Program.{AskForNothing, IsAnswered, IsDone, IsGivenUp, IsHistogramAnswered, IsHistogramGivenUp, IsLeft, IsTableAnswered, IsTableGivenUp};
 ghost use Rattle.kmc_join.specs.State.{IsBegun, IsJoinWritten};
 ghost use Rattle.kmc_join.specs.Table.{IsTableWritten};
@@ -18,6 +19,7 @@ ghost use Rattle.kmc_join.specs.Words.{asks_for_histogram};
 use crate::fault::{JoinFault, Message, unnamed};
 use crate::histograms::histogram;
 use crate::joining::join;
+use crate::opening::{full_names, opened};
 use crate::operation::Operation;
 use crate::request::{JoinRequestError, asked_for};
 use crate::table_words::table_cap;
@@ -26,33 +28,10 @@ use crate::words::asks_for_histogram;
 use kmc_count::Limits;
 use kmc_device::Counted;
 use kmc_options::{arguments, ended};
-use kmc_sum::SumError;
 use std::alloc::Global;
-use std::fs;
 use std::io::{Read, Write};
 use std::process::ExitCode;
 use std::rt::{Env, Files};
-
-/// A reader for each file, or why there are none: the first file that cannot be opened, or want of memory.
-fn opened<T: Files + Alloc<A = Global>>(
-    rt: &T,
-    files: &[String],
-) -> Result<Vec<Counted<T::File>>, JoinFault>
-    ensures { MatchResult result (λ readers. length readers.items ≡ length files.now)
-        (λ fault. (fault ≡ JoinFault.Join Memory)
-        ⊎ ((i : ℕ) × (i < length files.now) × (fault ≡ JoinFault.NotOpened i))) }
-{
-    let mut readers = Vec::new(rt.alloc());
-    for i in 0..files.len() {
-        let Ok(file) = fs::open(rt, files[i].as_str()) else {
-            return Err(JoinFault::NotOpened(i));
-        };
-        if readers.push(Counted::new(file)).is_err() {
-            return Err(JoinFault::Join(SumError::Memory));
-        }
-    }
-    Ok(readers)
-}
 
 /// Reads the readers of the two files to their ends, and writes the dump of the join of what they list, within the limits. A fault
 /// is shown in one line on standard error, but for a write to a pipe whose other end is closed. The exit status is 0 where
@@ -91,12 +70,13 @@ pub fn join_readers<T: Eprint + Alloc<A = Global>, R: Read, W: Write>(
     }
 }
 
-/// Reads the two files that the words name, and writes the dump of the join of what they list, by the operation and within the limits of
-/// the words. A fault is shown in one line on standard error, but for a write to a pipe whose other end is closed. The exit status is 0
+/// Reads the two files that the words name, the input in place of `/dev/stdin`, and writes the dump of the join of what they list, by the
+/// operation and within the limits of the words. A fault is shown in one line on standard error, but for a write to a pipe whose other end is closed. The exit status is 0
 /// where the dump was written, 2 where the words ask for nothing, and else 1.
-pub fn join_files<T: Files + Eprint + Alloc<A = Global>, W: Write>(
+pub fn join_files<T: Files + Eprint + Alloc<A = Global>, I: Read + Drop, W: Write>(
     rt: &T,
     words: Vec<String>,
+    input: I,
     writer: &mut Counted<W>,
 ) -> ExitCode
     requires { writer.old.failures < 2 ^ 64 - 1 }
@@ -116,7 +96,7 @@ pub fn join_files<T: Files + Eprint + Alloc<A = Global>, W: Write>(
         Ok(asked) => asked,
         Err(error) => return ended(rt, unnamed(JoinFault::Request(error)), false),
     };
-    let mut readers = match opened(rt, &asked.files) {
+    let mut readers = match opened(rt, &asked.files, input) {
         Ok(readers) => readers,
         Err(fault) => {
             let files = asked.files.as_slice();
@@ -165,9 +145,10 @@ pub fn histogram_reader<T: Eprint + Alloc<A = Global>, R: Read, W: Write>(
 
 /// Reads the file that the words name, and writes the histogram of the dump that it lists. The exit status is 0 where it was written, and
 /// else 1.
-fn histogram_file<T: Files + Eprint + Alloc<A = Global>, W: Write>(
+fn histogram_file<T: Files + Eprint + Alloc<A = Global>, I: Read + Drop, W: Write>(
     rt: &T,
     words: &[String],
+    input: I,
     writer: &mut Counted<W>,
 ) -> ExitCode
     requires asks { asks_for_histogram (map string_bytes words.now) ≡ true }
@@ -181,7 +162,7 @@ fn histogram_file<T: Files + Eprint + Alloc<A = Global>, W: Write>(
     ensures statuses { exit_status result ≤ 1 }
 {
     let files = &words[1..];
-    let mut readers = match opened(rt, files) {
+    let mut readers = match opened(rt, files, input) {
         Ok(readers) => readers,
         Err(fault) => return ended(rt, Message { files, fault }, false),
     };
@@ -221,10 +202,11 @@ pub fn table_readers<T: Eprint + Alloc<A = Global>, R: Read, W: Write>(
 
 /// Reads the two files that the words name last, and writes the table of the dumps that they list. The exit status is 0 where it was
 /// written, and else 1.
-fn table_files<T: Files + Eprint + Alloc<A = Global>, W: Write>(
+fn table_files<T: Files + Eprint + Alloc<A = Global>, I: Read + Drop, W: Write>(
     rt: &T,
     words: &[String],
     cap: u64,
+    input: I,
     writer: &mut Counted<W>,
 ) -> ExitCode
     requires asks { table_cap (map string_bytes words.now) ≡ Some cap }
@@ -239,19 +221,19 @@ fn table_files<T: Files + Eprint + Alloc<A = Global>, W: Write>(
     ensures statuses { exit_status result ≤ 1 }
 {
     let files = &words[words.len() - 2..];
-    let mut readers = match opened(rt, files) {
+    let mut readers = match opened(rt, files, input) {
         Ok(readers) => readers,
         Err(fault) => return ended(rt, Message { files, fault }, false),
     };
     table_readers(rt, files, cap, readers.as_mut_slice(), writer)
 }
 
-/// Does what the words ask for: [`join_files`], the histogram of a file where they are `histogram` and its name, or the table of two where
-/// they are `table` and their names. A fault is shown in one line on standard error, but for a write to a pipe whose other end is closed. The exit
-/// status is 0 where what they ask for was written, 2 where they ask for nothing, and else 1.
-pub fn run_words<T: Files + Eprint + Alloc<A = Global>, W: Write>(
+/// Does what the words, with the full name of standard input, ask for. The exit status is 0 where it was written, 2 where they ask for
+/// nothing, and else 1.
+fn run_named<T: Files + Eprint + Alloc<A = Global>, I: Read + Drop, W: Write>(
     rt: &T,
     words: Vec<String>,
+    input: I,
     writer: &mut Counted<W>,
 ) -> ExitCode
     requires { writer.old.failures < 2 ^ 64 - 1 }
@@ -267,17 +249,46 @@ pub fn run_words<T: Files + Eprint + Alloc<A = Global>, W: Write>(
     ensures statuses { exit_status result ≤ 2 }
 {
     if asks_for_histogram(&words) {
-        return histogram_file(rt, &words, writer);
+        return histogram_file(rt, &words, input, writer);
     }
     if let Some(cap) = table_cap(&words) {
-        return table_files(rt, &words, cap, writer);
+        return table_files(rt, &words, cap, input, writer);
     }
-    join_files(rt, words, writer)
+    join_files(rt, words, input, writer)
+}
+
+/// Does what the words ask for: a join, the histogram of a file where they are `histogram` and its name, or the table of two where they are
+/// `table` and their names. The input is read in place of a file that is named `-` or `/dev/stdin`, and no second time. A fault is shown in
+/// one line on standard error, but for a write to a pipe whose other end is closed. The exit status is 0 where what they ask for was
+/// written, 2 where they ask for nothing, and else 1.
+pub fn run_words<T: Files + Eprint + Alloc<A = Global>, I: Read + Drop, W: Write>(
+    rt: &T,
+    words: Vec<String>,
+    input: I,
+    writer: &mut Counted<W>,
+) -> ExitCode
+    requires { writer.old.failures < 2 ^ 64 - 1 }
+    ensures done { exit_status result ≡ 0
+        → IsDone (full_names (map string_bytes words.items)) (W.contents writer.old.inner)
+        (W.contents writer.new.inner)
+        × (writer.new.failures ≡ writer.old.failures) }
+    ensures misused { exit_status result ≡ 2
+        → ((e : JoinRequestError) × AskForNothing (full_names (map string_bytes words.items)) e)
+        × (writer.new ≡ writer.old) }
+    ensures failed { exit_status result ≡ 1 → (writer.new ≡ writer.old)
+        ⊎ IsLeft (full_names (map string_bytes words.items)) W.contents writer.old writer.new }
+    ensures statuses { exit_status result ≤ 2 }
+{
+    match full_names(rt.alloc(), words) {
+        Ok(named) => run_named(rt, named, input, writer),
+        Err(error) => ended(rt, unnamed(JoinFault::from(error)), false),
+    }
 }
 
 /// The whole program: [`run_words`] of the words that the process was given.
-pub fn program<T: Files + Env + Eprint + Alloc<A = Global>, W: Write>(
+pub fn program<T: Files + Env + Eprint + Alloc<A = Global>, I: Read + Drop, W: Write>(
     rt: &T,
+    input: I,
     writer: &mut Counted<W>,
 ) -> ExitCode
     requires { writer.old.failures < 2 ^ 64 - 1 }
@@ -291,7 +302,7 @@ pub fn program<T: Files + Env + Eprint + Alloc<A = Global>, W: Write>(
     ensures statuses { exit_status result ≤ 2 }
 {
     match arguments(rt) {
-        Ok(Some(words)) => run_words(rt, words, writer),
+        Ok(Some(words)) => run_words(rt, words, input, writer),
         Ok(None) => ended(
             rt,
             unnamed(JoinFault::Request(JoinRequestError::Usage)),

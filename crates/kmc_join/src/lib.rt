@@ -8,6 +8,7 @@ mod fault;
 mod histograms;
 mod joining;
 pub mod laws;
+mod opening;
 mod operation;
 mod request;
 mod rows;
@@ -25,6 +26,7 @@ pub use arguments::{
 pub use fault::{JoinFault, Message};
 pub use histograms::histogram;
 pub use joining::join;
+pub use opening::Operand;
 pub use operation::{Choice, Operation};
 pub use request::{JoinRequest, JoinRequestError, asked_for};
 pub use table_words::table_cap;
