@@ -1,10 +1,8 @@
 -- The first head of a dump, and what was asked for.
-use Rattle.std.proofs.Common.{◌≡◌, ℕ, zero, suc, ◌^◌, ◌<◌, ◌≤◌, ◌⊎◌, inl, inr, cond, true, false, max, unwrap_or, List, [], ◌∷◌, ◌++◌, Option, Some, None, refl, sym, ap, subst, ◌∙◌, arith}
-use Rattle.std.specs.Io.KnownBytes.{Consumes}
+use Rattle.std.proofs.Common.{◌≡◌, ℕ, zero, suc, ◌^◌, ◌<◌, ◌≤◌, ◌⊎◌, inl, inr, cond, true, false, max, unwrap_or, List, [], ◌∷◌, Option, Some, None, refl, sym, ap, subst, ◌∙◌, arith}
 use Rattle.kmc_base.specs.Packed.{unpack}
 use Rattle.kmc_device.specs.Device.{GaveAll, Watched}
 use Rattle.kmc_sum.specs.Faults.{GaveFront}
-use Rattle.kmc_sum.specs.Heads.{pending}
 use Rattle.kmc_sum.specs.Listed.{IsLength}
 use Rattle.kmc_sum.specs.Refusals.{BeginsWith}
 use Rattle.kmc_sum.specs.Source.{unread}

@@ -4,7 +4,7 @@ use Rattle.std.proofs.Math.ListN.{drop_of_length-le}
 use Rattle.std.proofs.Math.Pow.{pow_mono}
 use Rattle.std.proofs.lemmas.Nat.{pow-add}
 use Rattle.std.proofs.Math.Nat.{div-div-eq-div-mul, pow-succ'}
-use Rattle.std.specs.Int.{byte_at, bytes_high_first, bytes_low_first, to_le_bytes, w32, w64}
+use Rattle.std.specs.Int.{byte_at, bytes_high_first, bytes_low_first, to_le_bytes, w64}
 use Rattle.std.specs.List.{AllByRecursion}
 use Rattle.kmc_base.specs.Packed.{unpack}
 use Rattle.kmc_base.specs.Record.{codes_in, packed_codes}

@@ -5,7 +5,6 @@ use Rattle.kmc_device.specs.Device.{GaveAll, RisesByOne, Watched}
 use Rattle.kmc_sum.specs.Faults.{GaveFront, IsFaultAt}
 use Rattle.kmc_sum.specs.Listed.{IsLength, Lists}
 use Rattle.kmc_sum.specs.Refusals.{BeginsWith}
-use Rattle.kmc_sum.specs.declared.error.LineFault.{LineFault}
 use Rattle.kmc_sum.specs.declared.error.LineFault.TheVariants.{OtherLength}
 use Rattle.kmc_sum.specs.declared.error.SourceFault.{SourceFault}
 use Rattle.kmc_sum.specs.declared.error.SourceFault.TheVariants.{Line, Read}

@@ -4,7 +4,7 @@ use Rattle.kmc_device.specs.Device.{Watched}
 use Rattle.kmc_sum.specs.Sources.{IsSource}
 use Rattle.kmc_sum.specs.declared.heads.Head.{Head}
 use Rattle.kmc_sum.specs.declared.source.Room.{Room}
-use Rattle.kmc_database.specs.Answer.{Failures, IsCause}
+use Rattle.kmc_database.specs.Answer.{IsCause}
 use Rattle.kmc_database.specs.Form.{asked_form, IsAskedLength}
 use Rattle.kmc_database.specs.Layout.{IsLayout}
 use Rattle.kmc_database.specs.declared.error.PackError.{PackError}

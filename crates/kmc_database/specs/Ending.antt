@@ -4,7 +4,7 @@ use Rattle.std.specs.Io.KnownBytes.{Appends}
 use Rattle.kmc_device.specs.Device.{AppendsFront, RisesByOne, Watched}
 use Rattle.kmc_database.specs.Files.{header_of, limits_of, strands_of, suffix_marker}
 use Rattle.kmc_database.specs.declared.error.PackError.{PackError}
-use Rattle.kmc_database.specs.declared.error.PackError.TheVariants.{Source, Empty, Prefix, TooGreat, WritePrefix, WriteSuffix, Memory, TooLong}
+use Rattle.kmc_database.specs.declared.error.PackError.TheVariants.{WritePrefix, WriteSuffix}
 use Rattle.kmc_database.specs.declared.form.Form.{Form}
 
 -- behind the bytes of a table

@@ -1,5 +1,5 @@
 -- The form of a database.
-use Rattle.std.specs.Prelude.{◌≡◌, ℕ, ◌≤◌, ◌-◌, ◌^◌, min, nat_le, if◌then◌else◌, Option, Some, None}
+use Rattle.std.specs.Prelude.{◌≡◌, ℕ, ◌-◌, ◌^◌, min, nat_le, if◌then◌else◌, Option, Some, None}
 use Rattle.kmc_sum.specs.Listed.{IsLength}
 use Rattle.kmc_database.specs.Layout.{IsLayout, layout_of}
 use Rattle.kmc_database.specs.declared.form.Form.{Form}

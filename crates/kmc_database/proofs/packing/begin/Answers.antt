@@ -1,4 +1,4 @@
-use Rattle.std.proofs.Common.{◌≡◌, ℕ, ◌≤◌, ◌⊎◌, inl, inr, max, true, None, Some, unwrap_or, refl, sym, ap, subst, ◌∙◌, arith}
+use Rattle.std.proofs.Common.{◌≡◌, ℕ, ◌≤◌, ◌⊎◌, inl, inr, max, true, None, unwrap_or, refl, sym, ap, subst, ◌∙◌, arith}
 use Rattle.kmc_database.proofs.Beginnings.{agrees, beginning, begins, gave_nothing, length_asked, none_asked, some_asked}
 use Rattle.kmc_database.proofs.Exits.{is_dead, is_live, same_failures}
 use Rattle.kmc_database.proofs.packing.begin.Goals as goal

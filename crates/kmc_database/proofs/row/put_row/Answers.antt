@@ -1,15 +1,15 @@
-use Rattle.std.proofs.Common.{◌≡◌, ℕ, ◌-◌, ◌/◌, ◌≤◌, List, ◌++◌, length, take, drop, refl, sym, ap, subst, ◌∙◌, arith, append_assoc, take_all, length-drop}
+use Rattle.std.proofs.Common.{◌≡◌, ℕ, ◌-◌, ◌/◌, List, ◌++◌, length, take, drop, sym, ap, subst, ◌∙◌, arith, append_assoc, take_all, length-drop}
 use Rattle.std.specs.Int.{bytes_high_first, to_le_bytes, w64}
 use Rattle.kmc_base.specs.Lemmas.NumberBytes.{length_bytes}
 use Rattle.kmc_base.specs.Packed.{unpack}
-use Rattle.kmc_device.specs.Device.{AppendsFront, WritesOut}
+use Rattle.kmc_device.specs.Device.{AppendsFront}
 use Rattle.kmc_device.specs.Lemmas.Devices.{front_of, on_err, on_err_then, on_ok_then}
 use Rattle.kmc_database.specs.Layout.{IsLayout}
 use Rattle.kmc_database.specs.Rows.{row_of}
 use Rattle.kmc_database.specs.declared.layout.Layout.{Layout}
 use Rattle.kmc_sum.specs.Lemmas.Written.{out_front}
 use Rattle.kmc_database.proofs.Gathering.{out_as}
-use Rattle.kmc_database.proofs.Words.{few_bytes, row_is}
+use Rattle.kmc_database.proofs.Words.{row_is}
 use Rattle.kmc_database.proofs.row.put_row.Goals as goal
 
 -- the two parts that are put are the row

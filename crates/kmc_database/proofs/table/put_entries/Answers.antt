@@ -1,9 +1,8 @@
 use Rattle.std.proofs.Common.{◌≡◌, ℕ, ◌+◌, ◌-◌, ◌≤◌, List, ◌++◌, sym, ap, subst, ◌∙◌, arith, append_assoc}
 use Rattle.std.specs.Int.{to_le_bytes, w64}
-use Rattle.kmc_device.specs.Device.{AppendsFront, WritesOut}
+use Rattle.kmc_device.specs.Device.{AppendsFront}
 use Rattle.kmc_device.specs.Lemmas.Devices.{front_of, on_err}
 use Rattle.kmc_sum.specs.Lemmas.Written.{out_front}
-use Rattle.kmc_database.specs.Numbers.{low_first}
 use Rattle.kmc_database.specs.Rows.{repeated}
 use Rattle.kmc_database.proofs.Bytes.{low_is}
 use Rattle.kmc_database.proofs.Gathering.{out_as}
