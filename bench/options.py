@@ -7,6 +7,7 @@ usage: options.py [--list]
 The options, the flags and the usage line of a program are those of its tables in program.rt; the names stand in named.rt, and the ranges
 and defaults in setting.rt. A usage line and a synopsis name each of them and no other, a help text and a page have an entry for each, and an
 entry tells the range and the default. -slices, --force, --help and --version are of kmc_cut and kmc_list, -oc is of kmc_db, and have no table.
+What `kmc_db pack` takes is that of its own usage line, in crates/kmc_db.
 With --list the tables are printed.
 """
 import glob
@@ -123,13 +124,22 @@ def page_of(name):
     """The options of a page's synopsis, and its entries by name."""
     with open(os.path.join(TOP, "docs", name + ".1"), encoding="utf-8") as file:
         page = file.read()
-    synopsis = page.split(".Sh SYNOPSIS\n")[1].split(".Sh ")[0]
+    synopsis = page.split(".Sh SYNOPSIS\n")[1].split(".Sh ")[0].partition(".Nm\n.Cm pack\n")[0]
     entries = {}
     for entry in page.split(".Sh OPTIONS\n")[1].split(".Sh ")[0].split("\n.It ")[1:]:
         head, _, text = entry.partition("\n")
         for option in re.findall(r"Fl (\S+)", head):
             entries[option] = " ".join(text.split("\n.El")[0].split())
     return set(re.findall(r"Fl (\S+)", synopsis)), entries
+
+
+def packing_faults():
+    """What the synopsis of `kmc_db pack` and its usage line do not share."""
+    with open(os.path.join(CRATES, "kmc_db", "src", "packing.rt"), encoding="utf-8") as file:
+        usage = set(re.findall(r"\[-(-?[a-z]+)", file.read().partition("usage: kmc_db pack")[2].partition('"')[0]))
+    with open(os.path.join(TOP, "docs", "kmc_db.1"), encoding="utf-8") as file:
+        page = set(re.findall(r"Fl (\S+)", file.read().partition(".Cm pack\n")[2].partition(".Sh ")[0]))
+    return [] if usage and usage == page else [f"the synopsis of kmc_db pack has {sorted(page)}, and its usage line {sorted(usage)}"]
 
 
 def tells(text, value):
@@ -177,6 +187,7 @@ def main():
         same(f"the synopsis of docs/{name}.1", synopsis, names | OWN[name])
         same(f"docs/{name}.1", set(items), names | OWN[name])
         ranges(f"docs/{name}.1", items, options, True)
+    faults += packing_faults()
     return ended("options", faults, f"the usage lines, help texts and pages have the options of {', '.join(told)}, with their ranges and defaults")
 
 

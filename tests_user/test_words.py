@@ -91,7 +91,7 @@ def test_bash_completes(room):
     script = """source "$1"; complete_it() { COMP_WORDS=("$@"); COMP_CWORD=$(($# - 1)); _futoncrane; echo "${COMPREPLY[*]}"; }
         complete_it futoncrane hi; complete_it futoncrane count --m; complete_it futoncrane compare --s; complete_it futoncrane cluster --w"""
     ran = subprocess.run(["bash", "-c", script, "bash", room.path("completion")], stdout=subprocess.PIPE)
-    assert ran.stdout.decode().split("\n") == ["histogram", "--min --max --memory", "--second --same", "--workers", ""], ran
+    assert ran.stdout.decode().split("\n") == ["histogram", "--min --max --memory", "--second --same --solid", "--workers", ""], ran
     if shutil.which("shellcheck"):
         assert subprocess.run(["shellcheck", "-S", "warning", room.path("completion")]).returncode == 0
 

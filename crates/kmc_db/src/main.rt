@@ -1,13 +1,24 @@
-//! The program `kmc_db`: two dumps, joined or told of, on standard output. On a fault it writes one line to standard error and ends with the
-//! fault's status. All of it is `kmc_join`'s.
+//! The program `kmc_db`: two dumps, joined or told of, on standard output; or a dump on standard input as a database in two files. On a
+//! fault it writes one line to standard error and ends with the fault's status. The first is `kmc_join`'s, the second `kmc_database`'s.
 #![tactic(auto)]
 
+mod packing;
+mod request;
+
+use crate::packing::{asks_to_pack, pack_input};
 use kmc_device::Counted;
 use kmc_join::program;
+use kmc_options::arguments;
 use std::io;
 use std::process::ExitCode;
 
 fn main(rt: HostRuntime) -> ExitCode {
+    if let Ok(Some(words)) = arguments(&rt) {
+        if asks_to_pack(&words) {
+            let mut reader = Counted::new(rt.stdin());
+            return pack_input(&rt, &words[1..], &mut reader);
+        }
+    }
     let mut writer = Counted::new(io::writer(&rt));
     program(&rt, rt.reader(), &mut writer)
 }
