@@ -71,8 +71,8 @@ pub fn join_readers<T: Eprint + Alloc<A = Global>, R: Read, W: Write>(
 }
 
 /// Reads the two files that the words name, the input in place of `/dev/stdin`, and writes the dump of the join of what they list, by the
-/// operation and within the limits of the words. A fault is shown in one line on standard error, but for a write to a pipe whose other end is closed. The exit status is 0
-/// where the dump was written, 2 where the words ask for nothing, and else 1.
+/// operation and within the limits of the words. A fault is shown in one line on standard error, but for a write to a pipe whose other end
+/// is closed. The exit status is 0 where the dump was written, 2 where the words ask for nothing, and else 1.
 pub fn join_files<T: Files + Eprint + Alloc<A = Global>, I: Read + Drop, W: Write>(
     rt: &T,
     words: Vec<String>,

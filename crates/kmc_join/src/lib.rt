@@ -1,6 +1,6 @@
 //! Two dumps joined word by word: what both list, what either lists, what the first lists and the second does not; the table of their
-//! counts; the histogram of a dump; and the program. It stands on kmc_sum, which reads dumps side by side, on kmc_count for limits and on kmc_options for words. The layer above
-//! calls [`program`].
+//! counts; the histogram of a dump; and the program. It stands on kmc_sum, which reads dumps side by side, on kmc_count for limits and on
+//! kmc_options for words. The layer above calls [`program`].
 #![tactic(auto)]
 
 mod arguments;
