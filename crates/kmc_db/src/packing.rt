@@ -1,5 +1,5 @@
 //! `kmc_db pack`: a dump on standard input as a database in two files.
-ghost use Rattle.std.specs.Prelude.{◌≡◌, ◌<◌, length, true};
+ghost use Rattle.std.specs.Prelude.{◌≡◌, ◌<◌, length, true, IfOk};
 
 use crate::request::{PackRequest, pack_request};
 use kmc_database::{PackNames, pack_reader};
@@ -41,7 +41,9 @@ fn writer_for<T: Files + Eprint + Alloc<A = Global>>(
     rt: &T,
     request: PackRequest<'_>,
     end: &str,
-) -> Result<Counted<T::File>, ExitCode> {
+) -> Result<Counted<T::File>, ExitCode>
+    ensures { IfOk result (λ writer. writer.failures ≡ 0) }
+{
     let database = request.name;
     let Ok(name) = format!(in rt.alloc(); "{database}.{end}") else {
         let _ = rt.eprintln("kmc_db: out of memory");
