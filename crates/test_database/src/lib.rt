@@ -10,5 +10,3 @@ mod headers;
 mod packs;
 #[cfg(test)]
 mod refusals;
-#[cfg(test)]
-mod told;
