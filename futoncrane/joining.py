@@ -28,8 +28,8 @@ def choice(default):
                   "second (right); %s where it is not given" % default)
 
 
-def join(command, operation, asked, words=()):
-    """Joins the two dumps that are asked for, by an operation of kmc_db."""
+def two_dumps(asked, doing):
+    """The names of the two dumps that are asked for, what a run is told, and the notes of those that have one."""
     names = asked.files
     if len(names) != 2:
         raise Misuse("two dumps are wanted")
@@ -37,8 +37,14 @@ def join(command, operation, asked, words=()):
         raise Misuse("%s: it is read, and cannot be written at the same time" % shown(asked.out))
     merging.check_names(names)
     setting = shared.settings(asked)
-    noted = notes.of_dumps(names, "joined", asked.quiet)
+    noted = notes.of_dumps(names, doing, asked.quiet)
     notes.check_pair(noted, asked.quiet)
+    return names, setting, noted
+
+
+def join(command, operation, asked, words=()):
+    """Joins the two dumps that are asked for, by an operation of kmc_db."""
+    names, setting, noted = two_dumps(asked, "joined")
     with Children() as children, Output(asked.out, children, threads=setting.threads) as output:
         limits = ["-ci%d" % asked.least, "-cx%d" % asked.greatest, "-cs%d" % asked.cap]
         merging.merged(names, limits, children, setting, output, program="kmc_db", words=[operation, *words])

@@ -1,8 +1,6 @@
 """futoncrane table: how many k-mers have which counts in two dumps."""
-from futoncrane import merging, notes, shared
+from futoncrane import joining, merging, shared
 from futoncrane.children import Children
-from futoncrane.faults import Misuse, shown
-from futoncrane.inputs import is_same_file
 from futoncrane.options import MOST, Option, number
 from futoncrane.output import Output
 
@@ -23,14 +21,7 @@ EXAMPLES = ["futoncrane table --cap 200 -o spectra.txt reads.dump assembly.dump"
 
 
 def main(asked):
-    names = asked.files
-    if len(names) != 2:
-        raise Misuse("two dumps are wanted")
-    if asked.out is not None and any(is_same_file(name, asked.out) for name in names if name != "-"):
-        raise Misuse("%s: it is read, and cannot be written at the same time" % shown(asked.out))
-    merging.check_names(names)
-    setting = shared.settings(asked)
-    notes.check_pair(notes.of_dumps(names, "compared", asked.quiet), asked.quiet)
+    names, setting, _ = joining.two_dumps(asked, "compared")
     with Children() as children, Output(asked.out, children) as output:
         merging.merged(names, [], children, setting, output, program="kmc_db", words=["table", "-cs%d" % asked.cap])
         output.finish()
