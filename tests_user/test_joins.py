@@ -80,8 +80,8 @@ def test_an_assembly_is_judged_by_merqurys_formulas(room):
     reads, assembly = room.write("reads", "AAC\t5\nACG\t1\nCCA\t7\n"), room.write("assembly", "AAC\t1\nACG\t2\nGTA\t1\n")
     shared = b"in both\t2\nin the first alone\t1\nin the second alone\t1\nJaccard index\t0.500000\n"
     # one of four occurrences is not in the reads: E is 1 less the third root of 3 / 4
-    room.counts(shared + b"completeness\t50.0000\nQV\t10.3886\n", "compare", "--assembly", "--solid", "2", reads, assembly)
-    room.counts(shared + b"completeness\t66.6667\nQV\t10.3886\n", "compare", "--assembly", reads, assembly)
+    room.counts(shared + b"completeness\t50.0000\nQV\t10.3887\n", "compare", "--assembly", "--solid", "2", reads, assembly)
+    room.counts(shared + b"completeness\t66.6667\nQV\t10.3887\n", "compare", "--assembly", reads, assembly)
     whole = b"in both\t3\nin the first alone\t0\nin the second alone\t0\nJaccard index\t1.000000\n"
     room.counts(whole + b"completeness\t100.0000\nQV\tinf\n", "compare", "--assembly", reads, room.write("same", "AAC\t5\nACG\t1\nCCA\t7\n"))
     room.refuses(2, "--assembly wants two files", words=["compare", "--assembly", reads, "-"], text=b"")
