@@ -1,4 +1,6 @@
-# The texts of bench/compare.sh and bench/slices.sh, which read this file: `top` is the folder above this one.
+#!/bin/sh
+# The texts of bench/compare.sh and bench/slices.sh, which read this file.
+top=${top:-$(dirname "$0")/..}
 
 # text_of WORKLOAD: makes its text where it is not there, and prints its name
 text_of() {

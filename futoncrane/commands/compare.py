@@ -4,7 +4,7 @@ import math
 import types
 
 from futoncrane.children import Children
-from futoncrane.dumps import BLOCK, Dump
+from futoncrane.dumps import Dump
 from futoncrane.faults import Fault, Misuse
 from futoncrane.inputs import is_same_file
 from futoncrane.options import MOST, Option, number
