@@ -1,4 +1,5 @@
-"""kmc_db pack: the database that KMC's tools make of the same counts, byte for byte, and what it refuses."""
+"""kmc_db pack and dump: the database that KMC's tools make of the same counts, byte for byte, the dump that they list of one, and what is
+refused."""
 import os
 import subprocess
 
@@ -6,6 +7,7 @@ from room import LONG, READS, content, need, plainly, program
 from test_programs import ended
 
 USAGE = b"usage: kmc_db pack [-k<len>] [-prefix<len>] [-ci<n>] [-cx<n>] [-cs<n>] [-b] [--force] <name> < a.dump\n"
+DUMP_USAGE = b"usage: kmc_db dump <name> > a.dump\n"
 
 
 def packed(room, name, dump, *words):
@@ -85,3 +87,110 @@ def test_a_database_is_refused(room):
         assert (status, out) == (1, b"") and err.startswith(b"kmc_db: " + told) and err.count(b"\n") == 1, (words, err)
         assert not content(room.path("made.kmc_pre")).endswith(b"KMCP") or len(content(room.path("made.kmc_pre"))) < 80
     assert packed(room, "none", b"", "-k25")[1] == b"KMCSKMCS"
+
+
+def dumped(room, name):
+    """The dump of a database."""
+    status, out, err = ended(room, "kmc_db", "dump", name)
+    assert (status, err) == (0, b""), (status, err)
+    return out
+
+
+def listed(prefix, suffix):
+    """A plain reading of a sorted database, by its description: the text of its dump, or none where it is at fault."""
+    if len(prefix) < 76 or prefix[-4:] != b"KMCP" or prefix[:4] != b"KMCP" or suffix[:4] != b"KMCS" or suffix[-4:] != b"KMCS":
+        return None
+    k, mode, counter, first = (int.from_bytes(prefix[i - 72 + len(prefix):][:4], "little") for i in (0, 4, 8, 12))
+    rows, version, size = (int.from_bytes(prefix[i - 72 + len(prefix):][:n], "little") for i, n in ((24, 8), (60, 4), (64, 4)))
+    if (version, size, mode) != (0, 64, 0) or not 1 <= k <= 64 or not 1 <= counter <= 4 or not 1 <= first <= min(k, 15) or (k - first) % 4:
+        return None
+    row = (k - first) // 4 + counter
+    if len(prefix) != 76 + 8 * 4**first or len(suffix) != 8 + rows * row:
+        return None
+    table = [int.from_bytes(prefix[4 + 8 * i:12 + 8 * i], "little") for i in range(4**first)] + [rows]
+    if table[0] or table != sorted(table):
+        return None
+    lines, before = [], -1
+    for part in range(4**first):
+        for at in range(table[part], table[part + 1]):
+            bytes_ = suffix[4 + at * row:4 + (at + 1) * row]
+            word = int.from_bytes(part.to_bytes(4, "big") + bytes_[:row - counter], "big")
+            count = int.from_bytes(bytes_[row - counter:], "little")
+            if word <= before or not count:
+                return None
+            before = word
+            lines.append("".join("ACGT"[word >> 2 * i & 3] for i in reversed(range(k))) + "\t%d\n" % count)
+    return "".join(lines).encode()
+
+
+def test_a_sorted_database_is_dumped_as_kmc_tools_list_it(room):
+    program("kmc_db")
+    need("kmc", "kmc_tools", "kmc_dump")
+    os.mkdir(room.path("files"))
+    for k, least, cap, apart in ((1, 1, 255, False), (9, 1, 255, False), (13, 1, 300, False), (14, 1, 255, False), (25, 2, 70000, False), (31, 1, 255, True),
+                                 (48, 1, 2**25, False), (64, 1, 255, False), (64, 1, 255, True)):
+        quietly(room, "kmc", "-k%d" % k, "-ci%d" % least, "-cs%d" % cap, "-fq", "-r", *(["-b"] if apart else []), READS, "theirs", "files")
+        if k <= 13:  # kmc itself writes the sorted form
+            name = "theirs"
+        else:
+            quietly(room, "kmc_tools", "transform", "theirs", "sort", "sorted")
+            name = "sorted"
+        ours = dumped(room, name)
+        quietly(room, "kmc_tools", "transform", name, "dump", "-s", "listed")
+        assert ours == content(room.path("listed")), k
+        quietly(room, "kmc_dump", name, "plainly")
+        assert ours == content(room.path("plainly")), k
+        assert ours == plainly(content(READS), k, least, 10**9, cap, *(["apart"] if apart else [])), k
+
+
+def test_a_database_of_the_newer_form_is_refused(room):
+    program("kmc_db")
+    need("kmc")
+    os.mkdir(room.path("files"))
+    quietly(room, "kmc", "-k25", "-fq", "-r", READS, "theirs", "files")
+    told = b"kmc_db: theirs: the database is in the form of KMC 2 and 3: kmc_tools transform NAME sort OTHER writes it in this one\n"
+    assert ended(room, "kmc_db", "dump", "theirs") == (1, b"", told)
+
+
+def test_what_was_packed_is_dumped(room):
+    program("kmc_db")
+    for k, least, cap, words in ((1, 1, 255, []), (4, 1, 2**17, []), (13, 1, 255, ["-prefix1"]), (31, 1, 255, []), (33, 2, 10, ["-prefix9"]), (64, 1, 255, ["-b"])):
+        dump = plainly(content(READS), k, least, 10**9, cap, *(["apart"] if "-b" in words else []))
+        packed(room, "ours", dump, "-ci%d" % least, "-cs%d" % cap, "--force", *words)
+        assert dumped(room, "ours") == dump, k
+    packed(room, "none", b"", "-k25")
+    assert dumped(room, "none") == b""
+
+
+def test_each_damaged_byte_is_told_or_read_as_it_stands(room):
+    program("kmc_db")
+    for k, dump, words in ((5, b"AACCG\t1\nAACGG\t2\nCAAAA\t3\n", ["-prefix1", "-cs255"]), (1, b"A\t7\nT\t300\n", ["-cs300"]),
+                           (6, b"ACGTAC\t1\nGGGGGG\t70000\n", ["-prefix2", "-cs70000"])):
+        sound = packed(room, "sound%d" % k, dump, "-ci1", *words)
+        assert listed(*sound) == dump
+        for which, end in ((0, "kmc_pre"), (1, "kmc_suf")):
+            text = sound[which]
+            changes = [text[:i] + new + text[i + 1:] for i in range(len(text))
+                       for new in (b"", text[i:i + 1] * 2, bytes([text[i] ^ 1]), bytes([text[i] + 1 & 255]), bytes([text[i] - 1 & 255]), bytes([text[i] ^ 128]))]
+            for changed in changes:
+                files = [*sound]
+                files[which] = changed
+                for name, file in zip(("kmc_pre", "kmc_suf"), files):
+                    with open(room.path("damaged." + name), "wb") as out:
+                        out.write(file)
+                status, out, err = ended(room, "kmc_db", "dump", "damaged")
+                wanted = listed(*files)
+                if wanted is None:
+                    assert status == 1 and err.startswith(b"kmc_db: damaged") and err.count(b"\n") == 1, (end, changed, status, out, err)
+                else:
+                    assert (status, out, err) == (0, wanted, b""), (end, changed, status, out, err)
+
+
+def test_a_dump_is_refused(room):
+    program("kmc_db")
+    for words in ([], ["a", "b"], ["-k3"], ["-ci2", "a"]):
+        assert ended(room, "kmc_db", "dump", *words) == (2, b"", DUMP_USAGE), words
+    assert ended(room, "kmc_db", "dump", "none") == (1, b"", b"kmc_db: none.kmc_pre: cannot be opened\n")
+    packed(room, "there", b"AC\t2\n")
+    os.remove(room.path("there.kmc_suf"))
+    assert ended(room, "kmc_db", "dump", "there") == (1, b"", b"kmc_db: there.kmc_suf: cannot be opened\n")

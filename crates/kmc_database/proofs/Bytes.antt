@@ -1,5 +1,5 @@
 -- The bytes of numbers, from both sides.
-use Rattle.std.proofs.Common.{◌≡◌, ℕ, zero, suc, ◌+◌, ◌-◌, ◌*◌, ◌/◌, ◌%◌, ◌^◌, ◌<◌, ◌≤◌, List, [], ◌∷◌, length, get_or, take, drop, refl, sym, ap, subst, ◌∙◌, arith, take_all}
+use Rattle.std.proofs.Common.{◌≡◌, ℕ, zero, suc, ◌+◌, ◌-◌, ◌*◌, ◌/◌, ◌%◌, ◌^◌, ◌<◌, ◌≤◌, List, [], ◌∷◌, ◌++◌, length, get_or, take, drop, refl, sym, ap, subst, ◌∙◌, arith, take_all}
 use Rattle.std.proofs.Math.ListN.{drop_of_length-le}
 use Rattle.std.proofs.Math.Pow.{pow_mono}
 use Rattle.std.proofs.lemmas.Nat.{pow-add}
@@ -65,6 +65,20 @@ pub last_of_sixteen : (s n : ℕ) → s ≤ 16 → drop (16 - s) (bytes_high_fir
 last_of_sixteen s n few =
     let all : 16 - s + s ≡ 16 = omega arith in
     ap (λ m. drop (16 - s) (bytes_high_first m n)) (sym all) ∙ drop_high (16 - s) s n
+
+-- one byte more, the lowest
+pub high_more : (k n b : ℕ) → b < 256 → bytes_high_first (suc k) (n * 256 + b) ≡ bytes_high_first k n ++ b ∷ []
+high_more zero n b small =
+    let e : (n * 256 + b) % 256 ≡ b = omega (arith, small) in
+    (λ i. e i ∷ [])
+high_more (suc k) n b small =
+    let m = n * 256 + b in
+    let above : m / 256 ≡ n = omega (arith, small) in
+    let power : 256 ^ suc k ≡ 256 * 256 ^ k = pow-succ' 256 k in
+    let parts : m / 256 ^ suc k ≡ n / 256 ^ k =
+    ap (λ d. m / d) power ∙ sym (div-div-eq-div-mul m 256 (256 ^ k)) ∙ ap (λ t. t / 256 ^ k) above in
+    let here : byte_at (suc k) m ≡ byte_at k n = byte_is (suc k) m ∙ ap (λ t. t % 256) parts ∙ sym (byte_is k n) in
+    (λ i. here i ∷ high_more k n b small i)
 
 -- codes, four a byte, are the bytes of their number
 pub packed_high : (s n : ℕ) → packed_codes (unpack (4 * s) n) ≡ bytes_high_first s n

@@ -1,9 +1,10 @@
 -- The files of a database tell its pairs.
-use Rattle.std.proofs.Common.{◌≡◌, ℕ, zero, suc, ◌+◌, ◌-◌, ◌/◌, ◌^◌, ◌<◌, ◌≤◌, cond, nat_lt, List, [], ◌∷◌, ◌++◌, length, take, drop, refl, sym, ap, subst, ◌∙◌, arith, length-append, length-drop}
+use Rattle.std.proofs.Common.{◌≡◌, ℕ, zero, suc, ◌+◌, ◌-◌, ◌/◌, ◌^◌, ◌<◌, ◌≤◌, cond, nat_lt, List, [], ◌∷◌, ◌++◌, length, take, drop, Option, Some, None, refl, sym, ap, subst, ◌∙◌, arith, append-nil, length-append, length-drop}
 use Rattle.std.proofs.lemmas.Bool.{le-ltb, lt-ltb}
 use Rattle.std.proofs.lemmas.Bool.Decides.{nat_tests}
 use Rattle.std.proofs.lemmas.List.{append_cancel_left, append_cancel_right, drop_at, length-take-le, take-append-drop, take_at}
 use Rattle.std.proofs.lemmas.List.Sums.{count_by-le-length, sum_by-cons}
+use Rattle.std.specs.Io.KnownBytes.{Appends}
 use Rattle.std.specs.List.{AllByRecursion, flat_map, range_with_len}
 use Rattle.std.specs.List.Sorted.{IsStrictlySortedBy}
 use Rattle.std.specs.Ordering.{nat_cmp}
@@ -18,13 +19,18 @@ use Rattle.kmc_base.specs.Lemmas.Rolling.{codes_part}
 use Rattle.kmc_base.specs.Lemmas.Spelled.{codes_packed, length_packed, zeros_to_byte}
 use Rattle.kmc_count.specs.Dump.{words_of}
 use Rattle.kmc_count.specs.Lemmas.PackedRuns.{cmp_packed}
+use Rattle.kmc_device.specs.Device.{GaveAll}
+use Rattle.kmc_lists.specs.Line.{text_of}
 use Rattle.kmc_sum.specs.Listed.{AreListed, IsPair}
-use Rattle.kmc_database.specs.Files.{CountsFit, header_of, IsDatabase, limits_of, prefix_marker, strands_of, suffix_file, suffix_marker}
+use Rattle.kmc_database.specs.Files.{CountsFit, header_of, IsDatabase, limits_of, prefix_marker, prefix_start, strands_of, suffix_file, suffix_marker}
+use Rattle.kmc_database.specs.Header.{IsHeaderOf}
 use Rattle.kmc_database.specs.Layout.{IsLayout}
 use Rattle.kmc_database.specs.Numbers.{low_first}
 use Rattle.kmc_database.specs.Rows.{first_part, number_below, row_of, rows_of, table_of}
+use Rattle.kmc_database.specs.Unpacked.{IsUnpacked}
 use Rattle.kmc_database.specs.declared.form.Form.{Form}
 use Rattle.kmc_database.specs.declared.layout.Layout.{Layout}
+use Rattle.kmc_database.specs.declared.reading.Header.{Header}
 use Rattle.kmc_database.proofs.Bytes.{length_low, low_same}
 use Rattle.kmc_database.proofs.Words.{part_fits, part_is, quotient_up}
 
@@ -214,63 +220,107 @@ cut_end : (xs ys us vs : List ℕ) → length ys ≡ length vs → xs ++ ys ≡ 
 cut_end xs ys us vs long e =
     cut_same xs ys us vs (omega (arith, long, ap length e, length-append xs ys, length-append us vs)) e
 
-header_long : (f : Form) (rows : ℕ) → length (header_of f.layout rows (limits_of f) (strands_of f)) ≡ 72
-header_long f rows = refl
+length_header : (l : Layout) (rows : ℕ) (limits strands : List ℕ) → length limits ≡ 8 → length strands ≡ 28
+    → length (header_of l rows limits strands) ≡ 72
+length_header l rows limits strands limits_long strands_long = simp length-append (omega (arith, limits_long, strands_long))
 
--- one header tells one layout
-layout_same : (f g : Form) (m n : ℕ) → IsLayout f.layout → IsLayout g.layout
-    → header_of f.layout m (limits_of f) (strands_of f) ≡ header_of g.layout n (limits_of g) (strands_of g) → f.layout ≡ g.layout
-layout_same f g m n hf hg e =
-    let l = f.layout in
-    let l' = g.layout in
+-- one header tells one layout and one number of rows
+header_same : (l l' : Layout) (m n : ℕ) (limits limits' strands strands' : List ℕ) → length limits ≡ length limits' → length strands ≡ length strands'
+    → IsLayout l → IsLayout l' → m < 2 ^ 64 → n < 2 ^ 64 → header_of l m limits strands ≡ header_of l' n limits' strands' → (l ≡ l') × (m ≡ n)
+header_same l l' m n limits limits' strands strands' limits_long strands_long hf hg few few' e =
     let to_k : List ℕ = low_first 4 l.k ++ low_first 4 0 in
     let to_k' : List ℕ = low_first 4 l'.k ++ low_first 4 0 in
     let to_counter = to_k ++ low_first 4 l.counter in
     let to_counter' = to_k' ++ low_first 4 l'.counter in
     let to_prefix = to_counter ++ low_first 4 l.prefix in
     let to_prefix' = to_counter' ++ low_first 4 l'.prefix in
-    let to_limits = to_prefix ++ limits_of f in
-    let to_limits' = to_prefix' ++ limits_of g in
+    let to_limits = to_prefix ++ limits in
+    let to_limits' = to_prefix' ++ limits' in
     let to_rows = to_limits ++ low_first 8 m in
     let to_rows' = to_limits' ++ low_first 8 n in
-    let to_strands = to_rows ++ strands_of f in
-    let to_strands' = to_rows' ++ strands_of g in
+    let to_strands = to_rows ++ strands in
+    let to_strands' = to_rows' ++ strands' in
     let to_version = to_strands ++ low_first 4 0 in
     let to_version' = to_strands' ++ low_first 4 0 in
     let to_size = to_version ++ low_first 4 64 in
     let to_size' = to_version' ++ low_first 4 64 in
     let size = (cut_end to_size prefix_marker to_size' prefix_marker refl e).0 in
     let version = (cut_end to_version (low_first 4 64) to_version' (low_first 4 64) refl size).0 in
-    let strands = (cut_end to_strands (low_first 4 0) to_strands' (low_first 4 0) refl version).0 in
-    let rows = (cut_end to_rows (strands_of f) to_rows' (strands_of g) refl strands).0 in
-    let limits = (cut_end to_limits (low_first 8 m) to_limits' (low_first 8 n) refl rows).0 in
-    let prefix = cut_end to_prefix (limits_of f) to_prefix' (limits_of g) refl limits in
+    let behind = (cut_end to_strands (low_first 4 0) to_strands' (low_first 4 0) refl version).0 in
+    let rows = (cut_end to_rows strands to_rows' strands' strands_long behind).0 in
+    let many = cut_end to_limits (low_first 8 m) to_limits' (low_first 8 n) refl rows in
+    let prefix = cut_end to_prefix limits to_prefix' limits' limits_long many.0 in
     let counter = cut_end to_counter (low_first 4 l.prefix) to_counter' (low_first 4 l'.prefix) refl prefix.0 in
     let k = cut_end to_k (low_first 4 l.counter) to_k' (low_first 4 l'.counter) refl counter.0 in
     let front = cut_end (low_first 4 l.k) (low_first 4 0) (low_first 4 l'.k) (low_first 4 0) refl k.0 in
     let k_same = low_same 4 l.k l'.k (omega (arith, hf.long)) (omega (arith, hg.long)) front.0 in
     let counter_same = low_same 4 l.counter l'.counter (omega (arith, hf.counter)) (omega (arith, hg.counter)) k.1 in
     let prefix_same = low_same 4 l.prefix l'.prefix (omega (arith, hf.most)) (omega (arith, hg.most)) counter.1 in
-    (λ i. record { k = k_same i; prefix = prefix_same i; counter = counter_same i })
+    let power : 256 ^ 8 ≡ 2 ^ 64 = refl in
+    let many_same = low_same 8 m n (omega (arith, power, few)) (omega (arith, power, few')) many.1 in
+    ((λ i. record { k = k_same i; prefix = prefix_same i; counter = counter_same i }), many_same)
+
+-- ---- both files
+
+-- files of one layout tell one list of pairs
+same_pairs : (l : Layout) (pairs others : List (List ℕ × ℕ)) → IsLayout l → AreListed l.k pairs → AreListed l.k others → CountsFit l pairs
+    → CountsFit l others → length pairs < 2 ^ 64 → length others < 2 ^ 64 → prefix_start l pairs ≡ prefix_start l others
+    → suffix_file l pairs ≡ suffix_file l others → pairs ≡ others
+same_pairs l pairs others is listed listed' fit fit' few few' starts suffixes =
+    let rows : rows_of l pairs ≡ rows_of l others =
+    append_cancel_left suffix_marker (rows_of l pairs) (rows_of l others)
+    (append_cancel_right (suffix_marker ++ rows_of l pairs) (suffix_marker ++ rows_of l others) suffix_marker suffixes) in
+    let tables : table_of l pairs ≡ table_of l others = append_cancel_left prefix_marker (table_of l pairs) (table_of l others) starts in
+    pairs_same l is pairs others listed.each listed'.each listed.rising listed'.rising fit fit' rows (tables_same l is pairs others few few' tables)
 
 pub one_list : (f g : Form) (pairs others : List (List ℕ × ℕ)) (prefix_bytes suffix_bytes : List ℕ) → IsDatabase f pairs prefix_bytes suffix_bytes
     → IsDatabase g others prefix_bytes suffix_bytes → (pairs ≡ others) × (f.layout ≡ g.layout)
 one_list f g pairs others prefix_bytes suffix_bytes h d =
     let l = f.layout in
-    let cut = cut_end (prefix_marker ++ table_of l pairs) (header_of l (length pairs) (limits_of f) (strands_of f))
-    (prefix_marker ++ table_of g.layout others) (header_of g.layout (length others) (limits_of g) (strands_of g))
-    (header_long f (length pairs) ∙ sym (header_long g (length others))) (sym h.prefix ∙ d.prefix) in
-    let same = layout_same f g (length pairs) (length others) h.layout d.layout cut.1 in
-    let suffixes : suffix_file l pairs ≡ suffix_file l others = sym h.suffix ∙ d.suffix ∙ ap (λ (m : Layout). suffix_file m others) (sym same) in
-    let rows : rows_of l pairs ≡ rows_of l others =
-    append_cancel_left suffix_marker (rows_of l pairs) (rows_of l others)
-    (append_cancel_right (suffix_marker ++ rows_of l pairs) (suffix_marker ++ rows_of l others) suffix_marker suffixes) in
-    let starts : prefix_marker ++ table_of l pairs ≡ prefix_marker ++ table_of l others =
-    cut.0 ∙ ap (λ (m : Layout). prefix_marker ++ table_of m others) (sym same) in
-    let tables : table_of l pairs ≡ table_of l others = append_cancel_left prefix_marker (table_of l pairs) (table_of l others) starts in
-    let listed = subst (λ (m : Layout). AreListed m.k others) (sym same) d.listed in
-    let fit = subst (λ (m : Layout). CountsFit m others) (sym same) d.fit in (
-      pairs_same l h.layout pairs others h.listed.each listed.each h.listed.rising listed.rising h.fit fit rows
-          (tables_same l h.layout pairs others h.few d.few tables),
+    let cut = cut_end (prefix_start l pairs) (header_of l (length pairs) (limits_of f) (strands_of f)) (prefix_start g.layout others)
+    (header_of g.layout (length others) (limits_of g) (strands_of g)) refl (sym h.prefix ∙ d.prefix) in
+    let same = (header_same l g.layout (length pairs) (length others) (limits_of f) (limits_of g) (strands_of f) (strands_of g) refl refl h.layout
+    d.layout h.few d.few cut.1).0 in (
+      same_pairs l pairs others h.layout h.listed (subst (λ (m : Layout). AreListed m.k others) (sym same) d.listed) h.fit
+          (subst (λ (m : Layout). CountsFit m others) (sym same) d.fit) h.few d.few
+          (cut.0 ∙ ap (λ (m : Layout). prefix_start m others) (sym same))
+          (sym h.suffix ∙ d.suffix ∙ ap (λ (m : Layout). suffix_file m others) (sym same)),
       same,
+    )
+
+-- ---- what is unpacked
+
+-- bytes are the header of one layout and one number of rows
+pub one_header : (bytes : List ℕ) (h g : Header) → IsHeaderOf bytes h → IsHeaderOf bytes g → h ≡ g
+one_header bytes h g a b =
+    let both = header_same h.layout g.layout h.rows g.rows a.limits b.limits a.strands b.strands (a.limits_long ∙ sym b.limits_long)
+    (a.strands_long ∙ sym b.strands_long) a.layout b.layout a.few b.few (sym a.is ∙ b.is) in
+    (λ i. record { layout = both.0 i; rows = both.1 i })
+
+all_of : (xs : List ℕ) (now : Option (List ℕ)) (bytes : List ℕ) → GaveAll (Some xs) now bytes → xs ≡ bytes
+all_of xs None bytes h = absurd h.0
+all_of xs (Some ys) bytes h = h.0 ∙ ap (λ (t : List ℕ). bytes ++ t) h.1 ∙ append-nil bytes
+
+pub dumped : (f : Form) (pairs : List (List ℕ × ℕ)) (prefix_bytes suffix_bytes : List ℕ) → IsDatabase f pairs prefix_bytes suffix_bytes
+    → (first_old first_new prefix_now suffix_now old new : Option (List ℕ)) (rows : ℕ)
+    → IsUnpacked first_old first_new (record { prefix = Some prefix_bytes; suffix = Some suffix_bytes; written = old }) prefix_now suffix_now new rows
+    → (rows ≡ length pairs) × Appends old new (text_of pairs)
+dumped f pairs prefix_bytes suffix_bytes d first_old first_new prefix_now suffix_now old new rows u =
+    let l = f.layout in
+    let h = u.h in
+    let out = u.out in
+    let told = out.told in
+    let cut = cut_end (prefix_start l pairs) (header_of l (length pairs) (limits_of f) (strands_of f)) (prefix_start h.layout out.pairs) out.header
+    (sym (ap length told.is ∙ length_header h.layout h.rows told.limits told.strands told.limits_long told.strands_long))
+    (sym d.prefix ∙ all_of prefix_bytes prefix_now (prefix_start h.layout out.pairs ++ out.header) out.prefix) in
+    let same = (header_same l h.layout (length pairs) h.rows (limits_of f) told.limits (strands_of f) told.strands (sym told.limits_long)
+    (sym told.strands_long) d.layout told.layout d.few told.few (cut.1 ∙ told.is)).0 in
+    let are : pairs ≡ out.pairs =
+    same_pairs l pairs out.pairs d.layout d.listed (subst (λ (m : Layout). AreListed m.k out.pairs) (sym same) out.lists.listed) d.fit
+    (subst (λ (m : Layout). CountsFit m out.pairs) (sym same) out.fit) d.few (omega (arith, told.few, out.count))
+    (cut.0 ∙ ap (λ (m : Layout). prefix_start m out.pairs) (sym same))
+    (sym d.suffix ∙ all_of suffix_bytes suffix_now (suffix_file h.layout out.pairs) out.suffix
+    ∙ ap (λ (m : Layout). suffix_file m out.pairs) (sym same)) in (
+      u.many ∙ out.count ∙ sym (ap length are),
+      subst (Appends old new) (out.lists.lines ∙ sym (ap text_of are)) out.written,
     )

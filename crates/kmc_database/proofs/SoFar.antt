@@ -15,16 +15,12 @@ use Rattle.kmc_sum.specs.Lemmas.Taken.{front_gathered}
 use Rattle.kmc_sum.specs.Lemmas.Written.{out_same}
 use Rattle.kmc_sum.specs.declared.heads.Head.{Head}
 use Rattle.kmc_sum.specs.declared.source.Room.{Room}
-use Rattle.kmc_database.specs.Files.{CountsFit, prefix_marker, prefix_start, suffix_marker, suffix_start}
+use Rattle.kmc_database.specs.Files.{begun_table, CountsFit, prefix_marker, prefix_start, suffix_marker, suffix_start}
 use Rattle.kmc_database.specs.Numbers.{low_first}
-use Rattle.kmc_database.specs.Rows.{entries, first_part, number_below, repeated, row_of, rows_of}
+use Rattle.kmc_database.specs.Rows.{AreBelow, entries, first_part, number_below, repeated, row_of, rows_of}
 use Rattle.kmc_database.specs.declared.layout.Layout.{Layout}
 use Rattle.kmc_database.proofs.Gathering.{front_more, out_as}
-use Rattle.kmc_database.proofs.Tables.{AreBelow, below_more, entries_front, entries_more, entries_push}
-
--- the prefix file with so many entries
-abbrev pub begun_table : Layout → List (List ℕ × ℕ) → ℕ → List ℕ
-begun_table l pairs n = prefix_marker ++ entries l pairs n
+use Rattle.kmc_database.proofs.Tables.{below_more, entries_front, entries_more, entries_push}
 
 -- pairs were taken from the source; of their files so many entries and all rows went out or are gathered
 pub record IsSoFar (l : Layout) (start now : Option (List ℕ)) (room : Room) (head : Head) (n rows : ℕ) (prefix_old prefix_new suffix_old suffix_new
@@ -55,7 +51,7 @@ module _ (l : Layout) where
     suffix = subst (λ (t : List ℕ). WritesOut suffix suffix t body) (append-nil body ∙ body_is) (out_same suffix body [] refl);
   }
 
-  rows_push : (pairs : List (List ℕ × ℕ)) (p : List ℕ × ℕ) → suffix_start l pairs ++ row_of l p ≡ suffix_start l (pairs ++ p ∷ [])
+  pub rows_push : (pairs : List (List ℕ × ℕ)) (p : List ℕ × ℕ) → suffix_start l pairs ++ row_of l p ≡ suffix_start l (pairs ++ p ∷ [])
   rows_push pairs p =
       append_assoc suffix_marker (rows_of l pairs) (row_of l p)
       ∙ ap (λ (t : List ℕ). suffix_marker ++ t)
@@ -71,12 +67,12 @@ module _ (l : Layout) where
       ∙ ap (λ (t : List ℕ). prefix_marker ++ t) (sym (entries_front l pairs n (4 ^ l.prefix) most)) in
       subst (AppendsFront a b) is (front_of a b (begun_table l pairs n) more front)
 
-  counts_push : (pairs : List (List ℕ × ℕ)) (p : List ℕ × ℕ) → CountsFit l pairs → p.1 < 256 ^ l.counter → CountsFit l (pairs ++ p ∷ [])
+  pub counts_push : (pairs : List (List ℕ × ℕ)) (p : List ℕ × ℕ) → CountsFit l pairs → p.1 < 256 ^ l.counter → CountsFit l (pairs ++ p ∷ [])
   counts_push [] p h own = (own, tt)
   counts_push (q ∷ pairs) p h own = (h.0, counts_push pairs p h.1 own)
 
   -- the entries that are put before a word, behind those that are there
-  more_entries : (pairs : List (List ℕ × ℕ)) (n m rows : ℕ) → AreBelow l n pairs → n ≤ m → rows ≡ length pairs
+  pub more_entries : (pairs : List (List ℕ × ℕ)) (n m rows : ℕ) → AreBelow l n pairs → n ≤ m → rows ≡ length pairs
       → begun_table l pairs n ++ repeated (m - n) rows ≡ begun_table l pairs m
   more_entries pairs n m rows below up many =
       append_assoc prefix_marker (entries l pairs n) (repeated (m - n) rows)

@@ -2,26 +2,22 @@
 use Rattle.std.proofs.Common.{◌≡◌, ℕ, ◌+◌, ◌-◌, ◌<◌, ◌≤◌, cond, nat_lt, List, [], ◌∷◌, ◌++◌, length, refl, sym, ap, ◌∙◌, arith, append-nil}
 use Rattle.std.proofs.lemmas.Bool.{le-ltb, lt-ltb}
 use Rattle.std.proofs.lemmas.List.Sums.{sum_by-append, sum_by-cons}
-use Rattle.std.specs.List.{AllByRecursion, flat_map, range_with_len}
+use Rattle.std.specs.List.{flat_map, range_with_len}
 use Rattle.kmc_database.specs.Numbers.{low_first}
-use Rattle.kmc_database.specs.Rows.{entries, first_part, number_below, repeated}
+use Rattle.kmc_database.specs.Rows.{AreBelow, entries, first_part, number_below, repeated}
 use Rattle.kmc_database.specs.declared.layout.Layout.{Layout}
 use Rattle.kmc_database.proofs.Ranges.{spread_join, spread_moved}
 
 module _ (l : Layout) where
-  -- each of the words has a first part below this number
-  abbrev pub AreBelow : ℕ → List (List ℕ × ℕ) → Type 0
-  AreBelow n pairs = AllByRecursion (λ p. first_part l p.0 < n) pairs
-
   abbrev one : ℕ → List ℕ × ℕ → ℕ
   one i p = cond (nat_lt (first_part l p.0) i) 1 0
 
-  pub below_more : (n m : ℕ) (pairs : List (List ℕ × ℕ)) (p : List ℕ × ℕ) → AreBelow n pairs → n ≤ m → first_part l p.0 < m
-      → AreBelow m (pairs ++ p ∷ [])
+  pub below_more : (n m : ℕ) (pairs : List (List ℕ × ℕ)) (p : List ℕ × ℕ) → AreBelow l n pairs → n ≤ m → first_part l p.0 < m
+      → AreBelow l m (pairs ++ p ∷ [])
   below_more n m [] p h up own = (own, tt)
   below_more n m (q ∷ pairs) p h up own = (omega (arith, h.0), below_more n m pairs p h.1 up own)
 
-  pub number_all : (pairs : List (List ℕ × ℕ)) (n i : ℕ) → AreBelow n pairs → n ≤ i → number_below l pairs i ≡ length pairs
+  pub number_all : (pairs : List (List ℕ × ℕ)) (n i : ℕ) → AreBelow l n pairs → n ≤ i → number_below l pairs i ≡ length pairs
   number_all [] n i h up = refl
   number_all (p ∷ pairs) n i h up =
       let own : one i p ≡ 1 = ap (λ b. cond b 1 0) (lt-ltb (first_part l p.0) i (omega (arith, h.0))) in
@@ -40,7 +36,7 @@ module _ (l : Layout) where
       (λ j less. ap (low_first 8) (number_push pairs p (0 + j) (omega (arith, less, low))))
 
   -- entries behind the first part of each word are the number of words
-  pub entries_more : (pairs : List (List ℕ × ℕ)) (n m rows : ℕ) → AreBelow n pairs → n ≤ m → rows ≡ length pairs
+  pub entries_more : (pairs : List (List ℕ × ℕ)) (n m rows : ℕ) → AreBelow l n pairs → n ≤ m → rows ≡ length pairs
       → entries l pairs n ++ repeated (m - n) rows ≡ entries l pairs m
   entries_more pairs n m rows below up many =
       let parts : n + (m - n) ≡ m = omega arith in

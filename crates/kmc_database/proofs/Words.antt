@@ -53,7 +53,7 @@ module _ (l : Layout) (is : IsLayout l) (n : ℕ) where
       let long : length front ≡ l.prefix = length_unpack l.prefix (n / 4 ^ behind) in
       ap (take l.prefix) cut ∙ ap (λ m. take m (front ++ rest)) (sym long) ∙ take-append_seam front rest
 
-  rest_is : drop l.prefix (unpack l.k n) ≡ rest
+  pub rest_is : drop l.prefix (unpack l.k n) ≡ rest
   rest_is =
       let long : length front ≡ l.prefix = length_unpack l.prefix (n / 4 ^ behind) in
       ap (drop l.prefix) cut ∙ ap (λ m. drop m (front ++ rest)) (sym long) ∙ drop-append_seam front rest

@@ -1,5 +1,5 @@
 -- The two files of a database.
-use Rattle.std.specs.Prelude.{◌≡◌, ℕ, ◌/◌, ◌%◌, ◌^◌, ◌<◌, List, [], ◌∷◌, ◌++◌, length, replicate}
+use Rattle.std.specs.Prelude.{◌≡◌, ℕ, ◌+◌, ◌*◌, ◌/◌, ◌%◌, ◌^◌, ◌<◌, List, [], ◌∷◌, ◌++◌, length, replicate}
 use Rattle.std.specs.List.{AllByRecursion}
 use Rattle.kmc_base.specs.declared.strands.Strands.{Strands}
 use Rattle.kmc_base.specs.declared.strands.Strands.TheVariants.{Joined, Apart}
@@ -7,7 +7,7 @@ use Rattle.kmc_sum.specs.Listed.{AreListed}
 use Rattle.kmc_database.specs.Form.{greatest_told}
 use Rattle.kmc_database.specs.Layout.{IsLayout}
 use Rattle.kmc_database.specs.Numbers.{low_first}
-use Rattle.kmc_database.specs.Rows.{rows_of, table_of}
+use Rattle.kmc_database.specs.Rows.{entries, rows_of, table_of}
 use Rattle.kmc_database.specs.declared.form.Form.{Form}
 use Rattle.kmc_database.specs.declared.layout.Layout.{Layout}
 
@@ -39,12 +39,20 @@ header_of l rows limits strands =
     low_first 4 l.k ++ low_first 4 0 ++ low_first 4 l.counter ++ low_first 4 l.prefix ++ limits ++ low_first 8 rows ++ strands
     ++ low_first 4 0 ++ low_first 4 64 ++ prefix_marker
 
+-- the prefix file with so many entries of its table
+abbrev pub begun_table : Layout → List (List ℕ × ℕ) → ℕ → List ℕ
+begun_table l pairs n = prefix_marker ++ entries l pairs n
+
 -- the prefix file but for its header
 abbrev pub prefix_start : Layout → List (List ℕ × ℕ) → List ℕ
 prefix_start l pairs = prefix_marker ++ table_of l pairs
 
 abbrev pub prefix_file : Form → List (List ℕ × ℕ) → List ℕ
 prefix_file f pairs = prefix_start f.layout pairs ++ header_of f.layout (length pairs) (limits_of f) (strands_of f)
+
+-- the bytes of a prefix file
+abbrev pub prefix_long : Layout → ℕ
+prefix_long l = 76 + 8 * 4 ^ l.prefix
 
 -- the suffix file but for the marker at its end
 abbrev pub suffix_start : Layout → List (List ℕ × ℕ) → List ℕ

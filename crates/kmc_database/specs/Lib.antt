@@ -1,9 +1,11 @@
 pub mod Answer
 pub mod Beginning
 pub mod Begun
+pub mod Checked
 pub mod Ending
 pub mod Files
 pub mod Form
+pub mod Given
 pub mod Header
 pub mod Laws
 pub mod Layout
@@ -11,3 +13,8 @@ pub mod Messages
 pub mod Numbers
 pub mod RefusalNumbers
 pub mod Rows
+pub mod TakenRow
+pub mod UnpackAnswer
+pub mod UnpackCauses
+pub mod UnpackState
+pub mod Unpacked

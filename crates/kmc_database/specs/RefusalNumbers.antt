@@ -4,6 +4,8 @@ use Rattle.kmc_database.specs.declared.error.PackError.{PackError}
 use Rattle.kmc_database.specs.declared.error.PackError.TheVariants.{Source, Empty, Prefix, TooGreat, WritePrefix, WriteSuffix, Memory, TooLong}
 use Rattle.kmc_database.specs.declared.reading.FormFault.{FormFault}
 use Rattle.kmc_database.specs.declared.reading.FormFault.TheVariants.{Marker, Newer, Version, Size, Mode, NoLayout}
+use Rattle.kmc_database.specs.declared.unpack_error.UnpackError.{UnpackError}
+use Rattle.kmc_database.specs.declared.unpack_error.UnpackError.TheVariants as unpack
 
 abbrev pub number_of_pack_error : PackError → ℕ
 number_of_pack_error (Source _) = 1
@@ -22,3 +24,19 @@ number_of_form_fault Version = 3
 number_of_form_fault Size = 4
 number_of_form_fault Mode = 5
 number_of_form_fault NoLayout = 6
+
+abbrev pub number_of_unpack_error : UnpackError → ℕ
+number_of_unpack_error (unpack.Form _) = 1
+number_of_unpack_error unpack.Length = 2
+number_of_unpack_error unpack.PrefixMarker = 3
+number_of_unpack_error unpack.SuffixMarker = 4
+number_of_unpack_error (unpack.Entry _) = 5
+number_of_unpack_error (unpack.Cut _) = 6
+number_of_unpack_error (unpack.NotRising _) = 7
+number_of_unpack_error (unpack.ZeroCount _) = 8
+number_of_unpack_error unpack.SuffixEnd = 9
+number_of_unpack_error unpack.Changed = 10
+number_of_unpack_error unpack.ReadPrefix = 11
+number_of_unpack_error unpack.ReadSuffix = 12
+number_of_unpack_error unpack.Write = 13
+number_of_unpack_error unpack.Memory = 14

@@ -1,6 +1,6 @@
 -- The rows of a database, and the table that leads to them.
-use Rattle.std.specs.Prelude.{ℕ, ◌^◌, nat_lt, List, ◌++◌, take, drop, count_by}
-use Rattle.std.specs.List.{flat_map, range_with_len}
+use Rattle.std.specs.Prelude.{ℕ, ◌+◌, ◌-◌, ◌/◌, ◌^◌, ◌<◌, nat_lt, List, ◌++◌, take, drop, count_by}
+use Rattle.std.specs.List.{AllByRecursion, flat_map, range_with_len}
 use Rattle.kmc_base.specs.Packed.{pack}
 use Rattle.kmc_base.specs.Record.{packed_codes}
 use Rattle.kmc_database.specs.Numbers.{low_first}
@@ -14,8 +14,16 @@ first_part l w = pack (take l.prefix w)
 abbrev pub row_of : Layout → List ℕ × ℕ → List ℕ
 row_of l p = packed_codes (drop l.prefix p.0) ++ low_first l.counter p.1
 
+-- the bytes of a row
+abbrev pub row_long : Layout → ℕ
+row_long l = (l.k - l.prefix) / 4 + l.counter
+
 abbrev pub rows_of : Layout → List (List ℕ × ℕ) → List ℕ
 rows_of l pairs = flat_map (row_of l) pairs
+
+-- each of the words has a first part below this number
+abbrev pub AreBelow : Layout → ℕ → List (List ℕ × ℕ) → Type 0
+AreBelow l n pairs = AllByRecursion (λ p. first_part l p.0 < n) pairs
 
 -- how many of the words have a first part below this number
 abbrev pub number_below : Layout → List (List ℕ × ℕ) → ℕ → ℕ

@@ -5,9 +5,11 @@
 #![tactic(auto)]
 
 mod byte_buffer;
+mod checking;
 mod error;
 mod form;
 mod header;
+mod last_header;
 pub mod laws;
 mod layout;
 mod message;
@@ -15,8 +17,14 @@ mod number;
 mod packing;
 mod reading;
 mod row;
+mod row_reading;
 mod table;
+mod taking;
 mod telling;
+mod unpack_error;
+mod unpack_message;
+mod unpack_telling;
+mod unpacking;
 
 pub use error::PackError;
 pub use form::{Form, PackOptions};
@@ -25,3 +33,7 @@ pub use message::PackMessage;
 pub use packing::pack;
 pub use reading::{FormFault, Header, read_header};
 pub use telling::{PackNames, pack_reader};
+pub use unpack_error::UnpackError;
+pub use unpack_message::UnpackMessage;
+pub use unpack_telling::unpack_readers;
+pub use unpacking::unpack;

@@ -1,11 +1,12 @@
 //! The header of a database, read.
-ghost use Rattle.std.specs.Prelude.{◌≡◌, length, MatchOption, MatchResult};
+ghost use Rattle.std.specs.Prelude.{◌≡◌, length, MatchOption, MatchResult, Some};
 ghost use Rattle.kmc_database.specs.Header.{HaveNoLayout, IsFormFault, IsHeaderOf, IsLayoutIn};
+ghost use Rattle.kmc_database.specs.Messages.{text_of_form_fault};
 
 use crate::header::HEADER;
 use crate::layout::{Layout, layout_for};
 use crate::number::number_at;
-use thiserror::Error;
+use std::fmt;
 
 /// How words and counts lie in a database, and how many rows it has.
 #[derive(Clone, Copy, Debug, PartialEq, Eq)]
@@ -15,25 +16,19 @@ pub struct Header {
 }
 
 /// Why bytes are no header of a database in KMC 1's form.
-#[derive(Clone, Copy, Debug, PartialEq, Eq, Error)]
+#[derive(Clone, Copy, Debug, PartialEq, Eq)]
 pub enum FormFault {
     /// They do not end with `KMCP`.
-    #[error("the prefix file does not end with its marker")]
     Marker,
     /// They are of the form of KMC 2 and 3, which `kmc_tools transform NAME sort` turns into this one.
-    #[error("the database is in the form of KMC 2 and 3")]
     Newer,
     /// Their version is neither of this form nor of the newer one.
-    #[error("the database has an unknown version")]
     Version,
     /// They tell another length of the header.
-    #[error("the header has another length")]
     Size,
     /// Their counts are no whole numbers.
-    #[error("the database has an unknown mode")]
     Mode,
     /// Words have 1 to 64 symbols, first parts 1 to 15 and no more than a word, a multiple of four is left, and counts have 1 to 4 bytes.
-    #[error("the header has no lengths of words, first parts and counts that fit")]
     NoLayout,
 }
 
@@ -51,6 +46,27 @@ impl FormFault {
             FormFault::Size => 4,
             FormFault::Mode => 5,
             FormFault::NoLayout => 6,
+        }
+    }
+}
+
+impl fmt::Display for FormFault {
+    ghost output = { λ e. Some (text_of_form_fault e) };
+
+    fn fmt<W: fmt::Write>(&self, f: &mut fmt::Formatter<W>) -> fmt::Result {
+        match self {
+            FormFault::Marker => write!(f, "the prefix file does not end with its marker"),
+            FormFault::Newer => write!(
+                f,
+                "the database is in the form of KMC 2 and 3: kmc_tools transform NAME sort OTHER writes it in this one"
+            ),
+            FormFault::Version => write!(f, "the database has an unknown version"),
+            FormFault::Size => write!(f, "the header has another length"),
+            FormFault::Mode => write!(f, "the database has an unknown mode"),
+            FormFault::NoLayout => write!(
+                f,
+                "the header has no lengths of words, first parts and counts that fit"
+            ),
         }
     }
 }

@@ -1,10 +1,13 @@
-//! The program `kmc_db`: two dumps, joined or told of, on standard output; or a dump on standard input as a database in two files. On a
-//! fault it writes one line to standard error and ends with the fault's status. The first is `kmc_join`'s, the second `kmc_database`'s.
+//! The program `kmc_db`: two dumps, joined or told of, on standard output; or a dump on standard input as a database in two files, or
+//! such a database as a dump. On a fault it writes one line to standard error and ends with the fault's status. The first is `kmc_join`'s,
+//! the others are `kmc_database`'s.
 #![tactic(auto)]
 
+mod dumping;
 mod packing;
 mod request;
 
+use crate::dumping::{asks_to_dump, dump_files};
 use crate::packing::{asks_to_pack, pack_input};
 use kmc_device::Counted;
 use kmc_join::program;
@@ -17,6 +20,10 @@ fn main(rt: HostRuntime) -> ExitCode {
         if asks_to_pack(&words) {
             let mut reader = Counted::new(rt.stdin());
             return pack_input(&rt, &words[1..], &mut reader);
+        }
+        if asks_to_dump(&words) {
+            let mut writer = Counted::new(io::writer(&rt));
+            return dump_files(&rt, &words[1..], &mut writer);
         }
     }
     let mut writer = Counted::new(io::writer(&rt));
