@@ -1,7 +1,9 @@
 """kmc_db by itself: joins and histograms against a plain count made here, what it refuses, and how it ends."""
+import os
 import random
 
-from room import program
+from room import content, need, plainly, program
+from test_databases import quietly
 from test_programs import MOST, ended
 
 USAGE = (b"usage: kmc_db union|intersect|subtract|counters-subtract [-oc<choice>] [-ci<n>] [-cx<n>] [-cs<n>] a.dump b.dump, "
@@ -44,6 +46,54 @@ def test_dumps_are_joined_as_counted_here(room):
         numbers = joined(operation, choice or OWN[operation], first, second)
         wanted = text_of({word: min(n, cs) for word, n in numbers.items() if n and ci <= n <= cx})
         assert ended(room, "kmc_db", *words, *names) == (0, wanted, b""), words
+
+
+def within(counts, least, greatest):
+    return {word: count for word, count in counts.items() if least <= count <= greatest}
+
+
+def test_limits_of_each_file_are_as_counted_here(room):
+    program("kmc_db")
+    dice = random.Random(8)
+    for _ in range(60):
+        k = dice.choice((1, 4, 31, 64))
+        first, second = a_dump(dice, k), a_dump(dice, k)
+        names = room.write("first", text_of(first)), room.write("second", text_of(second))
+        operation = dice.choice(sorted(OWN))
+        left, right = (dice.choice(((0, (1 << 64) - 1), (0, 9), (2, 20), (3, MOST), (9, 2))) for _ in range(2))
+        words = [operation, "-lci%d" % left[0], "-lcx%d" % left[1], "-rci%d" % right[0], "-rcx%d" % right[1]]
+        numbers = joined(operation, OWN[operation], within(first, *left), within(second, *right))
+        wanted = text_of({word: n for word, n in numbers.items() if 1 <= n <= MOST})
+        assert ended(room, "kmc_db", *words, "-ci1", "-cx%d" % MOST, "-cs%d" % MOST, *names) == (0, wanted, b""), words
+
+
+def some_reads(dice, pool):
+    """A FASTQ text of parts of a pool, so that such texts share k-mers, which they have unlike often."""
+    reads = [pool[at:at + 60] for at in (dice.randrange(len(pool) - 60) for _ in range(60))]
+    return "".join("@r\n%s\n+\n%s\n" % (read, "I" * 60) for read in reads).encode()
+
+
+def test_limits_of_each_file_are_those_of_kmc_tools(room):
+    program("kmc_db")
+    need("kmc", "kmc_tools")
+    os.mkdir(room.path("files"))
+    dice = random.Random(9)
+    theirs = {"union": "union", "intersect": "intersect", "subtract": "kmers_subtract", "counters-subtract": "counters_subtract"}
+    wide = ["-ci1", "-cx1000000000", "-cs1000000"]
+    for k in (14, 21, 33):
+        pool = "".join(dice.choices("ACGT", k=300))
+        for name in "ab":
+            text = some_reads(dice, pool)
+            room.write(name + ".fastq", text)
+            room.write(name + ".dump", plainly(text, k, 1, 10**9, 10**6))
+            quietly(room, "kmc", "-k%d" % k, *wide, "-m2", "-t1", "-fq", name + ".fastq", name, "files")
+        for operation in sorted(theirs) * 3:
+            left, right = (dice.choice(((1, 10**9), (1, 5), (3, 8), (6, 10**9))) for _ in range(2))
+            quietly(room, "kmc_tools", "-t1", "simple", "a", "-ci%d" % left[0], "-cx%d" % left[1], "b", "-ci%d" % right[0], "-cx%d" % right[1],
+                    theirs[operation], "joined", *wide)
+            quietly(room, "kmc_tools", "-t1", "transform", "joined", "dump", "-s", "listed")
+            words = [operation, "-lci%d" % left[0], "-lcx%d" % left[1], "-rci%d" % right[0], "-rcx%d" % right[1], *wide]
+            assert ended(room, "kmc_db", *words, "a.dump", "b.dump") == (0, content(room.path("listed")), b""), (k, words)
 
 
 def test_a_histogram_is_as_counted_here(room):
@@ -92,6 +142,8 @@ def test_a_join_refuses_wrong_words(room):
     room.write("a", "AC\t2\n")
     for words in ([], ["union"], ["union", "a"], ["union", "a", "a", "a"], ["join", "a", "a"], ["union", "-ocmean", "a", "a"], ["union", "-oc", "a", "a"],
                   ["union", "-ocmin", "-ocmax", "a", "a"], ["subtract", "-ocmin", "a", "a"], ["union", "-k31", "a", "a"], ["histogram"],
+                  ["union", "-lci1", "-lci1", "a", "a"], ["union", "-rcx", "a", "a"], ["union", "-lcx18446744073709551616", "a", "a"],
+                  ["table", "-lci1", "a", "a"],
                   ["histogram", "-ci1", "a"], ["histogram", "a", "a"], ["--help"]):
         assert ended(room, "kmc_db", *words) == (2, b"", USAGE), words
     assert ended(room, "kmc_db", "union", "-cs0", "a", "a") == (2, b"", b"kmc_db: value of -cs is out of range\n")

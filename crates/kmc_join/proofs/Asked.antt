@@ -8,13 +8,13 @@ use Rattle.kmc_sum.specs.Sources.{lefts_of}
 use Rattle.kmc_join.specs.Request.{IsRequest}
 use Rattle.kmc_join.specs.Program.{AreRead, AreTabled}
 use Rattle.kmc_join.specs.TableWords.{table_cap}
-use Rattle.kmc_join.specs.declared.operation.Operation.{Operation}
+use Rattle.kmc_join.specs.declared.rule.JoinRule.{JoinRule}
 
 -- as many readers as files
-abbrev pub are_read : {F : Type 0} (words : List Word) (operation : Operation) (limits : Limits) (name : F → Word) (files : List F)
-    → IsRequest words operation limits (map name files) → (starts nows : List (Option (List ℕ))) → length starts ≡ length files → AreRead words
-are_read words operation limits name files request starts nows many = record {
-  operation = operation;
+abbrev pub are_read : {F : Type 0} (words : List Word) (rule : JoinRule) (limits : Limits) (name : F → Word) (files : List F)
+    → IsRequest words rule limits (map name files) → (starts nows : List (Option (List ℕ))) → length starts ≡ length files → AreRead words
+are_read words rule limits name files request starts nows many = record {
+  rule = rule;
   limits = limits;
   files = map name files;
   request = request;

@@ -1,10 +1,10 @@
 -- The number of a word of two dumps.
-use Rattle.std.proofs.Common.{◌≡◌, ℕ, zero, suc, ◌+◌, ◌≤◌, inl, inr, List, [], ◌∷◌, ◌++◌, cond, true, ap, subst, ◌∙◌, arith}
+use Rattle.std.proofs.Common.{◌≡◌, ℕ, zero, suc, ◌+◌, ◌≤◌, inl, inr, List, [], ◌∷◌, ◌++◌, Bool, cond, true, false, ap, subst, ◌∙◌, arith}
 use Rattle.std.specs.List.{AllByRecursion}
 use Rattle.std.specs.List.Sorted.{IsStrictlySortedBy}
 use Rattle.std.specs.declared.cmp.Ordering.TheVariants.{Less}
 use Rattle.std.proofs.lemmas.List.{map-append}
-use Rattle.std.specs.Prelude.{Option}
+use Rattle.std.specs.Prelude.{◌&&◌, nat_le, Option}
 use Rattle.kmc_base.specs.Words.{kmer_cmp}
 use Rattle.kmc_base.specs.Packed.{unpack}
 use Rattle.kmc_base.specs.Lemmas.Members.{Has}
@@ -18,10 +18,13 @@ use Rattle.kmc_sum.specs.Lemmas.Listed.{none_listed}
 use Rattle.kmc_sum.specs.declared.heads.Head.{Head}
 use Rattle.kmc_sum.specs.declared.source.Room.{Room}
 use Rattle.kmc_join.specs.Operation.{chosen, combined}
+use Rattle.kmc_join.specs.Rule.{number_by, within}
 use Rattle.kmc_join.specs.declared.operation.Choice.{Choice}
 use Rattle.kmc_join.specs.declared.operation.Choice.TheVariants.{Min, Max, Sum, Diff, Left, Right}
 use Rattle.kmc_join.specs.declared.operation.Operation.{Operation}
 use Rattle.kmc_join.specs.declared.operation.Operation.TheVariants.{Intersect, Union, Subtract, CountersSubtract}
+use Rattle.kmc_join.specs.declared.rule.CountRange.{CountRange}
+use Rattle.kmc_join.specs.declared.rule.JoinRule.{JoinRule}
 
 chosen_few : (c : Choice) (a b : ℕ) → chosen c a b ≤ a + b
 chosen_few Min a b = omega arith
@@ -32,7 +35,7 @@ chosen_few Left a b = omega arith
 chosen_few Right a b = omega arith
 
 -- the number is at most both counts together
-pub combined_few : (operation : Operation) (a b : ℕ) → combined operation a b ≤ a + b
+combined_few : (operation : Operation) (a b : ℕ) → combined operation a b ≤ a + b
 combined_few (Intersect c) zero b = omega arith
 combined_few (Intersect c) (suc a) zero = omega arith
 combined_few (Intersect c) (suc a) (suc b) = chosen_few c (suc a) (suc b)
@@ -45,9 +48,25 @@ combined_few (CountersSubtract c) zero b = omega arith
 combined_few (CountersSubtract c) (suc a) zero = omega arith
 combined_few (CountersSubtract c) (suc a) (suc b) = chosen_few c (suc a) (suc b)
 
+within_few : (range : CountRange) (n : ℕ) → within range n ≤ n
+within_few range n = go (nat_le range.least n && nat_le n range.greatest)
+  where
+    go : (b : Bool) → cond b n 0 ≤ n
+    go true = omega arith
+    go false = omega arith
+
+-- also where each count is taken within limits
+pub number_few : (rule : JoinRule) (a b : ℕ) → number_by rule a b ≤ a + b
+number_few rule a b = omega (
+  arith,
+  combined_few rule.operation (within rule.left a) (within rule.right b),
+  within_few rule.left a,
+  within_few rule.right b,
+)
+
 -- a word that neither lists has none
-pub none_combined : (operation : Operation) (a b : ℕ) → a ≡ 0 → b ≡ 0 → combined operation a b ≡ 0
-none_combined operation a b left right = omega (arith, combined_few operation a b, left, right)
+pub none_numbered : (rule : JoinRule) (a b : ℕ) → a ≡ 0 → b ≡ 0 → number_by rule a b ≡ 0
+none_numbered rule a b left right = omega (arith, number_few rule a b, left, right)
 
 all_last : (P : List ℕ → Type 0) (ws : List (List ℕ)) (x : List ℕ) → AllByRecursion P (ws ++ x ∷ []) → P x
 all_last P [] x h = h.0

@@ -20,12 +20,12 @@ use Rattle.kmc_sum.specs.Lemmas.Taken.{GaveLists, front_both, front_gathered, te
 use Rattle.kmc_sum.specs.Lemmas.Tallies.{rising_none, tally_end}
 use Rattle.kmc_sum.specs.declared.heads.Head.{Head}
 use Rattle.kmc_sum.specs.declared.source.Room.{Room}
-use Rattle.kmc_join.specs.Operation.{combined}
+use Rattle.kmc_join.specs.Rule.{number_by}
 use Rattle.kmc_join.specs.State.{IsBegun, IsJoinWritten, IsSoFar, joined_of}
 use Rattle.kmc_join.specs.Taking.{AreAbreast, IsTaken, count_in}
-use Rattle.kmc_join.specs.declared.operation.Operation.{Operation}
+use Rattle.kmc_join.specs.declared.rule.JoinRule.{JoinRule}
 use Rattle.kmc_join.specs.declared.taking.CountedWord.{CountedWord}
-use Rattle.kmc_join.proofs.Numbers.{combined_few, none_combined}
+use Rattle.kmc_join.proofs.Numbers.{none_numbered, number_few}
 use Rattle.kmc_join.proofs.TakenWords.{none_above}
 
 -- a reader gave the lines of its list to its end
@@ -59,14 +59,14 @@ module _ (k : ℕ) (starts nows : List (Option (List ℕ))) (rooms : List Room) 
       taken.counts i y two ∙ ap (λ b. listed_count (list_at lists i) y + cond b (count_in w i) 0) other
       ∙ add-zero (listed_count (list_at lists i) y)
 
-  module _ (operation : Operation) (l : Limits) (small : l.cx ≤ 2 ^ 63) (pairs : List (List ℕ × ℕ)) (dump : IsDump (joined_of operation lists) l pairs) where
+  module _ (rule : JoinRule) (l : Limits) (small : l.cx ≤ 2 ^ 63) (pairs : List (List ℕ × ℕ)) (dump : IsDump (joined_of rule lists) l pairs) where
     abbrev number : List ℕ → ℕ
-    number = joined_of operation taken.after
+    number = joined_of rule taken.after
 
     abbrev n : ℕ
-    n = min (combined operation (count_in w 0) (count_in w 1)) (2 ^ 64 - 1)
+    n = min (number_by rule (count_in w 0) (count_in w 1)) (2 ^ 64 - 1)
 
-    some_listed : (y : List ℕ) → 1 ≤ joined_of operation lists y → (1 ≤ listed_count (list_at lists 0) y) ⊎ (1 ≤ listed_count (list_at lists 1) y)
+    some_listed : (y : List ℕ) → 1 ≤ joined_of rule lists y → (1 ≤ listed_count (list_at lists 0) y) ⊎ (1 ≤ listed_count (list_at lists 1) y)
     some_listed y some = go (listed_count (list_at lists 0) y) refl
       where
         go : (m : ℕ) → listed_count (list_at lists 0) y ≡ m → (1 ≤ listed_count (list_at lists 0) y) ⊎ (1 ≤ listed_count (list_at lists 1) y)
@@ -74,25 +74,25 @@ module _ (k : ℕ) (starts nows : List (Option (List ℕ))) (rooms : List Room) 
           arith,
           some,
           e,
-          combined_few operation (listed_count (list_at lists 0) y) (listed_count (list_at lists 1) y),
+          number_few rule (listed_count (list_at lists 0) y) (listed_count (list_at lists 1) y),
         ))
         go (suc m) e = inl (omega (arith, e))
 
-    but_word : (y : List ℕ) → joined_of operation lists y ≡ without word number y
+    but_word : (y : List ℕ) → joined_of rule lists y ≡ without word number y
     but_word y = go (same_word word y) refl
       where
-        go : (b : Bool) → same_word word y ≡ b → joined_of operation lists y ≡ without word number y
+        go : (b : Bool) → same_word word y ≡ b → joined_of rule lists y ≡ without word number y
         go true e =
-            let none = none_combined operation _ _ (none_above lists word taken.above 0 (omega arith)) (none_above lists word taken.above 1 (omega arith)) in
-            ap (joined_of operation lists) (sym (same_is word y e)) ∙ none ∙ sym (ap (λ b. cond b 0 (number y)) e)
+            let none = none_numbered rule _ _ (none_above lists word taken.above 0 (omega arith)) (none_above lists word taken.above 1 (omega arith)) in
+            ap (joined_of rule lists) (sym (same_is word y e)) ∙ none ∙ sym (ap (λ b. cond b 0 (number y)) e)
         go false e =
-            (λ i. combined operation (sym (counts_kept 0 y (omega arith) e) i) (sym (counts_kept 1 y (omega arith) e) i))
+            (λ i. number_by rule (sym (counts_kept 0 y (omega arith) e) i) (sym (counts_kept 1 y (omega arith) e) i))
             ∙ sym (ap (λ b. cond b 0 (number y)) e)
 
     tallied : Tallied l number word n pairs
     tallied = record {
       dump = subst (λ c. IsDump c l pairs) (λ i y. but_word y i) dump;
-      number = ap (λ m. min m (2 ^ 64 - 1)) (λ i. combined operation (sym (counts_taken 0 (omega arith)) i) (sym (counts_taken 1 (omega arith)) i));
+      number = ap (λ m. min m (2 ^ 64 - 1)) (λ i. number_by rule (sym (counts_taken 0 (omega arith)) i) (sym (counts_taken 1 (omega arith)) i));
       last = λ y some. elim (some_listed y (omega (arith, some, but_word y))) [
         | inl h ↦ taken.above 0 y (omega arith) h
         | inr h ↦ taken.above 1 y (omega arith) h
@@ -102,50 +102,50 @@ module _ (k : ℕ) (starts nows : List (Option (List ℕ))) (rooms : List Room) 
     pub dump_more : (m : ℕ) → m ≡ n → IsDump number l (pairs ++ kept_pair l word m)
     dump_more m is = subst (λ j. IsDump number l (pairs ++ kept_pair l word j)) (sym is) (tally_end l small number word n pairs tallied)
 
-module _ (k : ℕ) (operation : Operation) (l : Limits) (small : l.cx ≤ 2 ^ 63) (starts nows : List (Option (List ℕ))) (rooms : List Room)
+module _ (k : ℕ) (rule : JoinRule) (l : Limits) (small : l.cx ≤ 2 ^ 63) (starts nows : List (Option (List ℕ))) (rooms : List Room)
     (heads : List Head) (steps lines : ℕ) (old new : Option (List ℕ)) (gathered : List ℕ)
-    (so : IsSoFar k operation l starts nows rooms heads steps lines old new gathered) where
+    (so : IsSoFar k rule l starts nows rooms heads steps lines old new gathered) where
   module _ (nows' : List (Option (List ℕ))) (rooms' : List Room) (heads' : List Head) (w : CountedWord)
       (taken : IsTaken k starts nows' rooms' heads' so.lists w) (m : ℕ)
-      (is : m ≡ min (combined operation (count_in w 0) (count_in w 1)) (2 ^ 64 - 1)) where
+      (is : m ≡ min (number_by rule (count_in w 0) (count_in w 1)) (2 ^ 64 - 1)) where
     abbrev put : List (List ℕ × ℕ)
     put = kept_pair l (unpack k w.packed) m
 
     -- its line is put
     pub so_more : (lines' : ℕ) (new' : Option (List ℕ)) (gathered' : List ℕ) → WritesOut old new' (text_of so.pairs ++ text_of put) gathered'
-        → lines' ≡ lines + length put → IsSoFar k operation l starts nows' rooms' heads' (steps + 1) lines' old new' gathered'
+        → lines' ≡ lines + length put → IsSoFar k rule l starts nows' rooms' heads' (steps + 1) lines' old new' gathered'
     so_more lines' new' gathered' out total = record {
       lists = taken.after;
       abreast = taken.abreast;
       many = omega (arith, so.many, taken.more);
       pairs = so.pairs ++ put;
-      dump = dump_more k starts nows' rooms' heads' so.lists w taken operation l small so.pairs so.dump m is;
+      dump = dump_more k starts nows' rooms' heads' so.lists w taken rule l small so.pairs so.dump m is;
       out = subst (λ (t : List ℕ). WritesOut old new' t gathered') (sym (text_both so.pairs put)) out;
       count = omega (arith, total, so.count, length-append so.pairs put);
     }
 
     -- it is not
     pub begun_more : (new' : Option (List ℕ)) → GaveFronts k starts nows' taken.after → AppendsFront old new' (text_of so.pairs)
-        → IsBegun k operation l starts nows' old new'
+        → IsBegun k rule l starts nows' old new'
     begun_more new' gave text = record {
       lists = taken.after;
       gave = gave;
       pairs = so.pairs ++ put;
-      dump = dump_more k starts nows' rooms' heads' so.lists w taken operation l small so.pairs so.dump m is;
+      dump = dump_more k starts nows' rooms' heads' so.lists w taken rule l small so.pairs so.dump m is;
       text = front_both old new' so.pairs put text;
     }
 
   -- given up at what the readers gave
   pub begun_front : (nows' : List (Option (List ℕ))) (new' : Option (List ℕ)) → GaveFronts k starts nows' so.lists
-      → AppendsFront old new' (text_of so.pairs) → IsBegun k operation l starts nows' old new'
+      → AppendsFront old new' (text_of so.pairs) → IsBegun k rule l starts nows' old new'
   begun_front nows' new' gave text = record { lists = so.lists; gave = gave; pairs = so.pairs; dump = so.dump; text = text }
 
-  pub begun_before : (nows' : List (Option (List ℕ))) → GaveFronts k starts nows' so.lists → IsBegun k operation l starts nows' old new
+  pub begun_before : (nows' : List (Option (List ℕ))) → GaveFronts k starts nows' so.lists → IsBegun k rule l starts nows' old new
   begun_before nows' gave = begun_front nows' new gave (front_gathered old new (text_of so.pairs) gathered so.out)
 
   -- both sources have ended
   pub written : length starts ≡ 2 → IsLength k → GaveLists k starts nows so.lists → (new' : Option (List ℕ)) → Appends old new' (text_of so.pairs)
-      → IsJoinWritten operation l starts nows lines old new'
+      → IsJoinWritten rule l starts nows lines old new'
   written two long gave new' text =
       let one : 0 < length starts = omega (arith, two) in
       let other : 1 < length starts = omega (arith, two) in
@@ -179,16 +179,16 @@ module _ (starts : List (Option (List ℕ))) (two : length starts ≡ 2) where
       → AreSources k starts nows rooms heads (no_lists starts) → AreAbreast k starts nows rooms heads (no_lists starts)
   abreast_start k nows rooms heads are = record { sources = are; above = λ live i y few some. absurd (omega (arith, some, no_count i y few)) }
 
-  module _ (operation : Operation) where
-    no_number : (y : List ℕ) → joined_of operation (no_lists starts) y ≡ 0
-    no_number y = none_combined operation _ _ (no_count 0 y (omega arith)) (no_count 1 y (omega arith))
+  module _ (rule : JoinRule) where
+    no_number : (y : List ℕ) → joined_of rule (no_lists starts) y ≡ 0
+    no_number y = none_numbered rule _ _ (no_count 0 y (omega arith)) (no_count 1 y (omega arith))
 
-    empty : (l : Limits) → IsDump (joined_of operation (no_lists starts)) l []
+    empty : (l : Limits) → IsDump (joined_of rule (no_lists starts)) l []
     empty l = record { rising = rising_none; each = tt; all = λ y h. absurd (omega (arith, h.0, no_number y)) }
 
     pub so_start : (k : ℕ) (l : Limits) (nows : List (Option (List ℕ))) (rooms : List Room) (heads : List Head) (old : Option (List ℕ))
         (held : List ℕ) → held ≡ [] → AreAbreast k starts nows rooms heads (no_lists starts)
-        → IsSoFar k operation l starts nows rooms heads 0 0 old old held
+        → IsSoFar k rule l starts nows rooms heads 0 0 old old held
     so_start k l nows rooms heads old held none abreast = record {
       lists = no_lists starts;
       abreast = abreast;
@@ -200,7 +200,7 @@ module _ (starts : List (Option (List ℕ))) (two : length starts ≡ 2) where
     }
 
     pub begun_none : (k : ℕ) (l : Limits) (nows : List (Option (List ℕ))) (old : Option (List ℕ)) → GaveFronts k starts nows (no_lists starts)
-        → IsBegun k operation l starts nows old old
+        → IsBegun k rule l starts nows old old
     begun_none k l nows old gave = record {
       lists = no_lists starts;
       gave = gave;

@@ -6,9 +6,11 @@ pub mod Messages
 pub mod Operand
 pub mod Operation
 pub mod Program
+pub mod RangeWords
 pub mod RefusalNumbers
 pub mod Request
 pub mod Rows
+pub mod Rule
 pub mod State
 pub mod Table
 pub mod TableWords

@@ -13,15 +13,15 @@ use Rattle.kmc_join.specs.TableWords.{table_cap}
 use Rattle.kmc_join.specs.Tabulation.{IsTableCause}
 use Rattle.kmc_join.specs.Tally.{IsHistogramCause}
 use Rattle.kmc_join.specs.Words.{asks_for_histogram}
-use Rattle.kmc_join.specs.declared.operation.Operation.{Operation}
+use Rattle.kmc_join.specs.declared.rule.JoinRule.{JoinRule}
 use Rattle.kmc_join.specs.declared.request.JoinRequestError.{JoinRequestError}
 
 -- the words ask for an operation on two files within limits, and two readers gave bytes
 pub record AreRead (words : List Word) : Type 0 where
-  pub operation : Operation
+  pub rule : JoinRule
   pub limits : Limits
   pub files : List Word
-  pub request : IsRequest words operation limits files
+  pub request : IsRequest words rule limits files
   pub starts : List (Option (List ℕ))
   pub nows : List (Option (List ℕ))
   pub each : length starts ≡ length files
@@ -30,7 +30,7 @@ pub record AreRead (words : List Word) : Type 0 where
 pub record IsAnswered (words : List Word) (old new : Option (List ℕ)) : Type 0 where
   pub read : AreRead words
   pub lines : ℕ
-  pub written : IsJoinWritten read.operation read.limits read.starts read.nows lines old new
+  pub written : IsJoinWritten read.rule read.limits read.starts read.nows lines old new
 
 -- the join for the words was given up for a cause, by the readers' numbers of failures before and after, and a front of the dump of the
 -- join of what they gave first was written
@@ -41,7 +41,7 @@ pub record IsGivenUp {W : Type 0} (words : List Word) (contents : W → Option (
   pub error : SumError
   pub cause : IsCause read.starts read.nows olds news writer.failures written.failures error
   pub k : ℕ
-  pub begun : IsBegun k read.operation read.limits read.starts read.nows (contents writer.inner) (contents written.inner)
+  pub begun : IsBegun k read.rule read.limits read.starts read.nows (contents writer.inner) (contents written.inner)
 
 -- the words ask for a histogram, and that of what a reader gave was written
 pub record IsHistogramAnswered (words : List Word) (old new : Option (List ℕ)) : Type 0 where

@@ -1,7 +1,8 @@
 -- The words of a command line that ask for a histogram, those that choose the number of a word of both dumps, and the names of the operations.
-use Rattle.std.specs.Prelude.{◌&&◌, ◌==◌, Bool, false, not, is_some, List, [], ◌∷◌, length, Option, Some, None, option_map, if◌then◌else◌, codes}
+use Rattle.std.specs.Prelude.{◌&&◌, ◌||◌, ◌==◌, Bool, false, not, is_some, List, [], ◌∷◌, length, Option, Some, None, option_map, if◌then◌else◌, codes}
 use Rattle.std.specs.Str.{bytes_eq}
 use Rattle.kmc_options.specs.Words.{Word, is_file_name, rest_after}
+use Rattle.kmc_join.specs.RangeWords.{is_limit}
 use Rattle.kmc_join.specs.declared.operation.Choice.{Choice}
 use Rattle.kmc_join.specs.declared.operation.Choice.TheVariants.{Min, Max, Sum, Diff, Left, Right}
 use Rattle.kmc_join.specs.declared.operation.Operation.{Operation}
@@ -18,8 +19,9 @@ asks_for_histogram (name ∷ file ∷ more ∷ words) = false
 abbrev pub is_choice : Word → Bool
 is_choice word = is_some (rest_after (codes "-oc") word)
 
-abbrev pub is_no_choice : Word → Bool
-is_no_choice word = not (is_choice word)
+-- neither such an option, nor one that limits the counts of one dump
+abbrev pub is_other : Word → Bool
+is_other word = not (is_choice word || is_limit word)
 
 abbrev pub choice_named : Word → Option Choice
 choice_named word =

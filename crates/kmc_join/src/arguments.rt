@@ -20,8 +20,8 @@ use crate::fault::{JoinFault, Message, unnamed};
 use crate::histograms::histogram;
 use crate::joining::join;
 use crate::opening::{full_names, opened};
-use crate::operation::Operation;
 use crate::request::{JoinRequestError, asked_for};
+use crate::rule::JoinRule;
 use crate::table_words::table_cap;
 use crate::tables::table;
 use crate::words::asks_for_histogram;
@@ -39,7 +39,7 @@ use std::rt::{Env, Files};
 pub fn join_readers<T: Eprint + Alloc<A = Global>, R: Read, W: Write>(
     rt: &T,
     files: &[String],
-    operation: Operation,
+    rule: JoinRule,
     limits: &Limits,
     readers: &mut [Counted<R>],
     writer: &mut Counted<W>,
@@ -47,7 +47,7 @@ pub fn join_readers<T: Eprint + Alloc<A = Global>, R: Read, W: Write>(
     requires two { length readers.old ≡ 2 }
     requires each { length readers.old ≡ length files.now }
     requires writer { writer.old.failures < 2 ^ 64 - 1 }
-    ensures done { exit_status result ≡ 0 → ((lines : ℕ) × IsJoinWritten operation limits.now
+    ensures done { exit_status result ≡ 0 → ((lines : ℕ) × IsJoinWritten rule limits.now
         (lefts_of R.remaining readers.old) (lefts_of R.remaining readers.new) lines
         (W.contents writer.old.inner) (W.contents writer.new.inner))
         × (failures_of readers.new ≡ failures_of readers.old)
@@ -56,12 +56,12 @@ pub fn join_readers<T: Eprint + Alloc<A = Global>, R: Read, W: Write>(
         → (error : SumError) × IsCause (lefts_of R.remaining readers.old)
         (lefts_of R.remaining readers.new) (failures_of readers.old) (failures_of readers.new)
         writer.old.failures writer.new.failures error
-        × (k : ℕ) × IsBegun k operation limits.now (lefts_of R.remaining readers.old)
+        × (k : ℕ) × IsBegun k rule limits.now (lefts_of R.remaining readers.old)
         (lefts_of R.remaining readers.new)
         (W.contents writer.old.inner) (W.contents writer.new.inner) }
     ensures statuses { exit_status result ≤ 1 }
 {
-    match join(rt.alloc(), readers, operation, limits, writer) {
+    match join(rt.alloc(), readers, rule, limits, writer) {
         Ok(_) => ExitCode::from(0),
         Err(error) => {
             let fault = JoinFault::Join(error);
@@ -106,7 +106,7 @@ pub fn join_files<T: Files + Eprint + Alloc<A = Global>, I: Read + Drop, W: Writ
     join_readers(
         rt,
         &asked.files,
-        asked.operation,
+        asked.rule,
         &asked.limits,
         readers.as_mut_slice(),
         writer,

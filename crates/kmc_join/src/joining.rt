@@ -6,7 +6,7 @@ ghost use Rattle.kmc_sum.specs.Sources.{IsFresh, AreReady, lefts_of, no_lists};
 ghost use Rattle.kmc_join.specs.Answer.{IsJoinAnswer};
 ghost use Rattle.kmc_join.specs.Taking.{AreAbreast};
 
-use crate::operation::Operation;
+use crate::rule::JoinRule;
 use crate::taking::take_word;
 use kmc_count::Limits;
 use kmc_device::Counted;
@@ -20,7 +20,7 @@ fn drain<R: Read, W: Write>(
     rooms: &mut [Room],
     heads: &mut [Head],
     k: usize,
-    operation: Operation,
+    rule: JoinRule,
     limits: &Limits,
     writer: &mut Counted<W>,
 ) -> Result<u64, SumError>
@@ -31,7 +31,7 @@ fn drain<R: Read, W: Write>(
     requires writer { writer.old.failures < 2 ^ 64 - 1 }
     ensures { (starts : List (Option (List ℕ)))
         → AreAbreast k starts (lefts_of R.remaining readers.old) rooms.old heads.old (no_lists starts)
-        → IsJoinAnswer R.remaining W.contents operation limits.now starts readers.old readers.new
+        → IsJoinAnswer R.remaining W.contents rule limits.now starts readers.old readers.new
         writer.old writer.new result }
 {
     let mut buffer = OutputBuffer::new();
@@ -41,7 +41,7 @@ fn drain<R: Read, W: Write>(
             break;
         }
         let word = take_word(readers, rooms, heads, k)?;
-        let number = operation.combined(word.counts[0], word.counts[1]);
+        let number = rule.number(word.counts[0], word.counts[1]);
         match put_pair(writer, &mut buffer, limits, k, word.packed, number) {
             Ok(put) => lines += put,
             Err(_) => return Err(SumError::Write),
@@ -61,7 +61,7 @@ fn join_in<R: Read, W: Write>(
     readers: &mut [Counted<R>],
     rooms: &mut [Room],
     heads: &mut [Head],
-    operation: Operation,
+    rule: JoinRule,
     limits: &Limits,
     writer: &mut Counted<W>,
 ) -> Result<u64, SumError>
@@ -71,12 +71,12 @@ fn join_in<R: Read, W: Write>(
         → IsFresh (slice_index_or rooms.old i room)) }
     requires heads { length heads.old ≡ 2 * length readers.old }
     requires writer { writer.old.failures < 2 ^ 64 - 1 }
-    ensures { IsJoinAnswer R.remaining W.contents operation limits.now
+    ensures { IsJoinAnswer R.remaining W.contents rule limits.now
         (lefts_of R.remaining readers.old) readers.old readers.new writer.old writer.new result }
 {
     let k = open(readers, rooms, heads)?;
     build(heads);
-    drain(readers, rooms, heads, k, operation, limits, writer)
+    drain(readers, rooms, heads, k, rule, limits, writer)
 }
 
 /// Reads the dumps of two sources side by side, a block of each at a time, and writes the dump of their join, the numbers that it gives
@@ -85,13 +85,13 @@ fn join_in<R: Read, W: Write>(
 pub fn join<R: Read, W: Write>(
     alloc: Global,
     readers: &mut [Counted<R>],
-    operation: Operation,
+    rule: JoinRule,
     limits: &Limits,
     writer: &mut Counted<W>,
 ) -> Result<u64, SumError>
     requires two { length readers.old ≡ 2 }
     requires writer { writer.old.failures < 2 ^ 64 - 1 }
-    ensures { IsJoinAnswer R.remaining W.contents operation limits.now
+    ensures { IsJoinAnswer R.remaining W.contents rule limits.now
         (lefts_of R.remaining readers.old) readers.old readers.new writer.old writer.new result }
 {
     let mut rooms = match rooms_for(alloc, 2) {
@@ -106,7 +106,7 @@ pub fn join<R: Read, W: Write>(
         readers,
         rooms.as_mut_slice(),
         heads.as_mut_slice(),
-        operation,
+        rule,
         limits,
         writer,
     )

@@ -1,30 +1,32 @@
-//! What the words of a command line ask for: an operation, limits and the names of two files.
+//! What the words of a command line ask for: an operation, limits of the result and of each file, and the names of two files.
 ghost use Rattle.std.specs.Prelude.{◌≡◌, Some, MatchResult, map, string_bytes};
 ghost use Rattle.kmc_join.specs.Messages.{text_of_request_error};
 ghost use Rattle.kmc_join.specs.Request.{IsRequest, Explains};
 ghost use Rattle.kmc_join.specs.declared.request.JoinRequestError.TheVariants.{Memory};
 
-use crate::operation::Operation;
+use crate::range_words::{left_range, right_range};
+use crate::rule::JoinRule;
 use crate::words::{ChoiceWords, choice_words, operation_named};
 use kmc_count::Limits;
 use kmc_options::{FilesRequest, Named, ParamsError, Program, Setting, files_request};
 use std::alloc::{AllocError, Global};
 use std::fmt;
 
-/// The operation, the limits of its result and the names of the two files, in the order of the words.
+/// The operation with the counts that it takes of each file, the limits of its result, and the names of the two files, in the order of the
+/// words.
 #[derive(Drop)]
 pub struct JoinRequest {
-    pub operation: Operation,
+    pub rule: JoinRule,
     pub limits: Limits,
     pub files: Vec<String>,
 }
 
-/// Why the words ask for nothing. Their form is judged first, then the options in the order -ci, -cx, -cs, then the operation and the
-/// number of files.
+/// Why the words ask for nothing. Their form is judged first, then the options in the order -ci, -cx, -cs, then the operation, the number
+/// of files and the limits of each file.
 #[derive(Clone, Copy, Debug, PartialEq, Eq)]
 pub enum JoinRequestError {
-    /// A word is no option, an option is given twice or without its value, there is no such operation or choice, or there are not two
-    /// files.
+    /// A word is no option, an option is given twice or without its value, a limit of one file is no number or out of its range, there is
+    /// no such operation or choice, or there are not two files.
     Usage,
     /// The value of this option is no number, or out of the option's range.
     OutOfRange(Setting),
@@ -73,13 +75,16 @@ impl fmt::Display for JoinRequestError {
 /// The most words that are no options: an operation and two files.
 const MOST_NAMES: usize = 3;
 
-/// What the words ask for: an operation by its name, a choice by `-oc<choice>`, limits by `-ci<n>`, `-cx<n>` and `-cs<n>`, or these three
-/// in long form, each at most once, and the names of two files.
+/// What the words ask for: an operation by its name, a choice by `-oc<choice>`, limits of the result by `-ci<n>`, `-cx<n>` and `-cs<n>`, or
+/// these three in long form, limits of the first file by `-lci<n>` and `-lcx<n>` and of the second by `-rci<n>` and `-rcx<n>`, each at most
+/// once, and the names of two files.
 pub fn asked_for(alloc: Global, words: Vec<String>) -> Result<JoinRequest, JoinRequestError>
     ensures { let texts = map string_bytes words.items in MatchResult result
-        (λ r. IsRequest texts r.operation r.limits (map string_bytes r.files.items))
+        (λ r. IsRequest texts r.rule r.limits (map string_bytes r.files.items))
         (Explains texts) }
 {
+    let left = left_range(alloc, &words)?;
+    let right = right_range(alloc, &words)?;
     let ChoiceWords { choices, others } = choice_words(alloc, words)?;
     let FilesRequest { params, files } = match files_request(
         alloc,
@@ -97,12 +102,19 @@ pub fn asked_for(alloc: Global, words: Vec<String>) -> Result<JoinRequest, JoinR
         return Err(JoinRequestError::Usage);
     }
     let name = files.remove(0);
-    match operation_named(&name, &choices) {
-        Some(operation) => Ok(JoinRequest {
+    let Some(operation) = operation_named(&name, &choices) else {
+        return Err(JoinRequestError::Usage);
+    };
+    let (Some(left), Some(right)) = (left, right) else {
+        return Err(JoinRequestError::Usage);
+    };
+    Ok(JoinRequest {
+        rule: JoinRule {
             operation,
-            limits: params.limits,
-            files,
-        }),
-        None => Err(JoinRequestError::Usage),
-    }
+            left,
+            right,
+        },
+        limits: params.limits,
+        files,
+    })
 }

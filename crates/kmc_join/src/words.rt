@@ -2,9 +2,10 @@
 //! operations.
 ghost use Rattle.std.specs.Prelude.{◌≡◌, IfOk, map, string_bytes};
 ghost use Rattle.std.specs.List.{filter};
-ghost use Rattle.kmc_join.specs.Words.{asks_for_histogram, choice_named, choice_of, is_choice, is_no_choice, operation_named};
+ghost use Rattle.kmc_join.specs.Words.{asks_for_histogram, choice_named, choice_of, is_choice, is_other, operation_named};
 
 use crate::operation::{Choice, Operation};
+use crate::range_words::is_limit;
 use kmc_options::{is_file_name, rest_after};
 use std::alloc::{AllocError, Global};
 
@@ -25,26 +26,26 @@ fn is_choice(word: &str) -> bool
     rest_after("-oc", word).is_some()
 }
 
-/// The words with an option `-oc`, and the others, each in their order.
+/// The words with an option `-oc`, and those with none that is read here, each in their order.
 #[derive(Drop)]
 pub(crate) struct ChoiceWords {
     pub choices: Vec<String>,
     pub others: Vec<String>,
 }
 
-/// The words by whether they are an option `-oc`.
+/// The words by whether they are an option `-oc`, without those that limit the counts of one dump.
 pub(crate) fn choice_words(alloc: Global, words: Vec<String>) -> Result<ChoiceWords, AllocError>
     ensures choices { IfOk result (λ r. map string_bytes r.choices.items
         ≡ filter is_choice (map string_bytes words.items)) }
     ensures others { IfOk result (λ r. map string_bytes r.others.items
-        ≡ filter is_no_choice (map string_bytes words.items)) }
+        ≡ filter is_other (map string_bytes words.items)) }
 {
     let mut choices = Vec::new(alloc);
     let mut others = Vec::new(alloc);
     for word in words {
         if is_choice(&word) {
             choices.push(word)?;
-        } else {
+        } else if !is_limit(&word) {
             others.push(word)?;
         }
     }

@@ -1,7 +1,7 @@
 //! Joins over memory, and devices that fail.
 use kmc_count::Limits;
 use kmc_device::Counted;
-use kmc_join::{Choice, Operation, join};
+use kmc_join::{Choice, EVERY_COUNT, JoinRule, Operation, join};
 use kmc_sum::{LineFault, SourceError, SourceFault, SumError};
 use std::alloc::Global;
 use std::process::Abort;
@@ -37,11 +37,20 @@ pub fn limits(ci: u64, cx: u64, cs: u64) -> Result<Limits, Fail> {
     }
 }
 
+/// The operation on all counts of both dumps.
+pub fn on_every_count(operation: Operation) -> JoinRule {
+    JoinRule {
+        operation,
+        left: EVERY_COUNT,
+        right: EVERY_COUNT,
+    }
+}
+
 /// What a join of two texts answers, and what it writes, with readers that give three bytes at a time.
 pub fn joined(
     rt: &(impl Abort + Alloc<A = Global>),
     texts: [&'static str; 2],
-    operation: Operation,
+    rule: JoinRule,
     limits: &Limits,
     devices: Devices,
 ) -> Result<(Result<u64, SumError>, Vec<u8>), Fail> {
@@ -58,7 +67,7 @@ pub fn joined(
         devices.flushes,
     );
     let mut writer = Counted::new(out);
-    let answer = join(rt.alloc(), &mut readers, operation, limits, &mut writer);
+    let answer = join(rt.alloc(), &mut readers, rule, limits, &mut writer);
     Ok((answer, writer.into_inner().into_bytes()))
 }
 
@@ -70,7 +79,7 @@ fn refuses(
     error: SumError,
     front: &str,
 ) -> Result<(), Fail> {
-    let union = Operation::Union(Choice::Sum);
+    let union = on_every_count(Operation::Union(Choice::Sum));
     let (answer, written) = joined(rt, texts, union, &limits(1, GREATEST, GREATEST)?, devices)?;
     assert_eq!(rt; answer, Err(error));
     assert_eq!(rt; written.as_slice(), front.as_bytes());

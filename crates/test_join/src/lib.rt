@@ -1,4 +1,5 @@
-//! Tests of joins, of histograms and of tables, by public calls alone: each operation on two worked dumps, limits, dumps at fault, devices
+//! Tests of joins, of histograms and of tables, by public calls alone: each operation on two worked dumps, limits of
+//! the result and of each dump, dumps at fault, devices
 //! that fail, and the command line. Nothing stands on this crate.
 #![tactic(auto)]
 
@@ -8,6 +9,8 @@ mod devices;
 mod histograms;
 #[cfg(test)]
 mod operations;
+#[cfg(test)]
+mod ranges;
 #[cfg(test)]
 mod tables;
 #[cfg(test)]

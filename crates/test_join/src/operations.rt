@@ -1,5 +1,5 @@
 //! Each operation on two dumps, whose joins were worked by hand.
-use crate::devices::{GREATEST, SOUND, joined, limits};
+use crate::devices::{GREATEST, SOUND, joined, limits, on_every_count};
 use kmc_count::Limits;
 use kmc_join::{Choice, Operation};
 use std::alloc::Global;
@@ -18,7 +18,7 @@ fn gives_within(
     limits: &Limits,
     dump: &str,
 ) -> Result<(), Fail> {
-    let (answer, written) = joined(rt, texts, operation, limits, SOUND)?;
+    let (answer, written) = joined(rt, texts, on_every_count(operation), limits, SOUND)?;
     assert!(rt; answer.is_ok());
     assert_eq!(rt; written.as_slice(), dump.as_bytes());
     Ok(())

@@ -1,5 +1,7 @@
 //! Command lines of the program that joins, and what they ask for.
-use kmc_join::{Choice, JoinRequest, JoinRequestError, Operation, asked_for, table_cap};
+use kmc_join::{
+    Choice, CountRange, EVERY_COUNT, JoinRequest, JoinRequestError, Operation, asked_for, table_cap,
+};
 use kmc_options::Setting;
 use std::alloc::{AllocError, Global};
 use std::process::Abort;
@@ -23,7 +25,7 @@ fn asked(
 /// Asserts that the line asks for this operation on `a` and `b`.
 fn asks(rt: &(impl Abort + Alloc<A = Global>), line: &str, operation: Operation) {
     let request = asked(rt, line).expect(rt, line);
-    assert_eq!(rt; request.operation, operation, "{line}");
+    assert_eq!(rt; request.rule.operation, operation, "{line}");
     assert_eq!(rt; request.files.len(), 2, "{line}");
     assert_eq!(rt; request.files[0].as_str(), "a", "{line}");
     assert_eq!(rt; request.files[1].as_str(), "b", "{line}");
@@ -71,6 +73,32 @@ fn limits_are_taken(rt: HostRuntime) {
 }
 
 #[test]
+fn limits_of_each_file_are_taken(rt: HostRuntime) {
+    let rule = asked(
+        &rt,
+        "-rcx18446744073709551615 union -lci3 a -lcx70 -ci1 b -rci0 -ocmax",
+    )
+    .expect(&rt, "limits of files")
+    .rule;
+    assert_eq!(rt; rule.operation, Operation::Union(Choice::Max));
+    let left = CountRange {
+        least: 3,
+        greatest: 70,
+    };
+    assert_eq!(rt; rule.left, left);
+    assert_eq!(rt; rule.right, EVERY_COUNT);
+    let rule = asked(&rt, "subtract a b -rci09")
+        .expect(&rt, "one limit")
+        .rule;
+    assert_eq!(rt; rule.left, EVERY_COUNT);
+    let right = CountRange {
+        least: 9,
+        greatest: u64::MAX,
+    };
+    assert_eq!(rt; rule.right, right);
+}
+
+#[test]
 fn words_that_ask_for_nothing_are_told(rt: HostRuntime) {
     for line in [
         "",
@@ -84,6 +112,13 @@ fn words_that_ask_for_nothing_are_told(rt: HostRuntime) {
         "subtract -ocmin a b",
         "union -k31 a b",
         "union -ci1 -ci1 a b",
+        "union -lci1 -lci1 a b",
+        "union -rcx1 a -rcx2 b",
+        "union -lcx a b",
+        "union -rci-1 a b",
+        "union -lcx18446744073709551616 a b",
+        "union -lcs5 a b",
+        "union --lci=5 a b",
     ] {
         asks_nothing(&rt, line, JoinRequestError::Usage);
     }

@@ -22,7 +22,7 @@ loop-step-init g c =
       kept = refl;
       few = omega arith;
       so = λ starts are. so_start starts (omega (arith, length-map c.args.readers.now left, are.sources.nows_long, c.requires.two))
-          c.args.operation c.args.k c.args.limits.now _ c.args.rooms.now c.args.heads.now _ _ c.new-buffer.ensures are;
+          c.args.rule c.args.k c.args.limits.now _ c.args.rooms.now c.args.heads.now _ _ c.new-buffer.ensures are;
     }
 
 pub returns-in_err-word : goal.returns-in_err-word
@@ -32,9 +32,9 @@ returns-in_err-word g c = λ starts are.
     let so = i.so starts are in
     let gave = c.in_err-word.ensures.lost starts so.lists so.abreast in
     let fault = c.in_err-word.ensures.fault starts so.lists so.abreast in
-    given_up _ _ c.args.operation l starts c.args.readers.now _ _ _ c.from_residual.result _ c.from_residual.ensures.1
+    given_up _ _ c.args.rule l starts c.args.readers.now _ _ _ c.from_residual.result _ c.from_residual.ensures.1
     (c.args.k, c.requires.long, fault_since c.args.k starts _ _ _ _ _ _ i.same fault)
-    (c.args.k, begun_before c.args.k c.args.operation l l.in_range.1 starts _ _ _ _ _ _ _ _ so _ gave)
+    (c.args.k, begun_before c.args.k c.args.rule l l.in_range.1 starts _ _ _ _ _ _ _ _ so _ gave)
 
 pub returns-in-Err : goal.returns-in-Err
 returns-in-Err g c = λ starts are.
@@ -54,7 +54,7 @@ returns-in-Err g c = λ starts are.
       cause = subst (λ n. RisesByOne n c.put_pair.new.writer.failures) i.kept c.in-Err.ensures.failed;
       begun = (
         c.args.k,
-        begun_more c.args.k c.args.operation l l.in_range.1 starts _ _ _ _ _ _ _ _ so _ _ _ _ taken _ c.combined-number.ensures _ gave
+        begun_more c.args.k c.args.rule l l.in_range.1 starts _ _ _ _ _ _ _ _ so _ _ _ _ taken _ c.number-number.ensures _ gave
             (out_front _ _ _ _ _ so.out c.in-Err.ensures.front),
       );
     }
@@ -73,8 +73,8 @@ loop-step-preserved g c =
       few = omega (arith, i.few, c.in-Ok.ensures.lines.0);
       so = λ starts are.
           let so = i.so starts are in
-          so_more c.args.k c.args.operation l l.in_range.1 starts _ _ _ _ _ _ _ _ so _ _ _ _ (done.taken starts so.lists so.abreast) _
-          c.combined-number.ensures _ _ _ (out_more _ _ _ _ _ _ _ so.out c.in-Ok.ensures.text)
+          so_more c.args.k c.args.rule l l.in_range.1 starts _ _ _ _ _ _ _ _ so _ _ _ _ (done.taken starts so.lists so.abreast) _
+          c.number-number.ensures _ _ _ (out_more _ _ _ _ _ _ _ so.out c.in-Ok.ensures.text)
           (ap (λ m. c.loop-step.lines + m) c.in-Ok.ensures.lines.1);
     }
 
@@ -94,7 +94,7 @@ returns-then-heads-offset48 g c = λ starts are.
       ok = tt;
       sound = tt;
       cause = (c.args.k, c.requires.long, too_many c.args.k starts _ so.lists c.loop-step._step most so.many gave);
-      begun = (c.args.k, begun_before c.args.k c.args.operation l l.in_range.1 starts _ _ _ _ _ _ _ _ so _ gave);
+      begun = (c.args.k, begun_before c.args.k c.args.rule l l.in_range.1 starts _ _ _ _ _ _ _ _ so _ gave);
     }
 
 pub returns-in-Err-flush_into : goal.returns-in-Err-flush_into
@@ -111,7 +111,7 @@ returns-in-Err-flush_into g c = λ starts are.
       cause = subst (λ n. RisesByOne n c.flush_into.new.writer.failures) i.kept c.in-Err-flush_into.ensures.failed;
       begun = (
         c.args.k,
-        begun_front c.args.k c.args.operation l l.in_range.1 starts _ _ _ _ _ _ _ _ so _ _ gave
+        begun_front c.args.k c.args.rule l l.in_range.1 starts _ _ _ _ _ _ _ _ so _ _ gave
             (out_front _ _ _ _ _ so.out c.in-Err-flush_into.ensures.front),
       );
     }
@@ -126,7 +126,7 @@ returns-in-Ok-flush_into g c = λ starts are.
     let long : length c.loop-step.readers ≡ length starts = omega (arith, length-map c.loop-step.readers left, so.abreast.sources.nows_long) in
     let some : 1 ≤ length starts = omega (arith, long, i.many, c.requires.two) in
     record {
-      ok = written c.args.k c.args.operation l l.in_range.1 starts nows c.loop-step.rooms c.loop-step.heads _ _ _ _ _ so
+      ok = written c.args.k c.args.rule l l.in_range.1 starts nows c.loop-step.rooms c.loop-step.heads _ _ _ _ _ so
           (omega (arith, long, i.many, c.requires.two)) c.requires.long
           (gave_all c.args.k starts nows c.loop-step.rooms c.loop-step.heads so.lists so.abreast.sources
           (subst (λ n. AreReady c.args.k n c.loop-step.rooms c.loop-step.heads) long i.ready) i.tree some c.requires.long.1 c.if-heads-offset48.false

@@ -16,6 +16,6 @@ invariant-loop-step g l = record {
   few : l.lines ≤ l._step;
   so : (starts : List (Option (List ℕ)))
       → AreAbreast l.k starts (map (λ r. g.R.Read.remaining r.inner) l.initial.readers) l.initial.rooms l.initial.heads (no_lists starts)
-      → IsSoFar l.k l.operation l.limits starts (map (λ r. g.R.Read.remaining r.inner) l.readers) l.rooms l.heads l._step l.lines
+      → IsSoFar l.k l.rule l.limits starts (map (λ r. g.R.Read.remaining r.inner) l.readers) l.rooms l.heads l._step l.lines
       (g.W.Write.contents l.initial.writer.inner) (g.W.Write.contents l.writer.inner) l.buffer;
 }

@@ -10,7 +10,7 @@ returns-in-Err g c = record {
   ok = tt;
   sound = tt;
   cause = (refl, refl, refl);
-  begun = (1, begun_none _ (length-map c.args.readers.now _ ∙ c.requires.two) c.args.operation 1 c.args.limits.now _ _ (gave_nothing 1 _));
+  begun = (1, begun_none _ (length-map c.args.readers.now _ ∙ c.requires.two) c.args.rule 1 c.args.limits.now _ _ (gave_nothing 1 _));
 }
 
 pub returns-in-Err-heads_for : goal.returns-in-Err-heads_for
@@ -18,7 +18,7 @@ returns-in-Err-heads_for g c = record {
   ok = tt;
   sound = tt;
   cause = (refl, refl, refl);
-  begun = (1, begun_none _ (length-map c.args.readers.now _ ∙ c.requires.two) c.args.operation 1 c.args.limits.now _ _ (gave_nothing 1 _));
+  begun = (1, begun_none _ (length-map c.args.readers.now _ ∙ c.requires.two) c.args.rule 1 c.args.limits.now _ _ (gave_nothing 1 _));
 }
 
 pub join_in-requires-clause-rooms : goal.join_in-requires-clause-rooms
