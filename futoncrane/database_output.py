@@ -92,6 +92,7 @@ class DatabaseOutput(Output):
         """Waits until both files are whole and on the disk, and gives them their names."""
         self.let_go()
         self.judge_packer()
+        self.rows = databases.header_of(os.path.join(self.folder, MADE)).rows
         for made, final in zip(self.made, self.finals):
             try:
                 os.chmod(made, mode_of(final))
@@ -104,26 +105,22 @@ class DatabaseOutput(Output):
         for it in {os.path.dirname(final) for final in self.finals}:
             with contextlib.suppress(OSError):
                 flushed(it)
-        self.rows = databases.header_of(self.finals[0][:-len(databases.PREFIX)]).rows
         self.report.step("kmc_db")
 
     def _move(self):
-        """Gives the files their names. An older prefix file is put aside first, so that it never stands beside the new suffix file, and comes
-        back where that cannot be moved."""
-        (prefix, suffix), aside = self.finals, os.path.join(self.folder, "older")
+        """Gives the files their names. Older ones are put aside first, so that none stands beside a new one; after a fault all is as it was."""
+        older = [os.path.join(self.folder, "older.%d" % it) for it, _ in enumerate(self.finals)]
+        moves, done = [*zip(self.finals, older), *zip(self.made[::-1], self.finals[::-1])], []
         with held_signals():
             try:
-                place = prefix
-                with contextlib.suppress(FileNotFoundError):
-                    os.replace(prefix, aside)
-                place = suffix
-                os.replace(self.made[1], suffix)
-                place = prefix
-                os.replace(self.made[0], prefix)
+                for source, target in moves:
+                    if source in self.made or os.path.exists(source):
+                        os.replace(source, target)
+                        done.append((target, source))
             except OSError as fault:
-                if place == suffix and os.path.exists(aside):
-                    os.replace(aside, prefix)
-                raise Fault("%s: %s" % (shown(place), reason(fault))) from None
+                for it in reversed(done):
+                    os.replace(*it)
+                raise Fault("%s: %s" % (shown(source if source in self.finals else target), reason(fault))) from None
 
     def lines(self):
         """How many k-mers the database has."""
@@ -135,7 +132,7 @@ class DatabaseOutput(Output):
 
     def why(self):
         """': no space left on its disk' where that is so, else nothing."""
-        room = os.statvfs(self.folder)
+        room = os.statvfs(os.path.dirname(self.finals[0]))
         return ": no space left on its disk" if room.f_blocks and room.f_bavail * room.f_frsize < 1 << 16 else ""
 
 

@@ -8,6 +8,7 @@ import sys
 
 from room import READS, TOP, content, need, plainly, program
 from test_databases import packed, quietly
+from test_programs import ended
 
 import futoncrane
 
@@ -129,3 +130,22 @@ def test_databases_at_fault_are_refused(room):
     refused(room, "db.kmc", "db.kmc_suf: No such file")
     os.remove(room.path("db.kmc_pre"))
     refused(room, "db.kmc", "db.kmc_pre: No such file")
+
+
+def test_each_damaged_byte_is_seen_as_kmc_db_sees_it(room):
+    program("kmc_db")
+    sound = packed(room, "sound", b"AACCG\t1\nAACGG\t2\nCAAAA\t300\n", "-prefix1", "-ci1", "-cs1000")
+    for which, end in enumerate(("kmc_pre", "kmc_suf")):
+        text = sound[which]
+        room.write("db.kmc_pre", sound[0])
+        room.write("db.kmc_suf", sound[1])
+        for place in range(len(text)):
+            for new in (b"", text[place:place + 1] * 2, bytes([text[place] ^ 1]), bytes([text[place] ^ 128])):
+                room.write("db." + end, text[:place] + new + text[place + 1:])
+                status, dump, _ = ended(room, "kmc_db", "dump", "db")
+                try:
+                    found = pairs(room, "db.kmc")
+                except futoncrane.Fault:
+                    assert status == 1, (end, place, new, dump)
+                else:
+                    assert (status, pairs_of(dump)) == (0, found), (end, place, new, found)
