@@ -42,10 +42,12 @@ def test_slices_are_written_as_a_database(room):
         program(it)
     room.counts(b"", "count", "-k25", "--quiet", "--slices", "3", "-o", "db.kmc", READS)
     assert files(room) == packed(room, "ours", wanted_dump(), "-k25", "-ci2", "-cx%d" % (1 << 63), "-cs255")
+    room.counts(b"", "cut", "-k25", "--slices", "2", "-o", "part", READS)
     for it in "01":
-        room.counts(b"", "cut", "-k25", "--slices", "2", "--force", "-o", "part", READS)
         room.counts(b"", "list", "-o", "slice%s.kmc" % it, "part." + it)
-    assert listed(room, "slice0") < wanted_dump() and content(room.path("slice1.kmc_suf")) > b"KMCSKMCS"
+    slices = [listed(room, "slice" + it).splitlines() for it in "01"]
+    assert all(slices) and sorted(slices[0] + slices[1]) == wanted_dump().splitlines()
+    room.counts(wanted_dump(), "merge", "slice0.kmc", "slice1.kmc")
 
 
 def test_no_text_is_written_for_a_database(room):
