@@ -89,10 +89,10 @@ def of_database(stem):
                 rows = whole(file, suffix, many * databases.size_of_row(header))
                 words, counts = list(words_of(rows, header, firsts)), counts_of(rows, header)
                 if 0 in counts:
-                    raise Fault("%s: row %d has the count 0" % (shown(suffix), start + counts.index(0) + 1))
+                    raise Fault("%s: row %d has a count of 0" % (shown(suffix), start + counts.index(0) + 1))
                 are_rising = list(map(operator.lt, [last, *words], words))
                 if not all(are_rising):
-                    raise Fault("%s: row %d: its k-mer does not come after the one before" % (shown(suffix), start + are_rising.index(False) + 1))
+                    raise Fault("%s: row %d has a word that is not above the one before" % (shown(suffix), start + are_rising.index(False) + 1))
                 last = words[-1]
                 yield from zip(words, counts)
             next(firsts, None)  # looks at the rest of the table too

@@ -118,7 +118,7 @@ def test_a_fault_of_the_program_that_dumps_is_the_fault(room):
     os.mkdir(room.path("bin"))
     os.symlink(os.path.join(BIN, "kmc_merge"), room.path("bin/kmc_merge"))
     real = os.path.join(BIN, "kmc_db")
-    for end, told in (("echo 'kmc_db: db.kmc_suf: row 7 has the count 0' >&2; exit 1", "futoncrane: db.kmc_suf: row 7 has the count 0"),
+    for end, told in (("echo 'kmc_db: db.kmc_suf: row 7 has a count of 0' >&2; exit 1", "futoncrane: db.kmc_suf: row 7 has a count of 0"),
                       ("kill -KILL $$", "db.kmc: kmc_db was ended by SIGKILL"), ("exit 3", "db.kmc: kmc_db ended with status 3")):
         for lines in ("printf 'ACGT\\t3\\n'", "printf 'ACGT\\t3\\nCC'"):
             room.stand_in('#!/bin/sh\nif [ "$1" != dump ]; then exec \'%s\' "$@"; fi\n%s\n%s\n' % (real, lines, end), "kmc_db")

@@ -116,14 +116,14 @@ def test_databases_at_fault_are_refused(room):
             ("kmc_pre", "the header has no lengths", number(12, 16)), ("kmc_suf", "it has 20 bytes, and not 4 rows", number(24, 4, "<Q")),
             ("kmc_pre", "entry 0 of its table is 1", entries(1, 2, 3, 3)), ("kmc_pre", "entry 2 of its table is 1, behind 2", entries(0, 2, 1, 3)),
             ("kmc_pre", "entry 3 of its table is 4, behind 3 of 3 rows", entries(0, 2, 3, 4)),
-            ("kmc_suf", "row 3: its k-mer does not come after the one before", entries(0, 1, 3, 3))):
+            ("kmc_suf", "row 3 has a word that is not above the one before", entries(0, 1, 3, 3))):
         room.write("db.kmc_pre", damaged)
         refused(room, "db.kmc", "db[.]%s: %s" % (name, told))
     room.write("db.kmc_pre", prefix)
     for told, damaged in (("it has 19 bytes, and not 3 rows", suffix[:-1]), ("it has 4 bytes", b"KMCS"), ("it has 0 bytes", b""), ("it is no suffix file", b"KMCP" + suffix[4:]),
-                          ("it is no suffix file", suffix[:-4] + b"KMCP"), ("row 1 has the count 0", suffix[:6] + bytes(2) + suffix[8:]),
-                          ("row 2: its k-mer does not come after", suffix[:8] + suffix[4:8] + suffix[12:]),
-                          ("row 2: its k-mer does not come after", suffix[:8] + bytes(2) + suffix[10:])):
+                          ("it is no suffix file", suffix[:-4] + b"KMCP"), ("row 1 has a count of 0", suffix[:6] + bytes(2) + suffix[8:]),
+                          ("row 2 has a word that is not above the one before", suffix[:8] + suffix[4:8] + suffix[12:]),
+                          ("row 2 has a word that is not above the one before", suffix[:8] + bytes(2) + suffix[10:])):
         room.write("db.kmc_suf", damaged)
         refused(room, "db.kmc", "db[.]kmc_suf: " + told)
     os.remove(room.path("db.kmc_suf"))
