@@ -1,5 +1,4 @@
 """Dumps as they are read: lines of a k-mer, a tab and its count, in the order of the k-mers."""
-import signal
 import subprocess
 
 from futoncrane import databases, dumping, packing, places
@@ -73,8 +72,8 @@ class Dump:
         try:
             return self.lines.take(block)
         except Fault:
-            if self.child and self.child.poll() not in (None, 0, -signal.SIGPIPE):
-                self._judge()  # what ended the program is the fault
+            if self.child and not next(self.blocks, b""):
+                self._judge()  # the last line may be none since its program failed
             raise
 
     def _judge(self):

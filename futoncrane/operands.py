@@ -6,8 +6,10 @@ from futoncrane.options import MOST, Option, number
 def of_dump(which, letter):
     """The limits of one of the dumps; kmc_db has this letter for it."""
     text = "k-mers that occur %s often in the " + which + " dump are as if it did not list them (%s)"
-    return [Option(["--%s-min" % which], which + "_least", "COUNT", number(0, MOST), text=text % ("less", "1"), hidden=["-%sci" % letter]),
-            Option(["--%s-max" % which], which + "_greatest", "COUNT", number(0, MOST, MOST), text=text % ("more", "none: no limit"), hidden=["-%scx" % letter])]
+    least = Option(["--%s-min" % which], which + "_least", "COUNT", number(0, MOST), text=text % ("less", "1"), hidden=["-%sci" % letter])
+    most = number(0, MOST, MOST)
+    greatest = Option(["--%s-max" % which], which + "_greatest", "COUNT", most, text=text % ("more", "none: no limit"), hidden=["-%scx" % letter])
+    return [least, greatest]
 
 
 OPTIONS = [*of_dump("first", "l"), *of_dump("second", "r")]

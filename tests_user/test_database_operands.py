@@ -122,5 +122,7 @@ def test_a_fault_of_the_program_that_dumps_is_the_fault(room):
                       ("kill -KILL $$", "db.kmc: kmc_db was ended by SIGKILL"), ("exit 3", "db.kmc: kmc_db ended with status 3")):
         for lines in ("printf 'ACGT\\t3\\n'", "printf 'ACGT\\t3\\nCC'"):
             room.stand_in('#!/bin/sh\nif [ "$1" != dump ]; then exec \'%s\' "$@"; fi\n%s\n%s\n' % (real, lines, end), "kmc_db")
-            for words in (["merge", "-o", "out", "db.kmc"], ["histogram", "db.kmc"], ["table", "-o", "out", room.write("a", b"ACGT\t1\n"), "db.kmc"]):
+            room.write("a", b"ACGT\t1\n")
+            for words in (["merge", "-o", "out", "db.kmc"], ["histogram", "db.kmc"], ["table", "-o", "out", "a", "db.kmc"],
+                          ["compare", "--common", "-o", "out", "a", "db.kmc"]):
                 room.refuses(1, told, words=words)
