@@ -39,6 +39,7 @@ def test_words_are_answered_in_their_order(room):
             assert room.run("query", *option, name, *words).out == wanted, name
             ran = room.run("query", *option, name, text="".join(it + "\n" for it in words).encode())
             assert (ran.status, ran.out, ran.err) == (0, wanted, ""), ran
+            assert room.run("query", *option, name, *map(str.lower, words)).out == wanted, name
         # the header of a database says it
         room.counts(wanted, "query", "db.kmc", *words)
         room.counts(b"", "query", "-o", "out.gz", "db.kmc", *words)
@@ -65,8 +66,8 @@ def test_a_query_is_refused(room):
     room.refuses(2, "dump: it is read", words=["query", "-o", "dump", "dump", "ACG"])
     room.refuses(1, "none: No such file", words=["query", "none", "ACG"])
     room.refuses(1, "none.kmc_pre: No such file", words=["query", "none.kmc", "ACG"])
-    for word in ("ACGT", "AC", "ANG", "A" * 65):
-        room.refuses(1, "word 2", words=["query", "--both-strands", "-o", "out", "dump", "ACG", word])
+    for word, told in (("ACGT", "it is not as long as the k-mers of the dump"), ("AC", "it is not as long"), ("ANG", "it is no word of letters"), ("A" * 65, "it is no word")):
+        room.refuses(1, "word 2, %s: %s" % (word, told), words=["query", "--both-strands", "-o", "out", "dump", "ACG", word])
         room.refuses(1, "standard input: ", "line 2", words=["query", "--both-strands", "-o", "out", "dump"], text=b"ACG\n%s\n" % word.encode())
     room.write("bad", b"ACG\t2\nAAA\t3\n")
     room.refuses(1, "bad: line 2", words=["query", "--both-strands", "-o", "out", "bad", "ACG"])

@@ -15,7 +15,8 @@ from futoncrane.output import Output
 USAGE = "[--forward | --both-strands] [-o FILE] DUMP [WORD ..]"
 TEXT = """
 Writes for each word the word, a tab and its count in the dump, which is 0 where the dump does not list it. The words are those of the command
-line, or without any those of standard input, one a line; they are answered in their order. They have as many letters as the dump's k-mers.
+line, or without any those of standard input, one a line; they are answered in their order, in upper case. They have as many letters A, C, G
+and T as the dump's k-mers. All of them are held in memory.
 
 A word and its reverse complement have one count, but in a dump that was made with --forward: the note of the dump, DUMP.json, or the header
 of a database says so, and --forward or --both-strands where there is neither.
@@ -27,6 +28,8 @@ OPTIONS = [
     Option(["--both-strands"], "forward", constant=False, text="looks a word up under the lesser of it and its reverse complement"),
     shared.QUIET, shared.OUT,
 ]
+# what kmc_db says of a line of words, and what is said of a word of the command line
+OF_WORDS = {"is no word": "it is no word of letters A, C, G and T", "has a word of another length": "it is not as long as the k-mers of the dump"}
 EXAMPLES = ["futoncrane query reads.dump ACGTAACCATTGCATGGACTTAGCAACGTAA", "futoncrane query -o counts.txt reads.kmc < words.txt"]
 
 
@@ -77,5 +80,7 @@ def source_of(words):
 
 def told(fault, words):
     """A fault in a line of words, which names the word where it stands on the command line."""
-    found = re.fullmatch(r"standard input: line ([0-9]+)\b:? ?(.*)", fault)
-    return "word %s, %s: %s" % (found[1], shown(words[int(found[1]) - 1]), found[2]) if found and 0 < int(found[1]) <= len(words) else fault
+    found = re.fullmatch(r"standard input: line ([0-9]+) (is no word|has a word of another length)", fault)
+    if not found or int(found[1]) > len(words):
+        return fault
+    return "word %s, %s: %s" % (found[1], shown(words[int(found[1]) - 1]), OF_WORDS[found[2]])
