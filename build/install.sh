@@ -59,3 +59,4 @@ printf '%s\n' "$made" > "$noted"
 # so that a run begins the sooner; without it all is the same
 python3 -m compileall -q "$prefix/share/futoncrane/futoncrane" > /dev/null 2>&1 || true
 echo "futoncrane is installed in $prefix; try: $prefix/bin/futoncrane doctor"
+echo "for Python: export PYTHONPATH=$prefix/share/futoncrane"

@@ -6,7 +6,7 @@ import re
 import stat
 import subprocess
 
-from futoncrane import packing
+from futoncrane import databases, packing
 from futoncrane.faults import Fault, reason, shown
 
 BLOCK = 1 << 16
@@ -18,8 +18,8 @@ FORMATS = {b">": "FASTA", b"@": "FASTQ"}
 FOREIGN = (
     (0, b"PK\x03\x04", "a zip archive: unpack it first"), (0, b"7z\xbc\xaf", "a 7z archive: unpack it first"), (257, b"ustar", "a tar archive: unpack it first"),
     (0, b"\x89HDF", "an HDF5 file, as FAST5 is: make FASTQ of it first"), (0, b"NCBI.sra", "an SRA archive: make FASTQ of it by fasterq-dump first"),
-    (0, b"KMCSLICE", "a file of slices, which 'futoncrane list' takes"), (0, b"KMCP", "a database of KMC: 'kmc_tools transform DB dump -s DUMP' makes a dump of it"),
-    (0, b"KMCS", "a database of KMC: 'kmc_tools transform DB dump -s DUMP' makes a dump of it"), (0, b"<", "a page of a web site or XML, and no reads"),
+    (0, b"KMCSLICE", "a file of slices, which 'futoncrane list' takes"), (0, b"KMCP", "a file of a database, which is named NAME.kmc_pre"),
+    (0, b"KMCS", "a file of a database, which is named NAME.kmc_suf"), (0, b"<", "a page of a web site or XML, and no reads"),
     (0, b"##fileformat=VCF", "a VCF file, and no reads"), (0, b"LOCUS ", "a GenBank file: make FASTA of it first"))
 DUMP_LINE, SAM_HEADER = rb"[ACGT]{1,64}\t[0-9]+(?:\n|$)", rb"@(?:HD|SQ|RG|PG|CO)\t"
 SAM_LINE = rb"[^\t\n]+\t[0-9]+\t[^\t\n]+\t[0-9]+\t(?:[^\t\n]*\t){6}[^\t\n]+"
@@ -36,6 +36,11 @@ class Input:
         self.start = self.bytes = 0
         self.ratio, self.share = 1.0, 0.5
         self.sample = Sample()
+        stem = databases.stem_of(name)
+        if stem is not None:
+            header, self.bytes = databases.checked(stem)
+            self.format, self.k = "DUMP", header.k
+            return
         try:
             self._look()
         except OSError as fault:
@@ -212,16 +217,16 @@ def format_of_all(inputs, wanted=None):
         if it.format != first.format:
             raise Fault("%s is %s, and %s is %s: count them apart" % (first.shown, first.format, it.shown, it.format))
     if first and first.format == "DUMP":
-        raise Fault("%s is a dump of k-mers and has no reads: histogram, size, genomescope, solid, compare and merge take it" % first.shown)
+        raise Fault("%s is a dump of k-mers and has no reads: histogram, size, genomescope, solid, compare, merge and query take it" % first.shown)
     if first and wanted and first.format != wanted:
         raise Fault("%s is %s, and the option says %s" % (first.shown, first.format, wanted))
     return first.format if first else wanted or "FASTQ"
 
 
 def is_same_file(name, other):
-    """Whether two names are of one file that is there."""
+    """Whether two names are of one file, or of one database, that is there."""
     try:
-        return os.path.samefile(name, other)
+        return os.path.samefile(*map(databases.file_of, (name, other)))
     except OSError as fault:
         if fault.errno in (errno.ENOENT, errno.ENOTDIR, errno.EACCES):
             return False

@@ -1,24 +1,25 @@
 """The join of two dumps by kmc_db: what the commands union, intersect and subtract share."""
-from futoncrane import merging, notes, run, shared
+from futoncrane import merging, notes, operands, run, shared
 from futoncrane.children import Children
+from futoncrane.database_output import output_of, words_of_sum
 from futoncrane.faults import Misuse, shown
 from futoncrane.inputs import is_same_file
 from futoncrane.options import MOST, Option, number, one_of
-from futoncrane.output import Output
 
 CHOICES = ("min", "max", "sum", "diff", "left", "right")
 TEXT = """
 Both dumps must have been made with the same -k, and with or without --forward alike: where DUMP.json stands beside a dump that is looked
-at. They may be packed, and are read once, side by side. The work is done by kmc_db, whose answer is proved.
+at. They may be packed, or databases as NAME.kmc, and are read once, side by side. The work is done by kmc_db, whose answer is proved.
 
-The limits judge the count that the answer has for a k-mer, and every k-mer is listed unless they are given.
+The limits judge the count that the answer has for a k-mer, and every k-mer is listed unless they are given. --first-min, --first-max,
+--second-min and --second-max judge the counts of the dumps, before they are joined.
 """
 LIMITS = [
     Option(["--min"], "least", "COUNT", number(0, MOST), 1, "k-mers with a lower count in the answer are left out (1)", ["-ci", "--ci"]),
     Option(["--max"], "greatest", "COUNT", number(0, MOST, MOST), MOST, "k-mers with a higher count in the answer are left out (none: no limit)", ["-cx", "--cx"]),
     Option(["--cap"], "cap", "COUNT", number(1, MOST, MOST), MOST, "the greatest count that is shown, or none (none)", ["-cs", "--cs"]),
 ]
-OPTIONS = [*LIMITS, shared.JSON, shared.QUIET, shared.OUT]
+OPTIONS = [*LIMITS, *operands.OPTIONS, shared.JSON, shared.QUIET, shared.OUT_DUMP]
 
 
 def choice(default):
@@ -45,9 +46,10 @@ def two_dumps(asked, doing):
 def join(command, operation, asked, words=()):
     """Joins the two dumps that are asked for, by an operation of kmc_db."""
     names, setting, noted = two_dumps(asked, "joined")
-    with Children() as children, Output(asked.out, children, threads=setting.threads) as output:
+    noted = operands.limited(noted, names[0], asked)
+    with Children() as children, output_of(asked, setting, children, words_of_sum(noted, names, asked)) as output:
         limits = ["-ci%d" % asked.least, "-cx%d" % asked.greatest, "-cs%d" % asked.cap]
-        merging.merged(names, limits, children, setting, output, program="kmc_db", words=[operation, *words])
+        merging.merged(names, limits, children, setting, output, program="kmc_db", words=[operation, *words, *operands.words_of(asked)])
         note = notes.of_sum(noted, names, asked, asked.quiet)
         notes.finish(output, note, setting.report, asked.quiet)
     setting.k, setting.forward = (note["k"], note["strands"] == notes.APART) if note else (None, None)

@@ -19,6 +19,7 @@ COMMANDS = {
     "intersect": "the k-mers of both of two dumps",
     "subtract": "the k-mers of one dump that another one lacks",
     "table": "how many k-mers have which counts in two dumps",
+    "query": "the counts of given words in a dump",
     "solid": "the k-mers within limits, as FASTA",
     "genomescope": "the histogram as GenomeScope reads it",
     "cluster": "counts on several machines",

@@ -5,7 +5,7 @@ import signal
 import stat
 import subprocess
 
-from futoncrane import packing, places
+from futoncrane import databases, dumping, packing, places
 from futoncrane.children import ended, open_more, signal_of
 from futoncrane.faults import Fault, Misuse, reason, shown
 from futoncrane.feeding import judge_unpacker
@@ -21,10 +21,10 @@ WHOLE = ["-ci1", "-cx%d" % MOST, "-cs%d" % MOST]
 
 
 class Parts:
-    """Files as the programs take them: by their names, or through pipes from programs that unpack them."""
+    """Files as the programs take them: by their names, or through pipes from programs that unpack them or write the dumps of databases."""
 
     def __init__(self, names, children):
-        self.given, self.children, self.unpackers, self.pipes, self.bytes = {}, children, [], [], 0
+        self.given, self.children, self.writers, self.pipes, self.bytes = {}, children, [], [], 0
         for name in names:
             try:
                 self._add(name)
@@ -32,22 +32,29 @@ class Parts:
                 raise Fault("%s: %s" % (shown(name), reason(fault))) from None
 
     def _add(self, name):
+        stem = databases.stem_of(name)
+        if stem is not None:
+            self._add_piped(name, None, lambda sink: dumping.dumped(stem, self.children, sink))
+            return
         with open(0 if name == "-" else name, "rb", closefd=name != "-") as file:
             kind = packing.kind_of_file(file.fileno())
-            if kind is None:
-                self.bytes += os.fstat(file.fileno()).st_size
-                given = "/dev/stdin" if name == "-" else "./" + name if name.startswith("-") else name
-            else:
-                source, sink = os.pipe()
-                child = self.children.start(packing.unpacker(kind, shown(name)), stdin=file, stdout=sink)
-                os.close(sink)
-                self.pipes.append(source)
-                self.unpackers.append((shown(name), kind, child))
-                given = "/dev/fd/%d" % source
-        self.given[given] = shown(name)
+            if kind is not None:
+                self._add_piped(name, kind, lambda sink: self.children.start(packing.unpacker(kind, shown(name)), stdin=file, stdout=sink))
+                return
+            self.bytes += os.fstat(file.fileno()).st_size
+        self.given["/dev/stdin" if name == "-" else "./" + name if name.startswith("-") else name] = shown(name)
+
+    def _add_piped(self, name, kind, start):
+        """A file that is read through a pipe: `start` begins what writes to it."""
+        source, sink = os.pipe()
+        child = start(sink)
+        os.close(sink)
+        self.pipes.append(source)
+        self.writers.append((shown(name), kind, child))
+        self.given["/dev/fd/%d" % source] = shown(name)
 
     def total(self):
-        return None if self.unpackers else self.bytes
+        return None if self.writers else self.bytes
 
     def place(self, program):
         return read_by(program)
@@ -58,9 +65,11 @@ class Parts:
             os.close(it)
 
     def judge(self):
-        """The fault of a file that was not unpacked whole."""
-        for name, kind, child in self.unpackers:
-            if child.wait() != -signal.SIGPIPE:
+        """The fault of a file that was not unpacked whole, or of a database that was not read whole."""
+        for name, kind, child in self.writers:
+            if kind is None:
+                dumping.judge(name, child)
+            elif child.wait() != -signal.SIGPIPE:
                 judge_unpacker(name, kind, child)
             self.children.forget(child)
 
@@ -77,9 +86,9 @@ def check_names(names):
     seen = {}
     for name in names:
         try:
-            kind = os.stat(name) if name != "-" else os.fstat(0)
+            kind = os.stat(databases.file_of(name)) if name != "-" else os.fstat(0)
         except OSError as fault:
-            raise Fault("%s: %s" % (shown(name), reason(fault))) from None
+            raise Fault("%s: %s" % (shown(databases.file_of(name)), reason(fault))) from None
         key = (kind.st_dev, kind.st_ino) if stat.S_ISREG(kind.st_mode) else name
         if key in seen:
             first = seen[key]
@@ -87,8 +96,10 @@ def check_names(names):
         seen[key] = name
 
 
-def is_packed(name):
-    """Whether a dump is packed."""
+def is_piped(name):
+    """Whether a dump is read through a pipe: a packed one, or that of a database."""
+    if databases.stem_of(name) is not None:
+        return True
     try:
         with open(0 if name == "-" else name, "rb", closefd=name != "-") as file:
             return packing.kind_of_file(file.fileno()) is not None
@@ -97,22 +108,23 @@ def is_packed(name):
 
 
 def at_once(names):
-    """How many of the first dumps are merged at once: a packed one has two files open here, and names are words of a command line."""
+    """How many of the first dumps are merged at once: one that is read through a pipe has two files open here, and names are words of a command line."""
     files, words = open_more() - OTHERS, MOST_WORDS
     for number, name in enumerate(names[:MOST_DUMPS]):
-        files -= 2 if is_packed(name) else 1
+        files -= 2 if is_piped(name) else 1
         words -= len(os.fsencode(name)) + 16
         if number >= 2 and (files < 0 or words < 0):
             return number
     return MOST_DUMPS
 
 
-def merged(names, limits, children, setting, output=None, reader=None, sink=None, program="kmc_merge", words=()):
-    """Merges these dumps at once, or joins them by another program with these words, into the output, the file `sink`, or what `reader` reads."""
+def merged(names, limits, children, setting, output=None, reader=None, sink=None, program="kmc_merge", words=(), source=subprocess.DEVNULL):
+    """Merges these dumps at once, or joins them by another program with these words, into the output, the file `sink`, or what `reader` reads.
+    Its standard input is `source`, or ours where that is one of the dumps."""
     parts = Parts(names, children)
     command = [places.find(program), *words, *limits, *parts.given]
     out = subprocess.PIPE if reader else output.descriptor if output else sink
-    merger = children.start(command, pass_fds=parts.pipes, stdin=0 if "-" in names else subprocess.DEVNULL, stdout=out)
+    merger = children.start(command, pass_fds=parts.pipes, stdin=0 if "-" in names else source, stdout=out)
     parts.let_go()
     if output:
         output.let_go()

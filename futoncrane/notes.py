@@ -4,7 +4,7 @@ import json
 import os
 import struct
 
-from futoncrane import places
+from futoncrane import databases, places
 from futoncrane.faults import Fault, shown
 from futoncrane.options import MOST
 from futoncrane.report import say, write_json
@@ -19,7 +19,15 @@ KEYS = {"k", "strands", "min", "max", "cap", "inputs", "slices", "bytes"}
 
 
 def path_of(dump):
-    return dump + ".json"
+    """The note of a dump; that of a database stands beside its files as NAME.kmc.json, whichever of its names is given."""
+    stem = databases.stem_of(dump)
+    return (dump if stem is None else stem + databases.NAME) + ".json"
+
+
+def bytes_of(dump):
+    """How many bytes a dump has, or the suffix file of a database: a note is of no other one."""
+    stem = databases.stem_of(dump)
+    return os.stat(dump if stem is None else databases.files_of(stem)[1]).st_size
 
 
 def of_run(setting, inputs, slice_of=None):
@@ -49,7 +57,7 @@ def read(dump):
         with contextlib.suppress(OSError, ValueError, AttributeError):
             with open(path, encoding="utf-8") as text:
                 note = json.load(text)
-            if note.get("form") == FORM and KEYS <= note.keys() and note["bytes"] == os.stat(dump).st_size:
+            if note.get("form") == FORM and KEYS <= note.keys() and note["bytes"] == bytes_of(dump):
                 return note
     return None
 
@@ -75,7 +83,7 @@ def finish(output, note, report, quiet):
     if note and note["min"] <= 1 and note["max"] is None and not note["slices"]:
         report.totals["distinct"] = report.totals["listed"]
     if path and note:
-        write(path, {**report.record(**note), "bytes": os.stat(output.name).st_size}, quiet)
+        write(path, {**report.record(**note), "bytes": bytes_of(output.name)}, quiet)
 
 
 def write(path, note, quiet):
@@ -102,18 +110,33 @@ def is_whole(note):
 def of_dumps(names, doing, quiet):
     """Pairs of a name and its note, for those that have one. Those that have none are told in one line; what is unlike is refused."""
     found = [(name, read(name) if name != "-" else None) for name in names]
+    alike = known(found)
     bare = [shown(name) for name, note in found if note is None]
     if bare:
         more = " and %d more" % (len(bare) - NAMES_TOLD) if len(bare) > NAMES_TOLD else ""
         say("%s%s: no note (DUMP.json) tells what was counted there, so it is not checked that they can be %s" % (
             ", ".join(bare[:NAMES_TOLD]), more, doing), quiet)
-    noted = [it for it in found if it[1] is not None]
-    check_alike(noted, doing)
-    return noted
+    check_alike(alike, doing)
+    return [it for it in found if it[1] is not None]
+
+
+def known(found):
+    """Pairs of a name and what is known of its k and its strands, by its note, or of a database by its header; but for names of which nothing is."""
+    told = [(name, note or of_database(name)) for name, note in found]
+    return [it for it in told if it[1] is not None]
+
+
+def of_database(name):
+    """What the header of a database tells as a note does, though not what a cap cut off; none of a dump."""
+    stem = databases.stem_of(name)
+    if stem is None:
+        return None
+    header = databases.header_of(stem)
+    return {"k": header.k, "strands": APART if header.is_forward else JOINED}
 
 
 def check_alike(noted, doing):
-    """That all have one k, and strands of one kind."""
+    """That all of which something is known have one k, and strands of one kind."""
     for key, told in (("k", lambda k: "-k %d" % k), ("strands", STRANDS.get)):
         for name, note in noted[1:]:
             first, other = noted[0]

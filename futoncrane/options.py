@@ -96,8 +96,8 @@ def size(least):
 # KMC's options that have nothing in their place, and what is to be done
 OF_KMC = {
     "-okff": ": no KFF is written, but lines of text",
-    "-okmc": ": no database of KMC is written, but lines of text",
-    "-fkmc": ": no database of KMC is read; 'kmc_tools transform DB dump -s DUMP' makes a dump of it",
+    "-okmc": ": -o NAME.kmc writes a database",
+    "-fkmc": ": a database is taken as NAME.kmc, by those commands that take dumps",
     "-fbam": ": BAM is seen from the file's bytes",
     "-r": ": all is held in memory, as far as --memory allows",
     "-j": ": --json FILE tells what was done",

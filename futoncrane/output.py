@@ -14,8 +14,8 @@ from futoncrane.feeding import write_all
 from futoncrane.memory import of_machine
 
 # ends of names that promise another form than the one that is written; those of FASTA are for `solid`
-OTHERS = {".bz2": "bzip2", ".xz": "xz", ".bgz": "bgzip", ".zip": "zip", ".kff": "KFF", ".jf": "Jellyfish's database", ".kmc_pre": "KMC's database",
-          ".kmc_suf": "KMC's database", ".bam": "BAM", ".sam": "SAM", ".cram": "CRAM", ".fastq": "FASTQ", ".fq": "FASTQ", ".h5": "HDF5",
+OTHERS = {".bz2": "bzip2", ".xz": "xz", ".bgz": "bgzip", ".zip": "zip", ".kff": "KFF", ".jf": "Jellyfish's database", ".kmc": "a database",
+          ".kmc_pre": "a database", ".kmc_suf": "a database", ".bam": "BAM", ".sam": "SAM", ".cram": "CRAM", ".fastq": "FASTQ", ".fq": "FASTQ", ".h5": "HDF5",
           ".json": "JSON", ".png": "a picture", ".pdf": "a picture", ".svg": "a picture", ".xlsx": "a table of Excel"}
 FASTA = (".fa", ".fasta", ".fna")
 BLOCK = 1 << 20
@@ -53,6 +53,13 @@ def is_replaced(name):
     if stat.S_ISDIR(kind):
         raise Fault("%s: it is a folder" % shown(name))
     return stat.S_ISREG(kind)
+
+
+def mode_of(path):
+    """The mode that a file of this name gets: that of the one that is there, or of a new one."""
+    mask = os.umask(0)
+    os.umask(mask)
+    return stat.S_IMODE(os.stat(path).st_mode) if os.path.exists(path) else 0o666 & ~mask
 
 
 class Counter(threading.Thread):
@@ -165,9 +172,7 @@ class Output:
     def _make(self):
         """Makes the file that is written to, beside the one that it becomes, with the mode that a new or the old one has."""
         final = self.name = os.path.realpath(self.name)
-        mask = os.umask(0)
-        os.umask(mask)
-        mode = stat.S_IMODE(os.stat(final).st_mode) if os.path.exists(final) else 0o666 & ~mask
+        mode = mode_of(final)
         with held_signals():
             self.file, self.work = leftovers.new_file(os.path.dirname(final))
             TEMPORARY.add(self.work)
@@ -181,15 +186,19 @@ class Output:
             os.close(self.descriptor)
             self.descriptor = None
 
+    def judge_packer(self):
+        """Waits for the packer, and tells why it did not pack all, if so."""
+        self.counter.join()
+        status = self.packer.wait()
+        if status:
+            raise Fault("%s: it cannot be packed by %s (%s)%s" % (
+                self.shown, self.packing, signal_of(status) or told(self.packer) or "status %d" % status, self.why()))
+
     def finish(self, is_counted=False):
         """Waits until all is on the disk, and gives the file its name. Meanwhile its lines are counted, if they are wanted."""
         self.let_go()
         if self.packer:
-            self.counter.join()
-            status = self.packer.wait()
-            if status:
-                raise Fault("%s: it cannot be packed by %s (%s)%s" % (
-                    self.shown, self.packing, signal_of(status) or told(self.packer) or "status %d" % status, self.why()))
+            self.judge_packer()
         if is_counted and not self.packer and (self.is_made or self.name is None):
             self.counted = begun(Lines(self.work or "/proc/self/fd/1", self.start))
         if self.work is None:

@@ -58,7 +58,8 @@ def judge_silence(name, text, status, output):
     if text:
         return
     if output and output.packer:
-        output.finish()  # tells why the packer read no more
+        output.let_go()
+        output.judge_packer()  # tells why it read no more
     if status == 1 and (output is None or output.is_closed()):
         raise Quiet
     raise Fault("%s ended with status %d and told nothing: 'futoncrane doctor' tries it" % (name, status))

@@ -2,7 +2,7 @@
 import os
 import types
 
-from futoncrane import memory, report
+from futoncrane import databases, memory, report
 from futoncrane.faults import Misuse, shown
 from futoncrane.inputs import is_same_file
 from futoncrane.options import MOST, Option, at_most, file_of_names, number, size
@@ -29,6 +29,8 @@ BOTH = Option(["--both-strands"], "forward", text="counts a k-mer together with 
 OUT = Option(["-o", "--output"], "out", "FILE", text="writes to this file, packed where it ends in .gz or .zst; it has its name only once it "
              "is whole (standard output)")
 QUIET = Option(["--quiet", "-q"], "quiet", default=False, text="tells nothing but faults: no progress, no warning and not what was done")
+OUT_DUMP = Option(["-o", "--output"], "out", "FILE", text="writes to this file, packed where it ends in .gz or .zst, and NAME.kmc as a sorted "
+                  "database in NAME.kmc_pre and NAME.kmc_suf; they have their names only once all is whole (standard output)")
 JSON = Option(["--json"], "json", "FILE", text="writes what was done into this file: k, limits, inputs, k-mers, time and memory")
 FILES = Option(["--files"], "lists", "LIST", file_of_names, text="a file with the names of files of reads, one a line; @LIST is the same")
 THREADS = Option(["--threads", "-t"], "threads", "N", at_most(MOST_THREADS), glues=True,
@@ -57,7 +59,7 @@ def check_names(given):
         path = given.get(key)
         if path is None:
             continue
-        if out is not None and os.path.abspath(path) in (os.path.abspath(out), os.path.abspath(out) + ".json"):
+        if out is not None and databases.file_of(os.path.abspath(path)) in (databases.file_of(os.path.abspath(out)), os.path.abspath(out) + ".json"):
             raise Misuse("%s: -o writes there too: name another file for --%s" % (shown(path), key))
         if any(is_same_file(name, path) for name in given["files"] if name != "-"):
             raise Misuse("%s: it is read, and cannot be written at the same time" % shown(path))

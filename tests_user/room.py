@@ -90,6 +90,8 @@ class Room:
         os.makedirs(self.path("bin"), exist_ok=True)
         if name != "kmc_db" and not os.path.lexists(self.path("bin/kmc_db")):
             os.symlink(os.path.join(BIN, "kmc_db"), self.path("bin/kmc_db"))
+        if os.path.islink(self.path("bin/" + name)):
+            os.unlink(self.path("bin/" + name))  # so that the real one is not written over
         own = self.path("bin/%s.script" % name)
         self.write(own, text)
         self.write("bin/" + name, '#!/bin/sh\nif [ "$*" = --who-is-it ]; then echo "usage: %s [..]" >&2; exit 2; fi\nexec \'%s\' "$@"\n' % (name, own))

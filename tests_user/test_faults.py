@@ -143,7 +143,7 @@ def test_answers_are_packed_at_the_first_level(room):
 
 
 def test_names_that_promise_another_form_are_refused(room):
-    for name in ("x.kff", "x.bz2", "x.kff.gz", "x.jf", "x.bam", "x.fa", "x.json", "x.kmc_pre"):
+    for name in ("x.kff", "x.bz2", "x.kff.gz", "x.jf", "x.bam", "x.fa", "x.json", "x.kmc.gz"):
         room.refuses(2, name, "is not written here", words=["count", READS, "-o", name])
     room.refuses(2, "the picture is a PNG", words=["histogram", "--png", "a.pdf", READS])
     room.counts(b"", "solid", "-o", "x.fa", READS)

@@ -45,7 +45,13 @@ def test_installs_and_uninstalls(room):
     assert ran(room, "summer", "-ci1", "slice0", "slice1") == wanted_dump()
     assert ran(room, "futoncrane", "count", "-k25", READS) == wanted_dump()
     assert ran(room, "futoncrane", "count", "-k25", "--slices", "3", READS) == wanted_dump()
-    assert ran(room, "futoncrane", "doctor").endswith(b"\nall is well\n")
+    told = ran(room, "futoncrane", "doctor")
+    assert told.endswith(b"\nall is well\n")
+    package = told.splitlines()[0].rpartition(b" in ")[2]
+    script = "import futoncrane; print(sum(count for _, count in futoncrane.counts('dump')))"
+    total = sum(int(line.split()[1]) for line in wanted_dump().splitlines())
+    imported = subprocess.run([sys.executable, "-c", script], cwd=room.folder, env={"PYTHONPATH": package}, stdout=subprocess.PIPE, check=True)
+    assert imported.stdout == b"%d\n" % total, imported
     made(room, "uninstall")
     assert not os.path.exists(room.path("root/opt")), subprocess.run(["find", room.path("root")], stdout=subprocess.PIPE).stdout
 

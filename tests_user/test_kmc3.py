@@ -85,7 +85,7 @@ def test_options_of_kmc_are_taken_or_told(room):
     room.counts(plainly(content(READS), 31, 3, 9, 7), "count", "-k31", "-ci3", "-cx9", "-cs7", "-t", "2", "--files", "list")
     room.refuses(1, "empty: it names no file", words=["count", "@" + room.write("empty", b"\n")])
     room.refuses(1, "none: No such file", words=["count", "--files", "none"])
-    for word, told in (("-okff", "no KFF is written"), ("-okmc", "no database"), ("-fkmc", "kmc_tools transform"), ("-fbam", "BAM is seen"), ("-j", "--json"), ("-r", "--memory"),
+    for word, told in (("-okff", "no KFF is written"), ("-okmc", "-o NAME.kmc writes a database"), ("-fkmc", "NAME.kmc"), ("-fbam", "BAM is seen"), ("-j", "--json"), ("-r", "--memory"),
                        ("-w", "no such mode"), ("-hp", "--quiet"), ("-oout", "-o FILE"), ("-m12", "12G?"), ("--cap5", "no option --cap5")):
         room.refuses(2, told, words=["count", word, READS])
 

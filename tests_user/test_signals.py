@@ -100,11 +100,12 @@ def test_each_signal_has_its_status(room):
     hanging(room)
     room.write("reads.gz", gzip.compress(content(READS)))
     for number in (signal.SIGINT, signal.SIGTERM, signal.SIGHUP):
-        for words in (["count", READS, "-o", "dump"], ["count", "reads.gz", "-o", "dump.gz"], ["histogram", READS]):
+        for words in (["count", READS, "-o", "dump"], ["count", "reads.gz", "-o", "dump.gz"], ["count", READS, "-o", "db.kmc"], ["histogram", READS]):
             child = started(room, words)
             wait_for(room, "begun")
             assert descendants(child.pid)
-            assert interrupted(child, number) == (128 + number, "", set())
+            found = interrupted(child, number)
+            assert found == (128 + number, "", set()), (words, found)
             os.remove(room.path("begun"))
             assert sorted(os.listdir(room.folder)) == ["bin", "reads.gz", "tmp"], os.listdir(room.folder)
 

@@ -8,7 +8,8 @@ import sys
 
 from room import TOP, content, need
 
-COMMANDS = ("count", "cut", "list", "merge", "histogram", "size", "compare", "solid", "genomescope", "cluster", "doctor")
+COMMANDS = ("count", "cut", "list", "merge", "histogram", "size", "compare", "union", "intersect", "subtract", "table", "query", "solid", "genomescope",
+            "cluster", "doctor")
 
 
 def text_of(*path):

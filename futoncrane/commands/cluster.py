@@ -10,8 +10,8 @@ import time
 from futoncrane import doubts, folders, inputs, memory, merging, notes, parts, places, report, run, shared, workers
 from futoncrane.children import Children
 from futoncrane.faults import Fault, Misuse, shown
+from futoncrane.database_output import output_of, words_of_run
 from futoncrane.options import Option, decimal, number
-from futoncrane.output import Output
 
 USAGE = "(--workers N | --scheduler ADDRESS --directory DIR) [option ..] FILE .."
 TEXT = """
@@ -36,7 +36,7 @@ OPTIONS = [
            "at least, and about 1000 at most)"),
     Option(["--directory"], "directory", "DIR", text="where files lie in the meantime, about 1.1 bytes for each symbol: all machines must see it "
            "(with --workers beside -o, else TMPDIR)"),
-    shared.FILES, shared.JSON, shared.QUIET, shared.OUT, *shared.OLD,
+    shared.FILES, shared.JSON, shared.QUIET, shared.OUT_DUMP, *shared.OLD,
 ]
 EXAMPLES = [
     "futoncrane cluster --workers 4 -k 31 --min 3 -o dump.txt lane_*.fastq",
@@ -175,7 +175,7 @@ def main(asked):
     for it in (workers, memory):
         cloudpickle.register_pickle_by_value(it)  # so the workers' machines need not have this package
     setting = shared.settings(asked)
-    with Children() as children, Output(asked.out, children, threads=setting.threads) as output:
+    with Children() as children, output_of(asked, setting, children, words_of_run(setting)) as output:
         found = run.open_inputs(asked.files, asked.out)
         if any(it.is_stream for it in found):
             raise Fault("%s: it is a pipe or a device, and no file that all machines see" % next(it.shown for it in found if it.is_stream))

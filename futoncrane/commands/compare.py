@@ -22,7 +22,7 @@ says. QV is -10 log10 E, where 1 - E, to the power of k, is the part of the asse
 have; without any that they lack it is inf. Where the dump of the reads leaves out what was met once, QV is a little less than Merqury's.
 
 Both dumps must have been made with the same -k, and with or without --forward alike: where DUMP.json stands beside a dump that is looked
-at. They may be packed.
+at. They may be packed, or databases as NAME.kmc.
 """
 OPTIONS = [
     Option(["--common"], "what", constant="common", text="writes the k-mers of both, each with its two counts"),

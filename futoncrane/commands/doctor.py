@@ -9,7 +9,7 @@ import subprocess
 import sys
 import tempfile
 
-from futoncrane import memory, packing, places, shared
+from futoncrane import databases, memory, packing, places, reading, shared
 from futoncrane.children import Children
 from futoncrane.commands import cluster
 from futoncrane.faults import Fault, Misuse, reason
@@ -89,6 +89,7 @@ def trials(folder):
     whole = {"least": 1, "cap": options.MOST}
     for program, words in (("kmc_merge", []), ("kmc_db", ["union"])):
         yield "%s sums its parts" % program, lambda: sum_of_parts(program, words, halves(reads, folder), folder, whole) == wanted
+    yield "kmc_db keeps it as a database", lambda: database_of(os.path.join(folder, "reads")) == wanted
     for kind, path in packed_examples(reads, folder):
         program = os.path.basename(packing.unpacker(kind, path)[0])
         yield "%s, by %s" % (kind, program if program in packing.KINDS[kind][2] else "this Python"), lambda path=path: counted([path], out) == wanted
@@ -107,6 +108,15 @@ def sum_of_parts(program, words, paths, folder, whole):
     for path, dump in zip(paths, dumps):
         counted([path], dump, **whole)
     return merged(program, [*words, "-ci2", "-cx1000000000", "-cs255", *dumps])
+
+
+def database_of(stem):
+    """The dump of the example by way of a database of this name: kmc_db makes it, and this Python reads it."""
+    with open(places.DUMP, "rb") as dump:
+        ran = subprocess.run([places.find("kmc_db"), "pack", stem], stdin=dump, stdout=subprocess.DEVNULL, stderr=subprocess.PIPE)
+    if ran.returncode:
+        raise Fault("kmc_db ended with status %d: %s" % (ran.returncode, ran.stderr.decode(errors="replace").strip()))
+    return "".join("%s\t%d\n" % it for it in reading.pairs_in(stem + databases.NAME)).encode()
 
 
 def tell_programs():

@@ -11,8 +11,9 @@ TEXT = """
 Writes one line for each count that occurs: the count, a tab, and the number of k-mers that occur so often. Every k-mer is counted, and no
 count is cut off; no dump is kept.
 
-A dump is taken in place of reads. The picture ends at the count that 995 of 1000 repeated k-mers do not pass. In that of --png the valley and
-the peak are marked with the size that futoncrane size finds; the bars before the valley are cut, so that the peak is seen.
+A dump is taken in place of reads, or a database as NAME.kmc. The picture ends at the count that 995 of 1000 repeated k-mers do not pass. In
+that of --png the valley and the peak are marked with the size that futoncrane size finds; the bars before the valley are cut, so that the
+peak is seen.
 """
 OPTIONS = [
     shared.k_option(21),

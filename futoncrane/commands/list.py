@@ -1,9 +1,11 @@
 """futoncrane list: the dump of one slice."""
+import os
+
 from futoncrane import merging, notes, run, shared, slices
 from futoncrane.children import Children
+from futoncrane.database_output import output_of, words_of_run
 from futoncrane.faults import Misuse, shown
 from futoncrane.inputs import is_same_file
-from futoncrane.output import Output
 from futoncrane.progress import listing
 
 USAGE = "[option ..] FILE .."
@@ -16,7 +18,7 @@ counted, and nothing tells so. A file that was cut short or changed is refused. 
 
 The work is done by kmc_list, whose answer is proved. It takes the memory of a run over the reads of the slice.
 """
-OPTIONS = [*shared.LIMITS, shared.CAP, shared.BOTH, shared.STRANDS, shared.THREADS, shared.MEMORY, shared.JSON, shared.QUIET, shared.OUT,
+OPTIONS = [*shared.LIMITS, shared.CAP, shared.BOTH, shared.STRANDS, shared.THREADS, shared.MEMORY, shared.JSON, shared.QUIET, shared.OUT_DUMP,
            *[it for it in shared.OLD if it.key == "counters"]]
 EXAMPLES = ["futoncrane list --min 3 -o slice.0.dump lane_a.0 lane_b.0", "futoncrane list --min 1 --cap none --forward -o all.0.dump lane_a.0 lane_b.0"]
 
@@ -29,9 +31,10 @@ def main(asked):
         raise Misuse("%s: it is read, and cannot be written at the same time" % shown(asked.out))
     merging.check_names(names)
     setting = shared.settings(asked)
-    with Children() as children, Output(asked.out, children, threads=setting.threads) as output:
+    note = note_of(names, setting) if os.path.isfile(names[0]) else None
+    with Children() as children, output_of(asked, setting, children, words_of_run(setting)) as output:
         slices.listed(names, setting, children, listing(0, 1), output)
-        notes.finish(output, note_of(names, setting), setting.report, setting.quiet)
+        notes.finish(output, note, setting.report, setting.quiet)
     run.tell("list", setting, asked, names)
     return 0
 

@@ -1,5 +1,5 @@
 """futoncrane solid: k-mers within limits, as FASTA."""
-from futoncrane import dumps, run, shared
+from futoncrane import lines as texts, run, shared
 from futoncrane.children import Children
 from futoncrane.options import Option
 from futoncrane.output import text_output
@@ -22,7 +22,7 @@ def main(asked):
 
     def pass_on(stream):
         nonlocal listed
-        for block in dumps.blocks(stream):
+        for block in texts.blocks(stream):
             pairs = [line.split(b"\t") for line in block.split(b"\n")[:-1]]
             if asked.bare:
                 lines.write(b"".join([b">%b\n%b\n" % (count, word) for word, count in pairs]))

@@ -11,7 +11,7 @@ k-mers have both. A count of 0 says that the dump does not list the k-mer. The l
 are drawn from it, and how alike two samples are.
 
 Both dumps must have been made with the same -k, and with or without --forward alike: where DUMP.json stands beside a dump that is looked
-at. They may be packed, and are read once, side by side. The work is done by kmc_db, whose answer is proved.
+at. They may be packed, or databases as NAME.kmc, and are read once, side by side. The work is done by kmc_db, whose answer is proved.
 """
 OPTIONS = [
     Option(["--cap"], "cap", "COUNT", number(1, MOST, MOST), 1000, "greater counts are taken for this, or for none (1000)", ["-cs", "--cs"]),

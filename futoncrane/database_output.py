@@ -1,0 +1,145 @@
+"""An answer that is a database: kmc_db makes its two files of the dump while that is written, in a folder beside them. They have their names
+only once both are whole."""
+import contextlib
+import os
+import subprocess
+
+from futoncrane import databases, folders, notes, places
+from futoncrane.children import held_signals, signal_of, told, too_late
+from futoncrane.faults import Fault, Misuse, reason, shown
+from futoncrane.feeding import widened
+from futoncrane.output import Output, is_replaced, mode_of
+
+MADE = "made"
+TOO_GREAT = "does not fit its bytes"
+
+
+def output_of(asked, setting, children, words):
+    """The output of a command that writes a dump: a text, or where its name ends in .kmc a database, whose header tells by `words` what the
+    dump was made with."""
+    if asked.out is None or not asked.out.endswith(databases.NAME):
+        if asked.out is not None and asked.out.endswith((databases.PREFIX, databases.SUFFIX)):
+            raise Misuse("%s: a database has two files: name it %s" % (shown(asked.out), shown(asked.out.rpartition(".")[0] + databases.NAME)))
+        return Output(asked.out, children, threads=setting.threads)
+    return DatabaseOutput(asked.out, setting, children, words)
+
+
+def words_of(k, least, greatest, cap, is_forward):
+    """How kmc_db is told what a dump was made with; k may be unknown."""
+    found = ["-ci%d" % least, "-cx%d" % greatest, "-cs%d" % cap]
+    return found + (["-k%d" % k] if k else []) + (["-b"] if is_forward else [])
+
+
+def words_of_run(setting):
+    """The same for a run over reads."""
+    return words_of(setting.k, setting.least, setting.greatest, setting.cap, setting.forward)
+
+
+def words_of_sum(noted, names, asked):
+    """The same for a merge or a join of dumps: k and the strands as far as one of them is known. The limits are those of the answer alone, since
+    KMC's tools pass over k-mers outside them, and a sum or a difference may be outside those of its parts."""
+    known = notes.known([(name, dict(noted).get(name)) for name in names])
+    one = known[0][1] if known else {"k": None, "strands": notes.JOINED}
+    return words_of(one["k"], asked.least, asked.greatest, asked.cap, one["strands"] == notes.APART)
+
+
+class DatabaseOutput(Output):
+    """As Output is, for a name NAME.kmc: the files are NAME.kmc_pre, which makes it a database and comes last, and NAME.kmc_suf."""
+
+    def __init__(self, name, setting, children, words):
+        super().__init__(name, children)
+        self.report, self.words, self.rows = setting.report, words, None
+
+    def __enter__(self):
+        stem = self.name[:-len(databases.NAME)]
+        if not os.path.basename(stem):
+            raise Misuse("%s: the database has no name before %s" % (self.shown, databases.NAME))
+        for it in databases.files_of(stem):
+            if not is_replaced(it):
+                raise Fault("%s: it is no file, and a database is written into two files" % shown(it))
+        self.finals = [os.path.realpath(it) for it in databases.files_of(stem)]
+        self.folder = folders.made(os.path.dirname(self.finals[0]))
+        self.made = databases.files_of(os.path.join(self.folder, MADE))
+        source, self.descriptor = os.pipe()
+        widened(self.descriptor)
+        command = [places.find("kmc_db"), "pack", *self.words, os.path.join(self.folder, MADE)]
+        self.packer = self.children.start(command, stdin=source, stdout=subprocess.DEVNULL)
+        os.close(source)
+        self.is_made = True
+        return self
+
+    def __exit__(self, *fault):
+        super().__exit__(*fault)
+        if self.packer.poll() is None:  # after a fault: it is to write no more into the folder
+            self.packer.kill()
+            self.packer.wait()
+        folders.dropped(self.folder)
+
+    def judge_packer(self):
+        """Waits for kmc_db, and tells why it made no database, if so."""
+        status = self.packer.wait()
+        if not status:
+            return
+        said = told(self.packer).partition(": ")[2] or "kmc_db %s" % (signal_of(status) or "ended with status %d" % status)
+        if said.endswith(TOO_GREAT):
+            raise Fault("%s: a count of more than four bytes is in no database: give --cap 4294967295 or less" % self.shown)
+        for made, final in zip(self.made, self.finals):
+            if said.startswith(made + ": "):
+                raise Fault("%s: it %s%s" % (shown(final), said[len(made) + 2:], self.why()))
+        raise Fault("%s: %s" % (self.shown, said))
+
+    def finish(self, is_counted=False):
+        """Waits until both files are whole and on the disk, and gives them their names."""
+        self.let_go()
+        self.judge_packer()
+        self.rows = databases.header_of(os.path.join(self.folder, MADE)).rows
+        for made, final in zip(self.made, self.finals):
+            try:
+                os.chmod(made, mode_of(final))
+                flushed(made)
+            except OSError as fault:
+                raise Fault("%s: %s" % (shown(final), reason(fault))) from None
+        if self.is_last:
+            too_late()
+        self._move()
+        for it in {os.path.dirname(final) for final in self.finals}:
+            with contextlib.suppress(OSError):
+                flushed(it)
+        self.report.step("kmc_db")
+
+    def _move(self):
+        """Gives the files their names. Older ones are put aside first, so that none stands beside a new one; after a fault all is as it was."""
+        older = [os.path.join(self.folder, "older.%d" % it) for it, _ in enumerate(self.finals)]
+        moves, done = [*zip(self.finals, older), *zip(self.made[::-1], self.finals[::-1])], []
+        with held_signals():
+            try:
+                for source, target in moves:
+                    if source in self.made or os.path.exists(source):
+                        os.replace(source, target)
+                        done.append((target, source))
+            except OSError as fault:
+                for it in reversed(done):
+                    os.replace(*it)
+                raise Fault("%s: %s" % (shown(source if source in self.finals else target), reason(fault))) from None
+
+    def lines(self):
+        """How many k-mers the database has."""
+        return self.rows
+
+    def is_closed(self):
+        """Nobody but kmc_db reads what is written."""
+        return False
+
+    def why(self):
+        """': no space left on its disk' where that is so, else nothing."""
+        room = os.statvfs(os.path.dirname(self.finals[0]))
+        return ": no space left on its disk" if room.f_blocks and room.f_bavail * room.f_frsize < 1 << 16 else ""
+
+
+def flushed(path):
+    """Waits until a file, or what a folder names, is on the disk."""
+    descriptor = os.open(path, os.O_RDONLY)
+    try:
+        os.fsync(descriptor)
+    finally:
+        os.close(descriptor)

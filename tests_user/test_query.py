@@ -1,0 +1,74 @@
+"""futoncrane query: the counts of given words, of dumps and of databases."""
+import gzip
+import random
+
+from room import READS, content, plainly, program
+from test_databases import packed
+
+COMPLEMENT = str.maketrans("ACGT", "TGCA")
+
+
+def other_strand(word):
+    return word.translate(COMPLEMENT)[::-1]
+
+
+def asked(dump, k, dice):
+    """Words that the dump lists, their other strands, and words that it does not list, some more than once."""
+    listed = [line.split("\t")[0] for line in dump.decode().splitlines()]
+    words = dice.sample(listed, 20)
+    return words + [other_strand(it) for it in words[:5]] + ["".join(dice.choices("ACGT", k=k)) for _ in range(20)] + words[:3]
+
+
+def answer(dump, words, apart=False):
+    counts = dict(line.split("\t") for line in dump.decode().splitlines())
+    return "".join("%s\t%s\n" % (it, counts.get(it if apart else min(it, other_strand(it)), 0)) for it in words).encode()
+
+
+def test_words_are_answered_in_their_order(room):
+    program("kmc_db")
+    dice = random.Random(3)
+    for k, apart in ((25, False), (6, False), (31, True)):
+        dump = plainly(content(READS), k, 1, 1 << 63, 1 << 63, *(["apart"] if apart else []))
+        words = asked(dump, k, dice)
+        wanted = answer(dump, words, apart)
+        option = ["--forward"] if apart else ["--both-strands"]
+        room.write("dump", dump)
+        room.write("dump.gz", gzip.compress(dump))
+        packed(room, "db", dump, "-ci1", "-cs100000", "--force", *(["-b"] if apart else []))
+        for name in ("dump", "dump.gz", "db.kmc"):
+            assert room.run("query", *option, name, *words).out == wanted, name
+            ran = room.run("query", *option, name, text="".join(it + "\n" for it in words).encode())
+            assert (ran.status, ran.out, ran.err) == (0, wanted, ""), ran
+            assert room.run("query", *option, name, *map(str.lower, words)).out == wanted, name
+        # the header of a database says it
+        room.counts(wanted, "query", "db.kmc", *words)
+        room.counts(b"", "query", "-o", "out.gz", "db.kmc", *words)
+        assert gzip.decompress(content(room.path("out.gz"))) == wanted
+
+
+def test_strands_are_told_by_the_note(room):
+    program("kmc_db")
+    dump = plainly(content(READS), 25, 2, 1 << 63, 255, "apart")
+    words = asked(dump, 25, random.Random(4))
+    room.counts(b"", "count", "-k25", "--forward", "-o", "dump", READS)
+    room.counts(answer(dump, words, True), "query", "dump", *words)
+    room.write("bare", dump)
+    ran = room.run("query", "bare", *words)
+    assert ran.out == answer(dump, words) and ran.err.count("\n") == 1 and "bare: no note (DUMP.json) tells whether strands are joined" in ran.err, ran
+    assert room.run("query", "--quiet", "bare", *words).err == ""
+
+
+def test_a_query_is_refused(room):
+    program("kmc_db")
+    room.write("dump", b"ACG\t2\nCCG\t3\n")
+    room.refuses(2, "no dump is given", words=["query"])
+    room.refuses(2, "the dump is a file", words=["query", "-", "ACG"])
+    room.refuses(2, "dump: it is read", words=["query", "-o", "dump", "dump", "ACG"])
+    room.refuses(1, "none: No such file", words=["query", "none", "ACG"])
+    room.refuses(1, "none.kmc_pre: No such file", words=["query", "none.kmc", "ACG"])
+    for word, told in (("ACGT", "it is not as long as the k-mers of the dump"), ("AC", "it is not as long"), ("ANG", "it is no word of letters"), ("A" * 65, "it is no word")):
+        room.refuses(1, "word 2, %s: %s" % (word, told), words=["query", "--both-strands", "-o", "out", "dump", "ACG", word])
+        room.refuses(1, "standard input: ", "line 2", words=["query", "--both-strands", "-o", "out", "dump"], text=b"ACG\n%s\n" % word.encode())
+    room.write("bad", b"ACG\t2\nAAA\t3\n")
+    room.refuses(1, "bad: line 2", words=["query", "--both-strands", "-o", "out", "bad", "ACG"])
+    room.counts(b"", "query", "--both-strands", "dump", text=b"")
