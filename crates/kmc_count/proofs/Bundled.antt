@@ -13,7 +13,7 @@ use Rattle.kmc_record.specs.RecordWords.{record_keys}
 use Rattle.kmc_record.specs.Lemmas.Taken.{moved_keys}
 use Rattle.kmc_count.specs.declared.limits.Limits.{Limits}
 use Rattle.kmc_count.specs.Bodies.{AreItemsOfBody, IsDumpOfBody}
-use Rattle.kmc_count.specs.Bundles.{worth_of_both, weight_of_both, AreBundledItems, BothGain}
+use Rattle.kmc_count.specs.Bundles.{weight_of_both, AreBundledItems, BothGain}
 use Rattle.kmc_count.specs.Dump.{IsDump}
 use Rattle.kmc_count.specs.Occurrences.{occurrences, same_word}
 use Rattle.kmc_count.specs.Lemmas.BodyDumps.{weight_is}
@@ -44,6 +44,7 @@ module _ (k f u : ℕ) where
     fit = λ h. h;
     bundles_fit = gains.fit;
   }
+
   pub both_gain : (a a' b b' c c' : List ℕ) (ws : List (List ℕ)) (m n s : ℕ) → s ≡ m + n → BothGain k f u a a' b b' ws m → BothGain k f u b b' c c' ws n
       → BothGain k f u a a' c c' ws s
   both_gain a a' b b' c c' ws m n s is h i = record {

@@ -2,14 +2,13 @@
 use Rattle.std.proofs.Common.{◌≡◌, ℕ, ◌+◌, ◌*◌, ◌/◌, ◌^◌, ◌<◌, List, [], ◌∷◌, refl, sym, ap, ◌∙◌, arith}
 use Rattle.std.proofs.lemmas.List.Sorted.{sum_by-IsPermutation, All-permutation}
 use Rattle.std.proofs.lemmas.List.Sums.{sum_by-cons}
-use Rattle.std.specs.List.{sum_by, All}
+use Rattle.std.specs.List.{sum_by}
 use Rattle.std.specs.List.Sorted.{IsPermutation}
 use Rattle.kmc_base.specs.declared.strands.Strands.{Strands}
 use Rattle.kmc_base.specs.Packed.{unpack}
 use Rattle.kmc_base.specs.Weights.{item, items, item_weight, worth}
 use Rattle.kmc_base.specs.Record.{IsBodyOf}
-use Rattle.kmc_record.specs.RecordKeys.{key_words, Gains, IsRecordKey, IsTaken}
-use Rattle.kmc_record.specs.Lemmas.Taken.{moved_keys}
+use Rattle.kmc_record.specs.RecordKeys.{IsTaken}
 use Rattle.kmc_count.specs.Bodies.{AreItemsOfBody}
 use Rattle.kmc_count.specs.Tables.{ComeToAsMuch}
 

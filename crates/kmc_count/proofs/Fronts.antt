@@ -1,5 +1,5 @@
 -- The words of the first symbols of a record's number.
-use Rattle.std.proofs.Common.{◌≡◌, ℕ, zero, suc, ◌+◌, ◌*◌, ◌-◌, ◌/◌, ◌%◌, ◌^◌, ◌<◌, ◌≤◌, List, [], ◌++◌, length, take, drop, map, Bool, true, false, nat_le, refl, sym, ap, ◌∙◌, arith, add-zero}
+use Rattle.std.proofs.Common.{◌≡◌, ℕ, ◌+◌, ◌*◌, ◌-◌, ◌/◌, ◌%◌, ◌^◌, ◌<◌, ◌≤◌, List, ◌++◌, length, take, drop, map, Bool, true, false, nat_le, refl, sym, ap, ◌∙◌, arith, add-zero}
 use Rattle.std.proofs.lemmas.Nat.{div-mul-add}
 use Rattle.std.proofs.lemmas.List.{length-take, length-drop, length-take-le, take-take, take_at, drop_at, drop-append-le, take-append-le, drop-take}
 use Rattle.std.proofs.lemmas.Bool.Decides.{nat_tests}
@@ -92,7 +92,7 @@ module _ (strands : Strands) (k : ℕ) (g : List ℕ → ℕ) where
           let none : begin ≡ 0 = omega (arith, is, few) in
           let all : drop begin (take to s) ≡ take to s = ap (λ m. drop m (take to s)) none in
           let same : sum_by g (keys strands k (take to s)) ≡ sum_by g (keys strands k (take (to - begin)
-              (codes_in (bytes_high_first 16 (x * 2 ^ (2 * begin) % 2 ^ 128))))) = ap (λ t. sum_by g (keys strands k t)) (sym all ∙ behind) in
+          (codes_in (bytes_high_first 16 (x * 2 ^ (2 * begin) % 2 ^ 128))))) = ap (λ t. sum_by g (keys strands k t)) (sym all ∙ behind) in
           omega (arith, same, no_front x from few)
 
 -- ---- records

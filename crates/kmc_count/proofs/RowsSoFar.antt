@@ -1,5 +1,5 @@
 -- Records whose words go into items, those that begin alike together.
-use Rattle.std.proofs.Common.{◌≡◌, ℕ, zero, suc, ◌+◌, ◌*◌, ◌%◌, ◌<◌, ◌≤◌, ◌^◌, ◌⊎◌, inl, inr, Bool, true, false, nat_le, List, [], ◌∷◌, length, take, drop, set, get_or, replicate, refl, sym, ap, subst, ◌∙◌, arith, add-mul}
+use Rattle.std.proofs.Common.{◌≡◌, ℕ, zero, suc, ◌+◌, ◌*◌, ◌%◌, ◌<◌, ◌≤◌, ◌^◌, ◌⊎◌, inl, inr, Bool, true, false, nat_le, List, length, take, drop, set, get_or, replicate, refl, sym, ap, subst, ◌∙◌, arith, add-mul}
 use Rattle.std.proofs.lemmas.Bool.Decides.{nat_tests}
 use Rattle.std.proofs.lemmas.List.{drop_all, drop_more, get_or-set_same, get_or-set_other, length-replicate, length-set, take-take}
 use Rattle.std.proofs.lemmas.List.Sums.{sum_by-append}
@@ -12,7 +12,7 @@ use Rattle.kmc_record.specs.RecordKeys.{codes_of, key_words}
 use Rattle.kmc_count.specs.Bundles.{worth_of_both, BothGain}
 use Rattle.kmc_count.specs.Waiting.{front_worth, placed_worth, AreSettled, BothGainBetween, IsWaiting}
 use Rattle.kmc_count.proofs.Fronts.{front_of_record, no_front}
-use Rattle.kmc_count.proofs.Waits.{first_place, no_places, one_place, same_places, set_place}
+use Rattle.kmc_count.proofs.Waits.{first_place, no_places, same_places, set_place}
 
 -- ---- one place after the other
 

@@ -39,11 +39,11 @@ module _ (w : ℕ → ℕ) where
         | inr same ↦ ap (λ t. c * t) (subst (λ m. w m ≡ v m) (add-zero d) same)
       ] in
       let rest = same_from v (1 + d) cs (λ j inside.
-          let e : d + suc j ≡ 1 + d + j = omega arith in
-          elim (alike (suc j) (omega (arith, inside))) [
-            | inl none ↦ inl none
-            | inr same ↦ inr (subst (λ m. w m ≡ v m) e same)
-          ]) in
+      let e : d + suc j ≡ 1 + d + j = omega arith in
+      elim (alike (suc j) (omega (arith, inside))) [
+        | inl none ↦ inl none
+        | inr same ↦ inr (subst (λ m. w m ≡ v m) e same)
+      ]) in
       omega (arith, here, rest)
 
   pub same_places : (v : ℕ → ℕ) (cs : List ℕ) → ((j : ℕ) → j < length cs → (get_or cs j 0 ≡ 0) ⊎ (w j ≡ v j)) → placed_worth w 0 cs ≡ placed_worth v 0 cs

@@ -1,5 +1,5 @@
 -- A walk over two sorted lists of items, word by word.
-use Rattle.std.proofs.Common.{◌≡◌, ℕ, zero, suc, ◌+◌, ◌-◌, ◌*◌, ◌/◌, ◌<◌, ◌≤◌, ◌^◌, ◌⊎◌, inl, inr, Bool, true, false, cond, min, nat_eq, nat_le, All, List, [], ◌∷◌, ◌++◌, length, take, drop, get_or, refl, sym, ap, subst, ◌∙◌, arith, add-zero, zero-add, le_refl}
+use Rattle.std.proofs.Common.{◌≡◌, ℕ, zero, suc, ◌+◌, ◌-◌, ◌*◌, ◌/◌, ◌<◌, ◌≤◌, ◌^◌, ◌⊎◌, inl, inr, Bool, true, false, cond, min, nat_eq, nat_le, List, [], ◌∷◌, ◌++◌, length, drop, get_or, refl, sym, ap, subst, ◌∙◌, arith, add-zero, zero-add, le_refl}
 use Rattle.std.proofs.Math.Nat.{mul-add, mul_comm}
 use Rattle.std.proofs.lemmas.Nat.{mul-le}
 use Rattle.std.proofs.lemmas.Bool.Decides.{nat_tests}
@@ -209,22 +209,26 @@ module _ (k f u : ℕ) (l : Limits) where
       → count ≡ min (once + min (bundled * u) (2 ^ 64 - 1)) (2 ^ 64 - 1) → new ≡ pairs ++ cons_option (keep_pair l (unpack k p, count)) []
       → IsWalked k f u l c pairs few many
       → IsWalked k f u l c new few' many' × (p < 4 ^ k) × (length few' + length many' < length few + length many)
-  walk_on c pairs new few many few' many' p once bundled count one long word run bundles counted pushed h = (record {
-    runs = h.runs ++ (unpack k p, n) ∷ [];
-    next = p + 1;
-    are = pushed ∙ (λ j. h.are j ++ cons_option (capped_pair l (unpack k p) count n stops j) []) ∙ sym (kept_end l (unpack k p) n h.runs);
-    counts = λ x. sums x;
-    some = some_end (unpack k p) n h.runs some h.some;
-    up = runs_end (unpack k p) n h.runs h.up (h.below p fits low);
-    below = λ q small up. below_end (λ y. kmer_cmp y (unpack k q) ≡ Less) (unpack k p) n h.runs (h.below q small (omega (arith, low, up)))
-        (cmp_packed k p q fits small ∙ less p q (omega (arith, up)));
-    first = above few p once few' h.sorted word.first run;
-    second = above many p bundled many' h.bundles_sorted word.second bundles;
-    sorted = subst (IsSorted nat_cmp) (sym run.is) (sorted_rest run.taken few h.sorted);
-    bundles_sorted = subst (IsSorted nat_cmp) (sym bundles.is) (sorted_rest bundles.taken many h.bundles_sorted);
-    fit = subst (AreItems k f) (sym run.is) (All-drop (λ n. n / 2 ^ f < 4 ^ k) run.taken few h.fit);
-    bundles_fit = subst (AreItems k f) (sym bundles.is) (All-drop (λ n. n / 2 ^ f < 4 ^ k) bundles.taken many h.bundles_fit);
-  }, fits, smaller)
+  walk_on c pairs new few many few' many' p once bundled count one long word run bundles counted pushed h = (
+    record {
+      runs = h.runs ++ (unpack k p, n) ∷ [];
+      next = p + 1;
+      are = pushed ∙ (λ j. h.are j ++ cons_option (capped_pair l (unpack k p) count n stops j) []) ∙ sym (kept_end l (unpack k p) n h.runs);
+      counts = λ x. sums x;
+      some = some_end (unpack k p) n h.runs some h.some;
+      up = runs_end (unpack k p) n h.runs h.up (h.below p fits low);
+      below = λ q small up. below_end (λ y. kmer_cmp y (unpack k q) ≡ Less) (unpack k p) n h.runs (h.below q small (omega (arith, low, up)))
+          (cmp_packed k p q fits small ∙ less p q (omega (arith, up)));
+      first = above few p once few' h.sorted word.first run;
+      second = above many p bundled many' h.bundles_sorted word.second bundles;
+      sorted = subst (IsSorted nat_cmp) (sym run.is) (sorted_rest run.taken few h.sorted);
+      bundles_sorted = subst (IsSorted nat_cmp) (sym bundles.is) (sorted_rest bundles.taken many h.bundles_sorted);
+      fit = subst (AreItems k f) (sym run.is) (All-drop (λ n. n / 2 ^ f < 4 ^ k) run.taken few h.fit);
+      bundles_fit = subst (AreItems k f) (sym bundles.is) (All-drop (λ n. n / 2 ^ f < 4 ^ k) bundles.taken many h.bundles_fit);
+    },
+    fits,
+    smaller,
+  )
     where
       n : ℕ
       n = run.total + u * bundles.total
@@ -252,11 +256,18 @@ module _ (k f u : ℕ) (l : Limits) where
       Facts = (p < 4 ^ k) × (h.next ≤ p) × (1 ≤ n) × (length few' + length many' < length few + length many)
 
       facts : BeginsWith f few p ⊎ BeginsWith f many p → Facts
-      facts (inl b) = (subst (λ q. q < 4 ^ k) b.1 (h.fit 0 0 b.0), omega (arith, h.first b.0, b.1), omega (arith, run.some b),
-          omega (arith, taken_some few p once few' b run, fewer many p bundled many' bundles))
-      facts (inr b) = (subst (λ q. q < 4 ^ k) b.1 (h.bundles_fit 0 0 b.0), omega (arith, h.second b.0, b.1),
-          (let more : 1 * 1 ≤ u * bundles.total = mul-le 1 1 u bundles.total one (bundles.some b) in omega (arith, more)),
-          omega (arith, taken_some many p bundled many' b bundles, fewer few p once few' run))
+      facts (inl b) = (
+        subst (λ q. q < 4 ^ k) b.1 (h.fit 0 0 b.0),
+        omega (arith, h.first b.0, b.1),
+        omega (arith, run.some b),
+        omega (arith, taken_some few p once few' b run, fewer many p bundled many' bundles),
+      )
+      facts (inr b) = (
+        subst (λ q. q < 4 ^ k) b.1 (h.bundles_fit 0 0 b.0),
+        omega (arith, h.second b.0, b.1),
+        (let more : 1 * 1 ≤ u * bundles.total = mul-le 1 1 u bundles.total one (bundles.some b) in omega (arith, more)),
+        omega (arith, taken_some many p bundled many' b bundles, fewer few p once few' run),
+      )
 
       all : Facts
       all = facts (word.is long)

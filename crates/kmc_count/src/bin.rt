@@ -51,7 +51,14 @@ fn take_and_sort<W: PackedKmer + Drop>(
     room.numbers.clear();
     room.items.clear();
     room.bundles.clear();
-    take_body(&mut room.numbers, &mut room.items, body, form.rule, form.bits, short)?;
+    take_body(
+        &mut room.numbers,
+        &mut room.items,
+        body,
+        form.rule,
+        form.bits,
+        short,
+    )?;
     sort_numbers(&mut room.numbers);
     room.repeats.learn(&room.numbers);
     push_rows(&mut room.items, &mut room.bundles, &room.numbers, form)?;
@@ -138,7 +145,15 @@ fn dump_items<W: PackedKmer + Drop, L: PairList<W>>(
 {
     W::sort(&mut room.items);
     W::sort(&mut room.bundles);
-    tally_both(pairs, &room.items, &room.bundles, form.rule, form.bits, form.bundle, limits)
+    tally_both(
+        pairs,
+        &room.items,
+        &room.bundles,
+        form.rule,
+        form.bits,
+        form.bundle,
+        limits,
+    )
 }
 
 /// Puts the dump of a body into an empty list of pairs. The room may be used again for the next body.

@@ -39,10 +39,22 @@ fn push_row<W: PackedKmer + Drop>(
     let most: u64 = 1 << bits;
     let mut left = count;
     while left > most {
-        push_record(items, form.rule, bytes, symbols, Weight { bits, times: most })?;
+        push_record(
+            items,
+            form.rule,
+            bytes,
+            symbols,
+            Weight { bits, times: most },
+        )?;
         left -= most;
     }
-    push_record(items, form.rule, bytes, symbols, Weight { bits, times: left })?;
+    push_record(
+        items,
+        form.rule,
+        bytes,
+        symbols,
+        Weight { bits, times: left },
+    )?;
     Ok(())
 }
 
@@ -113,14 +125,16 @@ fn shared_symbols(one: u128, other: u128, k: usize) -> usize
     ensures second { result ≤ other % 64 }
 {
     let alike = ((one ^ other).leading_zeros() / 2) as usize;
-    let most = alike
-        .min((one % 64) as usize)
-        .min((other % 64) as usize);
+    let most = alike.min((one % 64) as usize).min((other % 64) as usize);
     if most < k {
         return 0;
     }
     let behind = 128 - 2 * most;
-    if one >> behind == other >> behind { most } else { 0 }
+    if one >> behind == other >> behind {
+        most
+    } else {
+        0
+    }
 }
 
 /// The greatest place below `from` at which records wait, or `shared` where that is greater.

@@ -1,4 +1,4 @@
-use Rattle.std.proofs.Common.{◌≡◌, ◌+◌, ◌*◌, ◌%◌, ◌<◌, ◌≤◌, ◌^◌, ℕ, length, map, get_or, refl, sym, arith}
+use Rattle.std.proofs.Common.{◌%◌, get_or, refl, arith}
 use Rattle.std.proofs.lemmas.Result.{on_ok_weaker}
 use Rattle.kmc_count.proofs.RowsSoFar.{row_more, rows_begin, rows_end}
 use Rattle.kmc_count.proofs.Waits.{one_place}

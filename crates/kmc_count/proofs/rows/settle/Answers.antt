@@ -1,6 +1,5 @@
-use Rattle.std.proofs.Common.{◌≡◌, ◌+◌, ◌*◌, ◌<◌, ◌≤◌, ◌^◌, ℕ, set, get_or, refl, arith}
-use Rattle.kmc_count.specs.Waiting.{placed_worth}
-use Rattle.kmc_count.proofs.RowsSoFar.{settle_begins, settle_more}
+use Rattle.std.proofs.Common.{set, refl, arith}
+use Rattle.kmc_count.proofs.RowsSoFar.{settle_more}
 use Rattle.kmc_count.proofs.Waits.{one_place, set_place}
 use Rattle.kmc_count.proofs.rows.settle.Goals as goal
 

@@ -1,4 +1,4 @@
-use Rattle.std.proofs.Common.{◌≤◌, arith}
+use Rattle.std.proofs.Common.{arith}
 use Rattle.kmc_count.proofs.Fronts.{alike_front}
 use Rattle.kmc_count.proofs.rows.shared_symbols.Goals as goal
 

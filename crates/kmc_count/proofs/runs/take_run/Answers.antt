@@ -1,6 +1,5 @@
-use Rattle.std.proofs.Common.{◌≡◌, ℕ, ◌+◌, ◌-◌, ◌/◌, ◌^◌, ◌<◌, ◌≤◌, Bool, true, false, min, List, length, map, take, drop, get_or, sym, ap, ◌∙◌, arith, add-zero}
+use Rattle.std.proofs.Common.{◌≡◌, ◌+◌, ◌-◌, ◌/◌, ◌^◌, ◌<◌, Bool, true, false, min, length, map, drop, get_or, sym, ap, ◌∙◌, arith, add-zero}
 use Rattle.std.proofs.lemmas.List.{drop-map, get_or-drop, get_or-map, length-drop, length-map, take_rest}
-use Rattle.kmc_base.specs.Weights.{item_weight}
 use Rattle.kmc_count.specs.Runs.{BeginsWith}
 use Rattle.kmc_count.proofs.Walk.{run_begins, run_goes_on, run_is}
 use Rattle.kmc_count.proofs.runs.take_run.Goals as goal

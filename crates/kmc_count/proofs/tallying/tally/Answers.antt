@@ -1,4 +1,4 @@
-use Rattle.std.proofs.Common.{◌≡◌, ◌+◌, ◌*◌, ℕ, List, [], map, subst, arith}
+use Rattle.std.proofs.Common.{◌≡◌, ℕ, List, [], map, subst, arith}
 use Rattle.std.proofs.lemmas.Result.{on_ok_weaker}
 use Rattle.kmc_base.specs.Weights.{items}
 use Rattle.kmc_count.specs.Bundles.{weight_of_both}

@@ -1,6 +1,5 @@
-use Rattle.std.proofs.Common.{◌≡◌, ℕ, ◌+◌, ◌-◌, ◌*◌, ◌^◌, ◌<◌, ◌≤◌, length, map, min, sym, ap, ◌∙◌, arith}
+use Rattle.std.proofs.Common.{◌+◌, ◌-◌, ◌^◌, ◌≤◌, length, map, min, sym, ap, ◌∙◌, arith}
 use Rattle.std.proofs.lemmas.List.{length-map}
-use Rattle.kmc_count.proofs.Refused.{refused}
 use Rattle.kmc_count.proofs.Walk.{emptied, filled, walk_begins, walk_ends, walk_on, word_fits}
 use Rattle.kmc_count.proofs.tallying.tally_both.Goals as goal
 use Rattle.kmc_count.proofs.tallying.tally_both.Goals.{then-not-is_empty, else-not-is_empty+then-not-is_empty-2}
@@ -42,8 +41,14 @@ loop-few-smaller g c =
     let counted = c.saturating_add-count.ensures ∙ ap (λ t. min (c.take_run-once.result.0 + t) (2 ^ 64 - 1)) c.saturating_mul.ensures in
     let step = walk_on k c.args.bits c.args.bundle c.args.limits.now _ _ _ (map num few) (map num many) _ _ _ _ _ _ c.requires.bundle long
     c.first_word-word.ensures (c.take_run-once.ensures k) (c.take_run-bundled.ensures k) counted c.in_ok-push_kept.ensures.pairs c.loop-few.invariant.walked in
-    omega (arith, step.2, length-map few num, length-map many num, length-map c.take_run-once.result.1.now num,
-    length-map c.take_run-bundled.result.1.now num)
+    omega (
+      arith,
+      step.2,
+      length-map few num,
+      length-map many num,
+      length-map c.take_run-once.result.1.now num,
+      length-map c.take_run-bundled.result.1.now num,
+    )
 
 pub loop-few-preserved : goal.loop-few-preserved
 loop-few-preserved g c =
