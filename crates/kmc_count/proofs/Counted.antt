@@ -1,5 +1,5 @@
 -- From records that were taken in to the dump of their words.
-use Rattle.std.proofs.Common.{◌≡◌, ℕ, ◌+◌, ◌*◌, ◌/◌, ◌^◌, ◌<◌, List, [], ◌∷◌, refl, sym, ap, ◌∙◌, arith}
+use Rattle.std.proofs.Common.{◌≡◌, ℕ, ◌+◌, ◌*◌, ◌/◌, ◌^◌, ◌<◌, All, List, [], ◌∷◌, refl, sym, ap, ◌∙◌, arith}
 use Rattle.std.proofs.lemmas.List.Sorted.{sum_by-IsPermutation, All-permutation}
 use Rattle.std.proofs.lemmas.List.Sums.{sum_by-cons}
 use Rattle.std.specs.List.{sum_by}
@@ -8,7 +8,7 @@ use Rattle.kmc_base.specs.declared.strands.Strands.{Strands}
 use Rattle.kmc_base.specs.Packed.{unpack}
 use Rattle.kmc_base.specs.Weights.{item, items, item_weight, worth}
 use Rattle.kmc_base.specs.Record.{IsBodyOf}
-use Rattle.kmc_record.specs.RecordKeys.{IsTaken}
+use Rattle.kmc_record.specs.RecordKeys.{IsRecordKey, IsTaken}
 use Rattle.kmc_count.specs.Bodies.{AreItemsOfBody}
 use Rattle.kmc_count.specs.Tables.{ComeToAsMuch}
 
@@ -25,6 +25,9 @@ worth_is k f g (n ∷ ns) =
 pub worth_moved : (k f : ℕ) (g : List ℕ → ℕ) (all moved : List ℕ) → IsPermutation all moved → worth g (items k f moved) ≡ worth g (items k f all)
 worth_moved k f g all moved moves =
     worth_is k f g moved ∙ sum_by-IsPermutation (λ n. item_weight f n * g (unpack k (n / 2 ^ f))) all moved moves ∙ sym (worth_is k f g all)
+
+pub sorted_long : (k : ℕ) (ks sorted : List ℕ) → IsPermutation ks sorted → All (IsRecordKey k) ks → All (IsRecordKey k) sorted
+sorted_long k ks sorted moved h = All-permutation (IsRecordKey k) ks sorted moved h
 
 -- ---- all of it
 

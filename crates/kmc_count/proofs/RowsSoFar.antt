@@ -1,5 +1,5 @@
 -- Records whose words go into items, those that begin alike together.
-use Rattle.std.proofs.Common.{◌≡◌, ℕ, zero, suc, ◌+◌, ◌*◌, ◌%◌, ◌<◌, ◌≤◌, ◌^◌, ◌⊎◌, inl, inr, Bool, true, false, nat_le, List, length, take, drop, set, get_or, replicate, refl, sym, ap, subst, ◌∙◌, arith, add-mul}
+use Rattle.std.proofs.Common.{◌≡◌, ℕ, zero, suc, ◌+◌, ◌*◌, ◌%◌, ◌<◌, ◌≤◌, ◌^◌, ◌⊎◌, inl, inr, Bool, true, false, nat_eq, nat_le, List, length, take, drop, set, get_or, replicate, refl, sym, ap, subst, ◌∙◌, arith, add-mul}
 use Rattle.std.proofs.lemmas.Bool.Decides.{nat_tests}
 use Rattle.std.proofs.lemmas.List.{drop_all, drop_more, get_or-set_same, get_or-set_other, length-replicate, length-set, take-take}
 use Rattle.std.proofs.lemmas.List.Sums.{sum_by-append}
@@ -19,15 +19,17 @@ use Rattle.kmc_count.proofs.Waits.{first_place, no_places, same_places, set_plac
 -- the words between two places are told for those that wait at the one, which wait at the other then
 pub settle_more : (strands : Strands) (k f u key : ℕ) (s s' t t' n n' : List ℕ) (old cs new : List ℕ) (from below count : ℕ) → below < from → from < 64
     → count ≡ get_or cs from 0
+    → (1 ≤ below → k ≤ below)
     → new ≡ set (set cs from 0) below (get_or (set cs from 0) below 0 + count)
     → ((i : ℕ) → below < i → i < from → get_or cs i 0 ≡ 0)
     → BothGainBetween strands k f u key t t' n n' below from count
     → AreSettled strands k f u key from s s' old t t' cs → AreSettled strands k f u key below s s' old n n' new
-settle_more strands k f u key s s' t t' n n' old cs new from below count down inside is moved none gains h = record {
+settle_more strands k f u key s s' t t' n n' old cs new from below count down inside is word moved none gains h = record {
   each = λ g. omega (arith, gains.each g, h.each g, worth (front_worth strands k g key));
   places = record {
     wide = ap length moved ∙ length-set (set cs from 0) below _ ∙ wide ∙ h.places.wide;
     none = nothing;
+    short = nothing_short;
     few = subst (λ m. m < 2 ^ 64) (sym all) h.places.few;
   };
   count = all ∙ h.count;
@@ -55,6 +57,23 @@ settle_more strands k f u key s s' t t' n n' old cs new from below count down in
     all : placed_worth (λ _. 1) 0 new ≡ placed_worth (λ _. 1) 0 cs
     all = omega (arith, worth (λ _. 1))
 
+    -- a place that is neither of the two keeps what it has
+    at_from : (i : ℕ) → get_or cs i 0 ≡ 0 → get_or (set cs from 0) i 0 ≡ 0
+    at_from i none = go (nat_eq i from) refl
+      where
+        go : (b : Bool) → nat_eq i from ≡ b → get_or (set cs from 0) i 0 ≡ 0
+        go true e =
+            let here : i ≡ from = grind (arith, nat_tests) in
+            ap (λ j. get_or (set cs from 0) j 0) here ∙ get_or-set_same cs from 0 0 (omega (arith, h.places.wide, inside))
+        go false e =
+            let other : i ≡ from → ⊥ = grind (arith, nat_tests) in
+            get_or-set_other cs from i 0 0 other ∙ none
+
+    nothing_short : (i : ℕ) → 1 ≤ i → i < k → get_or new i 0 ≡ 0
+    nothing_short i some less =
+        let apart : i ≡ below → ⊥ = λ e. absurd (omega (arith, e, less, word (omega (arith, e, some)))) in
+        ap (λ t. get_or t i 0) moved ∙ get_or-set_other (set cs from 0) below i (v + count) 0 apart ∙ at_from i (h.places.short i some less)
+
     nothing : (i : ℕ) → below < i → get_or new i 0 ≡ 0
     nothing i up = ap (λ t. get_or t i 0) moved ∙ get_or-set_other (set cs from 0) below i (v + count) 0 (omega (arith, up)) ∙ go (nat_le from i) (nat_le i from) refl refl
       where
@@ -69,7 +88,7 @@ settle_more strands k f u key s s' t t' n n' old cs new from below count down in
             let less : i < from = grind (arith, nat_tests) in
             get_or-set_other cs from i 0 0 (omega (arith, less)) ∙ none i up less
 
-pub settle_begins : (strands : Strands) (k f u key last : ℕ) (s s' cs : List ℕ) → IsWaiting last cs → AreSettled strands k f u key last s s' cs s s' cs
+pub settle_begins : (strands : Strands) (k f u key last : ℕ) (s s' cs : List ℕ) → IsWaiting k last cs → AreSettled strands k f u key last s s' cs s s' cs
 settle_begins strands k f u key last s s' cs is = record { each = λ g. refl; places = is; count = refl; fit = λ h. h; bundles_fit = λ h. h }
 
 zeros_at : (n i : ℕ) → get_or {A = ℕ} (replicate n 0) i 0 ≡ 0
@@ -87,7 +106,7 @@ module _ (strands : Strands) (k f u : ℕ) (s s' : List ℕ) (all : List ℕ) wh
   pub record AreRowsSoFar (key i : ℕ) (n n' counts : List ℕ) : Type 0 where
     pub each : (g : List ℕ → ℕ) → worth_of_both k f u g n n' + placed_worth (front_worth strands k g key) 0 counts + keys_worth g (drop i all)
         ≡ worth_of_both k f u g s s' + keys_worth g all
-    pub places : IsWaiting (key % 64) counts
+    pub places : IsWaiting k (key % 64) counts
     pub count : placed_worth (λ _. 1) 0 counts ≡ i
     pub fit : AreItems k f s → AreItems k f n
     pub bundles_fit : AreItems k f s' → AreItems k f n'
@@ -101,6 +120,7 @@ module _ (strands : Strands) (k f u : ℕ) (s s' : List ℕ) (all : List ℕ) wh
     places = record {
       wide = ap length zeros ∙ length-replicate {A = ℕ} 64 0;
       none = λ i _. ap (λ t. get_or t i 0) zeros ∙ zeros_at 64 i;
+      short = λ i _ _. ap (λ t. get_or t i 0) zeros ∙ zeros_at 64 i;
       few = subst (λ m. m < 2 ^ 64) (sym nothing) (omega arith);
     };
     count = nothing;
@@ -118,11 +138,11 @@ module _ (strands : Strands) (k f u : ℕ) (s s' : List ℕ) (all : List ℕ) wh
 
   -- the last record is settled to what it shares with the next one, which waits at its end
   pub row_more : (key next i shared : ℕ) (n n' m m' cs ds es : List ℕ) → i < length all → next ≡ get_or all i 0
-      → take shared (unpack 64 key) ≡ take shared (unpack 64 next) → shared ≤ next % 64
+      → take shared (unpack 64 key) ≡ take shared (unpack 64 next) → shared ≤ next % 64 → k ≤ next % 64
       → AreSettled strands k f u key shared n n' cs m m' ds
       → es ≡ set ds (next % 64) (get_or ds (next % 64) 0 + 1) → length all < 2 ^ 64
       → AreRowsSoFar key i n n' cs → AreRowsSoFar next (i + 1) m m' es
-  row_more key next i shared n n' m m' cs ds es inside at alike short settled more few h = record {
+  row_more key next i shared n n' m m' cs ds es inside at alike short long settled more few h = record {
     each = λ g.
         let new = worth (front_worth strands k g next) in
         let same : placed_worth (front_worth strands k g key) 0 ds ≡ placed_worth (front_worth strands k g next) 0 ds =
@@ -134,6 +154,8 @@ module _ (strands : Strands) (k f u : ℕ) (s s' : List ℕ) (all : List ℕ) wh
       wide = ap length more ∙ length-set ds (next % 64) _ ∙ settled.places.wide;
       none = λ j up. ap (λ t. get_or t j 0) more ∙ get_or-set_other ds (next % 64) j _ 0 (omega (arith, up))
           ∙ settled.places.none j (omega (arith, up, short));
+      short = λ j some less. ap (λ t. get_or t j 0) more ∙ get_or-set_other ds (next % 64) j _ 0 (λ e. absurd (omega (arith, e, less, long)))
+          ∙ settled.places.short j some less;
       few = omega (arith, counted, few, inside);
     };
     count = counted;

@@ -297,3 +297,15 @@ filled n e = grind (arith, nat_tests)
 
 pub emptied : (n : ℕ) → nat_eq n 0 ≡ true → n ≡ 0
 emptied n e = grind (arith, nat_tests)
+
+-- no items of a word in an empty list
+pub no_run : (k f : ℕ) (ns : List ℕ) (p : ℕ) → length ns ≡ 0 → IsRun k f ns p 0 ns
+no_run k f ns p none = record {
+  total = 0;
+  stops = omega arith;
+  weights = λ x. omega (arith, none_counted (same_word (unpack k p) x));
+  taken = 0;
+  is = refl;
+  other = λ b. absurd (omega (arith, none, b.0));
+  some = λ b. absurd (omega (arith, none, b.0));
+}

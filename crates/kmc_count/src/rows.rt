@@ -1,9 +1,9 @@
 //! Equal records, and those that begin alike: the words that they share once, with the number of the records as their weight.
-ghost use Rattle.std.specs.Prelude.{◌≡◌, ◌+◌, ◌*◌, ◌%◌, ◌<◌, ◌≤◌, ℕ, length, map, take, slice_index_or, OnOk};
+ghost use Rattle.std.specs.Prelude.{◌≡◌, ◌+◌, ◌*◌, ◌%◌, ◌<◌, ◌≤◌, ℕ, All, length, map, take, slice_index_or, OnOk};
 ghost use Rattle.kmc_base.specs.Packed.{unpack};
 ghost use Rattle.kmc_base.specs.Record.{codes_in};
 ghost use Rattle.kmc_base.specs.Strands.{keys};
-ghost use Rattle.kmc_record.specs.RecordKeys.{key_words, Gains};
+ghost use Rattle.kmc_record.specs.RecordKeys.{key_words, Gains, IsRecordKey};
 ghost use Rattle.kmc_count.specs.Bundles.{BothGain};
 ghost use Rattle.kmc_count.specs.Waiting.{AreSettled, BothGainBetween, IsWaiting};
 
@@ -123,6 +123,7 @@ fn shared_symbols(one: u128, other: u128, k: usize) -> usize
     ensures alike { take result (unpack 64 one) ≡ take result (unpack 64 other) }
     ensures first { result ≤ one % 64 }
     ensures second { result ≤ other % 64 }
+    ensures word { 1 ≤ result → k ≤ result }
 {
     let alike = ((one ^ other).leading_zeros() / 2) as usize;
     let most = alike.min((one % 64) as usize).min((other % 64) as usize);
@@ -137,19 +138,25 @@ fn shared_symbols(one: u128, other: u128, k: usize) -> usize
     }
 }
 
-/// The greatest place below `from` at which records wait, or `shared` where that is greater.
-fn place_below(waiting: &[u64], from: usize, shared: usize) -> usize
+/// The greatest place below `from` at which records wait, or `shared` where that is greater. None wait inside of the first word.
+fn place_below(waiting: &[u64], from: usize, shared: usize, k: usize) -> usize
     requires order { shared < from }
     requires inside { from < length waiting.now }
+    requires short { (i : ℕ) → 1 ≤ i → i < k → slice_index_or waiting.now i 0 ≡ 0 }
+    requires word { 1 ≤ shared → k ≤ shared }
     ensures from { result < from }
     ensures shared { shared ≤ result }
     ensures none { (i : ℕ) → result < i → i < from → slice_index_or waiting.now i 0 ≡ 0 }
+    ensures word { 1 ≤ result → k ≤ result }
 {
     let mut below = from - 1;
-    while below > shared && waiting[below] == 0 {
+    while below > shared && below >= k {
+        if waiting[below] > 0 {
+            return below;
+        }
         below -= 1;
     }
-    below
+    shared
 }
 
 /// Appends the words of a record that end behind what it shares with the next one, each as many times as records wait at the word's end
@@ -166,13 +173,14 @@ fn settle<W: PackedKmer + Drop>(
     requires beside { 2 * form.rule.k + form.bits ≤ 2 * W.most }
     requires bits { form.bits ≤ MOST_WEIGHT_BITS }
     requires inside { shared ≤ key % 64 }
-    requires waiting { IsWaiting (key % 64) waiting.old }
+    requires word { 1 ≤ shared → form.rule.k ≤ shared }
+    requires waiting { IsWaiting form.rule.k (key % 64) waiting.old }
     ensures { OnOk result (AreSettled form.rule.strands form.rule.k form.bits form.bundle key shared (map W.number items.old.items)
         (map W.number bundles.old.items) waiting.old (map W.number items.new.items) (map W.number bundles.new.items) waiting.new) }
 {
     let mut from = (key % 64) as usize;
     while from > shared {
-        let below = place_below(waiting, from, shared);
+        let below = place_below(waiting, from, shared, form.rule.k);
         let count = waiting[from];
         push_between(items, bundles, key, below, from, count, form)?;
         waiting[from] = 0;
@@ -194,6 +202,7 @@ pub(crate) fn push_rows<W: PackedKmer + Drop>(
     requires most { form.rule.k ≤ W.most }
     requires beside { 2 * form.rule.k + form.bits ≤ 2 * W.most }
     requires bits { form.bits ≤ MOST_WEIGHT_BITS }
+    requires long { All (IsRecordKey form.rule.k) keys.now }
     ensures { OnOk result (BothGain form.rule.k form.bits form.bundle (map W.number items.old.items)
         (map W.number bundles.old.items) (map W.number items.new.items) (map W.number bundles.new.items)
         (key_words form.rule.strands form.rule.k keys.now) 1) }

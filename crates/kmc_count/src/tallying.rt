@@ -66,7 +66,7 @@ pub(crate) fn tally_both<W: PackedKmer + Drop, L: PairList<W>>(
 {
     let mut few = singles;
     let mut many = bundles;
-    while !few.is_empty() || !many.is_empty() {
+    while !many.is_empty() {
         let word = first_word(few, many, bits);
         let (once, next) = take_run(few, word, bits);
         let (bundled, others) = take_run(many, word, bits);
@@ -74,6 +74,12 @@ pub(crate) fn tally_both<W: PackedKmer + Drop, L: PairList<W>>(
         push_kept(pairs, word, count, rule, limits)?;
         few = next;
         many = others;
+    }
+    while !few.is_empty() {
+        let word = first_word(few, many, bits);
+        let (count, next) = take_run(few, word, bits);
+        push_kept(pairs, word, count, rule, limits)?;
+        few = next;
     }
     Ok(())
 }

@@ -1,10 +1,16 @@
-use Rattle.std.proofs.Common.{map, inl, inr, ap, subst}
-use Rattle.kmc_record.specs.RecordKeys.{key_words}
+use Rattle.std.proofs.Common.{map, inl, inr, All, ap, subst, sym}
+use Rattle.kmc_record.specs.RecordKeys.{key_words, IsRecordKey}
 use Rattle.kmc_count.specs.Bundles.{BothGain}
 use Rattle.kmc_count.specs.Lemmas.PassedOn.{passed_on}
 use Rattle.kmc_count.proofs.Bundled.{rows_unpacked}
+use Rattle.kmc_count.proofs.Counted.{sorted_long}
 use Rattle.kmc_count.proofs.Refused.{given, no_damage, refused}
 use Rattle.kmc_count.proofs.bin.take_and_sort.Goals as goal
+
+pub push_rows-requires-clause-long : goal.push_rows-requires-clause-long
+push_rows-requires-clause-long g c =
+    subst (All (IsRecordKey c.args.form.rule.k)) (sym c.deref-2.ensures.value)
+    (sorted_long c.args.form.rule.k _ _ c.sort_numbers.ensures.moved c.in_ok-take_body.ensures.ok.2.long)
 
 pub returns-clause-ok : goal.returns-clause-ok
 returns-clause-ok g c =

@@ -18,7 +18,7 @@ pub loop-next-preserved : goal.loop-next-preserved
 loop-next-preserved g c =
     let form = c.args.form in
     row_more form.rule.strands form.rule.k form.bits form.bundle _ _ c.args.keys.now _ _ _ _ _ _ _ _ _ _ _ c.loop-next-test.true refl
-    c.shared_symbols-shared.ensures.alike c.shared_symbols-shared.ensures.second c.in_ok-settle.ensures refl (omega arith) c.loop-next.invariant
+    c.shared_symbols-shared.ensures.alike c.shared_symbols-shared.ensures.second (c.requires.long c.loop-next.next-index 0 c.loop-next-test.true) c.in_ok-settle.ensures refl (omega arith) c.loop-next.invariant
 
 pub returns : goal.returns
 returns g c =

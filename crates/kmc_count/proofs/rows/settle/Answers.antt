@@ -20,6 +20,6 @@ loop-from-preserved g c =
       behind = below.ensures.shared;
       inside = omega (arith, below.ensures.from, c.loop-from.invariant.inside);
       settled = settle_more form.rule.strands form.rule.k form.bits form.bundle c.args.key _ _ _ _ _ _ _ c.loop-from.waiting _ c.loop-from.from below.result _
-          below.ensures.from (omega (arith, c.loop-from.invariant.inside)) refl refl below.ensures.none c.in_ok-push_between.ensures
+          below.ensures.from (omega (arith, c.loop-from.invariant.inside)) refl below.ensures.word refl below.ensures.none c.in_ok-push_between.ensures
           c.loop-from.invariant.settled;
     }
