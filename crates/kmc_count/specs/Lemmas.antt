@@ -7,5 +7,4 @@ pub mod OneDump
 pub mod PackedRuns
 pub mod PassedOn
 pub mod Runs
-pub mod SortedRuns
 pub mod Zips

@@ -6,13 +6,15 @@ ghost use Rattle.kmc_base.specs.Weights.{AreItems};
 ghost use Rattle.kmc_record.specs.Faults.{IsFirstFault};
 ghost use Rattle.kmc_record.specs.declared.fault.RecordFault.{RecordFault};
 ghost use Rattle.kmc_count.specs.Bodies.{AreItemsOfBody, IsDumpOfBody, WantsMemory};
+ghost use Rattle.kmc_count.specs.Bundles.{AreBundledItems};
 
 use crate::adding::{take_and_add, takes_table};
+use crate::item_form::{ItemForm, bundle_of};
 use crate::limits::Limits;
 use crate::room::CountingRoom;
 use crate::rows::push_rows;
 use crate::taking::take_body;
-use crate::tallying::tally;
+use crate::tallying::tally_both;
 use kmc_base::{KeyRule, MOST_WEIGHT_BITS, PackedKmer};
 use kmc_lists::PairList;
 use kmc_record::BodyError;
@@ -28,56 +30,63 @@ fn sort_numbers(numbers: &mut Vec<u128>)
     }
 }
 
-/// The words of a body as items. Where equal records are looked for, they are sorted first, each as the lesser of it and its
-/// reverse complement, so that those that are equal stand side by side and their words are unpacked once.
+/// The words of a body as items, and as bundles where the form has them. Where equal records are looked for, they are sorted first, each as
+/// the lesser of it and its reverse complement, so that those that begin alike stand side by side and what they share is unpacked once.
 fn take_and_sort<W: PackedKmer + Drop>(
     room: &mut CountingRoom<W>,
     body: &[u8],
-    rule: KeyRule,
-    bits: u32,
+    form: ItemForm,
 ) -> Result<(), BodyError>
-    requires most { rule.k ≤ W.most }
-    requires beside { 2 * rule.k + bits ≤ 2 * W.most }
-    requires bits { bits ≤ MOST_WEIGHT_BITS }
-    ensures ok { OnOk result (AreItemsOfBody rule.strands rule.k bits body.now
-        (map W.number room.new.items.items)) }
+    requires most { form.rule.k ≤ W.most }
+    requires beside { 2 * form.rule.k + form.bits ≤ 2 * W.most }
+    requires bits { form.bits ≤ MOST_WEIGHT_BITS }
+    ensures ok { OnOk result (AreBundledItems form.rule.strands form.rule.k form.bits form.bundle body.now
+        (map W.number room.new.items.items) (map W.number room.new.bundles.items)) }
     ensures damaged { (fault : RecordFault) (offset : ℕ)
         → IsErrOf result (BodyError.Damaged fault offset)
-        → IsFirstFault rule.k fault offset body.now }
-    ensures memory { IsErrOf result BodyError.Memory → WantsMemory rule.k body.now }
+        → IsFirstFault form.rule.k fault offset body.now }
+    ensures memory { IsErrOf result BodyError.Memory → WantsMemory form.rule.k body.now }
 {
     let short = room.repeats.short_records();
     room.numbers.clear();
     room.items.clear();
-    take_body(&mut room.numbers, &mut room.items, body, rule, bits, short)?;
+    room.bundles.clear();
+    take_body(
+        &mut room.numbers,
+        &mut room.items,
+        body,
+        form.rule,
+        form.bits,
+        short,
+    )?;
     sort_numbers(&mut room.numbers);
     room.repeats.learn(&room.numbers);
-    push_rows(&mut room.items, &room.numbers, rule, bits)?;
+    push_rows(&mut room.items, &mut room.bundles, &room.numbers, form)?;
     Ok(())
 }
 
-/// The words of a body as items. Many short words are added up in a table.
+/// The words of a body as items, and as bundles where the form has them. Many short words are added up in a table.
 fn take_items<W: PackedKmer + Drop>(
     room: &mut CountingRoom<W>,
     body: &[u8],
-    rule: KeyRule,
-    bits: u32,
+    form: ItemForm,
 ) -> Result<(), BodyError>
-    requires most { rule.k ≤ W.most }
-    requires beside { 2 * rule.k + bits ≤ 2 * W.most }
-    requires bits { bits ≤ MOST_WEIGHT_BITS }
-    ensures ok { OnOk result (AreItemsOfBody rule.strands rule.k bits body.now
-        (map W.number room.new.items.items)) }
+    requires most { form.rule.k ≤ W.most }
+    requires beside { 2 * form.rule.k + form.bits ≤ 2 * W.most }
+    requires bits { form.bits ≤ MOST_WEIGHT_BITS }
+    ensures ok { OnOk result (AreBundledItems form.rule.strands form.rule.k form.bits form.bundle body.now
+        (map W.number room.new.items.items) (map W.number room.new.bundles.items)) }
     ensures damaged { (fault : RecordFault) (offset : ℕ)
         → IsErrOf result (BodyError.Damaged fault offset)
-        → IsFirstFault rule.k fault offset body.now }
-    ensures memory { IsErrOf result BodyError.Memory → WantsMemory rule.k body.now }
+        → IsFirstFault form.rule.k fault offset body.now }
+    ensures memory { IsErrOf result BodyError.Memory → WantsMemory form.rule.k body.now }
 {
-    if takes_table(rule.k, body.len()) {
-        take_and_add(room, body, rule, bits)
-    } else {
-        take_and_sort(room, body, rule, bits)
+    if !takes_table(form.rule.k, body.len()) {
+        return take_and_sort(room, body, form);
     }
+    take_and_add(room, body, form.rule, form.bits)?;
+    room.bundles.clear();
+    Ok(())
 }
 
 /// The words of a body as items, which rise, so that those of one word are neighbours. How often a word comes is the sum of the
@@ -101,7 +110,12 @@ pub fn items_of_body<W: PackedKmer + Drop>(
 {
     let mut items = {
         let mut room = CountingRoom::new(alloc);
-        take_items(&mut room, body, rule, bits)?;
+        let form = ItemForm {
+            rule,
+            bits,
+            bundle: 0,
+        };
+        take_items(&mut room, body, form)?;
         let CountingRoom { items, .. } = room;
         items
     };
@@ -109,26 +123,37 @@ pub fn items_of_body<W: PackedKmer + Drop>(
     Ok(items)
 }
 
-/// Puts the dump of items into an empty list of pairs, and sorts the items for that.
+/// Puts the dump of the items and bundles of a room into an empty list of pairs, and sorts them for that.
 fn dump_items<W: PackedKmer + Drop, L: PairList<W>>(
-    items: &mut Vec<W>,
+    room: &mut CountingRoom<W>,
     pairs: &mut L,
-    rule: KeyRule,
-    bits: u32,
+    form: ItemForm,
     limits: &Limits,
 ) -> Result<(), AllocError>
-    requires takes { L.takes rule.k pairs.old }
+    requires takes { L.takes form.rule.k pairs.old }
     requires empty { L.pairs pairs.old ≡ [] }
     requires wide { limits.now.cs ≤ L.greatest }
-    requires bits { bits ≤ MOST_WEIGHT_BITS }
-    requires fit { AreItems rule.k bits (map W.number items.old.items) }
-    ensures takes { OnOk result (L.takes rule.k pairs.new) }
+    requires bits { form.bits ≤ MOST_WEIGHT_BITS }
+    requires bundle { 1 ≤ form.bundle }
+    requires fit { AreItems form.rule.k form.bits (map W.number room.old.items.items) }
+    requires bundles_fit { AreItems form.rule.k form.bits (map W.number room.old.bundles.items) }
+    ensures takes { OnOk result (L.takes form.rule.k pairs.new) }
     ensures ok { (body : List ℕ)
-        → AreItemsOfBody rule.strands rule.k bits body (map W.number items.old.items)
-        → OnOk result (IsDumpOfBody rule.strands rule.k limits.now body (L.pairs pairs.new)) }
+        → AreBundledItems form.rule.strands form.rule.k form.bits form.bundle body (map W.number room.old.items.items)
+        (map W.number room.old.bundles.items)
+        → OnOk result (IsDumpOfBody form.rule.strands form.rule.k limits.now body (L.pairs pairs.new)) }
 {
-    W::sort(items);
-    tally(pairs, items, rule, bits, limits)
+    W::sort(&mut room.items);
+    W::sort(&mut room.bundles);
+    tally_both(
+        pairs,
+        &room.items,
+        &room.bundles,
+        form.rule,
+        form.bits,
+        form.bundle,
+        limits,
+    )
 }
 
 /// Puts the dump of a body into an empty list of pairs. The room may be used again for the next body.
@@ -152,7 +177,12 @@ pub fn count_into<W: PackedKmer + Drop, L: PairList<W>>(
     ensures memory { IsErrOf result BodyError.Memory → WantsMemory rule.k body.now }
 {
     let bits = W::weight_bits(rule.k);
-    take_items(room, body, rule, bits)?;
-    dump_items(&mut room.items, pairs, rule, bits, limits)?;
+    let form = ItemForm {
+        rule,
+        bits,
+        bundle: bundle_of(bits),
+    };
+    take_items(room, body, form)?;
+    dump_items(room, pairs, form, limits)?;
     Ok(())
 }

@@ -9,6 +9,7 @@ use std::alloc::Global;
 pub struct CountingRoom<W: PackedKmer> {
     pub(crate) numbers: Vec<u128>,
     pub(crate) items: Vec<W>,
+    pub(crate) bundles: Vec<W>,
     pub(crate) table: Vec<u32>,
     pub(crate) over: Vec<W>,
     pub(crate) repeats: Repeats,
@@ -20,6 +21,7 @@ impl<W: PackedKmer> CountingRoom<W> {
         CountingRoom {
             numbers: Vec::new(alloc),
             items: Vec::new(alloc),
+            bundles: Vec::new(alloc),
             table: Vec::new(alloc),
             over: Vec::new(alloc),
             repeats: Repeats::new(),

@@ -5,10 +5,12 @@ ghost use Rattle.std.specs.List.Sorted.{IsSorted};
 ghost use Rattle.std.specs.Ordering.{nat_cmp};
 ghost use Rattle.kmc_base.specs.Packed.{unpack};
 ghost use Rattle.kmc_base.specs.Weights.{items, AreItems};
+ghost use Rattle.kmc_count.specs.Bundles.{weight_of_both};
 ghost use Rattle.kmc_count.specs.Occurrences.{weight_of};
 ghost use Rattle.kmc_count.specs.Dump.{IsDump, keep_pair};
 
 use crate::limits::Limits;
+use crate::runs::{first_word, take_run};
 use kmc_base::{KeyRule, MOST_WEIGHT_BITS, PackedKmer};
 use kmc_lists::PairList;
 use std::alloc::AllocError;
@@ -35,9 +37,54 @@ fn push_kept<W: PackedKmer + Drop, L: PairList<W>>(
     Ok(())
 }
 
-/// Puts the dump of a sorted list of items into an empty list of pairs, in one pass. The lowest bits of an item have how often
-/// its word is counted, less one; with no such bits an item is a packed word that is counted once. The sum of a word's weights
-/// stops at 2^64 - 1, which is above all limits.
+/// Puts the dump of two sorted lists of items into an empty list of pairs, in one pass over each. An item of the second list counts
+/// `bundle` times. The lowest bits of an item have how often its word is counted, less one; with no such bits an item is a packed word that
+/// is counted once. The sum of a word's weights stops at 2^64 - 1, which is above all limits.
+pub(crate) fn tally_both<W: PackedKmer + Drop, L: PairList<W>>(
+    pairs: &mut L,
+    singles: &[W],
+    bundles: &[W],
+    rule: KeyRule,
+    bits: u32,
+    bundle: u64,
+    limits: &Limits,
+) -> Result<(), AllocError>
+    requires takes { L.takes rule.k pairs.old }
+    requires empty { L.pairs pairs.old ≡ [] }
+    requires wide { limits.now.cs ≤ L.greatest }
+    requires bits { bits ≤ MOST_WEIGHT_BITS }
+    requires fit { AreItems rule.k bits (map W.number singles.now) }
+    requires bundles_fit { AreItems rule.k bits (map W.number bundles.now) }
+    requires sorted { IsSorted nat_cmp (map W.number singles.now) }
+    requires bundles_sorted { IsSorted nat_cmp (map W.number bundles.now) }
+    requires bundle { 1 ≤ bundle }
+    ensures takes { OnOk result (L.takes rule.k pairs.new) }
+    ensures dump { OnOk result (IsDump
+        (weight_of_both bundle (items rule.k bits (map W.number singles.now))
+        (items rule.k bits (map W.number bundles.now))) limits.now
+        (L.pairs pairs.new)) }
+{
+    let mut few = singles;
+    let mut many = bundles;
+    while !many.is_empty() {
+        let word = first_word(few, many, bits);
+        let (once, next) = take_run(few, word, bits);
+        let (bundled, others) = take_run(many, word, bits);
+        let count = once.saturating_add(bundled.saturating_mul(bundle));
+        push_kept(pairs, word, count, rule, limits)?;
+        few = next;
+        many = others;
+    }
+    while !few.is_empty() {
+        let word = first_word(few, many, bits);
+        let (count, next) = take_run(few, word, bits);
+        push_kept(pairs, word, count, rule, limits)?;
+        few = next;
+    }
+    Ok(())
+}
+
+/// Puts the dump of a sorted list of items into an empty list of pairs, as [`tally_both`] does where there are no bundles.
 pub fn tally<W: PackedKmer + Drop, L: PairList<W>>(
     pairs: &mut L,
     words: &[W],
@@ -56,21 +103,5 @@ pub fn tally<W: PackedKmer + Drop, L: PairList<W>>(
         (weight_of (items rule.k bits (map W.number words.now))) limits.now
         (L.pairs pairs.new)) }
 {
-    let Some((first, rest)) = words.split_first() else {
-        return Ok(());
-    };
-    let mut word = first.without_weight(bits);
-    let mut count = first.times(bits);
-    for next in rest {
-        let other = next.without_weight(bits);
-        let times = next.times(bits);
-        if other.is_same(word) {
-            count = count.saturating_add(times);
-        } else {
-            push_kept(pairs, word, count, rule, limits)?;
-            word = other;
-            count = times;
-        }
-    }
-    push_kept(pairs, word, count, rule, limits)
+    tally_both(pairs, words, &words[..0], rule, bits, 1, limits)
 }

@@ -11,7 +11,7 @@ use Rattle.kmc_count.specs.Bodies.{AreItemsOfBody, IsDumpOfBody}
 use Rattle.kmc_count.specs.Lemmas.Runs.{weight_of_cons}
 
 -- with 1 for x: the weight of x
-weight_is : (x : List ℕ) (ps : List (List ℕ × ℕ)) → weight_of ps x ≡ worth (λ w. cond (same_word w x) 1 0) ps
+pub weight_is : (x : List ℕ) (ps : List (List ℕ × ℕ)) → weight_of ps x ≡ worth (λ w. cond (same_word w x) 1 0) ps
 weight_is x [] = refl
 weight_is x (p ∷ ps) =
     weight_of_cons x p ps ∙ (λ i. one (same_word p.0 x) p.1 i + weight_is x ps i)

@@ -182,6 +182,64 @@ fn rows_longer_than_a_weight_are_counted_whole(rt: HostRuntime) -> Result<(), Fa
     Ok(())
 }
 
+/// Appends the fronts of a stretch of 61 codes that have a word, each in up to nine copies and some with another last code: records that
+/// begin alike, of all lengths that a number has.
+fn push_fronts(
+    alloc: Global,
+    body: &mut Vec<u8>,
+    dice: &mut Dice,
+    k: usize,
+) -> Result<(), AllocError> {
+    let stretch = thrown_codes(alloc, dice, 61)?;
+    for symbols in k..62 {
+        if let Some(front) = stretch.get(..symbols) {
+            let copies = dice.roll(10) as usize;
+            push_copies(alloc, body, front, k, copies)?;
+            let mut other = Vec::new(alloc);
+            other.extend_from_slice(front)?;
+            if let Some(last) = other.last_mut() {
+                *last = (*last).saturating_add(1) % 4;
+            }
+            push_copies(alloc, body, &other, k, copies / 3)?;
+        }
+    }
+    Ok(())
+}
+
+/// Asserts the counts of records that begin alike.
+fn assert_fronts<R: Abort + Threads + Sync>(
+    rt: &R,
+    alloc: Global,
+    strands: Strands,
+) -> Result<(), Fail> {
+    let mut dice = Dice { state: 61 };
+    for k in [1, 4, 13, 21, 25, 29, 30, 31, 32, 33, 47, 60, 61] {
+        let mut body = Vec::new(alloc);
+        for _ in 0..3 {
+            push_fronts(alloc, &mut body, &mut dice, k)?;
+        }
+        assert_plain(rt, alloc, body, k, strands)?;
+    }
+    Ok(())
+}
+
+#[test]
+fn records_that_begin_alike_are_counted_whole(rt: HostRuntime) -> Result<(), Fail> {
+    assert_fronts(&rt, rt.alloc(), Strands::Apart)?;
+    assert_fronts(&rt, rt.alloc(), Strands::Joined)
+}
+
+#[test]
+fn rows_of_bundles_are_counted_whole(rt: HostRuntime) -> Result<(), Fail> {
+    // at k 31 an item counts 4 times and a bundle 8, at k 30 16 and 32, at k 32 once and 8
+    for k in [30, 31, 32, 64] {
+        for copies in 1..70 {
+            assert_copies(&rt, rt.alloc(), k, copies)?;
+        }
+    }
+    Ok(())
+}
+
 /// The pairs of the words of codes, each with this count, in the order of the words.
 fn counted_words(
     alloc: Global,

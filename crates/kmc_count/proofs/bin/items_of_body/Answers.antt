@@ -1,4 +1,5 @@
 use Rattle.kmc_count.specs.Lemmas.PassedOn.{passed_on}
+use Rattle.kmc_count.proofs.Bundled.{items_alone}
 use Rattle.kmc_count.proofs.Counted.{items_moved}
 use Rattle.kmc_count.proofs.bin.items_of_body.Goals as goal
 
@@ -9,4 +10,6 @@ returns-in_err-take_items-clause-damaged g c = λ fault offset is.
 
 pub returns-clause-ok : goal.returns-clause-ok
 returns-clause-ok g c =
-    items_moved c.args.rule.strands c.args.rule.k c.args.bits c.args.body.now _ _ c.sort.ensures.moved c.in_ok-take_items.ensures.ok
+    let rule = c.args.rule in
+    items_moved rule.strands rule.k c.args.bits c.args.body.now _ _ c.sort.ensures.moved
+    (items_alone rule.strands rule.k c.args.bits c.args.body.now _ _ c.in_ok-take_items.ensures.ok)

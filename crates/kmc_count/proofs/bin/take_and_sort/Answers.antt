@@ -1,23 +1,27 @@
-use Rattle.std.proofs.Common.{map, inl, inr, All, subst, sym}
-use Rattle.kmc_record.specs.RecordKeys.{IsRecordKey, Gains, key_words}
+use Rattle.std.proofs.Common.{map, inl, inr, All, ap, subst, sym}
+use Rattle.kmc_record.specs.RecordKeys.{key_words, IsRecordKey}
+use Rattle.kmc_count.specs.Bundles.{BothGain}
 use Rattle.kmc_count.specs.Lemmas.PassedOn.{passed_on}
-use Rattle.kmc_count.proofs.Counted.{items_unpacked, sorted_long}
+use Rattle.kmc_count.proofs.Bundled.{rows_unpacked}
+use Rattle.kmc_count.proofs.Counted.{sorted_long}
 use Rattle.kmc_count.proofs.Refused.{given, no_damage, refused}
 use Rattle.kmc_count.proofs.bin.take_and_sort.Goals as goal
 
 pub push_rows-requires-clause-long : goal.push_rows-requires-clause-long
 push_rows-requires-clause-long g c =
-    subst (All (IsRecordKey c.args.rule.k)) (sym c.deref-2.ensures.value)
-    (sorted_long c.args.rule.k _ _ c.sort_numbers.ensures.moved c.in_ok-take_body.ensures.ok.2.long)
+    subst (All (IsRecordKey c.args.form.rule.k)) (sym c.deref-2.ensures.value)
+    (sorted_long c.args.form.rule.k _ _ c.sort_numbers.ensures.moved c.in_ok-take_body.ensures.ok.2.long)
 
 pub returns-clause-ok : goal.returns-clause-ok
 returns-clause-ok g c =
     let num = g.W.PackedKmer.number in
-    let rule = c.args.rule in
+    let rule = c.args.form.rule in
     let taken = c.in_ok-take_body.ensures.ok in
-    let gains = subst (λ t. Gains rule.k c.args.bits (map num c.take_body.new.items.items) (map num c.push_rows.new.items.items)
+    let gains = subst (λ t. BothGain rule.k c.args.form.bits c.args.form.bundle (map num c.take_body.new.items.items) (map num c.clear-3.new.self.items)
+    (map num c.push_rows.new.items.items) (map num c.push_rows.new.bundles.items)
     (key_words rule.strands rule.k t) 1) c.deref-2.ensures.value c.in_ok-push_rows.ensures in
-    items_unpacked rule.strands rule.k c.args.bits c.args.body.now _ _ _ _ taken.0 taken.1 taken.2 c.sort_numbers.ensures.moved gains
+    rows_unpacked rule.strands rule.k c.args.form.bits c.args.form.bundle c.args.body.now _ _ _ _ _ _ taken.0 (ap (map num) c.clear-3.ensures.items) taken.1 taken.2
+    c.sort_numbers.ensures.moved gains
 
 pub returns-in_err-take_body-clause-damaged : goal.returns-in_err-take_body-clause-damaged
 returns-in_err-take_body-clause-damaged g c = λ fault offset is.
