@@ -34,8 +34,14 @@ loop-word-smaller g c =
     let counted = c.saturating_add-count.ensures ∙ ap (λ t. min (c.take_run-once.result.0 + t) (2 ^ 64 - 1)) c.saturating_mul.ensures in
     let step = walk_on k c.args.bits c.args.bundle c.args.limits.now _ _ _ (map num few) (map num many) _ _ _ _ _ _ c.requires.bundle long
     c.first_word-word.ensures (c.take_run-once.ensures k) (c.take_run-bundled.ensures k) counted c.in_ok-push_kept.ensures.pairs c.loop-word.invariant.walked in
-    omega (arith, step.2, length-map few num, length-map many num, length-map c.take_run-once.result.1.now num,
-    length-map c.take_run-bundled.result.1.now num)
+    omega (
+      arith,
+      step.2,
+      length-map few num,
+      length-map many num,
+      length-map c.take_run-once.result.1.now num,
+      length-map c.take_run-bundled.result.1.now num,
+    )
 
 pub loop-word-preserved : goal.loop-word-preserved
 loop-word-preserved g c =
