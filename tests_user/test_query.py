@@ -66,9 +66,10 @@ def test_a_query_is_refused(room):
     room.refuses(2, "dump: it is read", words=["query", "-o", "dump", "dump", "ACG"])
     room.refuses(1, "none: No such file", words=["query", "none", "ACG"])
     room.refuses(1, "none.kmc_pre: No such file", words=["query", "none.kmc", "ACG"])
-    for word, told in (("ACGT", "it is not as long as the k-mers of the dump"), ("AC", "it is not as long"), ("ANG", "it is no word of letters"), ("A" * 65, "it is no word")):
+    for word, told in (("ACGT", "it is not as long as the first word"), ("AC", "it is not as long"), ("ANG", "it is no word of 1 to 64 letters"), ("A" * 65, "it is no word")):
         room.refuses(1, "word 2, %s: %s" % (word, told), words=["query", "--both-strands", "-o", "out", "dump", "ACG", word])
         room.refuses(1, "standard input: ", "line 2", words=["query", "--both-strands", "-o", "out", "dump"], text=b"ACG\n%s\n" % word.encode())
+    room.refuses(1, "dump: its k-mers are not as long as the words", words=["query", "--both-strands", "-o", "out", "dump", "ACGT"])
     room.write("bad", b"ACG\t2\nAAA\t3\n")
     room.refuses(1, "bad: line 2", words=["query", "--both-strands", "-o", "out", "bad", "ACG"])
     room.counts(b"", "query", "--both-strands", "dump", text=b"")

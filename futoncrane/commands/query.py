@@ -1,5 +1,4 @@
 """futoncrane query: the counts that a dump has for given words."""
-import contextlib
 import os
 import re
 import sys
@@ -10,7 +9,7 @@ from futoncrane.children import Children
 from futoncrane.faults import Fault, Misuse, shown
 from futoncrane.inputs import is_same_file
 from futoncrane.options import Option
-from futoncrane.output import Output
+from futoncrane.output import text_output
 
 USAGE = "[--forward | --both-strands] [-o FILE] DUMP [WORD ..]"
 TEXT = """
@@ -21,15 +20,16 @@ and T as the dump's k-mers. All of them are held in memory.
 A word and its reverse complement have one count, but in a dump that was made with --forward: the note of the dump, DUMP.json, or the header
 of a database says so, and --forward or --both-strands where there is neither.
 
-The dump may be packed, or a database as NAME.kmc, and is read once. The work is done by kmc_db, whose answer is proved.
+The dump may be packed, or a database as NAME.kmc, and is read once. The counts are found by kmc_db, which joins the dump with the words and
+whose answer is proved.
 """
 OPTIONS = [
     Option(["--forward"], "forward", text="looks words up as they are written"),
     Option(["--both-strands"], "forward", constant=False, text="looks a word up under the lesser of it and its reverse complement"),
     shared.QUIET, shared.OUT,
 ]
-# what kmc_db says of a line of words, and what is said of a word of the command line
-OF_WORDS = {"is no word": "it is no word of letters A, C, G and T", "has a word of another length": "it is not as long as the k-mers of the dump"}
+COMPLEMENT = bytes.maketrans(b"ACGT", b"TGCA")
+WORD = re.compile(rb"[ACGT]{1,64}")
 EXAMPLES = ["futoncrane query reads.dump ACGTAACCATTGCATGGACTTAGCAACGTAA", "futoncrane query -o counts.txt reads.kmc < words.txt"]
 
 
@@ -45,14 +45,43 @@ def main(asked):
         raise Misuse("%s: it is read, and cannot be written at the same time" % shown(asked.out))
     merging.check_names([name])
     setting = shared.settings(asked)
-    options = ["-b"] if is_forward(name, asked) else []
-    with Children() as children, Output(asked.out, children) as output, source_of(words) as source:
-        try:
-            merging.merged([name], [], children, setting, output, program="kmc_db", words=["query", *options], source=source)
-        except Fault as fault:
-            raise Fault(told(str(fault), words)) from None
-        output.finish()
+    given = [it.upper() for it in (map(os.fsencode, words) if words else sys.stdin.buffer.read().splitlines())]
+    check(given, bool(words))
+    apart = is_forward(name, asked)
+    keys = given if apart else [min(it, other_strand(it)) for it in given]
+    with Children() as children, text_output(asked.out, children) as lines:
+        counts = counts_of(name, keys, children, setting)
+        lines.writelines(b"%s\t%s\n" % (word, counts.get(key, b"0")) for word, key in zip(given, keys))
     return 0
+
+
+def check(words, is_of_command):
+    """That these are words, all of one length."""
+    for number, word in enumerate(words, 1):
+        place = "word %d, %s" % (number, shown(os.fsdecode(word))) if is_of_command else "standard input: line %d" % number
+        if not WORD.fullmatch(word):
+            raise Fault("%s: it is no word of 1 to 64 letters A, C, G and T" % place)
+        if len(word) != len(words[0]):
+            raise Fault("%s: it is not as long as the first word" % place)
+
+
+def other_strand(word):
+    return word.translate(COMPLEMENT)[::-1]
+
+
+def counts_of(name, keys, children, setting):
+    """The counts of those keys that the dump lists: the words are a dump too, and what both list is joined with the dump's counts."""
+    rows = []
+    with tempfile.TemporaryFile() as file:
+        file.writelines(b"%s\t1\n" % it for it in sorted(set(keys)))
+        file.seek(0)
+        try:
+            merging.merged([name], merging.WHOLE, children, setting, reader=rows.extend, program="kmc_db", words=["intersect", "-ocright", "-"], source=file)
+        except Fault as fault:
+            if str(fault).endswith("line 1 has a word of another length"):
+                raise Fault("%s: its k-mers are not as long as the words" % shown(name)) from None
+            raise
+    return dict(line.split() for line in rows)
 
 
 def is_forward(name, asked):
@@ -64,23 +93,3 @@ def is_forward(name, asked):
         report.say("%s: no note (DUMP.json) tells whether strands are joined there: words are looked up as if they were (else give --forward)" % (
             shown(name)), asked.quiet)
     return any(note["strands"] == notes.APART for _, note in known)
-
-
-@contextlib.contextmanager
-def source_of(words):
-    """A file of these words, one a line; standard input where there is none."""
-    if not words:
-        yield 0
-        return
-    with tempfile.TemporaryFile() as file:
-        file.write(b"".join(os.fsencode(it) + b"\n" for it in words))
-        file.seek(0)
-        yield file
-
-
-def told(fault, words):
-    """A fault in a line of words, which names the word where it stands on the command line."""
-    found = re.fullmatch(r"standard input: line ([0-9]+) (is no word|has a word of another length)", fault)
-    if not found or int(found[1]) > len(words):
-        return fault
-    return "word %s, %s: %s" % (found[1], shown(words[int(found[1]) - 1]), OF_WORDS[found[2]])
