@@ -33,10 +33,10 @@ pub struct Dumped {
 }
 
 /// Unpacks the two files, with readers that give seven, eleven and five bytes at a time.
-pub fn unpacked(
+pub fn unpacked<'a>(
     rt: &impl Alloc<A = Global>,
-    prefix: &[u8],
-    suffix: &[u8],
+    prefix: &'a [u8],
+    suffix: &'a [u8],
     devices: Readers,
 ) -> Result<Dumped, Fail> {
     let mut first = Counted::new(BlockReader::new(prefix, 7, devices.first));
