@@ -3,14 +3,10 @@ import json
 import random
 
 from room import MOST, READS, content, program
-from test_joins import OWN, a_dump, joined, text_of
+from test_joins import OWN, a_dump, joined, text_of, within
 from test_notes import WHOLE, halves
 
 COMMANDS = {"union": ["union"], "intersect": ["intersect"], "subtract": ["subtract"], "counters-subtract": ["subtract", "--counts"]}
-
-
-def within(counts, least, greatest):
-    return {word: count for word, count in counts.items() if least <= count <= greatest}
 
 
 def test_limits_of_the_dumps_are_kept(room):

@@ -39,7 +39,7 @@ text_of_form_fault Size = codes "the header has another length"
 text_of_form_fault Mode = codes "the database has an unknown mode"
 text_of_form_fault NoLayout = codes "the header has no lengths of words, first parts and counts that fit"
 
--- the line that tells why a database is not unpacked, by its name: `kmc_db: db.kmc_suf: row 4 has a word that is not above the one before`
+-- the line that tells why a database is not unpacked, by its name: `kmc_db: db.kmc_pre: does not begin with its marker`
 abbrev pub unpack_message_of : List ℕ → UnpackError → List ℕ
 unpack_message_of name (unpack.Form fault) = codes "kmc_db: " ++ name ++ codes ": " ++ text_of_form_fault fault
 unpack_message_of name unpack.Length = codes "kmc_db: " ++ name ++ codes ".kmc_pre: is not as long as its header asks for"
