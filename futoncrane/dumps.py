@@ -1,4 +1,5 @@
 """Dumps as they are read: lines of a k-mer, a tab and its count, in the order of the k-mers."""
+import collections
 import subprocess
 
 from futoncrane import databases, dumping, packing, places
@@ -9,13 +10,14 @@ from futoncrane.lines import Lines, blocks
 
 
 class Histogram:
-    """How many k-mers of a dump have each count, by kmc_db, whose answer is proved: `read` has it read a dump while a program writes that, and
-    `numbers` gives the answer once this program has ended well."""
+    """How many k-mers of a dump have each count, by kmc_db, whose answer is proved: a call has it read a dump while a program writes that, and
+    `numbers` gives the answer once this program has ended well. The dumps of slices share no k-mer, so their histograms add up."""
+    takes_parts = True
 
     def __init__(self, children):
-        self.children, self.rows, self.fault = children, {}, None
+        self.children, self.rows, self.fault = children, collections.Counter(), None
 
-    def read(self, stream):
+    def __call__(self, stream):
         child = self.children.start([places.find("kmc_db"), "histogram", "/dev/stdin"], stdin=stream, stdout=subprocess.PIPE)
         stream.close()
         rows = [tuple(map(int, line.split())) for line in child.stdout]
@@ -25,12 +27,12 @@ class Histogram:
             if ": line " not in self.fault:  # a line that is none may be the end of a dump whose program failed, which tells its own fault
                 raise Fault(self.fault)
         self.children.forget(child)
-        self.rows = dict(rows)
+        self.rows.update(dict(rows))
 
     def numbers(self):
         if self.fault:
             raise Fault(self.fault)
-        return self.rows
+        return dict(sorted(self.rows.items()))
 
 
 class Dump:

@@ -30,7 +30,8 @@ def run(found, setting, children, output, reader=None):
     work = None
     if plan.slices != 1 or setting.slices:
         work = slices.Work(setting, found, format_name, plan.slices, children)
-        work.begin(plan.wanted, memory.disk(symbols) + memory.disk_of_dumps(listed, setting.k))
+        dumps = None if slices.takes_parts(reader) else memory.disk_of_dumps(listed, setting.k)
+        work.begin(plan.wanted, memory.disk(symbols), dumps)
         work.count(output, reader)
     else:
         command = [places.find("kmc"), *shared.words(setting, format_name)]

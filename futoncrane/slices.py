@@ -36,17 +36,19 @@ def cut(found, setting, format_name, slices, prefix, children):
     return names
 
 
-def listed(names, setting, children, step, output=None, file=None):
-    """Lists the files of one slice into the output, or into an open file."""
+def listed(names, setting, children, step, output=None, file=None, reader=None):
+    """Lists the files of one slice into the output, into an open file, or into what `reader` reads."""
     parts = merging.Parts(names, children)
     space = memory.addresses(setting.memory, setting.threads) if setting.memory else None
     command = [places.find("kmc_list"), *shared.words_of_list(setting), *parts.given]
     program = children.start(command, space, env=memory.environment(), pass_fds=parts.pipes, stdin=0 if "-" in names else subprocess.DEVNULL,
-                             stdout=output.descriptor if output else file)
+                             stdout=subprocess.PIPE if reader else output.descriptor if output else file)
     parts.let_go()
     if output:
         output.let_go()
     with progress.Watch(parts, program, not setting.quiet, setting.memory, step) as watch:
+        if reader:
+            reader(program.stdout)
         status, setting.report.written = ended(program)
     parts.judge()
     if status == 0:
@@ -55,10 +57,10 @@ def listed(names, setting, children, step, output=None, file=None):
         return
     name, text = name_and_text(program, told(program))
     judge_memory(name, text, status, watch.is_over, setting)
+    written = output or (Disk(file.name) if file else None)
     if text == "cannot write":
-        written = output or Disk(file.name)
-        raise Fault("%s: it cannot be written%s" % (written.shown, written.why()))
-    judge_silence(name, text, status, output or Disk(file.name))
+        raise Fault("%s: it cannot be written%s" % (written.shown, written.why()) if written else "the pipe: it cannot be written")
+    judge_silence(name, text, status, written)
     raise Fault(advised(parts.named(text)))
 
 
@@ -67,6 +69,11 @@ def advised(text):
     if text.endswith(("cannot be opened", "stands twice")):
         return text
     return text + ("; the file is damaged: make it again by futoncrane cut" if ": behind frame " in text or ": bin " in text else "")
+
+
+def takes_parts(reader):
+    """Whether the dumps of slices may be read one after the other, as they come, in place of their merge."""
+    return getattr(reader, "takes_parts", False)
 
 
 class Work:
@@ -79,8 +86,10 @@ class Work:
         if setting.keep and setting.directory is None:
             raise Misuse("--keep wants a --directory")
 
-    def begin(self, memory_of_one_run, disk):
-        """Says what is done, looks at the disk's room, and makes the folder."""
+    def begin(self, memory_of_one_run, files, dumps):
+        """Says what is done, looks at the disk's room, which is that of the files of records and of dumps, if these are kept, and makes the
+        folder."""
+        disk = files + (dumps or 0)
         is_told = any(it.is_stream for it in self.found)
         one_run = "one run would take %s of memory; " % human(memory_of_one_run) if not self.setting.slices and not is_told else ""
         size = "1.1 bytes for each symbol" if is_told else "about %s" % human(disk)
@@ -91,20 +100,39 @@ class Work:
             say("%d slices stand in %s, and are listed" % (self.slices, shown(self.path)), self.setting.quiet)
             return
         folders.check_room(self.directory, disk)
-        say("%s%s; files in %s take %s, and the dumps of slices" % (
-            one_run, "one slice" if self.slices == 1 else "%d slices, one after the other" % self.slices, shown(self.directory), size), self.setting.quiet)
+        say("%s%s; files in %s take %s%s" % (
+            one_run, "one slice" if self.slices == 1 else "%d slices, one after the other" % self.slices, shown(self.directory), size,
+            ", and the dumps of slices" if dumps is not None else ""), self.setting.quiet)
         if not self.kept:
             self.path = folders.made(self.directory)
 
     def count(self, output, reader=None):
-        """The three steps. The dump goes to the output, or to `reader`."""
+        """The three steps. The dump goes to the output, or to `reader`: one that `takes_parts` is given the dump of each slice by itself, and
+        then none lies on the disk."""
         if not self._is_cut():
             self._cut()
+        if takes_parts(reader):
+            self._read_parts(reader)
+        else:
+            self._merge(output, reader)
+        if not self.kept:
+            folders.dropped(self.path)
+
+    def _merge(self, output, reader):
+        """Lists the slices one after the other, and merges their dumps."""
         dumps = [self._list(number) for number in range(self.slices)]
         if reader or not ranges.merged(dumps, merging.WHOLE, self.children, self.setting, output):
             merging.merge(dumps, merging.WHOLE, self.children, self.setting, lambda: self.path, output, reader)
-        if not self.kept:
-            folders.dropped(self.path)
+
+    def _read_parts(self, reader):
+        """Has `reader` read the dump of each slice while it is listed."""
+        written = 0
+        for number in range(self.slices):
+            part = self._path("part.%d" % number)
+            listed([part], self.setting, self.children, progress.listing(number, self.slices), reader=reader)
+            written += self.setting.report.written or 0
+            os.unlink(part)
+        self.setting.report.written = written
 
     def drop(self):
         """Removes what is kept, once the answer is there."""

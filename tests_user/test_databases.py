@@ -1,5 +1,6 @@
 """kmc_db pack and dump: the database that KMC's tools make of the same counts, byte for byte, the dump that they list of one, and what is
 refused."""
+import collections
 import os
 import subprocess
 
@@ -45,20 +46,77 @@ def test_worked_databases(room):
         assert suffix == bytes.fromhex("4b4d4353" + suffixes + "4b4d4353"), (k, suffix.hex())
 
 
+def sorted_by_kmc_tools(room, reads, k, least, cap, apart):
+    """The two files of the sorted database that KMC's programs make of reads; of k-mers of at most 13 symbols kmc itself writes that form."""
+    quietly(room, "kmc", "-k%d" % k, "-ci%d" % least, "-cs%d" % cap, "-fq", "-r", *(["-b"] if apart else []), reads, "theirs", "files")
+    if k > 13:
+        quietly(room, "kmc_tools", "transform", "theirs", "sort", "sorted")
+    name = "sorted" if k > 13 else "theirs"
+    return content(room.path(name + ".kmc_pre")), content(room.path(name + ".kmc_suf"))
+
+
 def test_a_database_is_that_of_kmc_tools(room):
     program("kmc_db")
     need("kmc", "kmc_tools")
     os.mkdir(room.path("files"))
-    for k, least, cap in ((14, 1, 255), (17, 2, 300), (25, 1, 70000), (31, 2, 255), (48, 1, 255), (61, 1, 255)):
-        dump = plainly(content(READS), k, least, 10**9, cap)
-        quietly(room, "kmc", "-k%d" % k, "-ci%d" % least, "-cs%d" % cap, "-fq", "-r", READS, "theirs", "files")
-        quietly(room, "kmc_tools", "transform", "theirs", "sort", "sorted")
+    for k, least, cap, apart in ((1, 1, 255, False), (2, 1, 255, True), (5, 1, 300, False), (9, 2, 70000, False), (13, 1, 255, True), (14, 1, 255, False),
+                                 (17, 2, 300, False), (25, 1, 70000, False), (31, 2, 255, False), (31, 1, 255, True), (32, 1, 2**25, False),
+                                 (33, 1, 255, False), (48, 1, 255, False), (61, 1, 255, False), (64, 1, 2**25, True)):
+        dump = plainly(content(READS), k, least, 10**9, cap, *(["apart"] if apart else []))
+        theirs = sorted_by_kmc_tools(room, READS, k, least, cap, apart)
         counter = next(n for n in (1, 2, 3, 4) if cap < 256**n or n == 4)
-        prefix = prefix_of(k, dump.count(b"\n"), counter)
-        ours = packed(room, "ours", dump, "-prefix%d" % prefix, "-ci%d" % least, "-cs%d" % cap, "--force")
-        assert ours == (content(room.path("sorted.kmc_pre")), content(room.path("sorted.kmc_suf"))), k
+        prefix = int.from_bytes(theirs[0][-60:-56], "little")
+        if k > 13:
+            assert prefix == prefix_of(k, dump.count(b"\n"), counter), k
+        ours = packed(room, "ours", dump, "-prefix%d" % prefix, "-ci%d" % least, "-cs%d" % cap, "--force", *(["-b"] if apart else []))
+        assert ours == theirs, (k, apart)
         quietly(room, "kmc_tools", "transform", "ours", "dump", "-s", "listed")
         assert content(room.path("listed")) == dump, k
+
+
+def test_databases_of_few_kmers_are_those_of_kmc_tools(room):
+    program("kmc_db")
+    need("kmc", "kmc_tools")
+    os.mkdir(room.path("files"))
+    for read, rows in (("ACGTACCATTGCATGGACTTAGCAA", 1), ("ACGTACCATTGCATGGACTTAGCAAT", 2), ("ACGT", 0)):
+        reads = room.write("reads.fastq", "@r\n%s\n+\n%s\n" % (read, "I" * len(read)))
+        dump = plainly(content(room.path(reads)), 25, 1, 10**9, 255)
+        assert dump.count(b"\n") == rows
+        theirs = sorted_by_kmc_tools(room, reads, 25, 1, 255, False)
+        assert packed(room, "ours", dump, "-k25", "-prefix1", "-ci1", "--force") == theirs, read
+
+
+def test_kmc_tools_work_on_databases(room):
+    """histogram, simple and filter of kmc_tools take what pack writes."""
+    program("kmc_db")
+    need("kmc", "kmc_tools")
+    os.mkdir(room.path("files"))
+    lines = content(READS).splitlines(keepends=True)
+    half = len(lines) // 8 * 4
+    texts = {"first": b"".join(lines[:half + 400]), "second": b"".join(lines[half - 400:])}
+    counts = {}
+    for name, text in texts.items():
+        dump = plainly(text, 21, 1, 10**9, 255)
+        packed(room, name, dump, "-ci1")
+        counts[name] = {word: int(count) for word, count in (line.split(b"\t") for line in dump.splitlines())}
+    first, second = counts["first"], counts["second"]
+    quietly(room, "kmc_tools", "transform", "first", "histogram", "numbers", "-ci1", "-cx255")
+    numbers = dict(map(int, line.split()) for line in content(room.path("numbers")).splitlines())
+    assert {count: number for count, number in numbers.items() if number} == dict(collections.Counter(first.values()))
+    quietly(room, "kmc_tools", "simple", "first", "second", "intersect", "both", "union", "either", "kmers_subtract", "alone")
+    wanted = {"both": {word: min(first[word], second[word]) for word in first if word in second},
+              "either": {word: min(255, first.get(word, 0) + second.get(word, 0)) for word in {*first, *second}},
+              "alone": {word: count for word, count in first.items() if word not in second}}
+    for name, found in wanted.items():
+        assert found
+        quietly(room, "kmc_tools", "transform", name, "dump", "-s", "listed")
+        assert content(room.path("listed")) == b"".join(b"%s\t%d\n" % it for it in sorted(found.items())), name
+    room.write("reads.fastq", texts["second"])
+    room.write("first.fastq", texts["first"])
+    sorted_by_kmc_tools(room, "first.fastq", 21, 1, 255, False)
+    for name in ("first", "sorted"):
+        quietly(room, "kmc_tools", "filter", name, "-ci2", "reads.fastq", "-fq", "-ci5", name + ".kept", "-fq")
+    assert content(room.path("first.kept")) == content(room.path("sorted.kept")) != b""
 
 
 def test_databases_of_usual_first_parts_are_read(room):

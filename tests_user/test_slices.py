@@ -147,9 +147,22 @@ def test_count_in_slices_is_one_run(room):
     room.counts(b"", "count", "-k25", "--slices", "2", "--quiet", "-o", "dump.gz", "a.gz")
     assert gzip.decompress(content(room.path("dump.gz"))) == plainly(text, 25, 2, MOST)
     assert set(os.listdir(room.folder)) == {"tmp", "a.gz", "dump.gz", "dump.gz.json"}
-    one = room.run("histogram", READS)
-    room.counts(one.out, "histogram", "--slices", "2", "--quiet", READS)
     room.refuses(2, "-n says 2 bins", words=["count", "--slices", "3", "-n2", READS])
+
+
+def test_histograms_of_slices_add_up(room):
+    """The dumps of slices are read while they are listed: nothing is merged."""
+    need_programs()
+    stand_in(room, "kmc_merge", "#!/bin/sh\nexit 1\n")
+    for words in (["histogram"], ["histogram", "--forward"], ["size"], ["genomescope", "-k", "25"]):
+        one = room.run(*words, "--quiet", READS)
+        assert one.status == 0 and one.out, one
+        for slices in ("1", "2", "5"):
+            room.counts(one.out, *words, "--slices", slices, "--quiet", READS)
+    told = room.run("histogram", "--slices", "3", READS)
+    assert told.status == 0 and "the dumps of slices" not in told.err, told
+    stand_in(room, "kmc_list", "#!/bin/sh\nprintf 'ACGTACGTACGTACGTACGTA\\t3\\n'; exit 3\n")
+    room.refuses(1, "kmc_list ended with status 3", words=["histogram", "--slices", "2", "--quiet", READS])
 
 
 def refused(room, name, *files):
