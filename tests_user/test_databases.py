@@ -93,7 +93,7 @@ def test_kmc_tools_work_on_databases(room):
     os.mkdir(room.path("files"))
     lines = content(READS).splitlines(keepends=True)
     half = len(lines) // 8 * 4
-    texts = {"first": b"".join(lines[:half + 400]), "second": b"".join(lines[half - 400:])}
+    texts = {"first": b"".join(lines[:half + 80]), "second": b"".join(lines[half - 80:])}
     counts = {}
     for name, text in texts.items():
         dump = plainly(text, 21, 1, 10**9, 255)
