@@ -4,7 +4,6 @@ ghost use Rattle.std.specs.Int.{bytes_high_first};
 ghost use Rattle.kmc_base.specs.Words.{window};
 ghost use Rattle.kmc_base.specs.Record.{packed_codes, spelling, codes_in, size_of};
 
-use crate::number_bytes::high_bytes_first;
 use std::alloc::AllocError;
 
 /// The byte at a place, and 0 behind the last.
@@ -74,11 +73,13 @@ fn push_short_record(
         ≡ out.old.items ++ spelling k (window symbols (codes_in bytes.now) skipped)) }
     ensures err { OnErr result (out.new.items ≡ out.old.items) }
 {
-    let codes = high_bytes_first(moved_codes(bytes, skipped, symbols));
+    let codes = moved_codes(bytes, skipped, symbols);
     out.reserve(17)?;
     let end = out.len() + 1 + (symbols + 3) / 4;
     out.push_reserved((symbols - k) as u8);
-    out.extend_from_slice(&codes)?;
+    // half by half: a processor waits where it loads at once what it stored in two halves
+    out.extend_from_slice(&((codes >> 64) as u64).to_be_bytes())?;
+    out.extend_from_slice(&((codes % (1 << 64)) as u64).to_be_bytes())?;
     out.truncate(end);
     Ok(())
 }

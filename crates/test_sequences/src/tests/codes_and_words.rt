@@ -94,13 +94,15 @@ fn assert_codes(rt: &impl Abort, codes: &[u8], letters: &[u8]) {
 
 #[test]
 fn leading_codes_are_those_of_single_bytes(rt: HostRuntime) -> Result<(), Fail> {
-    // bytes are tested in blocks of 32: a byte that is no base stands at each place of more than three of them
+    // bytes are tested in blocks of 32: a byte that is no base, and the end, stands at each place of more than three of them
     let text =
         b"GATTACAgattacaCCGGTTAACCGGTTAATGCATGCAtgcatgcaGGGGCCCCTTTTAAAAacgtACGTacgtACGTGATTACAGATTACAACGTG";
     let mut codes = Vec::new(rt.alloc());
     for end in 0..=text.len() {
         let bytes = with_a_stop(rt.alloc(), &text[..end], &text[end..])?;
         leading_codes(&bytes, &mut codes)?;
+        assert_codes(&rt, &codes, &text[..end]);
+        leading_codes(&text[..end], &mut codes)?;
         assert_codes(&rt, &codes, &text[..end]);
     }
     Ok(())
