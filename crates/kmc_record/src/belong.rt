@@ -12,7 +12,7 @@ use crate::record::first_symbols;
 use crate::record_keys::{MOST_KEY_SYMBOLS, record_key};
 use crate::shape::Shape;
 use kmc_base::{MAX_K, Strands};
-use kmc_split::words_in_bin;
+use kmc_split::{BelongingRoom, words_in_bin};
 
 /// The most codes that the bytes of a record have, with those behind its last symbol.
 const MOST_CODES: usize = (MAX_K + 258) / 4 * 4;
@@ -31,13 +31,14 @@ fn unpack(bytes: &[u8], codes: &mut [u8])
     }
 }
 
-/// Whether all words of the symbols in these bytes belong to the bin. The room is to be used again.
+/// Whether all words of the symbols in these bytes belong to the bin. The rooms are to be used again.
 fn belongs(
     bytes: &[u8],
     symbols: usize,
     bin: usize,
     shape: Shape,
-    room: &mut [u8; MOST_CODES],
+    codes: &mut [u8; MOST_CODES],
+    room: &mut BelongingRoom,
 ) -> bool
     requires size { length bytes.now ≡ size_of symbols }
     requires least { shape.k ≤ symbols }
@@ -45,9 +46,16 @@ fn belongs(
     ensures { IsTrue result
         ↔ Belong bin shape (windows shape.k (take symbols (codes_in bytes.now))) }
 {
-    let codes = &mut room[..4 * bytes.len()];
+    let codes = &mut codes[..4 * bytes.len()];
     unpack(bytes, codes);
-    words_in_bin(&codes[..symbols], shape.k(), shape.m(), shape.n(), bin)
+    words_in_bin(
+        &codes[..symbols],
+        shape.k(),
+        shape.m(),
+        shape.n(),
+        bin,
+        room,
+    )
 }
 
 /// A product with this number carries each bit up. It is 2^64 by the golden ratio.
@@ -86,7 +94,8 @@ fn belongs_again(
     symbols: usize,
     bin: usize,
     shape: Shape,
-    room: &mut [u8; MOST_CODES],
+    codes: &mut [u8; MOST_CODES],
+    room: &mut BelongingRoom,
     known: &mut [u128],
 ) -> bool
     requires size { length bytes.now ≡ size_of symbols }
@@ -102,7 +111,7 @@ fn belongs_again(
     if is_known(number, known) {
         return true;
     }
-    if !belongs(bytes, symbols, bin, shape, room) {
+    if !belongs(bytes, symbols, bin, shape, codes, room) {
         return false;
     }
     keep(number, bin, shape, known);
@@ -115,7 +124,8 @@ fn is_of_bin(
     symbols: usize,
     bin: usize,
     shape: Shape,
-    room: &mut [u8; MOST_CODES],
+    codes: &mut [u8; MOST_CODES],
+    room: &mut BelongingRoom,
     known: &mut [u128],
 ) -> bool
     requires size { length bytes.now ≡ size_of symbols }
@@ -128,13 +138,13 @@ fn is_of_bin(
     ensures known { AreKnown bin shape known.new }
 {
     if symbols > MOST_KEY_SYMBOLS {
-        return belongs(bytes, symbols, bin, shape, room);
+        return belongs(bytes, symbols, bin, shape, codes, room);
     }
-    belongs_again(bytes, symbols, bin, shape, room, known)
+    belongs_again(bytes, symbols, bin, shape, codes, room, known)
 }
 
 /// How many words the body has, and 2^64 - 1 where they are more, if it is whole records of the bin. It makes nothing in
-/// memory: the symbols of one record after the other are unpacked into the same room. Records that are known are not judged.
+/// memory: the symbols of one record after the other are unpacked and judged in the same rooms. Records that are known are not judged.
 pub(crate) fn count_known(
     body: &[u8],
     bin: usize,
@@ -147,7 +157,8 @@ pub(crate) fn count_known(
     ensures first { IfErr result (λ e. IsFirstError bin shape e body.now) }
 {
     let k = shape.k();
-    let mut room = [0; MOST_CODES];
+    let mut codes = [0; MOST_CODES];
+    let mut room = BelongingRoom::new();
     let mut offset = 0;
     let mut words: u64 = 0;
     while offset < body.len() {
@@ -157,7 +168,15 @@ pub(crate) fn count_known(
             Err(fault) => return Err(PartError::Damaged(fault, offset)),
         };
         let size = (symbols + 3) / 4;
-        if !is_of_bin(&rest[1..1 + size], symbols, bin, shape, &mut room, known) {
+        if !is_of_bin(
+            &rest[1..1 + size],
+            symbols,
+            bin,
+            shape,
+            &mut codes,
+            &mut room,
+            known,
+        ) {
             return Err(PartError::WrongBin(offset));
         }
         words = words.saturating_add((symbols + 1 - k) as u64);

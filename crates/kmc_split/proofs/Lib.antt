@@ -7,6 +7,7 @@ mod Overlaps
 mod Pairs
 mod Rolled
 mod RowEnds
+mod Shared
 mod Sliding
 mod Unique
 mod Whole

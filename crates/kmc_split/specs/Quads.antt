@@ -1,5 +1,5 @@
 -- The four codes from a place on as a byte, and an m-mer of 4 to 8 codes as two such bytes that overlap.
-use Rattle.std.specs.Prelude.{◌≡◌, ℕ, ◌+◌, ◌*◌, ◌%◌, ◌^◌, ◌≤◌, List, length, slice_index, min}
+use Rattle.std.specs.Prelude.{◌≡◌, ℕ, ◌+◌, ◌*◌, ◌%◌, ◌^◌, ◌<◌, ◌≤◌, List, length, slice_index, min}
 use Rattle.kmc_base.specs.Words.{rev_comp, window}
 use Rattle.kmc_base.specs.Packed.{pack}
 
@@ -7,6 +7,11 @@ use Rattle.kmc_base.specs.Packed.{pack}
 pub record AreQuads (codes quads turned : List ℕ) : Type 0 where
   pub ahead : (i : ℕ) → i + 4 ≤ length codes → slice_index quads i ≡ pack (window 4 codes i)
   pub back : (i : ℕ) → i + 4 ≤ length codes → slice_index turned i ≡ pack (rev_comp (window 4 codes i))
+
+-- the same at the first n places
+pub record AreQuadsBefore (n : ℕ) (codes quads turned : List ℕ) : Type 0 where
+  pub ahead : (i : ℕ) → i < n → slice_index quads i ≡ pack (window 4 codes i)
+  pub back : (i : ℕ) → i < n → slice_index turned i ≡ pack (rev_comp (window 4 codes i))
 
 -- four codes, and the d last ones of four others
 abbrev pub overlap : ℕ → ℕ → ℕ → ℕ

@@ -20,7 +20,7 @@ mod runs;
 mod signatures;
 mod values;
 
-pub use belonging::words_in_bin;
+pub use belonging::{BelongingRoom, words_in_bin};
 pub use cutting::{Scratch, cut};
 pub use marking::{candidates, marks_for};
 pub use mmer::{MOST_SHORT, Mmer};

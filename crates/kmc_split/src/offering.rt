@@ -44,7 +44,13 @@ pub(crate) fn offer<V: Mmer + Drop>(
 }
 
 /// The same by bytes of four codes, in rooms that have a row of room behind what is looked at.
-fn offer_by_quads(codes: &[u8], m: usize, quads: &mut [u8], turned: &mut [u8], room: &mut [u16])
+pub(crate) fn offer_by_quads(
+    codes: &[u8],
+    m: usize,
+    quads: &mut [u8],
+    turned: &mut [u8],
+    room: &mut [u16],
+)
     requires some { QUAD ≤ m }
     requires most { m ≤ MOST_SHORT }
     requires within { m ≤ length codes.now }

@@ -1,12 +1,15 @@
 //! The candidates of m-mers of 4 to 8 codes: two bytes of four codes that overlap make one, so that no place waits for the one before.
-ghost use Rattle.std.specs.Prelude.{◌≡◌, ℕ, ◌+◌, ◌-◌, ◌*◌, ◌^◌, ◌<◌, ◌≤◌, length, slice_index};
+ghost use Rattle.std.specs.Prelude.{◌≡◌, ℕ, ◌+◌, ◌-◌, ◌*◌, ◌^◌, ◌<◌, ◌≤◌, length, slice_index, slice_set};
 ghost use Rattle.std.specs.List.{All};
 ghost use Rattle.kmc_split.specs.Candidates.{pair_marks, packed_candidate};
-ghost use Rattle.kmc_split.specs.Quads.{AreQuads, overlap, lesser_strand};
+ghost use Rattle.kmc_base.specs.Words.{rev_comp, window};
+ghost use Rattle.kmc_base.specs.Packed.{pack};
+ghost use Rattle.kmc_split.specs.Quads.{AreQuads, AreQuadsBefore, overlap, lesser_strand};
 
 use crate::marking::{marks_for, none_of};
 use crate::mmer::{MOST_SHORT, is_allowed_long};
 use crate::rolling::weight;
+use crate::rooms::ROW;
 
 /// How many codes a byte holds.
 pub(crate) const QUAD: usize = 4;
@@ -22,7 +25,39 @@ fn quad(a: u8, b: u8, c: u8, d: u8) -> u8
     a * 64 + b * 16 + c * 4 + d
 }
 
-/// The four codes from each place on, and their reverse complements, as bytes at the front of the rooms.
+/// The four codes from a place on, and their reverse complement, as bytes at that place.
+fn fill_place(codes: &[u8], i: usize, quads: &mut [u8], turned: &mut [u8])
+    requires inside { i + QUAD ≤ length codes.now }
+    requires quads { i < length quads.old }
+    requires turned { i < length turned.old }
+    requires codes { All (λ c. c < 4) codes.now }
+    ensures ahead { quads.new ≡ slice_set quads.old i (pack (window 4 codes.now i)) }
+    ensures back { turned.new ≡ slice_set turned.old i (pack (rev_comp (window 4 codes.now i))) }
+{
+    let first = codes[i];
+    let second = codes[i + 1];
+    let third = codes[i + 2];
+    let last = codes[i + 3];
+    quads[i] = quad(first, second, third, last);
+    turned[i] = 255 - quad(last, third, second, first);
+}
+
+/// The same at each place of a row that begins here, where it is done at the places before.
+fn fill_row(codes: &[u8], start: usize, quads: &mut [u8], turned: &mut [u8])
+    requires inside { start + ROW + 3 ≤ length codes.now }
+    requires quads { start + ROW ≤ length quads.old }
+    requires turned { start + ROW ≤ length turned.old }
+    requires codes { All (λ c. c < 4) codes.now }
+    requires before { AreQuadsBefore start codes.now quads.old turned.old }
+    ensures { AreQuadsBefore (start + ROW) codes.now quads.new turned.new }
+{
+    for r in 0..ROW {
+        fill_place(codes, start + r, quads, turned);
+    }
+}
+
+/// The four codes from each place on, and their reverse complements, as bytes at the front of the rooms. The last row overlaps the one
+/// before, so that no place is worked out alone.
 pub(crate) fn fill_quads(codes: &[u8], quads: &mut [u8], turned: &mut [u8])
     requires some { QUAD ≤ length codes.now }
     requires quads { length codes.now ≤ length quads.old + 3 }
@@ -30,14 +65,17 @@ pub(crate) fn fill_quads(codes: &[u8], quads: &mut [u8], turned: &mut [u8])
     requires codes { All (λ c. c < 4) codes.now }
     ensures { AreQuads codes.now quads.new turned.new }
 {
-    for i in 0..codes.len() - (QUAD - 1) {
-        let first = codes[i];
-        let second = codes[i + 1];
-        let third = codes[i + 2];
-        let last = codes[i + 3];
-        quads[i] = quad(first, second, third, last);
-        turned[i] = 255 - quad(last, third, second, first);
+    let n = codes.len() - (QUAD - 1);
+    if n < ROW {
+        for i in 0..n {
+            fill_place(codes, i, quads, turned);
+        }
+        return;
     }
+    for row in 0..n / ROW {
+        fill_row(codes, row * ROW, quads, turned);
+    }
+    fill_row(codes, n - ROW, quads, turned);
 }
 
 /// Four codes and the d last ones of four others, where `top` is 4^d.

@@ -6,7 +6,7 @@ ghost use Rattle.kmc_split.specs.Signature.{bin_of};
 ghost use Rattle.kmc_split.specs.SuperKmer.{IsSuperKmer, super_kmer_words};
 ghost use Rattle.kmc_split.specs.SuperKmers.{super_kmer_of_run};
 
-use crate::belonging::words_in_bin;
+use crate::belonging::{BelongingRoom, words_in_bin};
 use crate::runs::Run;
 use crate::signatures::MAX_M;
 use kmc_base::{Kmer, MAX_K};
@@ -84,7 +84,7 @@ impl SuperKmer {
         requires bins { 1 ≤ n }
         ensures { IsTrue result ↔ All (λ w. bin_of m n w ≡ bin) (super_kmer_words self.now) }
     {
-        words_in_bin(self.codes(), self.k(), m, n, bin)
+        words_in_bin(self.codes(), self.k(), m, n, bin, &mut BelongingRoom::new())
     }
 
     /// The word at a place.

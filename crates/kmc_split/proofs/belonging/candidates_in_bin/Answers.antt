@@ -10,7 +10,7 @@ returns g c =
     let out = c.candidates.new.out in
     let codes = c.args.codes.now in
     let count = length-map out f in
-    let e = c.minima_in_bin.ensures in
+    let e = c.least_in_bin.ensures in
     let b = bins_are c.args.m c.args.k c.args.n c.args.bin codes (map f out) c.requires.some
     (recursion_from_All (λ (x : ℕ). x < 4) codes c.requires.codes) c.requires.within c.requires.inside (omega arith)
     (λ i inside. c.candidates.ensures.each i (omega arith)) (λ i inside. c.candidates.ensures.fit i (omega arith)) in
