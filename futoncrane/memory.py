@@ -41,7 +41,8 @@ UNEVEN = 0.25
 # of the files of records: bytes of the disk for each symbol
 DISK_OF_A_SYMBOL = 1.1
 
-Plan = collections.namedtuple("Plan", "slices wanted bins", defaults=[BINS])
+# how many slices there are, what one run would take, the bins, and how many slices are listed side by side
+Plan = collections.namedtuple("Plan", "slices wanted bins at_once", defaults=[BINS, 1])
 
 
 def listed_of(symbols, format_name, k, least):
@@ -94,23 +95,36 @@ def wanted(symbols, listed, k, cap, threads):
     return int(max(records(symbols, k) + rounds(symbols, k), listing(symbols, listed, k, cap, threads)))
 
 
-def of_slice(slices, symbols, listed, k, cap, threads, bins=BINS):
-    """The bytes of memory that one of so many slices takes: the greater of what cutting all takes, and listing the greatest slice."""
+def of_slices(slices, at_once, symbols, listed, k, cap, threads, bins=BINS):
+    """The bytes of memory that so many slices take: the greater of what cutting all takes, and listing the greatest one, or several side by
+    side that share the threads."""
     share = 1 if k <= MOST_OF_ONE_BIN else (1 + UNEVEN * math.log2(slices)) / slices
-    return int(max(rounds_of_a_cut(symbols), listing(symbols, listed, k, cap, threads, share, bins)))
+    return int(max(rounds_of_a_cut(symbols), at_once * listing(symbols, listed, k, cap, -(-threads // at_once), share, bins)))
 
 
-def plan(symbols, listed, k, cap, threads, room):
+def numbers_of_slices():
+    """The numbers of slices that are tried, each with its numbers of bins."""
+    for slices in [1 << it for it in range(1, MOST_SLICES.bit_length())] + [MOST_SLICES]:
+        for bins in (BINS, MOST_BINS) if slices <= FEW_SLICES else (MOST_BINS,):
+            yield slices, bins
+
+
+def plan(symbols, listed, k, cap, threads, room, at_once=1):
     """One run where that fits the room, else the least power of two of slices that do, or the most, of the usual bins or, where these are too
-    large, of the most; the slices are none where no number does."""
+    large, of the most; the slices are none where no number does. `at_once` of them are listed side by side, where at most twice as many
+    slices make that fit."""
     whole = wanted(symbols, listed, k, cap, threads)
     if whole <= room:
         return Plan(1, whole)
-    for slices in [1 << it for it in range(1, MOST_SLICES.bit_length())] + [MOST_SLICES]:
-        for bins in (BINS, MOST_BINS) if slices <= FEW_SLICES else (MOST_BINS,):
-            if of_slice(slices, symbols, listed, k, cap, threads, bins) <= room:
-                return Plan(slices, whole, bins)
-    return Plan(None, whole)
+    found = Plan(None, whole)
+    for slices, bins in numbers_of_slices():
+        if found.slices and slices > 2 * found.slices:
+            break
+        if of_slices(slices, at_once, symbols, listed, k, cap, threads, bins) <= room:
+            return Plan(slices, whole, bins, at_once)
+        if not found.slices and of_slices(slices, 1, symbols, listed, k, cap, threads, bins) <= room:
+            found = Plan(slices, whole, bins)
+    return found
 
 
 def disk(symbols):

@@ -74,11 +74,12 @@ def merging(place, total, seconds, written):
 
 
 class Watch:
-    """Looks at a run while it works. On a terminal it shows the step; where a cap is set, a program that takes more is ended, and
-    `is_over` tells so."""
+    """Looks at a run while it works. On a terminal it shows the step, but for one that `waits` for another to be over; where a cap is set, a
+    program that takes more, with the programs beside it, is ended, and `is_over` tells so."""
 
-    def __init__(self, feed, program, is_shown, cap=None, step=one_run):
+    def __init__(self, feed, program, is_shown, cap=None, step=one_run, beside=()):
         self.feed, self.program, self.cap, self.step = feed, program, cap, step
+        self.beside, self.waits = beside, False
         self.is_shown = is_shown and sys.stderr.isatty()
         self.is_over, self.begun = False, time.monotonic()
         self.stop = threading.Event()
@@ -100,14 +101,14 @@ class Watch:
 
     def _watch(self):
         while not self.stop.wait(EVERY):
-            if self.cap and resident(self.program) > self.cap:
+            if self.cap and sum(map(resident, {self.program, *self.beside})) > self.cap:
                 self.is_over = True
                 with contextlib.suppress(OSError):
                     self.program.kill()
             self._show()
 
     def _show(self):
-        if not self.is_shown:
+        if not self.is_shown or self.waits:
             return
         seconds = time.monotonic() - self.begun
         total = self.feed.total()

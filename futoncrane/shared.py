@@ -37,8 +37,8 @@ THREADS = Option(["--threads", "-t"], "threads", "N", at_most(MOST_THREADS), glu
                  text="threads, 1 to 16 (as many as there are processors)")
 MEMORY = Option(["--memory", "-m"], "memory", "SIZE", size(64 << 20), glues=True, text="memory that the run may take, as 8G or 500M: what is estimated to "
                 "want more is done in slices, and a program that takes more is ended (none: the machine's memory)")
-SLICES = Option(["--slices"], "slices", "N", number(1, memory.MOST_SLICES), text="so many slices, one after the other, 1 to 1000 (as many as the "
-                "memory wants)")
+SLICES = Option(["--slices"], "slices", "N", number(1, memory.MOST_SLICES), text="so many slices, 1 to 1000, one or two of which are listed at a time (as many as the memory "
+                "wants)")
 DIRECTORY = Option(["--directory"], "directory", "DIR", text="where files of the meantime lie, which slices need (beside -o, else TMPDIR)")
 # KMC's words for what is seen or chosen here
 OLD = [
@@ -91,8 +91,8 @@ def words_of_cut(told, format_name):
     return found + (["-n%d" % told.bins] if told.bins else [])
 
 
-def words_of_list(told):
-    found = ["-ci%d" % told.least, "-cx%d" % told.greatest, "-cs%d" % told.cap, "-sr%d" % told.counters]
+def words_of_list(told, counters=None):
+    found = ["-ci%d" % told.least, "-cx%d" % told.greatest, "-cs%d" % told.cap, "-sr%d" % (counters or told.counters)]
     return found + (["-b"] if told.forward else [])
 
 
@@ -104,10 +104,12 @@ def size_of(told, inputs, format_name):
 
 def plan(told, symbols, listed):
     """How many slices, as the words say or as the memory wants. What is estimated not to fit in any number is refused."""
-    room = told.memory or memory.of_machine()
-    found = memory.plan(symbols, listed, told.k, told.cap, told.threads, room)
+    room, at_once = told.memory or memory.of_machine(), min(2, told.counters)
+    found = memory.plan(symbols, listed, told.k, told.cap, told.threads, room, at_once)
     if told.slices:
-        found = found._replace(slices=told.slices, bins=memory.MOST_BINS if told.slices > memory.FEW_SLICES else memory.BINS)
+        bins = memory.MOST_BINS if told.slices > memory.FEW_SLICES else memory.BINS
+        fits = memory.of_slices(told.slices, at_once, symbols, listed, told.k, told.cap, told.threads, bins) <= room
+        found = found._replace(slices=told.slices, bins=bins, at_once=at_once if fits else 1)
     if found.slices is None:
         memory.refuse(found, room, told.memory is not None)
     if told.bins and found.slices > told.bins:

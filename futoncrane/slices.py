@@ -1,5 +1,7 @@
-"""Counting in slices: the reads are cut once into files of records, a file for each slice; slice after slice is listed within the limits; and
-the dumps, which share no word, are merged. kmc_cut, kmc_list and kmc_merge do it."""
+"""Counting in slices: the reads are cut once into files of records, a file for each slice; the slices are listed within the limits, one or two at
+a time; and the dumps, which share no word, are merged. kmc_cut, kmc_list and kmc_merge do it."""
+import collections
+import contextlib
 import os
 import subprocess
 
@@ -36,32 +38,46 @@ def cut(found, setting, format_name, slices, prefix, children):
     return names
 
 
-def listed(names, setting, children, step, output=None, file=None, reader=None):
-    """Lists the files of one slice into the output, into an open file, or into what `reader` reads."""
-    parts = merging.Parts(names, children)
-    space = memory.addresses(setting.memory, setting.threads) if setting.memory else None
-    command = [places.find("kmc_list"), *shared.words_of_list(setting), *parts.given]
-    program = children.start(command, space, env=memory.environment(), pass_fds=parts.pipes, stdin=0 if "-" in names else subprocess.DEVNULL,
-                             stdout=subprocess.PIPE if reader else output.descriptor if output else file)
-    parts.let_go()
-    if output:
-        output.let_go()
-    with progress.Watch(parts, program, not setting.quiet, setting.memory, step) as watch:
-        if reader:
-            reader(program.stdout)
-        status, setting.report.written = ended(program)
-    parts.judge()
-    if status == 0:
-        setting.report.step(name_of(program))
-        children.forget(program)
-        return
-    name, text = name_and_text(program, told(program))
-    judge_memory(name, text, status, watch.is_over, setting)
-    written = output or (Disk(file.name) if file else None)
-    if text == "cannot write":
-        raise Fault("%s: it cannot be written%s" % (written.shown, written.why()) if written else "the pipe: it cannot be written")
-    judge_silence(name, text, status, written)
-    raise Fault(advised(parts.named(text)))
+class Listing:
+    """The listing of a slice's files, from when this is made: into the output, into an open file, or into what is read of its `stream`. Its watch
+    is one of `watches`; `beside` are the programs that share its memory."""
+
+    def __init__(self, names, setting, children, step, watches, output=None, file=None, counters=None, beside=()):
+        self.setting, self.children, self.output, self.file = setting, children, output, file
+        self.parts = merging.Parts(names, children)
+        space = memory.addresses(setting.memory, setting.threads) if setting.memory else None
+        command = [places.find("kmc_list"), *shared.words_of_list(setting, counters), *self.parts.given]
+        sink = output.descriptor if output else file if file else subprocess.PIPE
+        self.program = children.start(command, space, env=memory.environment(), pass_fds=self.parts.pipes,
+                                      stdin=0 if "-" in names else subprocess.DEVNULL, stdout=sink)
+        self.stream = self.program.stdout
+        self.parts.let_go()
+        if output:
+            output.let_go()
+        self.watch = watches.enter_context(progress.Watch(self.parts, self.program, not setting.quiet, setting.memory, step, beside))
+
+    def finish(self):
+        """Waits for its end, and judges how it ended. Answers how many bytes it wrote."""
+        status, written = ended(self.program)
+        self.watch.waits = True
+        self.parts.judge()
+        if status == 0:
+            self.setting.report.step(name_of(self.program))
+            self.children.forget(self.program)
+            return written
+        name, text = name_and_text(self.program, told(self.program))
+        judge_memory(name, text, status, self.watch.is_over, self.setting)
+        sink = self.output or (Disk(self.file.name) if self.file else None)
+        if text == "cannot write":
+            raise Fault("%s: it cannot be written%s" % (sink.shown, sink.why()) if sink else "the pipe: it cannot be written")
+        judge_silence(name, text, status, sink)
+        raise Fault(advised(self.parts.named(text)))
+
+
+def listed(names, setting, children, step, output):
+    """Lists the files of one slice into the output."""
+    with contextlib.ExitStack() as watches:
+        setting.report.written = Listing(names, setting, children, step, watches, output).finish()
 
 
 def advised(text):
@@ -79,9 +95,9 @@ def takes_parts(reader):
 class Work:
     """A count in slices. Its folder is gone when it ends, unless it is to be kept for a later run."""
 
-    def __init__(self, setting, found, format_name, slices, children):
-        self.setting, self.found, self.format, self.slices, self.children = setting, found, format_name, slices, children
-        self.kept = None
+    def __init__(self, setting, found, format_name, plan, children):
+        self.setting, self.found, self.format, self.children = setting, found, format_name, children
+        self.slices, self.at_once, self.programs, self.kept = plan.slices, plan.at_once, [], None
         self.directory = folders.place_for(setting.directory, setting.out)
         if setting.keep and setting.directory is None:
             raise Misuse("--keep wants a --directory")
@@ -101,7 +117,7 @@ class Work:
             return
         folders.check_room(self.directory, disk)
         say("%s%s; files in %s take %s%s" % (
-            one_run, "one slice" if self.slices == 1 else "%d slices, one after the other" % self.slices, shown(self.directory), size,
+            one_run, "one slice" if self.slices == 1 else "%d slices" % self.slices, shown(self.directory), size,
             ", and the dumps of slices" if dumps is not None else ""), self.setting.quiet)
         if not self.kept:
             self.path = folders.made(self.directory)
@@ -119,19 +135,20 @@ class Work:
             folders.dropped(self.path)
 
     def _merge(self, output, reader):
-        """Lists the slices one after the other, and merges their dumps."""
-        dumps = [self._list(number) for number in range(self.slices)]
+        """Lists the slices, and merges their dumps."""
+        for it in self._listings(range(self.slices) if not self.kept else [it for it in range(self.slices) if not os.path.exists(self._dump(it))]):
+            self._finish(it)
+        dumps = [self._dump(number) for number in range(self.slices)]
         if reader or not ranges.merged(dumps, merging.WHOLE, self.children, self.setting, output):
             merging.merge(dumps, merging.WHOLE, self.children, self.setting, lambda: self.path, output, reader)
 
     def _read_parts(self, reader):
         """Has `reader` read the dump of each slice while it is listed."""
         written = 0
-        for number in range(self.slices):
-            part = self._path("part.%d" % number)
-            listed([part], self.setting, self.children, progress.listing(number, self.slices), reader=reader)
-            written += self.setting.report.written or 0
-            os.unlink(part)
+        for it in self._listings(range(self.slices), is_read=True):
+            reader(it.stream)
+            written += it.finish() or 0
+            os.unlink(self._part(it.number))
         self.setting.report.written = written
 
     def drop(self):
@@ -164,23 +181,54 @@ class Work:
     def _path(self, name):
         return os.path.join(self.path, name)
 
-    def _list(self, number):
-        """The dump of a slice: that of an earlier run, or a new one."""
-        setting, part = self.setting, self._path("part.%d" % number)
-        dump = self._path("dump-%d-%d-%d%s.%d" % (setting.least, setting.greatest, setting.cap, "-b" if setting.forward else "", number))
-        if self.kept and os.path.exists(dump):
-            return dump
-        work = self._path("listed")
+    def _part(self, number):
+        return self._path("part.%d" % number)
+
+    def _dump(self, number):
+        """The dump of a slice within these limits."""
+        setting = self.setting
+        return self._path("dump-%d-%d-%d%s.%d" % (setting.least, setting.greatest, setting.cap, "-b" if setting.forward else "", number))
+
+    def _listings(self, numbers, is_read=False):
+        """The listings of these slices in their order, of which so many run at once; each is to be finished before the next one is taken."""
+        running = collections.deque()
+        with contextlib.ExitStack() as watches:
+            for number in numbers:
+                running.append(self._begun(number, watches, running, is_read))
+                if len(running) == self.at_once:
+                    yield self._first_of(running)
+            while running:
+                yield self._first_of(running)
+
+    @staticmethod
+    def _first_of(running):
+        running[0].watch.waits = False
+        return running.popleft()
+
+    def _begun(self, number, watches, running, is_read):
+        """The listing of a slice, to a file of its own or to be read; the threads are shared out."""
+        file = None
+        if not is_read:
+            work = self._dump(number) + ".new"
+            with held_signals():
+                TEMPORARY.add(work)
+            file = watches.enter_context(open(work, "wb"))
+        whole, more = divmod(self.setting.counters, self.at_once)
+        counters = whole + (1 if number % self.at_once < more else 0)
+        found = Listing([self._part(number)], self.setting, self.children, progress.listing(number, self.slices), watches, None, file, counters, self.programs)
+        found.number, found.watch.waits = number, bool(running)
+        self.programs.append(found.program)
+        return found
+
+    def _finish(self, listing):
+        """Waits for the end of a listing: its dump has its name then, and the slice's records are gone, unless they are kept."""
+        listing.finish()
+        listing.file.flush()
+        if self.kept:
+            os.fsync(listing.file.fileno())
+        listing.file.close()
         with held_signals():
-            TEMPORARY.add(work)
-        with open(work, "wb") as out:
-            listed([part], setting, self.children, progress.listing(number, self.slices), file=out)
-            out.flush()
-            if self.kept:
-                os.fsync(out.fileno())
-        with held_signals():
-            os.replace(work, dump)
-            TEMPORARY.discard(work)
+            os.replace(listing.file.name, self._dump(listing.number))
+            TEMPORARY.discard(listing.file.name)
             if not self.kept:
-                os.unlink(part)
-        return dump
+                os.unlink(self._part(listing.number))

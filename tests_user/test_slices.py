@@ -142,7 +142,7 @@ def test_count_in_slices_is_one_run(room):
         room.counts(plainly(text, k, 2, MOST, 255, "apart"), "count", "-k%d" % k, "--forward", "--slices", slices, "-q", READS)
     told = room.run("count", "-k25", "--slices", "3", READS)
     assert told.status == 0 and told.out == plainly(text, 25, 2, MOST), told
-    assert told.err.startswith("futoncrane: 3 slices, one after the other; files in ") and told.err.count("\n") == 2, told
+    assert told.err.startswith("futoncrane: 3 slices; files in ") and told.err.count("\n") == 2, told
     room.counts(plainly(text, 25, 2, MOST), "count", "-k25", "--slices", "100", "--quiet", text=text)
     room.counts(b"", "count", "-k25", "--slices", "2", "--quiet", "-o", "dump.gz", "a.gz")
     assert gzip.decompress(content(room.path("dump.gz"))) == plainly(text, 25, 2, MOST)
@@ -233,7 +233,7 @@ def test_the_memory_chooses_slices(room):
              "for it in range(slices):\n    open('%s.%d' % (sys.argv[-1], it), 'w')\n")
     stand_in(room, "kmc_list", "#!/bin/sh\nexit 0\n")
     done = room.run("count", "-k31", "--memory", "200M", "--threads", "4", "big.fastq", "-o", "dump")
-    assert done.status == 0 and "one run would take " in done.err and " slices, one after the other; files in " in done.err and "GB" in done.err, done
+    assert done.status == 0 and "one run would take " in done.err and " slices; files in " in done.err and "GB" in done.err, done
     slices = int(content(room.path("told")).split()[-2][len("-slices"):])
     assert 4 <= slices <= 16 and "%d slices" % slices in done.err, (slices, done)
     assert content(room.path("dump")) == b"" and set(os.listdir(room.folder)) == {"tmp", "bin", "told", "big.fastq", "dump", "dump.json"}, os.listdir(room.folder)
@@ -332,7 +332,7 @@ def test_other_reads_are_cut_again(room):
     room.environment["FUTONCRANE_BIN"] = os.path.dirname(program("kmc"))
     room.write("reads", text + text)
     done = room.run(*words)
-    assert done.status == 0 and "one after the other" in done.err and content(room.path("dump")) == plainly(text + text, 25, 2, MOST), done
+    assert done.status == 0 and " slices; files in " in done.err and content(room.path("dump")) == plainly(text + text, 25, 2, MOST), done
     assert os.listdir(room.path("disk")) == []
 
 

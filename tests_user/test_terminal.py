@@ -64,7 +64,7 @@ def test_each_step_of_slices_is_shown(room):
         program(it)
     status, written, shown = on_terminal(room, "count", "-k25", "--slices", "2", READS)
     assert (status, written) == (0, wanted_dump()), shown
-    for part in ("2 slices, one after the other", "cutting: ", "slice 1 of 2, ", "slice 2 of 2, ", "merging: ", "done in "):
+    for part in ("2 slices; files in ", "cutting: ", "slice 1 of 2, ", "slice 2 of 2, ", "merging: ", "done in "):
         assert part in shown, "%s is not shown: %r" % (part, shown)
     status, _, shown = on_terminal(room, "count", "-k25", "--slices", "2", "--quiet", READS)
     assert (status, shown) == (0, ""), shown
