@@ -1,4 +1,5 @@
 //! The tests, by what they call.
+mod belonging;
 mod bins;
 mod codes_and_words;
 mod copied_records;
