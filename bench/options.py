@@ -6,8 +6,8 @@ usage: options.py [--list]
 
 The options, the flags and the usage line of a program are those of its tables in program.rt; the names stand in named.rt, and the ranges
 and defaults in setting.rt. A usage line and a synopsis name each of them and no other, a help text and a page have an entry for each, and an
-entry tells the range and the default. -slices, --force, --help and --version are of kmc_cut and kmc_list, and -oc, -lci, -lcx, -rci and -rcx
-of kmc_db: they have no table.
+entry tells the range and the default. -slices, --force, --help and --version are of kmc_cut and kmc_list, and -oc, -b, -lci, -lcx, -rci and
+-rcx of kmc_db: they have no table.
 What `kmc_db pack` takes is that of its own usage line, in crates/kmc_db.
 With --list the tables are printed.
 """
@@ -24,7 +24,7 @@ TOP = os.path.join(os.path.dirname(os.path.abspath(__file__)), "..")
 CRATES = os.path.join(TOP, "crates")
 NAMES = {"Kmc": "kmc", "KmcMerge": "kmc_merge", "KmcCut": "kmc_cut", "KmcList": "kmc_list", "KmcDb": "kmc_db"}
 OWN = {"kmc": set(), "kmc_merge": set(), "kmc_cut": {"slices", "-force", "-help", "-version"}, "kmc_list": {"-help", "-version"},
-       "kmc_db": {"oc", "lci", "lcx", "rci", "rcx"}}
+       "kmc_db": {"oc", "b", "lci", "lcx", "rci", "rcx"}}
 # what the page of kmc_db tells, and its usage line leaves out
 LEFT_OUT = {"lci", "lcx", "rci", "rcx"}
 # a default that no page tells, since the program chooses where the option does not stand

@@ -6,7 +6,12 @@ use Rattle.kmc_count.specs.declared.limits.Limits.{Limits}
 use Rattle.kmc_device.specs.Device.{Watched}
 use Rattle.kmc_sum.specs.Sources.{lefts_of}
 use Rattle.kmc_join.specs.Request.{IsRequest}
-use Rattle.kmc_join.specs.Program.{AreRead, AreTabled}
+use Rattle.kmc_base.specs.declared.strands.Strands.{Strands}
+use Rattle.kmc_join.specs.Program.{AreRead, AreTabled, IsQueryAnswered, IsQueryGivenUp}
+use Rattle.kmc_join.specs.Query.{IsQueryWritten}
+use Rattle.kmc_join.specs.QueryAnswer.{Inputs, IsQueryCause}
+use Rattle.kmc_join.specs.QueryWords.{query_strands}
+use Rattle.kmc_join.specs.declared.query_error.QueryError.{QueryError}
 use Rattle.kmc_join.specs.TableWords.{table_cap}
 use Rattle.kmc_join.specs.declared.rule.JoinRule.{JoinRule}
 
@@ -32,4 +37,29 @@ are_tabled words cap left readers read asks two = record {
   starts = lefts_of left readers;
   nows = lefts_of left read;
   two = length-map readers (λ r. left r.inner) ∙ two;
+}
+
+-- what a query of two readers wrote
+pub query_answered : (words : List Word) (strands : Strands) (dump_start dump_now words_start words_now : Option (List ℕ)) (lines : ℕ)
+    (old new : Option (List ℕ)) → query_strands words ≡ Some strands
+    → IsQueryWritten strands dump_start dump_now words_start words_now lines old new → IsQueryAnswered words old new
+query_answered words strands dump_start dump_now words_start words_now lines old new asks written = record {
+  read = record {
+    strands = strands;
+    asks = asks;
+    before = record { dump = dump_start; words = words_start; dump_failures = 0; words_failures = 0 };
+    after = record { dump = dump_now; words = words_now; dump_failures = 0; words_failures = 0 };
+  };
+  lines = lines;
+  written = written;
+}
+
+-- why it was given up
+pub query_left : {W : Type 0} (words : List Word) (strands : Strands) (contents : W → Option (List ℕ)) (before after : Inputs) (writer written : Watched W)
+    (error : QueryError) → query_strands words ≡ Some strands → IsQueryCause contents strands before after writer written error
+    → IsQueryGivenUp words contents writer written
+query_left words strands contents before after writer written error asks cause = record {
+  read = record { strands = strands; asks = asks; before = before; after = after };
+  error = error;
+  cause = cause;
 }

@@ -1,10 +1,17 @@
 mod Adding
+mod Answered
 mod Answers
 mod Asked
+mod AskedWords
+mod FirstFaults
+mod KeyOrders
+mod NotedKeys
 mod Numbering
 mod Numbers
+mod QueryAnswers
 mod Steps
 mod TableCaps
 mod Tabulations
 mod TakenWords
 mod Tallies
+mod WordLines

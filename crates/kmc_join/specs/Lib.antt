@@ -1,11 +1,17 @@
 pub mod Answer
+pub mod Asking
 pub mod Histogram
 pub mod Join
+pub mod KeyCounts
 pub mod Laws
+pub mod LookedUp
 pub mod Messages
 pub mod Operand
 pub mod Operation
 pub mod Program
+pub mod Query
+pub mod QueryAnswer
+pub mod QueryWords
 pub mod RangeWords
 pub mod RefusalNumbers
 pub mod Request

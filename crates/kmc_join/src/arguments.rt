@@ -20,6 +20,8 @@ use crate::fault::{JoinFault, Message, unnamed};
 use crate::histograms::histogram;
 use crate::joining::join;
 use crate::opening::{full_names, opened};
+use crate::query_words::query_strands;
+use crate::querying::query_file;
 use crate::request::{JoinRequestError, asked_for};
 use crate::rule::JoinRule;
 use crate::table_words::table_cap;
@@ -254,13 +256,17 @@ fn run_named<T: Files + Eprint + Alloc<A = Global>, I: Read + Drop, W: Write>(
     if let Some(cap) = table_cap(&words) {
         return table_files(rt, &words, cap, input, writer);
     }
+    if let Some(strands) = query_strands(&words) {
+        return query_file(rt, &words, strands, input, writer);
+    }
     join_files(rt, words, input, writer)
 }
 
-/// Does what the words ask for: a join, the histogram of a file where they are `histogram` and its name, or the table of two where they are
-/// `table` and their names. The input is read in place of a file that is named `-` or `/dev/stdin`, and no second time. A fault is shown in
-/// one line on standard error, but for a write to a pipe whose other end is closed. The exit status is 0 where what they ask for was
-/// written, 2 where they ask for nothing, and else 1.
+/// Does what the words ask for: a join, the histogram of a file where they are `histogram` and its name, the table of two where they are
+/// `table` and their names, or the counts that a file has for the words of the input where they are `query` and its name. Else the input is
+/// read in place of a file that is named `-` or `/dev/stdin`, and no second time. A fault is shown in one line on standard error, but for
+/// a write to a pipe whose other end is closed. The exit status is 0 where what they ask for was written, 2 where they ask for nothing, and
+/// else 1.
 pub fn run_words<T: Files + Eprint + Alloc<A = Global>, I: Read + Drop, W: Write>(
     rt: &T,
     words: Vec<String>,

@@ -4,6 +4,8 @@ ghost use Rattle.kmc_join.specs.Messages.{is_misuse, is_unwritten, message_of};
 ghost use Rattle.kmc_join.specs.declared.fault.JoinFault.TheVariants.{Join};
 ghost use Rattle.kmc_sum.specs.declared.error.SumError.TheVariants.{Memory};
 
+use crate::query_error::QueryError;
+use crate::query_message::QueryMessage;
 use crate::request::JoinRequestError;
 use kmc_options::{Ending, name_at};
 use kmc_sum::SumError;
@@ -19,6 +21,8 @@ pub enum JoinFault {
     NotOpened(usize),
     /// The join of the files, or the histogram of one, was given up.
     Join(SumError),
+    /// The query of the first file was given up.
+    Query(QueryError),
 }
 
 impl JoinFault {
@@ -32,6 +36,7 @@ impl JoinFault {
             JoinFault::Request(_) => 1,
             JoinFault::NotOpened(_) => 2,
             JoinFault::Join(_) => 3,
+            JoinFault::Query(_) => 4,
         }
     }
 }
@@ -67,13 +72,13 @@ impl Ending for Message<'_> {
         match self.fault {
             JoinFault::Request(JoinRequestError::Memory) => false,
             JoinFault::Request(_) => true,
-            JoinFault::NotOpened(_) | JoinFault::Join(_) => false,
+            JoinFault::NotOpened(_) | JoinFault::Join(_) | JoinFault::Query(_) => false,
         }
     }
 
     fn is_unwritten(&self) -> bool {
         match self.fault {
-            JoinFault::Join(SumError::Write) => true,
+            JoinFault::Join(SumError::Write) | JoinFault::Query(QueryError::Write) => true,
             _ => false,
         }
     }
@@ -97,6 +102,11 @@ impl fmt::Display for Message<'_> {
             JoinFault::Join(SumError::Write) => write!(f, "kmc_db: cannot write"),
             JoinFault::Join(SumError::Memory) => write!(f, "kmc_db: out of memory"),
             JoinFault::Join(SumError::TooLong) => write!(f, "kmc_db: too many lines"),
+            JoinFault::Query(error) => {
+                let dump = name_at(self.files, 0);
+                let told = QueryMessage { dump, error };
+                write!(f, "{told}")
+            }
         }
     }
 }

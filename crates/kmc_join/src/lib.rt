@@ -1,15 +1,23 @@
 //! Two dumps joined word by word: what both list, what either lists, what the first lists and the second does not; the table of their
-//! counts; the histogram of a dump; and the program. It stands on kmc_sum, which reads dumps side by side, on kmc_count for limits and on
-//! kmc_options for words. The layer above calls [`program`].
+//! counts; the histogram of a dump; the counts that a dump has for given words; and the program. It stands on kmc_sum, which reads dumps
+//! side by side, on kmc_count for limits and on kmc_options for words. The layer above calls [`program`].
 #![tactic(auto)]
 
 mod arguments;
+mod asking;
 mod fault;
 mod histograms;
 mod joining;
+mod key_counts;
 pub mod laws;
+mod looking_up;
 mod opening;
 mod operation;
+mod queries;
+mod query_error;
+mod query_message;
+mod query_words;
+mod querying;
 mod range_words;
 mod request;
 mod rows;
@@ -20,6 +28,7 @@ mod tabulating;
 mod taking;
 mod tally;
 mod tallying;
+mod word_lines;
 mod words;
 
 pub use arguments::{
@@ -30,6 +39,11 @@ pub use histograms::histogram;
 pub use joining::join;
 pub use opening::Operand;
 pub use operation::{Choice, Operation};
+pub use queries::query;
+pub use query_error::QueryError;
+pub use query_message::QueryMessage;
+pub use query_words::query_strands;
+pub use querying::query_readers;
 pub use request::{JoinRequest, JoinRequestError, asked_for};
 pub use rule::{CountRange, EVERY_COUNT, JoinRule};
 pub use table_words::table_cap;

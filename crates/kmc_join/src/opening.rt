@@ -97,3 +97,14 @@ fn operand_named<T: Files, I: Read>(
         Err(_) => None,
     }
 }
+
+/// The dump of this name, where it can be opened; standard input is none, since words are read there.
+pub(crate) fn dump_named<T: Files>(rt: &T, name: &str) -> Option<Counted<T::File>> {
+    if name == INPUT {
+        return None;
+    }
+    match fs::open(rt, name) {
+        Ok(file) => Some(Counted::new(file)),
+        Err(_) => None,
+    }
+}
