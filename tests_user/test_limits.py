@@ -35,7 +35,7 @@ def test_a_run_or_slices_are_chosen(room):
     assert memory.plan(90 * REAL, 3 * REAL, 31, 255, 8, 16 * GB)[::2] == (16, 2000)
     assert memory.plan(90 * REAL, 3 * REAL, 31, 255, 1, GB)[::2] == (512, 2000)
     assert memory.plan(90 * REAL, 3 * REAL, 31, 255, 8, GB).slices is None
-    assert memory.plan(0, 0, 31, 255, 1, 64 << 20) == (1, 20 * 10**6, 512)
+    assert memory.plan(0, 0, 31, 255, 1, 64 << 20) == (1, 20 * 10**6, 512, 1)
     # short k-mers are all of one slice
     assert memory.plan(90 * REAL, 10**5, 9, 255, 8, 32 * GB).slices == 1
     assert memory.plan(90 * REAL, 10**5, 9, 255, 8, 16 * GB).slices is None
@@ -45,6 +45,14 @@ def test_a_run_or_slices_are_chosen(room):
         found = memory.plan(20 * REAL, REAL, 31, 255, 4, room_of_it * GB // 4).slices or 2048
         assert before is None or found <= before
         before = found
+        # two are listed side by side where at most twice as many slices make that fit
+        asked = (20 * REAL, REAL, 31, 255, 4)
+        one, two = memory.plan(*asked, room_of_it * GB // 4), memory.plan(*asked, room_of_it * GB // 4, 2)
+        if one.slices is None or two.at_once == 1:
+            assert two == one
+        else:
+            assert one.slices <= two.slices <= 2 * one.slices
+            assert memory.of_slices(two.slices, 2, *asked, two.bins) <= room_of_it * GB // 4
 
 
 def test_listed_kmers_are_guessed_within_bounds(room):
