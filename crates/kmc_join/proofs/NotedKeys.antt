@@ -116,8 +116,6 @@ pub below_next : (k : ℕ) (keys : List (List ℕ)) (many : ℕ) (p q : ℕ) →
     → AreBelow keys many (unpack k q)
 below_next k keys many p q small fits up below j inside = go (cases_eq p q)
   where
-
-
     go : (p ≡ q) ⊎ (p ≡ q → ⊥) → kmer_cmp (key_at keys j) (unpack k q) ≡ Less
     go (inl same) = ap (λ n. kmer_cmp (key_at keys j) (unpack k n)) (sym same) ∙ below j inside
     go (inr differ) = kmer_total.trans (key_at keys j) (unpack k p) (unpack k q) (below j inside) (less_packed k p q small fits (omega arith))

@@ -34,10 +34,12 @@ module _ (xs w more : List ℕ) (k : ℕ) (is : xs ≡ word_line w ++ more) (kme
       ∙ (let none : length w - length w ≡ 0 = omega arith in ap (λ m. get_or (10 ∷ more) m 0) none)
 
   in_front : (i : ℕ) → i < length w → IsLetter (get_or xs i 0)
-  in_front i inside =
-      (get_or w i 0, All-get_or (λ c. c < 4) w i 0 inside kmer.codes,
-        sym (ap (λ (l : List ℕ). get_or l i 0) splits ∙ get_or_append_left (map letter w) (10 ∷ more) 0 i (omega (arith, inside, front_long))
-        ∙ at_letter w i inside))
+  in_front i inside = (
+    get_or w i 0,
+    All-get_or (λ c. c < 4) w i 0 inside kmer.codes,
+    sym (ap (λ (l : List ℕ). get_or l i 0) splits ∙ get_or_append_left (map letter w) (10 ∷ more) 0 i (omega (arith, inside, front_long))
+        ∙ at_letter w i inside),
+  )
     where
       at_letter : (v : List ℕ) (j : ℕ) → j < length v → get_or (map letter v) j 0 ≡ letter (get_or v j 0)
       at_letter [] j h = absurd (omega (arith, h))
