@@ -7,4 +7,3 @@ mod Laying
 mod PackedBytes
 mod Parcels
 mod Quarters
-mod Turned

@@ -7,17 +7,12 @@ use Rattle.kmc_base.specs.Record.{spelling, IsSpelled, IsBodyOf}
 use Rattle.kmc_record.specs.Faults.{HasFault}
 use Rattle.kmc_record.specs.Shapes.{Sizes}
 use Rattle.kmc_record.specs.Parts.{all_windows}
-use Rattle.kmc_record.specs.RecordKeys.{codes_of}
 use Rattle.kmc_record.specs.declared.part_error.PartError.{PartError}
 use Rattle.kmc_record.specs.declared.part_error.PartError.TheVariants.{Damaged, WrongBin, Memory}
 
 -- each of these words has a signature of the bin
 abbrev pub Belong : ℕ → Sizes → List (List ℕ) → Type 0
 Belong bin shape words = All (λ w. bin_of shape.m shape.n w ≡ bin) words
-
--- the words of the records of these numbers belong to the bin
-abbrev pub AreKnown : ℕ → Sizes → List ℕ → Type 0
-AreKnown bin shape numbers = All (λ x. Belong bin shape (windows shape.k (codes_of x))) numbers
 
 -- the bytes are whole records, all of whose words belong to the bin
 pub record AreRecordsOfBin (bin : ℕ) (shape : Sizes) (bytes : List ℕ) : Type 0 where

@@ -7,7 +7,7 @@ ghost use Rattle.kmc_base.specs.Record.{IsSpelled, codes_in};
 ghost use Rattle.kmc_record.specs.Bodies.{IsFirstError};
 ghost use Rattle.kmc_record.specs.Parts.{Parcel, grown, empty_part, IsPart};
 
-use crate::belong::count_known;
+use crate::belong::count_words;
 use crate::part_error::PartError;
 use crate::shape::Shape;
 use kmc_base::push_record_from;
@@ -67,7 +67,7 @@ impl Part {
         ensures first { IfErr result (λ e. IsFirstError bin shape e.0 body.items) }
         ensures back { IfErr result (λ e. e.1.items ≡ body.items) }
     {
-        match count_known(&body, bin, shape, &mut []) {
+        match count_words(&body, bin, shape) {
             Ok(words) => Ok(Part::of_body(chunk, bin, shape, body, words)),
             Err(e) => Err((e, body)),
         }

@@ -16,22 +16,15 @@ use std::thread::{Threads, join_mut};
 
 /// Whether the bodies of the bins of a row, from bin `from` on and below `to`, are records of their bins; else the first fault. It
 /// wants no memory.
-fn judge_row(
-    alloc: Global,
-    shape: Shape,
-    bodies: &[Vec<u8>],
-    from: usize,
-    to: usize,
-) -> Result<(), BinFault>
+fn judge_row(shape: Shape, bodies: &[Vec<u8>], from: usize, to: usize) -> Result<(), BinFault>
     requires wide { length bodies.now ≡ shape.n }
     requires order { from ≤ to }
     requires inside { to ≤ shape.n }
     ensures ok { OnOk result (AreSound shape (map (λ b. b.items) bodies.now) from to) }
     ensures fault { IfErr result (IsFaultIn shape (map (λ b. b.items) bodies.now) from to) }
 {
-    let mut room: Vec<u128> = Vec::new(alloc);
     for bin in from..to {
-        let _words = match count_words(&bodies[bin], bin, shape, &mut room) {
+        let _words = match count_words(&bodies[bin], bin, shape) {
             Ok(words) => words,
             Err(why) => return Err(BinFault { bin, why }),
         };
@@ -54,14 +47,13 @@ fn count_row(
     ensures { IsJudgedRow shape bodies.now from to result }
 {
     let Ok(mut words) = Vec::with_capacity(alloc, to - from) else {
-        return match judge_row(alloc, shape, bodies, from, to) {
+        return match judge_row(shape, bodies, from, to) {
             Ok(()) => Err(JudgeError::Memory),
             Err(fault) => Err(JudgeError::Foreign(fault)),
         };
     };
-    let mut room: Vec<u128> = Vec::new(alloc);
     for bin in from..to {
-        let count = match count_words(&bodies[bin], bin, shape, &mut room) {
+        let count = match count_words(&bodies[bin], bin, shape) {
             Ok(count) => count,
             Err(why) => return Err(JudgeError::Foreign(BinFault { bin, why })),
         };

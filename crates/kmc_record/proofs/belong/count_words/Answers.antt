@@ -6,10 +6,10 @@ use Rattle.kmc_record.specs.Bodies.{Belong}
 use Rattle.kmc_record.specs.Lemmas.PartRecords.{records_of_part}
 use Rattle.kmc_record.proofs.Belonging.{other_there, part_more}
 use Rattle.kmc_base.specs.Lemmas.Whole.{begins_there, first_codes, length_first, next_inside, rest_at, rest_long, same_codes, spelled_there}
-use Rattle.kmc_record.proofs.belong.count_known.Goals as goal
+use Rattle.kmc_record.proofs.belong.count_words.Goals as goal
 
-pub returns-then-not-is_of_bin-clause-first : goal.returns-then-not-is_of_bin-clause-first
-returns-then-not-is_of_bin-clause-first c =
+pub returns-then-not-belongs-clause-first : goal.returns-then-not-belongs-clause-first
+returns-then-not-belongs-clause-first c =
     let shape = c.args.shape in
     let n = c.in-Ok.symbols in
     let found = c.in-Ok.ensures in
@@ -18,7 +18,7 @@ returns-then-not-is_of_bin-clause-first c =
       records_of_part c.args.bin shape front c.loop-offset.words c.loop-offset.invariant.part,
       other_there c.args.bin shape c.k-k.result n c.loop-offset.offset c.args.body.now (λ i. omega (arith, c.type_inv.body i)) found.count found.inside
           found.rest c.k-k.ensures.is (λ h.
-          let t = c.is_of_bin.ensures.is.1 (subst (λ (w : List ℕ). Belong c.args.bin shape (windows shape.k w))
+          let t = c.belongs.ensures.1 (subst (λ (w : List ℕ). Belong c.args.bin shape (windows shape.k w))
           (sym (same_codes n (rest_at c.loop-offset.offset c.args.body.now))) h) in
           cc),
     )
@@ -35,8 +35,8 @@ loop-offset-preserved c =
     let bytes : (i : ℕ) → get_or body i 0 < 256 = λ i. omega (arith, c.type_inv.body i) in
     let long = rest_long k n offset body bytes found.count found.inside found.rest in
     let behind : length (drop (1 + size_of n) rest) ≡ length rest - (1 + size_of n) = length-drop (1 + size_of n) rest in
-    let yes : IsTrue c.is_of_bin.result = search (rules, c.if-not-is_of_bin.false) in
-    let belong = subst (λ (w : List ℕ). Belong c.args.bin shape (windows shape.k w)) (same_codes n rest) (c.is_of_bin.ensures.is.0 yes) in
+    let yes : IsTrue c.belongs.result = search (rules, c.if-not-belongs.false) in
+    let belong = subst (λ (w : List ℕ). Belong c.args.bin shape (windows shape.k w)) (same_codes n rest) (c.belongs.ensures.0 yes) in
     record {
       inside = next_inside k n offset body bytes found.count found.inside found.rest;
       part = part_more c.args.bin shape body (drop (1 + size_of n) rest) (first_codes n rest) k offset _ c.loop-offset.words (n + 1 - k)
@@ -46,5 +46,4 @@ loop-offset-preserved c =
           (omega (arith, long, behind, found.inside)) belong
           (omega (arith, length_windows shape.k (first_codes n rest), length_first n rest found.inside, c.k-k.ensures.is))
           (omega (arith, c.saturating_add-words.ensures));
-      known = c.is_of_bin.ensures.known;
     }
