@@ -20,15 +20,13 @@ and T as the dump's k-mers. All of them are held in memory.
 A word and its reverse complement have one count, but in a dump that was made with --forward: the note of the dump, DUMP.json, or the header
 of a database says so, and --forward or --both-strands where there is neither.
 
-The dump may be packed, or a database as NAME.kmc, and is read once. The counts are found by kmc_db, which joins the dump with the words and
-whose answer is proved.
+The dump may be packed, or a database as NAME.kmc, and is read once. The counts are found by kmc_db, whose answer is proved.
 """
 OPTIONS = [
     Option(["--forward"], "forward", text="looks words up as they are written"),
     Option(["--both-strands"], "forward", constant=False, text="looks a word up under the lesser of it and its reverse complement"),
     shared.QUIET, shared.OUT,
 ]
-COMPLEMENT = bytes.maketrans(b"ACGT", b"TGCA")
 WORD = re.compile(rb"[ACGT]{1,64}")
 EXAMPLES = ["futoncrane query reads.dump ACGTAACCATTGCATGGACTTAGCAACGTAA", "futoncrane query -o counts.txt reads.kmc < words.txt"]
 
@@ -48,10 +46,8 @@ def main(asked):
     given = [it.upper() for it in (map(os.fsencode, words) if words else sys.stdin.buffer.read().splitlines())]
     check(given, bool(words))
     apart = is_forward(name, asked)
-    keys = given if apart else [min(it, other_strand(it)) for it in given]
     with Children() as children, text_output(asked.out, children) as lines:
-        counts = counts_of(name, keys, children, setting)
-        lines.writelines(b"%s\t%s\n" % (word, counts.get(key, b"0")) for word, key in zip(given, keys))
+        lines.writelines(answers(name, given, apart, children, setting))
     return 0
 
 
@@ -65,23 +61,19 @@ def check(words, is_of_command):
             raise Fault("%s: it is not as long as the first word" % place)
 
 
-def other_strand(word):
-    return word.translate(COMPLEMENT)[::-1]
-
-
-def counts_of(name, keys, children, setting):
-    """The counts of those keys that the dump lists: the words are a dump too, and what both list is joined with the dump's counts."""
-    rows = []
+def answers(name, words, apart, children, setting):
+    """The words with their counts in the dump, a line each, once all are found."""
+    lines = []
     with tempfile.TemporaryFile() as file:
-        file.writelines(b"%s\t1\n" % it for it in sorted(set(keys)))
+        file.writelines(b"%s\n" % it for it in words)
         file.seek(0)
         try:
-            merging.merged([name], merging.WHOLE, children, setting, reader=rows.extend, program="kmc_db", words=["intersect", "-ocright", "-"], source=file)
+            merging.merged([name], [], children, setting, reader=lines.extend, program="kmc_db", words=["query", *(["-b"] if apart else [])], source=file)
         except Fault as fault:
-            if str(fault).endswith("line 1 has a word of another length"):
+            if "line 1 has a word that is not as long as those of" in str(fault):
                 raise Fault("%s: its k-mers are not as long as the words" % shown(name)) from None
             raise
-    return dict(line.split() for line in rows)
+    return lines
 
 
 def is_forward(name, asked):
