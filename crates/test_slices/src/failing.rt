@@ -1,12 +1,15 @@
 //! Cutting and listing with devices that fail.
 use crate::devices::{SOUND, Weak, files_of, writers_of};
 use crate::files::FILE;
+use crate::others::gather_fault;
 use crate::texts::settings;
 use crate::wholes::gathered;
 use kmc_base::Strands;
 use kmc_device::Counted;
 use kmc_slice_files::{FrameFault, FramesFault, HeaderFault, SliceFault};
-use kmc_slices::{CutError, GatherError, ListError, SliceRecords, cut_slices, list_records};
+use kmc_slices::{
+    CutError, GatherError, ListError, ListFault, SliceRecords, cut_slices, list_records,
+};
 use std::alloc::Global;
 use std::process::Abort;
 use std::sync::Wait;
@@ -15,11 +18,11 @@ use test_support::{BlockReader, Full, NarrowWriter};
 
 /// A read of four words of 11 symbols. The first three have the signature of AACCC, 21, and are of bin 0 of 7 bins; the last has that of
 /// AACCG, 22, and is of bin 1.
-const TEXT: &[u8] = b">r\nGGAACCCGAACCGT\n";
+pub(crate) const TEXT: &[u8] = b">r\nGGAACCCGAACCGT\n";
 
 /// The file of slice 0 of 2 of that read: bin 0 has the record of GGAACCCGAACCG. Its bytes were worked by another program, from
 /// docs/DEFINITIONS.md.
-const CUT: [u8; 65] = [
+pub(crate) const CUT: [u8; 65] = [
     0x4b, 0x4d, 0x43, 0x53, 0x4c, 0x49, 0x43, 0x45, 0x01, 0x00, 0x00, 0x00, 0x0b, 0x05, 0x07, 0x00,
     0x02, 0x00, 0x00, 0x00, 0x4b, 0xc7, 0x6f, 0xbf, 0xb3, 0x31, 0x48, 0x1c, 0x00, 0x00, 0x00, 0x00,
     0x05, 0x00, 0x00, 0x00, 0xf5, 0x32, 0x98, 0xfa, 0xf8, 0xc9, 0x34, 0xc9, 0x02, 0xa0, 0x56, 0x05,
@@ -122,7 +125,10 @@ fn assert_read_told(rt: &impl Abort, alloc: Global, failing: u64) {
     let mut records = gathered(rt, alloc, None, &FILE);
     let mut reader = Counted::new(BlockReader::new(&FILE, 1, failing));
     let fault = records.add(&mut reader).err();
-    assert_read_fault(rt, fault.expect(rt, "a fault"), failing <= 28);
+    let fault = fault.expect(rt, "a fault");
+    assert_read_fault(rt, fault, failing <= 28);
+    let told = gather_fault(alloc, &[&FILE, &FILE, &FILE], 1, failing);
+    assert_eq!(rt; told, Some(ListFault::File(1, fault)));
 }
 
 /// The file has 84 bytes, of which 28 are the header.
