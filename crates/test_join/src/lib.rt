@@ -1,4 +1,4 @@
-//! Tests of joins, of histograms and of tables, by public calls alone: each operation on two worked dumps, limits of
+//! Tests of joins, of histograms, of tables and of queries, by public calls alone: each operation on two worked dumps, limits of
 //! the result and of each dump, dumps at fault, devices
 //! that fail, and the command line. Nothing stands on this crate.
 #![tactic(auto)]
@@ -9,6 +9,8 @@ mod devices;
 mod histograms;
 #[cfg(test)]
 mod operations;
+#[cfg(test)]
+mod queries;
 #[cfg(test)]
 mod ranges;
 #[cfg(test)]
