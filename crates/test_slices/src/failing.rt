@@ -1,15 +1,12 @@
 //! Cutting and listing with devices that fail.
 use crate::devices::{SOUND, Weak, files_of, writers_of};
 use crate::files::FILE;
-use crate::others::gather_fault;
 use crate::texts::settings;
 use crate::wholes::gathered;
 use kmc_base::Strands;
 use kmc_device::Counted;
 use kmc_slice_files::{FrameFault, FramesFault, HeaderFault, SliceFault};
-use kmc_slices::{
-    CutError, GatherError, ListError, ListFault, SliceRecords, cut_slices, list_records,
-};
+use kmc_slices::{CutError, GatherError, ListError, SliceRecords, cut_slices, list_records};
 use std::alloc::Global;
 use std::process::Abort;
 use std::sync::Wait;
@@ -125,10 +122,7 @@ fn assert_read_told(rt: &impl Abort, alloc: Global, failing: u64) {
     let mut records = gathered(rt, alloc, None, &FILE);
     let mut reader = Counted::new(BlockReader::new(&FILE, 1, failing));
     let fault = records.add(&mut reader).err();
-    let fault = fault.expect(rt, "a fault");
-    assert_read_fault(rt, fault, failing <= 28);
-    let told = gather_fault(alloc, &[&FILE, &FILE, &FILE], 1, failing);
-    assert_eq!(rt; told, Some(ListFault::File(1, fault)));
+    assert_read_fault(rt, fault.expect(rt, "a fault"), failing <= 28);
 }
 
 /// The file has 84 bytes, of which 28 are the header.

@@ -1,7 +1,5 @@
 //! Files that are none of the slice that is read: of another slice or shape, cut short, with a changed byte, with records of
 //! another bin.
-ghost use Rattle.std.specs.Prelude.{◌≤◌, length};
-
 use crate::devices::{SOUND, files_of, writers_of};
 use crate::texts::settings;
 use crate::wholes::{cut, gathered};
@@ -58,31 +56,10 @@ fn add_fault(rt: &impl Abort, alloc: Global, file: &[u8], bytes: &[u8]) -> Optio
     records.add(&mut reader).err()
 }
 
-/// How the files are refused as those of one slice, where this read of the file of this number fails.
-pub(crate) fn gather_fault(
-    alloc: Global,
-    files: &[&[u8]],
-    at: usize,
-    failing: u64,
-) -> Option<ListFault>
-    requires { 1 ≤ length files.now }
-{
-    let opener = |i: usize| {
-        let bytes = files.get(i)?;
-        let failing = if i == at { failing } else { 0 };
-        Some(Counted::new(BlockReader::new(bytes, 1, failing)))
-    };
-    gather_readers(alloc, files.len(), &opener).err()
-}
-
-/// Asserts that the bytes are refused for what they are, first or behind the file, and told by the number of their file.
+/// Asserts that the bytes are refused for what they are, first or behind the file.
 fn assert_refused(rt: &impl Abort, alloc: Global, file: &[u8], bytes: &[u8]) {
     let fault = add_fault(rt, alloc, file, bytes).expect(rt, "a refusal");
     assert_eq!(rt; begin_fault(alloc, bytes), Some(GatherError::File(fault)));
-    let first = gather_fault(alloc, &[bytes, file], 0, 0);
-    assert_eq!(rt; first, Some(ListFault::File(0, fault)));
-    let behind = gather_fault(alloc, &[file, file, bytes, bytes], 0, 0);
-    assert_eq!(rt; behind, Some(ListFault::File(2, fault)));
 }
 
 /// Asserts that the other file, which is one of its own slice, is told behind the file as of this place.
@@ -126,21 +103,6 @@ fn a_file_that_was_cut_otherwise_is_told(rt: HostRuntime) {
     assert_told(&rt, alloc, &file, &other, place(&rt, 11, 8, 3, 0));
     let other = first_file(&rt, alloc, 14, 7, 3);
     assert_told(&rt, alloc, &file, &other, place(&rt, 14, 7, 3, 0));
-}
-
-#[test]
-fn a_file_that_cannot_be_opened_is_told_by_its_number(rt: HostRuntime) {
-    let file = first_file(&rt, rt.alloc(), 11, 7, 2);
-    for missing in 0..3usize {
-        let opener = |i: usize| {
-            if i >= missing {
-                return None;
-            }
-            Some(Counted::new(BlockReader::new(&file, 1, 0)))
-        };
-        let fault = gather_readers(rt.alloc(), 4, &opener).err();
-        assert_eq!(rt; fault, Some(ListFault::NotOpened(missing)));
-    }
 }
 
 #[test]
@@ -230,5 +192,20 @@ fn records_of_another_bin_are_told(rt: HostRuntime) {
     for cut in [1, 3] {
         let why = PartError::Damaged(RecordFault::Short, cut - 1);
         assert_foreign(&rt, rt.alloc(), &own[..cut], why);
+    }
+}
+
+#[test]
+fn a_file_that_cannot_be_opened_is_told_by_its_number(rt: HostRuntime) {
+    let file = first_file(&rt, rt.alloc(), 11, 7, 2);
+    for missing in 0..3usize {
+        let opener = |i: usize| {
+            if i >= missing {
+                return None;
+            }
+            Some(Counted::new(BlockReader::new(&file, 1, 0)))
+        };
+        let fault = gather_readers(rt.alloc(), 4, &opener).err();
+        assert_eq!(rt; fault, Some(ListFault::NotOpened(missing)));
     }
 }
