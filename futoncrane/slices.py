@@ -43,7 +43,7 @@ class Listing:
     is one of `watches`; `beside` are the programs that share its memory."""
 
     def __init__(self, names, setting, children, step, watches, output=None, file=None, counters=None, beside=()):
-        self.setting, self.children, self.output, self.file = setting, children, output, file
+        self.setting, self.children, self.output, self.file, self.beside = setting, children, output, file, beside
         self.parts = merging.Parts(names, children)
         space = memory.addresses(setting.memory, setting.threads) if setting.memory else None
         command = [places.find("kmc_list"), *shared.words_of_list(setting, counters), *self.parts.given]
@@ -60,6 +60,8 @@ class Listing:
         """Waits for its end, and judges how it ended. Answers how many bytes it wrote."""
         status, written = ended(self.program)
         self.watch.waits = True
+        if self.program in self.beside:
+            self.beside.remove(self.program)
         self.parts.judge()
         if status == 0:
             self.setting.report.step(name_of(self.program))
