@@ -1,5 +1,5 @@
 -- Reads of which some are cut in pieces.
-use Rattle.std.specs.Prelude.{◌≡◌, ℕ, ◌+◌, List, ◌++◌, length, Ok, Err}
+use Rattle.std.specs.Prelude.{◌≡◌, ℕ, ◌+◌, List, ◌++◌, length, Option, None, Some, Ok, Err}
 use Rattle.std.specs.List.{sum_by}
 use Rattle.kmc_reads.specs.Answer.{Answer}
 
@@ -18,3 +18,8 @@ IsCutAnswer overlap (Ok reads) (Ok cuts) = AreCut overlap reads cuts
 IsCutAnswer overlap (Ok reads) (Err f) = ⊥
 IsCutAnswer overlap (Err e) (Ok cuts) = ⊥
 IsCutAnswer overlap (Err e) (Err f) = e ≡ f
+
+-- the reads of an answer, by how they are handed out: whole, or some of them in pieces that overlap by so many symbols
+abbrev pub AreReadsBy : Option ℕ → Answer → List (List ℕ) → Type 0
+AreReadsBy None answer reads = answer ≡ Ok reads
+AreReadsBy (Some overlap) answer reads = (whole : List (List ℕ)) × (answer ≡ Ok whole) × AreCut overlap whole reads

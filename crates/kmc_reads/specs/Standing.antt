@@ -77,6 +77,11 @@ pub record LeadsCut (overlap : ℕ) (s : Spot) (front p : List ℕ) (more : List
   pub fault : (rest : List ℕ) → fault_from s (whole_from front (p ++ rest)) ≡ fault_from t (whole_from left rest)
   pub reads : (rest : List ℕ) → IsCutAnswer overlap (reads_from s (lines_from front (p ++ rest))) (with_reads more (reads_from t (lines_from left rest)))
 
+-- the same by how reads are handed out: whole, or some of them in pieces that overlap by so many symbols
+abbrev pub LeadsBy : Option ℕ → Spot → List ℕ → List ℕ → List (List ℕ) → Spot → List ℕ → Type 0
+LeadsBy None s front p more t left = Leads s front p more t left
+LeadsBy (Some overlap) s front p more t left = LeadsCut overlap s front p more t left
+
 -- the bytes p end a line that has this fault, whatever follows
 abbrev pub HasFault : Spot → List ℕ → List ℕ → ReadsError → Type 0
 HasFault s front p e = (rest : List ℕ) → fault_from s (whole_from front (p ++ rest)) ≡ Some e
@@ -162,21 +167,12 @@ pub record FeederState : Type 0 where
   pub scan : Scan
   pub refusal : Option ReadsError
 
--- the feeder stands at this text, of whose ended reads these were taken
-pub record StandsAt (format : Format) (text : List ℕ) (taken : List (List ℕ)) (v : FeederState) : Type 0 where
+-- the feeder stands at this text, of whose reads, handed out so, these were taken
+pub record Stands (cut : Option ℕ) (format : Format) (text : List ℕ) (taken : List (List ℕ)) (v : FeederState) : Type 0 where
   pub rows : List (List ℕ)
   pub spot : Spot
   pub front : List ℕ
-  pub leads : Leads (first_spot format) [] text (taken ++ rows) spot front
-  pub stands : At rows spot front v.scan
-  pub sound : v.refusal ≡ None
-
--- the same of a feeder that may have handed out open reads in pieces: these reads and pieces were taken
-pub record StandsCut (overlap : ℕ) (format : Format) (text : List ℕ) (taken : List (List ℕ)) (v : FeederState) : Type 0 where
-  pub rows : List (List ℕ)
-  pub spot : Spot
-  pub front : List ℕ
-  pub leads : LeadsCut overlap (first_spot format) [] text (taken ++ rows) spot front
+  pub leads : LeadsBy cut (first_spot format) [] text (taken ++ rows) spot front
   pub stands : At rows spot front v.scan
   pub sound : v.refusal ≡ None
 

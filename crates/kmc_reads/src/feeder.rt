@@ -1,11 +1,11 @@
 //! A text that comes in blocks.
-ghost use Rattle.std.specs.Prelude.{◌≡◌, ◌≢◌, ℕ, ◌+◌, List, [], ◌++◌, length, IfOk, IfErr, OnOk, OnErr, IsErrOf, Ok, Err, None};
+ghost use Rattle.std.specs.Prelude.{◌≡◌, ◌≢◌, ℕ, ◌+◌, List, [], ◌++◌, length, IfOk, IfErr, OnOk, OnErr, IsErrOf, Option, Some, Err, None};
 ghost use Rattle.std.specs.Io.BufRead.{strip_last};
 ghost use Rattle.std.specs.List.{concat};
 ghost use Rattle.kmc_reads.specs.Reads.{reads_of};
 ghost use Rattle.kmc_reads.specs.Stages.{Spot, fault, ended};
-ghost use Rattle.kmc_reads.specs.Cuts.{AreCut};
-ghost use Rattle.kmc_reads.specs.Standing.{At, Hands, StandsAt, StandsCut, StandsStill, IsSomewhere, IsHandedOut, Refuses, open_symbols};
+ghost use Rattle.kmc_reads.specs.Cuts.{AreReadsBy};
+ghost use Rattle.kmc_reads.specs.Standing.{At, Hands, Stands, StandsStill, IsSomewhere, IsHandedOut, Refuses, open_symbols};
 
 use crate::error::ReadsError;
 use crate::format::Format;
@@ -38,8 +38,7 @@ impl Model for Feeder {
 impl Feeder {
     /// A feeder at the empty text.
     pub fn new(alloc: Global, format: Format) -> Feeder
-        ensures stands { StandsAt format [] [] result }
-        ensures cut { (overlap : ℕ) → StandsCut overlap format [] [] result }
+        ensures { (cut : Option ℕ) → Stands cut format [] [] result }
     {
         Feeder {
             scan: Scan::new(alloc, format),
@@ -50,38 +49,25 @@ impl Feeder {
     /// Takes the next block of the text. A line is judged once its line feed has come, so the answer
     /// is never `Truncated`. The reads that the block ends wait until they are taken.
     pub fn feed(&mut self, block: &[u8]) -> Result<(), ReadsError>
-        ensures stands { (format : Format) (text : List ℕ) (taken : List (List ℕ))
-            → StandsAt format text taken self.old
-            → OnOk result (StandsAt format (text ++ block.now) taken self.new) }
-        ensures sound { (format : Format) (text : List ℕ) (taken : List (List ℕ))
-            → StandsAt format text taken self.old
+        ensures stands { (cut : Option ℕ) (format : Format) (text : List ℕ) (taken : List (List ℕ))
+            → Stands cut format text taken self.old
+            → OnOk result (Stands cut format (text ++ block.now) taken self.new) }
+        ensures sound { (cut : Option ℕ) (format : Format) (text : List ℕ) (taken : List (List ℕ))
+            → Stands cut format text taken self.old
             → OnOk result (fault format (text ++ block.now) ≡ None) }
-        ensures refused { (format : Format) (text : List ℕ) (taken : List (List ℕ))
-            → StandsAt format text taken self.old
+        ensures refused { (cut : Option ℕ) (format : Format) (text : List ℕ) (taken : List (List ℕ))
+            → Stands cut format text taken self.old
             → IfErr result
             (λ e. e ≢ ReadsError.Memory → (fault format (text ++ block.now) ≡ Some e)
             × Refuses e self.new) }
-        ensures memory { (format : Format) (text : List ℕ) (taken : List (List ℕ))
-            → StandsAt format text taken self.old → IsErrOf result ReadsError.Memory
-            → StandsAt format text taken self.new }
+        ensures memory { (cut : Option ℕ) (format : Format) (text : List ℕ) (taken : List (List ℕ))
+            → Stands cut format text taken self.old → IsErrOf result ReadsError.Memory
+            → Stands cut format text taken self.new }
         ensures again { (e : ReadsError) → Refuses e self.old → (result ≡ Err e)
             × (self.new ≡ self.old) }
 
         // What waited before a refusal waits after it.
         ensures still { OnErr result (StandsStill self.old.scan self.new.scan) }
-
-        // The same where open reads were handed out in pieces.
-        ensures cut { (overlap : ℕ) (format : Format) (text : List ℕ) (taken : List (List ℕ))
-            → StandsCut overlap format text taken self.old
-            → OnOk result (StandsCut overlap format (text ++ block.now) taken self.new) }
-        ensures cut_refused { (overlap : ℕ) (format : Format) (text : List ℕ)
-            (taken : List (List ℕ)) → StandsCut overlap format text taken self.old
-            → IfErr result
-            (λ e. e ≢ ReadsError.Memory → (fault format (text ++ block.now) ≡ Some e)
-            × Refuses e self.new) }
-        ensures cut_memory { (overlap : ℕ) (format : Format) (text : List ℕ)
-            (taken : List (List ℕ)) → StandsCut overlap format text taken self.old
-            → IsErrOf result ReadsError.Memory → StandsCut overlap format text taken self.new }
     {
         if let Some(e) = self.refusal {
             return Err(e);
@@ -101,10 +87,8 @@ impl Feeder {
     /// How many reads have ended and were not taken yet.
     pub fn waiting(&self) -> usize
         ensures are { (format : Format) (text : List ℕ) (taken : List (List ℕ))
-            → StandsAt format text taken self.now
+            → Stands None format text taken self.now
             → length (ended format text) ≡ length taken + result }
-        ensures cut { (overlap : ℕ) (format : Format) (text : List ℕ) (taken : List (List ℕ))
-            (s : StandsCut overlap format text taken self.now) → result ≡ length s.rows }
         ensures rows { (rows : List (List ℕ)) (spot : Spot) (front : List ℕ)
             → At rows spot front self.now.scan → result ≡ length rows }
     {
@@ -114,10 +98,8 @@ impl Feeder {
     /// How many symbols these reads have in all.
     pub fn waiting_symbols(&self) -> usize
         ensures are { (format : Format) (text : List ℕ) (taken : List (List ℕ))
-            → StandsAt format text taken self.now
+            → Stands None format text taken self.now
             → length (concat (ended format text)) ≡ length (concat taken) + result }
-        ensures cut { (overlap : ℕ) (format : Format) (text : List ℕ) (taken : List (List ℕ))
-            (s : StandsCut overlap format text taken self.now) → result ≡ length (concat s.rows) }
         ensures rows { (rows : List (List ℕ)) (spot : Spot) (front : List ℕ)
             → At rows spot front self.now.scan → result ≡ length (concat rows) }
     {
@@ -129,11 +111,12 @@ impl Feeder {
     /// ended before the block that it refused, and goes on refusing.
     pub fn take(&mut self, alloc: Global) -> Result<Reads, AllocError>
         ensures all { (format : Format) (text : List ℕ) (taken : List (List ℕ))
-            → StandsAt format text taken self.old
+            → Stands None format text taken self.old
             → IfOk result (λ reads. ended format text ≡ taken ++ reads) }
-        ensures stands { (format : Format) (text : List ℕ) (taken : List (List ℕ))
-            → StandsAt format text taken self.old
-            → IfOk result (λ reads. StandsAt format text (taken ++ reads) self.new) }
+        ensures stands { (cut : Option ℕ) (format : Format) (text : List ℕ) (taken : List (List ℕ))
+            (s : Stands cut format text taken self.old)
+            → IfOk result (λ reads. (reads ≡ s.rows)
+            × Stands cut format text (taken ++ reads) self.new) }
         ensures memory { OnErr result (self.new ≡ self.old) }
         ensures refused { (e : ReadsError) → Refuses e self.old → Refuses e self.new }
 
@@ -141,12 +124,6 @@ impl Feeder {
         ensures waiting { (rows : List (List ℕ)) (spot : Spot) (front : List ℕ)
             → At rows spot front self.old.scan
             → IfOk result (λ reads. (reads ≡ rows) × At [] spot front self.new.scan) }
-
-        // The same where open reads were handed out in pieces.
-        ensures cut { (overlap : ℕ) (format : Format) (text : List ℕ) (taken : List (List ℕ))
-            (s : StandsCut overlap format text taken self.old)
-            → IfOk result (λ reads. (reads ≡ s.rows)
-            × StandsCut overlap format text (taken ++ reads) self.new) }
     {
         self.scan.take(alloc)
     }
@@ -157,11 +134,11 @@ impl Feeder {
     /// and so it is for FASTQ, where the length of a read is wanted for its quality line.
     pub fn take_open(&mut self, alloc: Global, overlap: usize) -> Result<Reads, AllocError>
         ensures stands { (format : Format) (text : List ℕ) (taken : List (List ℕ))
-            → StandsCut overlap format text taken self.old
-            → IfOk result (λ reads. StandsCut overlap format text (taken ++ reads) self.new) }
+            → Stands (Some overlap) format text taken self.old
+            → IfOk result (λ reads. Stands (Some overlap) format text (taken ++ reads) self.new) }
         ensures memory { (format : Format) (text : List ℕ) (taken : List (List ℕ))
-            → StandsCut overlap format text taken self.old
-            → OnErr result (StandsCut overlap format text taken self.new) }
+            → Stands (Some overlap) format text taken self.old
+            → OnErr result (Stands (Some overlap) format text taken self.new) }
         ensures handed { OnOk result (IsHandedOut overlap self.new.scan) }
         ensures refused { (e : ReadsError) → Refuses e self.old → Refuses e self.new }
 
@@ -185,34 +162,20 @@ impl Feeder {
     /// Ends the text: the reads that were not taken yet, or the refusal of the first faulty line, with
     /// the feeder.
     pub fn finish(self) -> Result<Reads, (ReadsError, Feeder)>
-        ensures all { (format : Format) (text : List ℕ) (taken : List (List ℕ))
-            → StandsAt format text taken self
-            → IfOk result (λ reads. reads_of format text ≡ Ok (taken ++ reads)) }
-        ensures refused { (format : Format) (text : List ℕ) (taken : List (List ℕ))
-            → StandsAt format text taken self
+        ensures all { (cut : Option ℕ) (format : Format) (text : List ℕ) (taken : List (List ℕ))
+            → Stands cut format text taken self
+            → IfOk result (λ reads. AreReadsBy cut (reads_of format text) (taken ++ reads)) }
+        ensures refused { (cut : Option ℕ) (format : Format) (text : List ℕ) (taken : List (List ℕ))
+            → Stands cut format text taken self
             → IfErr result
             (λ p. p.0 ≢ ReadsError.Memory → (reads_of format text ≡ Err p.0) × Refuses p.0 p.1) }
-        ensures memory { (format : Format) (text : List ℕ) (taken : List (List ℕ))
-            → StandsAt format text taken self
-            → IfErr result (λ p. p.0 ≡ ReadsError.Memory → StandsAt format text taken p.1) }
+        ensures memory { (cut : Option ℕ) (format : Format) (text : List ℕ) (taken : List (List ℕ))
+            → Stands cut format text taken self
+            → IfErr result (λ p. p.0 ≡ ReadsError.Memory → Stands cut format text taken p.1) }
         ensures again { (e : ReadsError) → Refuses e self → result ≡ Err (e, self) }
 
         // What waited before a refusal waits after it.
         ensures still { IfErr result (λ p. StandsStill self.scan p.1.scan) }
-
-        // The same where open reads were handed out in pieces.
-        ensures cut { (overlap : ℕ) (format : Format) (text : List ℕ) (taken : List (List ℕ))
-            → StandsCut overlap format text taken self
-            → IfOk result
-            (λ reads. (whole : List (List ℕ)) × (reads_of format text ≡ Ok whole)
-            × AreCut overlap whole (taken ++ reads)) }
-        ensures cut_refused { (overlap : ℕ) (format : Format) (text : List ℕ)
-            (taken : List (List ℕ)) → StandsCut overlap format text taken self
-            → IfErr result
-            (λ p. p.0 ≢ ReadsError.Memory → (reads_of format text ≡ Err p.0) × Refuses p.0 p.1) }
-        ensures cut_memory { (overlap : ℕ) (format : Format) (text : List ℕ)
-            (taken : List (List ℕ)) → StandsCut overlap format text taken self
-            → IfErr result (λ p. p.0 ≡ ReadsError.Memory → StandsCut overlap format text taken p.1) }
     {
         let mut feeder = self;
         if let Some(e) = feeder.refusal {

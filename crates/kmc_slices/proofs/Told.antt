@@ -1,11 +1,11 @@
 -- Refusals of the reading, as they are told.
-use Rattle.std.proofs.Common.{◌≡◌, ◌≢◌, ℕ, ◌-◌, ◌≤◌, List, [], ◌++◌, Option, Result, Ok, Err, IfErr, inr, sym, subst, arith, append_assoc, length-append}
+use Rattle.std.proofs.Common.{◌≡◌, ◌≢◌, ℕ, ◌-◌, ◌≤◌, List, [], ◌++◌, Option, Result, Ok, Err, IfErr, inr, sym, subst, arith, append_assoc, length-append, Some}
 use Rattle.std.specs.Io.KnownBytes.{IsAtEnd}
 use Rattle.kmc_reads.specs.declared.error.ReadsError.{ReadsError}
 use Rattle.kmc_reads.specs.declared.error.ReadsError.TheVariants as reads
 use Rattle.kmc_reads.specs.declared.format.Format.{Format}
 use Rattle.kmc_reads.specs.Reads.{reads_of}
-use Rattle.kmc_reads.specs.Standing.{FeederState, StandsCut}
+use Rattle.kmc_reads.specs.Standing.{FeederState, Stands}
 use Rattle.kmc_record.specs.Shapes.{Sizes}
 use Rattle.kmc_reads.specs.declared.input_error.InputError.{InputError}
 use Rattle.kmc_reads.specs.declared.input_error.InputError.TheVariants as input
@@ -96,7 +96,7 @@ taken_since overlap format old mid new a b c text taken more v w f g = record {
   bytes = f.bytes ++ g.bytes;
   given = consumes_on old mid new f.bytes g.bytes f.given g.given;
   many = omega (arith, f.many, g.many, length-append f.bytes g.bytes);
-  stands = subst (λ t. StandsCut overlap format t more w) (append_assoc text f.bytes g.bytes) g.stands;
+  stands = subst (λ t. Stands (Some overlap) format t more w) (append_assoc text f.bytes g.bytes) g.stands;
 }
 
 -- and the reading was refused

@@ -1,7 +1,7 @@
 //! The reads of a text, a round at a time, to the files of slices.
-ghost use Rattle.std.specs.Prelude.{◌≡◌, ℕ, ◌+◌, ◌-◌, ◌^◌, ◌<◌, ◌≤◌, List, [], length, map, slice_index, Option, OnOk, OnErr, IfErr};
+ghost use Rattle.std.specs.Prelude.{◌≡◌, ℕ, ◌+◌, ◌-◌, ◌^◌, ◌<◌, ◌≤◌, List, [], length, map, slice_index, Option, OnOk, OnErr, IfErr, Some};
 ghost use Rattle.kmc_reads.specs.declared.format.Format.{Format};
-ghost use Rattle.kmc_reads.specs.Standing.{StandsCut};
+ghost use Rattle.kmc_reads.specs.Standing.{Stands};
 ghost use Rattle.kmc_slices.specs.Cut.{AreReadCounts, AreWriteCounts, IsCutError, IsLastCutError};
 ghost use Rattle.kmc_slices.specs.Rounds.{AreAllRounds, AreLastRounds, AreRounds, AreUnended};
 
@@ -31,7 +31,7 @@ fn cut_last_round<T: Threads + Wait + Sync, W: Write, G: Gate + Sync>(
     requires failures { (s : ℕ) → s < length writers.old
         → slice_index (map (λ w. w.failures) writers.old) s < 2 ^ 64 - 1 }
     ensures ok { (format : Format) (text : List ℕ) (taken : List (List ℕ)) (olds : List (Option (List ℕ)))
-        → StandsCut (dealing.now.settings.shape.k - 1) format text taken feeder
+        → Stands (Some (dealing.now.settings.shape.k - 1)) format text taken feeder
         → AreRounds dealing.now.settings.shape dealing.now.limit (length writers.old) taken olds
         (map (λ w. W.contents w.inner) writers.old) counts.old
         → OnOk result
@@ -40,7 +40,7 @@ fn cut_last_round<T: Threads + Wait + Sync, W: Write, G: Gate + Sync>(
     ensures kept { OnOk result
         (map (λ w. w.failures) writers.new ≡ map (λ w. w.failures) writers.old) }
     ensures cause { (format : Format) (text : List ℕ) (taken : List (List ℕ))
-        → StandsCut (dealing.now.settings.shape.k - 1) format text taken feeder
+        → Stands (Some (dealing.now.settings.shape.k - 1)) format text taken feeder
         → IfErr result (IsLastCutError format text) }
     ensures write_counts { IfErr result
         (AreWriteCounts (map (λ w. w.failures) writers.old) (map (λ w. w.failures) writers.new)) }

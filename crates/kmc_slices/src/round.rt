@@ -1,8 +1,8 @@
 //! The reads of a round in bins of their own.
-ghost use Rattle.std.specs.Prelude.{◌≡◌, ℕ, ◌-◌, ◌^◌, ◌<◌, ◌≤◌, List, false, IfOk, IfErr, Ok};
+ghost use Rattle.std.specs.Prelude.{◌≡◌, ℕ, ◌-◌, ◌^◌, ◌<◌, ◌≤◌, List, false, IfOk, IfErr, Ok, Some};
 ghost use Rattle.std.specs.Io.KnownBytes.{IsAtEnd};
 ghost use Rattle.kmc_reads.specs.declared.format.Format.{Format};
-ghost use Rattle.kmc_reads.specs.Standing.{StandsCut};
+ghost use Rattle.kmc_reads.specs.Standing.{Stands};
 ghost use Rattle.kmc_stage_one.specs.Fed.{AreCounts, AreCountsOf};
 ghost use Rattle.kmc_store.specs.Bins.{empty_bins};
 ghost use Rattle.kmc_slices.specs.Rounds.{IsRound, IsRoundError};
@@ -53,13 +53,13 @@ pub(crate) fn next_bins<T: Threads + Wait + Sync, R: Read, G: Gate + Sync>(
         (AreCountsOf most reader.old.reads reader.new.reads reader.old.failures reader.new.failures) }
     ensures at_end { IfOk result (λ p. p.1 ≡ false → IsAtEnd (R.remaining reader.new.inner)) }
     ensures round { (format : Format) (text : List ℕ) (taken : List (List ℕ))
-        → StandsCut (dealing.now.settings.shape.k - 1) format text taken feeder.old
+        → Stands (Some (dealing.now.settings.shape.k - 1)) format text taken feeder.old
         → IfOk result
         (λ p. IsRound dealing.now.settings.shape dealing.now.limit format
         (R.remaining reader.old.inner) (R.remaining reader.new.inner) reader.old.reads
         reader.new.reads text taken p.0.bodies feeder.new) }
     ensures cause { (format : Format) (text : List ℕ) (taken : List (List ℕ))
-        → StandsCut (dealing.now.settings.shape.k - 1) format text taken feeder.old
+        → Stands (Some (dealing.now.settings.shape.k - 1)) format text taken feeder.old
         → IfErr result
         (IsRoundError (dealing.now.settings.shape.k - 1) format (R.remaining reader.old.inner)
         (R.remaining reader.new.inner) reader.old.reads reader.new.reads text taken feeder.new) }

@@ -1,8 +1,8 @@
 -- Rounds that are filled.
-use Rattle.std.proofs.Common.{◌≡◌, ◌⊎◌, ℕ, ◌≤◌, List, [], ◌++◌, length, Option, sym, subst, append-nil, arith}
+use Rattle.std.proofs.Common.{◌≡◌, ◌⊎◌, ℕ, ◌≤◌, List, [], ◌++◌, length, Option, sym, subst, append-nil, arith, Some}
 use Rattle.std.specs.Io.KnownBytes.{Consumes}
 use Rattle.kmc_reads.specs.declared.format.Format.{Format}
-use Rattle.kmc_reads.specs.Standing.{FeederState, StandsCut}
+use Rattle.kmc_reads.specs.Standing.{FeederState, Stands}
 use Rattle.kmc_stage_one.specs.Fed.{HasRoomForReads, IsFed, IsFilled}
 use Rattle.kmc_stage_one.specs.Lemmas.Fed.{consumes_none}
 
@@ -10,7 +10,7 @@ module _ (reads symbols block overlap : ℕ) (format : Format) (from to : Option
     (f : IsFed overlap format from to a b text taken v) (room : (v ≡ old) ⊎ HasRoomForReads reads symbols v) where
   -- one block more was fed
   pub filled : (end : Option (List ℕ)) (w : FeederState)
-      → ((last : List ℕ) × (length last ≤ block) × Consumes to end last × StandsCut overlap format ((text ++ f.bytes) ++ last) taken w)
+      → ((last : List ℕ) × (length last ≤ block) × Consumes to end last × Stands (Some overlap) format ((text ++ f.bytes) ++ last) taken w)
       → IsFilled reads symbols block overlap format from end text taken old w
   filled end w more = record {
     earlier = v;
@@ -35,7 +35,7 @@ module _ (reads symbols block overlap : ℕ) (format : Format) (from to : Option
     gave_front = f.given;
     gave_last = consumes_none to;
     before = f.stands;
-    after = subst (λ t. StandsCut overlap format t taken v) (sym (append-nil (text ++ f.bytes))) f.stands;
+    after = subst (λ t. Stands (Some overlap) format t taken v) (sym (append-nil (text ++ f.bytes))) f.stands;
     most = omega arith;
     room = room;
   }

@@ -1,5 +1,5 @@
 -- What was read and fed, the room that a feeder has, and the numbers of a reading.
-use Rattle.std.specs.Prelude.{◌≡◌, ◌⊎◌, ℕ, ◌+◌, ◌^◌, ◌<◌, ◌≤◌, Bool, true, false, List, ◌++◌, length, Option, Result, Ok, Err}
+use Rattle.std.specs.Prelude.{◌≡◌, ◌⊎◌, ℕ, ◌+◌, ◌^◌, ◌<◌, ◌≤◌, Bool, true, false, List, ◌++◌, length, Option, Result, Ok, Err, Some}
 use Rattle.std.specs.List.{concat}
 use Rattle.std.specs.Io.BufRead.{strip_last}
 use Rattle.std.specs.Io.KnownBytes.{Consumes, IsAtEnd}
@@ -7,7 +7,7 @@ use Rattle.kmc_reads.specs.declared.error.ReadsError.{ReadsError}
 use Rattle.kmc_reads.specs.declared.format.Format.{Format}
 use Rattle.kmc_reads.specs.Reads.{reads_of}
 use Rattle.kmc_reads.specs.Lines.{carriage_return}
-use Rattle.kmc_reads.specs.Standing.{FeederState, StandsCut, IsHandedOut, IsSomewhere, open_symbols}
+use Rattle.kmc_reads.specs.Standing.{FeederState, Stands, IsHandedOut, IsSomewhere, open_symbols}
 use Rattle.kmc_reads.specs.declared.input_error.InputError.{InputError}
 use Rattle.kmc_reads.specs.declared.input_error.InputError.TheVariants.{Memory, Read, Faulty, TooLong}
 
@@ -18,7 +18,7 @@ pub record IsFed (overlap : ℕ) (format : Format) (old new : Option (List ℕ))
   pub bytes : List ℕ
   pub given : Consumes old new bytes
   pub many : after ≤ before + length bytes
-  pub stands : StandsCut overlap format (text ++ bytes) taken v
+  pub stands : Stands (Some overlap) format (text ++ bytes) taken v
 
 -- the reader gave bytes with which the text is refused: whatever follows, or since nothing does
 pub record IsRefused (format : Format) (old new : Option (List ℕ)) (text : List ℕ) (e : ReadsError) : Type 0 where
@@ -37,13 +37,13 @@ IsFedBy overlap format old new before after text taken v (Err TooLong) = IsFed o
 
 -- fewer than so many reads wait in the feeder, with fewer than so many symbols, and an open read has fewer that can be handed out
 pub record HasRoomForReads (reads symbols : ℕ) (v : FeederState) : Type 0 where
-  pub waiting : (overlap : ℕ) (format : Format) (text : List ℕ) (taken : List (List ℕ)) (s : StandsCut overlap format text taken v)
+  pub waiting : (overlap : ℕ) (format : Format) (text : List ℕ) (taken : List (List ℕ)) (s : Stands (Some overlap) format text taken v)
       → (length s.rows < reads) × (length (concat s.rows) < symbols)
   pub open_read : (at : IsSomewhere v.scan) → length (open_symbols at.spot.stage at.spot.read (strip_last carriage_return at.front)) < symbols
 
 -- so many reads wait in the feeder, or so many symbols of them, or an open read has so many that can be handed out
 abbrev pub IsFull : ℕ → ℕ → FeederState → Type 0
-IsFull reads symbols v = (overlap : ℕ) (format : Format) (text : List ℕ) (taken : List (List ℕ)) (s : StandsCut overlap format text taken v)
+IsFull reads symbols v = (overlap : ℕ) (format : Format) (text : List ℕ) (taken : List (List ℕ)) (s : Stands (Some overlap) format text taken v)
     (at : IsSomewhere v.scan) → (reads ≤ length s.rows) ⊎ ((symbols ≤ length (concat s.rows))
     ⊎ (symbols ≤ length (open_symbols at.spot.stage at.spot.read (strip_last carriage_return at.front))))
 
@@ -61,8 +61,8 @@ pub record IsFilled (reads symbols block : ℕ) (overlap : ℕ) (format : Format
   pub last : List ℕ
   pub gave_front : Consumes from between front
   pub gave_last : Consumes between to last
-  pub before : StandsCut overlap format (text ++ front) taken earlier
-  pub after : StandsCut overlap format ((text ++ front) ++ last) taken new
+  pub before : Stands (Some overlap) format (text ++ front) taken earlier
+  pub after : Stands (Some overlap) format ((text ++ front) ++ last) taken new
   pub most : length last ≤ block
   pub room : (earlier ≡ old) ⊎ HasRoomForReads reads symbols earlier
 
@@ -70,7 +70,7 @@ pub record IsFilled (reads symbols block : ℕ) (overlap : ℕ) (format : Format
 pub record IsNextRound (reads symbols block overlap : ℕ) (from to : Option (List ℕ)) (new : FeederState) : Type 0 where
   pub emptied : FeederState
   pub handed : IsHandedOut overlap emptied.scan
-  pub filled : (format : Format) (text : List ℕ) (taken : List (List ℕ)) → StandsCut overlap format text taken emptied
+  pub filled : (format : Format) (text : List ℕ) (taken : List (List ℕ)) → Stands (Some overlap) format text taken emptied
       → IsFilled reads symbols block overlap format from to text taken emptied new
 
 -- how many reads gave bytes, at most so many, and how many calls failed, by the cause of a refusal

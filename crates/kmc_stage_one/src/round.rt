@@ -1,8 +1,8 @@
 //! A round of reads, read and fed block by block.
-ghost use Rattle.std.specs.Prelude.{◌≡◌, ℕ, ◌+◌, ◌-◌, ◌^◌, ◌<◌, ◌≤◌, ◌++◌, List, length, false, OnOk, IsErrOf, Ok};
+ghost use Rattle.std.specs.Prelude.{◌≡◌, ℕ, ◌+◌, ◌-◌, ◌^◌, ◌<◌, ◌≤◌, ◌++◌, List, length, false, OnOk, IsErrOf, Ok, Some};
 ghost use Rattle.std.specs.Io.KnownBytes.{Consumes, IsAtEnd};
 ghost use Rattle.kmc_reads.specs.declared.format.Format.{Format};
-ghost use Rattle.kmc_reads.specs.Standing.{StandsCut};
+ghost use Rattle.kmc_reads.specs.Standing.{Stands};
 ghost use Rattle.kmc_stage_one.specs.Fed.{IsFedBy, IsFilled, IsWholeRound, AreCounts};
 
 use kmc_device::Counted;
@@ -25,16 +25,16 @@ fn read_and_feed<R: Read>(
     ensures counts { AreCounts (reader.old.reads
         + 1) reader.old.reads reader.new.reads reader.old.failures reader.new.failures result }
     ensures fed { (overlap : ℕ) (format : Format) (text : List ℕ) (taken : List (List ℕ))
-        → StandsCut overlap format text taken feeder.old
+        → Stands (Some overlap) format text taken feeder.old
         → IsFedBy overlap format (R.remaining reader.old.inner)
         (R.remaining reader.new.inner) reader.old.reads reader.new.reads text taken feeder.new result }
     ensures at_end { result ≡ Ok false → IsAtEnd (R.remaining reader.new.inner) }
     ensures block { (overlap : ℕ) (format : Format) (text : List ℕ) (taken : List (List ℕ))
-        → StandsCut overlap format text taken feeder.old
+        → Stands (Some overlap) format text taken feeder.old
         → OnOk result
         ((last : List ℕ) × (length last ≤ BLOCK)
         × Consumes (R.remaining reader.old.inner) (R.remaining reader.new.inner) last
-        × StandsCut overlap format (text ++ last) taken feeder.new) }
+        × Stands (Some overlap) format (text ++ last) taken feeder.new) }
     ensures short { IsErrOf result InputError.TooLong → ⊥ }
 {
     fault_stays();
@@ -60,12 +60,12 @@ pub fn fill_round<R: Read>(
     requires reads { reader.old.reads ≤ most }
     ensures counts { AreCounts most reader.old.reads reader.new.reads reader.old.failures reader.new.failures result }
     ensures fed { (overlap : ℕ) (format : Format) (text : List ℕ) (taken : List (List ℕ))
-        → StandsCut overlap format text taken feeder.old
+        → Stands (Some overlap) format text taken feeder.old
         → IsFedBy overlap format (R.remaining reader.old.inner)
         (R.remaining reader.new.inner) reader.old.reads reader.new.reads text taken feeder.new result }
     ensures at_end { result ≡ Ok false → IsAtEnd (R.remaining reader.new.inner) }
     ensures filled { (overlap : ℕ) (format : Format) (text : List ℕ) (taken : List (List ℕ))
-        → StandsCut overlap format text taken feeder.old
+        → Stands (Some overlap) format text taken feeder.old
         → OnOk result
         (IsFilled reads symbols BLOCK overlap format (R.remaining reader.old.inner)
         (R.remaining reader.new.inner) text taken feeder.old feeder.new) }

@@ -1,10 +1,10 @@
 //! The reads of a text, a round at a time, into bins: a round is cut in threads while the caller's thread reads on.
-ghost use Rattle.std.specs.Prelude.{◌≡◌, ◌≢◌, ℕ, ◌+◌, ◌-◌, ◌*◌, ◌^◌, ◌<◌, ◌≤◌, min, List, [], ◌++◌, Option, false, IfOk, IfErr, OnOk, OnErr, Ok, Err};
+ghost use Rattle.std.specs.Prelude.{◌≡◌, ◌≢◌, ℕ, ◌+◌, ◌-◌, ◌*◌, ◌^◌, ◌<◌, ◌≤◌, min, List, [], ◌++◌, Option, false, IfOk, IfErr, OnOk, OnErr, Ok, Err, Some};
 ghost use Rattle.std.specs.Io.KnownBytes.{IsAtEnd};
 ghost use Rattle.kmc_reads.specs.declared.format.Format.{Format};
 ghost use Rattle.kmc_reads.specs.Cuts.{AreCut};
 ghost use Rattle.kmc_reads.specs.Reads.{reads_of};
-ghost use Rattle.kmc_reads.specs.Standing.{IsHandedOut, StandsCut};
+ghost use Rattle.kmc_reads.specs.Standing.{IsHandedOut, Stands};
 ghost use Rattle.kmc_stage_one.specs.Lemmas.Stored.{AreStored, AreStoredBy};
 ghost use Rattle.kmc_stage_one.specs.Fed.{IsFedBy, IsFilled, IsNextRound, IsWholeRound, AreCounts, AreCountsOf};
 ghost use Rattle.kmc_stage_one.specs.Rounds.{HoldsPieces, HoldsInput, IsInputError, reads_of_round};
@@ -59,12 +59,12 @@ pub fn feed_round<T: Threads + Wait + Sync, R: Read, G: Gate + Sync>(
         (held ++ round.now) bins.new.bodies) }
     ensures counts { AreCounts most reader.old.reads reader.new.reads reader.old.failures reader.new.failures result.1 }
     ensures fed { (overlap : ℕ) (format : Format) (text : List ℕ) (taken : List (List ℕ))
-        → StandsCut overlap format text taken feeder.old
+        → Stands (Some overlap) format text taken feeder.old
         → IsFedBy overlap format (R.remaining reader.old.inner)
         (R.remaining reader.new.inner) reader.old.reads reader.new.reads text taken feeder.new result.1 }
     ensures at_end { result.1 ≡ Ok false → IsAtEnd (R.remaining reader.new.inner) }
     ensures filled { (overlap : ℕ) (format : Format) (text : List ℕ) (taken : List (List ℕ))
-        → StandsCut overlap format text taken feeder.old
+        → Stands (Some overlap) format text taken feeder.old
         → OnOk result.1
         (IsFilled (reads_of_round dealing.now.settings.queue.writers dealing.now.settings.batch) dealing.now.symbols BLOCK
         overlap format (R.remaining reader.old.inner) (R.remaining reader.new.inner) text taken feeder.old feeder.new) }
@@ -98,14 +98,14 @@ pub fn last_round<T: Threads + Wait + Sync, G: Gate + Sync>(
     requires { bins.shape ≡ dealing.now.settings.shape }
     ensures shape { IfOk result (λ b. b.shape ≡ dealing.now.settings.shape) }
     ensures holds { (format : Format) (text : List ℕ) (taken held : List (List ℕ))
-        → StandsCut (dealing.now.settings.shape.k - 1) format text taken feeder
+        → Stands (Some (dealing.now.settings.shape.k - 1)) format text taken feeder
         → HoldsPieces dealing.now.settings.shape dealing.now.limit held bins.bodies
         → IfOk result
         (λ b. (reads last : List (List ℕ)) × (reads_of format text ≡ Ok reads)
         × AreCut (dealing.now.settings.shape.k - 1) reads (taken ++ last)
         × HoldsPieces dealing.now.settings.shape dealing.now.limit (held ++ last) b.bodies) }
     ensures cause { (format : Format) (text : List ℕ) (taken : List (List ℕ))
-        → StandsCut (dealing.now.settings.shape.k - 1) format text taken feeder
+        → Stands (Some (dealing.now.settings.shape.k - 1)) format text taken feeder
         → IfErr result (λ e. e ≢ ReadsError.Memory → reads_of format text ≡ Err e) }
 {
     let reads = match feeder.finish() {
@@ -121,11 +121,11 @@ pub fn last_round<T: Threads + Wait + Sync, G: Gate + Sync>(
 /// want of memory the feeder stands where it stood.
 pub fn take_round(feeder: &mut Feeder, alloc: Global, shape: Shape) -> Result<Reads, AllocError>
     ensures stands { (format : Format) (text : List ℕ) (taken : List (List ℕ))
-        → StandsCut (shape.k - 1) format text taken feeder.old
-        → IfOk result (λ reads. StandsCut (shape.k - 1) format text (taken ++ reads) feeder.new) }
+        → Stands (Some (shape.k - 1)) format text taken feeder.old
+        → IfOk result (λ reads. Stands (Some (shape.k - 1)) format text (taken ++ reads) feeder.new) }
     ensures memory { (format : Format) (text : List ℕ) (taken : List (List ℕ))
-        → StandsCut (shape.k - 1) format text taken feeder.old
-        → OnErr result (StandsCut (shape.k - 1) format text taken feeder.new) }
+        → Stands (Some (shape.k - 1)) format text taken feeder.old
+        → OnErr result (Stands (Some (shape.k - 1)) format text taken feeder.new) }
     ensures handed { OnOk result (IsHandedOut (shape.k - 1) feeder.new.scan) }
 {
     feeder.take_open(alloc, shape.k() - 1)
@@ -175,8 +175,8 @@ fn earlier_rounds<T: Threads + Wait + Sync, R: Read, G: Gate + Sync>(
 ) -> Result<(), InputError>
     requires shape { bins.old.shape ≡ dealing.now.settings.shape }
     requires bins { HoldsPieces dealing.now.settings.shape dealing.now.limit [] bins.old.bodies }
-    requires feeder { StandsCut
-        (dealing.now.settings.shape.k - 1) dealing.now.settings.format [] [] feeder.old }
+    requires feeder { Stands
+        (Some (dealing.now.settings.shape.k - 1)) dealing.now.settings.format [] [] feeder.old }
     requires failures { reader.old.failures < 2 ^ 64 - 1 }
     requires reads { reader.old.reads + max_reads < 2 ^ 64 }
     requires most { max_reads ≤ 2 ^ 32 }

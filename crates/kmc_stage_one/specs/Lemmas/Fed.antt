@@ -9,7 +9,7 @@ use Rattle.kmc_reads.specs.Laws.{FaultStays}
 use Rattle.kmc_reads.specs.Reads.{reads_of}
 use Rattle.kmc_reads.specs.OpenLines.{whole_from}
 use Rattle.kmc_reads.specs.Stages.{fault, fault_from, first_spot}
-use Rattle.kmc_reads.specs.Standing.{FeederState, StandsCut}
+use Rattle.kmc_reads.specs.Standing.{FeederState, Stands}
 use Rattle.kmc_reads.specs.Errors.{input_error}
 use Rattle.kmc_reads.specs.declared.input_error.InputError.{InputError}
 use Rattle.kmc_reads.specs.declared.input_error.InputError.TheVariants.{Memory, Read, Faulty, TooLong}
@@ -27,18 +27,18 @@ consumes_on (Some all) (Some rest) (Some left) xs ys a b = a ∙ ap (λ t. xs ++
 
 -- the text at which a feeder stands has no fault
 pub unfaulted : (overlap : ℕ) (format : Format) (text : List ℕ) (taken : List (List ℕ)) (v : FeederState)
-    → StandsCut overlap format text taken v → fault format text ≡ None
+    → Stands (Some overlap) format text taken v → fault format text ≡ None
 unfaulted overlap format text taken v s =
     ap (λ t. fault_from (first_spot format) (whole_from [] t)) (sym (append-nil text)) ∙ s.leads.fault []
 
 -- nothing was read yet
 pub fed_none : (overlap : ℕ) (format : Format) (old : Option (List ℕ)) (n : ℕ) (text : List ℕ) (taken : List (List ℕ)) (v : FeederState)
-    → StandsCut overlap format text taken v → IsFed overlap format old old n n text taken v
+    → Stands (Some overlap) format text taken v → IsFed overlap format old old n n text taken v
 fed_none overlap format old n text taken v s = record {
   bytes = [];
   given = consumes_none old;
   many = omega arith;
-  stands = subst (λ t. StandsCut overlap format t taken v) (sym (append-nil text)) s;
+  stands = subst (λ t. Stands (Some overlap) format t taken v) (sym (append-nil text)) s;
 }
 
 -- more was read
@@ -49,7 +49,7 @@ fed_on overlap format old mid new a b c text taken v w f g = record {
   bytes = f.bytes ++ g.bytes;
   given = consumes_on old mid new f.bytes g.bytes f.given g.given;
   many = omega (arith, f.many, g.many, length-append f.bytes g.bytes);
-  stands = subst (λ t. StandsCut overlap format t taken w) (append_assoc text f.bytes g.bytes) g.stands;
+  stands = subst (λ t. Stands (Some overlap) format t taken w) (append_assoc text f.bytes g.bytes) g.stands;
 }
 
 -- and refused
@@ -94,7 +94,7 @@ reads_many (suc n) m before after same more none = let e = more (omega arith) in
 pub record IsUnderWay (old new : Option (List ℕ)) (before after failed fails reads : ℕ) (v w : FeederState) : Type 0 where
   pub kept : fails ≡ failed
   pub many : before + reads ≤ after
-  pub fed : (overlap : ℕ) (format : Format) (text : List ℕ) (taken : List (List ℕ)) → StandsCut overlap format text taken v
+  pub fed : (overlap : ℕ) (format : Format) (text : List ℕ) (taken : List (List ℕ)) → Stands (Some overlap) format text taken v
       → IsFed overlap format old new before after text taken w
 
 -- the numbers of a round, whether the text goes on or not
@@ -151,6 +151,6 @@ fed_refused overlap format old new before after text taken v (reads.Truncated n)
 
 -- the reads that were ended were taken
 abbrev pub taken_fed : (overlap : ℕ) (format : Format) (old new : Option (List ℕ)) (a b : ℕ) (taken more : List (List ℕ)) (v w : FeederState)
-    (f : IsFed overlap format old new a b [] taken v) → StandsCut overlap format f.bytes (taken ++ more) w → IsFed overlap format old new a b []
+    (f : IsFed overlap format old new a b [] taken v) → Stands (Some overlap) format f.bytes (taken ++ more) w → IsFed overlap format old new a b []
     (taken ++ more) w
 taken_fed overlap format old new a b taken more v w f s = record { bytes = f.bytes; given = f.given; many = f.many; stands = s }

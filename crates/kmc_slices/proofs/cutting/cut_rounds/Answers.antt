@@ -1,4 +1,4 @@
-use Rattle.std.proofs.Common.{◌≡◌, ◌<◌, ◌^◌, ◌+◌, ◌-◌, ℕ, List, [], ◌++◌, Ok, OnErr, length, map, slice_index, refl, sym, ap, subst, ◌∙◌, arith}
+use Rattle.std.proofs.Common.{◌≡◌, ◌<◌, ◌^◌, ◌+◌, ◌-◌, ℕ, List, [], ◌++◌, Ok, OnErr, length, map, slice_index, refl, sym, ap, subst, ◌∙◌, arith, Some}
 use Rattle.kmc_device.specs.Device.{Watched}
 use Rattle.kmc_device.specs.Lemmas.Devices.{on_err, on_ok, on_ok_then}
 use Rattle.kmc_record.specs.Shapes.{Sizes}
@@ -24,7 +24,7 @@ returns-in-Err-clause-cause g c =
     let counts = subst (λ n. AreCountsOf (n + max) old.reads new.reads old.failures new.failures e) c.reads.ensures c.in-Err.ensures.counts in
     told_cause p.format max _ _ e c.told.result c.told.ensures
     (fed_cause (p.shape.k - 1) p.format max _ _ old.reads new.reads old.failures new.failures [] c.fill_round.new.feeder e
-    (c.in-Err.ensures.fed (p.shape.k - 1) p.format [] [] (c.new-feeder.ensures.cut (p.shape.k - 1))) counts)
+    (c.in-Err.ensures.fed (p.shape.k - 1) p.format [] [] (c.new-feeder.ensures (Some (p.shape.k - 1)))) counts)
 
 pub returns-in-Err-clause-left : goal.returns-in-Err-clause-left
 returns-in-Err-clause-left g c = λ olds before.
@@ -47,7 +47,7 @@ loop-init g c =
       same = refl;
       way = record {
         taken = [];
-        fed = c.in-Ok.ensures.fed (p.shape.k - 1) p.format [] [] (c.new-feeder.ensures.cut (p.shape.k - 1));
+        fed = c.in-Ok.ensures.fed (p.shape.k - 1) p.format [] [] (c.new-feeder.ensures (Some (p.shape.k - 1)));
         written = λ olds before. before;
       };
     }

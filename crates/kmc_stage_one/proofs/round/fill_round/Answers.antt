@@ -28,8 +28,8 @@ loop-preserved g c =
       most = omega (arith, h.2, c.if-reads-most.false, c.reads.ensures);
       room = inr (record {
         waiting = λ overlap format text taken s. (
-          omega (arith, c.waiting.ensures.cut overlap format text taken s, c.if-waiting-reads.false),
-          omega (arith, c.waiting_symbols.ensures.cut overlap format text taken s, c.if-waiting_symbols-symbols.false),
+          omega (arith, c.waiting.ensures.rows s.rows s.spot s.front s.stands, c.if-waiting-reads.false),
+          omega (arith, c.waiting_symbols.ensures.rows s.rows s.spot s.front s.stands, c.if-waiting_symbols-symbols.false),
         );
         open_read = λ at. omega (arith, c.open_symbols.ensures at, c.if-open_symbols-symbols.false);
       });

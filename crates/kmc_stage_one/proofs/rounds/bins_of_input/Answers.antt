@@ -1,4 +1,4 @@
-use Rattle.std.proofs.Common.{◌≡◌, ◌+◌, ◌-◌, [], ◌++◌, refl, sym, ap, subst, ◌∙◌, arith}
+use Rattle.std.proofs.Common.{◌≡◌, ◌+◌, ◌-◌, [], ◌++◌, refl, sym, ap, subst, ◌∙◌, arith, Some}
 use Rattle.kmc_store.specs.Bins.{BinList}
 use Rattle.kmc_store.specs.Holds.{HoldsReads}
 use Rattle.kmc_reads.specs.Errors.{input_error}
@@ -19,7 +19,7 @@ earlier_rounds-requires-clause-bins g c κs within =
     (c.empty_bins_hold_no_reads.ensures shape)
 
 pub earlier_rounds-requires-clause-feeder : goal.earlier_rounds-requires-clause-feeder
-earlier_rounds-requires-clause-feeder g c κs within = c.new-feeder.ensures.cut (c.args.settings.now.shape.k - 1)
+earlier_rounds-requires-clause-feeder g c κs within = c.new-feeder.ensures (Some (c.args.settings.now.shape.k - 1))
 
 pub returns-in_err-bins-clause-ok : goal.returns-in_err-bins-clause-ok
 returns-in_err-bins-clause-ok g c = no_answer _ _ c.from_residual.result c.from_residual.ensures.1

@@ -1,11 +1,11 @@
-use Rattle.std.proofs.Common.{◌-◌, refl}
+use Rattle.std.proofs.Common.{◌-◌, refl, Some}
 use Rattle.kmc_base.specs.Lemmas.PassedOn.{no_answer, passed_on}
 use Rattle.kmc_reads.specs.declared.error.ReadsError.TheVariants.{Memory}
 use Rattle.kmc_stage_one.proofs.rounds.last_round.Goals as goal
 
 pub returns-clause-holds : goal.returns-clause-holds
 returns-clause-holds g c = λ format text taken held s h.
-    let all = c.in-Ok.ensures.cut (c.args.dealing.now.settings.shape.k - 1) format text taken s in (
+    let all = c.in-Ok.ensures.all (Some (c.args.dealing.now.settings.shape.k - 1)) format text taken s in (
       all.0,
       c.in-Ok.reads,
       all.1,
@@ -15,7 +15,7 @@ returns-clause-holds g c = λ format text taken held s h.
 
 pub returns-in-Err-clause-cause : goal.returns-in-Err-clause-cause
 returns-in-Err-clause-cause g c = λ format text taken s.
-    λ other. (c.in-Err.ensures.cut_refused (c.args.dealing.now.settings.shape.k - 1) format text taken s other).0
+    λ other. (c.in-Err.ensures.refused (Some (c.args.dealing.now.settings.shape.k - 1)) format text taken s other).0
 
 pub returns-in-Err-clause-shape : goal.returns-in-Err-clause-shape
 returns-in-Err-clause-shape g c = tt

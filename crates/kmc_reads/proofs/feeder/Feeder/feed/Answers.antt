@@ -1,11 +1,7 @@
-use Rattle.std.proofs.Common.{◌++◌, [], refl, sym, ap, subst, ◌∙◌, append-nil, rules}
-use Rattle.kmc_reads.specs.Stages.{first_spot, fault_from}
-use Rattle.kmc_reads.specs.OpenLines.{whole_from}
+use Rattle.std.proofs.Common.{◌++◌, refl, sym, ap, subst, ◌∙◌, rules}
 use Rattle.kmc_reads.specs.Standing.{FeederState, At}
 use Rattle.kmc_reads.proofs.Again.{stands_again, somewhere_again}
-use Rattle.kmc_reads.proofs.Walking.{then_faults}
-use Rattle.kmc_reads.proofs.Stands.{no_fault, stands_on}
-use Rattle.kmc_reads.proofs.StandsCut.{cut_on, cut_fault}
+use Rattle.kmc_reads.proofs.Stands.{no_fault, goes_on, meets_fault}
 use Rattle.kmc_reads.proofs.feeder.Feeder.feed.Goals as goal
 
 pub invariant_of-self : goal.invariant_of-self
@@ -20,38 +16,24 @@ pub invariant_of-self-else-ne : goal.invariant_of-self-else-ne
 invariant_of-self-else-ne c = somewhere_again c.self.inside.scan c.feed.new.self c.in-Err.ensures.again c.self.invariant
 
 pub returns-in-Ok-clause-stands : goal.returns-in-Ok-clause-stands
-returns-in-Ok-clause-stands c = λ format text taken s.
+returns-in-Ok-clause-stands c = λ cut format text taken s.
     let at = subst (λ t. At s.rows s.spot s.front t) (sym (ap (λ v. v.scan) c.self.view_is)) s.stands in
     let next : FeederState = record { scan = c.feed.new.self; refusal = c.self.inside.refusal } in
-    stands_on format text c.args.block.now taken c.args.self.now next s (c.in-Ok.ensures.goes s.rows s.spot s.front at)
+    goes_on cut format text taken c.args.self.now s c.args.block.now next (c.in-Ok.ensures.goes s.rows s.spot s.front at)
     (ap (λ v. v.refusal) c.self.view_is ∙ s.sound)
 
 pub returns-in-Ok-clause-sound : goal.returns-in-Ok-clause-sound
-returns-in-Ok-clause-sound c = λ format text taken s.
+returns-in-Ok-clause-sound c = λ cut format text taken s.
     let at = subst (λ t. At s.rows s.spot s.front t) (sym (ap (λ v. v.scan) c.self.view_is)) s.stands in
     let next : FeederState = record { scan = c.feed.new.self; refusal = c.self.inside.refusal } in
-    no_fault format (text ++ c.args.block.now) taken next
-    (stands_on format text c.args.block.now taken c.args.self.now next s (c.in-Ok.ensures.goes s.rows s.spot s.front at)
+    no_fault cut format (text ++ c.args.block.now) taken next
+    (goes_on cut format text taken c.args.self.now s c.args.block.now next (c.in-Ok.ensures.goes s.rows s.spot s.front at)
     (ap (λ v. v.refusal) c.self.view_is ∙ s.sound))
 
 pub returns-then-ne-clause-refused : goal.returns-then-ne-clause-refused
-returns-then-ne-clause-refused c = λ format text taken s other.
+returns-then-ne-clause-refused c = λ cut format text taken s other.
     let at = subst (λ t. At s.rows s.spot s.front t) (sym (ap (λ v. v.scan) c.self.view_is)) s.stands in
-    let faulty = then_faults (first_spot format) s.spot [] s.front text c.args.block.now (taken ++ s.rows) c.in-Err.e s.leads
-    (c.in-Err.ensures.fault s.rows s.spot s.front at other) in
-    (ap (λ t. fault_from (first_spot format) (whole_from [] t)) (sym (append-nil (text ++ c.args.block.now))) ∙ faulty [], refl)
-
-pub returns-in-Ok-clause-cut : goal.returns-in-Ok-clause-cut
-returns-in-Ok-clause-cut c = λ overlap format text taken s.
-    let at = subst (λ t. At s.rows s.spot s.front t) (sym (ap (λ v. v.scan) c.self.view_is)) s.stands in
-    let next : FeederState = record { scan = c.feed.new.self; refusal = c.self.inside.refusal } in
-    cut_on overlap format text taken c.args.self.now s c.args.block.now next (c.in-Ok.ensures.goes s.rows s.spot s.front at)
-    (ap (λ v. v.refusal) c.self.view_is ∙ s.sound)
-
-pub returns-then-ne-clause-cut_refused : goal.returns-then-ne-clause-cut_refused
-returns-then-ne-clause-cut_refused c = λ overlap format text taken s other.
-    let at = subst (λ t. At s.rows s.spot s.front t) (sym (ap (λ v. v.scan) c.self.view_is)) s.stands in
-    (cut_fault overlap format text taken c.args.self.now s c.args.block.now c.in-Err.e (c.in-Err.ensures.fault s.rows s.spot s.front at other), refl)
+    (meets_fault cut format text taken c.args.self.now s c.args.block.now c.in-Err.e (c.in-Err.ensures.fault s.rows s.spot s.front at other), refl)
 
 pub returns-then-ne-clause-again : goal.returns-then-ne-clause-again
 returns-then-ne-clause-again c = search rules
@@ -63,19 +45,7 @@ pub returns-else-ne-clause-again : goal.returns-else-ne-clause-again
 returns-else-ne-clause-again c = search rules
 
 pub returns-else-ne-clause-memory : goal.returns-else-ne-clause-memory
-returns-else-ne-clause-memory c = λ format text taken s is.
-    let at = subst (λ t. At s.rows s.spot s.front t) (sym (ap (λ v. v.scan) c.self.view_is)) s.stands in
-    record {
-      rows = s.rows;
-      spot = s.spot;
-      front = s.front;
-      leads = s.leads;
-      stands = stands_again c.self.inside.scan c.feed.new.self c.in-Err.ensures.again s.rows s.spot s.front at;
-      sound = ap (λ v. v.refusal) c.self.view_is ∙ s.sound;
-    }
-
-pub returns-else-ne-clause-cut_memory : goal.returns-else-ne-clause-cut_memory
-returns-else-ne-clause-cut_memory c = λ overlap format text taken s is.
+returns-else-ne-clause-memory c = λ cut format text taken s is.
     let at = subst (λ t. At s.rows s.spot s.front t) (sym (ap (λ v. v.scan) c.self.view_is)) s.stands in
     record {
       rows = s.rows;

@@ -1,10 +1,8 @@
-use Rattle.std.proofs.Common.{ℕ, List, ◌++◌, Ok, Err, refl, sym, ap, subst, ◌∙◌, append_assoc}
+use Rattle.std.proofs.Common.{ℕ, List, ◌++◌, Ok, refl, sym, ap, subst, ◌∙◌, append_assoc}
 use Rattle.kmc_reads.specs.Answer.{with_reads}
 use Rattle.kmc_reads.specs.Standing.{At}
-use Rattle.kmc_reads.specs.Reads.{reads_of}
 use Rattle.kmc_reads.proofs.Again.{stands_again, somewhere_again}
-use Rattle.kmc_reads.proofs.Stands.{answer_is}
-use Rattle.kmc_reads.proofs.StandsCut.{cut_reads, cut_refusal, cut_answer_is}
+use Rattle.kmc_reads.proofs.HandedBy.{reads_by, refusal_by}
 use Rattle.kmc_reads.proofs.feeder.Feeder.finish.Goals as goal
 
 pub into_reads-requires : goal.into_reads-requires
@@ -18,50 +16,23 @@ pub invariant_of-feeder-else-ne : goal.invariant_of-feeder-else-ne
 invariant_of-feeder-else-ne c = somewhere_again c.feeder.inside.scan c.end.new.self c.in-Err.ensures.again c.feeder.invariant
 
 pub returns-in-Ok-clause-all : goal.returns-in-Ok-clause-all
-returns-in-Ok-clause-all c = λ format text taken s.
+returns-in-Ok-clause-all c = λ cut format text taken s.
     let at = subst (λ t. At s.rows s.spot s.front t) (sym (ap (λ v. v.scan) c.feeder.view_is)) s.stands in
     let w = c.in-Ok.ensures.whole s.rows s.spot s.front at in
     let rows = c.into_reads.ensures (s.rows ++ w.more) w.behind w.lies in
-    answer_is format text taken c.args.self s ∙ ap (with_reads (taken ++ s.rows)) w.reads
-    ∙ ap Ok (append_assoc taken s.rows w.more ∙ ap (λ (t : List (List ℕ)). taken ++ t) (sym rows))
+    reads_by format text (taken ++ s.rows) s.spot s.front cut s.leads (taken ++ c.into_reads.result)
+    (ap (with_reads (taken ++ s.rows)) w.reads ∙ ap Ok (append_assoc taken s.rows w.more ∙ ap (λ (t : List (List ℕ)). taken ++ t) (sym rows)))
 
 pub returns-then-ne-clause-refused : goal.returns-then-ne-clause-refused
-returns-then-ne-clause-refused c = λ format text taken s other.
-    let at = subst (λ t. At s.rows s.spot s.front t) (sym (ap (λ v. v.scan) c.feeder.view_is)) s.stands in
-    (answer_is format text taken c.args.self s ∙ ap (with_reads (taken ++ s.rows)) (c.in-Err.ensures.refused s.rows s.spot s.front at other), refl)
-
-pub returns-in-Ok-clause-cut : goal.returns-in-Ok-clause-cut
-returns-in-Ok-clause-cut c = λ overlap format text taken s.
-    let at = subst (λ t. At s.rows s.spot s.front t) (sym (ap (λ v. v.scan) c.feeder.view_is)) s.stands in
-    let w = c.in-Ok.ensures.whole s.rows s.spot s.front at in
-    let rows = c.into_reads.ensures (s.rows ++ w.more) w.behind w.lies in
-    cut_reads overlap (reads_of format text) (taken ++ c.into_reads.result)
-    (cut_answer_is overlap format text taken c.args.self s (Ok (taken ++ c.into_reads.result))
-    (ap (with_reads (taken ++ s.rows)) w.reads ∙ ap Ok (append_assoc taken s.rows w.more ∙ ap (λ (t : List (List ℕ)). taken ++ t) (sym rows))))
-
-pub returns-then-ne-clause-cut_refused : goal.returns-then-ne-clause-cut_refused
-returns-then-ne-clause-cut_refused c = λ overlap format text taken s other.
+returns-then-ne-clause-refused c = λ cut format text taken s other.
     let at = subst (λ t. At s.rows s.spot s.front t) (sym (ap (λ v. v.scan) c.feeder.view_is)) s.stands in (
-      cut_refusal overlap (reads_of format text) c.in-Err.e
-          (cut_answer_is overlap format text taken c.args.self s (Err c.in-Err.e)
-          (ap (with_reads (taken ++ s.rows)) (c.in-Err.ensures.refused s.rows s.spot s.front at other))),
+      refusal_by format text (taken ++ s.rows) s.spot s.front cut s.leads c.in-Err.e
+          (ap (with_reads (taken ++ s.rows)) (c.in-Err.ensures.refused s.rows s.spot s.front at other)),
       refl,
     )
 
 pub returns-else-ne-clause-memory : goal.returns-else-ne-clause-memory
-returns-else-ne-clause-memory c = λ format text taken s is.
-    let at = subst (λ t. At s.rows s.spot s.front t) (sym (ap (λ v. v.scan) c.feeder.view_is)) s.stands in
-    record {
-      rows = s.rows;
-      spot = s.spot;
-      front = s.front;
-      leads = s.leads;
-      stands = stands_again c.feeder.inside.scan c.end.new.self c.in-Err.ensures.again s.rows s.spot s.front at;
-      sound = ap (λ v. v.refusal) c.feeder.view_is ∙ s.sound;
-    }
-
-pub returns-else-ne-clause-cut_memory : goal.returns-else-ne-clause-cut_memory
-returns-else-ne-clause-cut_memory c = λ overlap format text taken s is.
+returns-else-ne-clause-memory c = λ cut format text taken s is.
     let at = subst (λ t. At s.rows s.spot s.front t) (sym (ap (λ v. v.scan) c.feeder.view_is)) s.stands in
     record {
       rows = s.rows;

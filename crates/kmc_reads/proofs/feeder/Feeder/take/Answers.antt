@@ -1,11 +1,10 @@
 use Rattle.std.proofs.Common.{◌≡◌, ℕ, List, [], ◌++◌, sym, ap, subst, ◌∙◌}
 use Rattle.std.proofs.lemmas.Result.{IfOk-weaker, on_err_weaker}
 use Rattle.kmc_reads.specs.declared.scan.Scan.{Scan}
-use Rattle.kmc_reads.specs.Standing.{FeederState, StandsAt, StandsCut, IsSomewhere, At}
+use Rattle.kmc_reads.specs.Standing.{FeederState, Stands, IsSomewhere, At}
 use Rattle.kmc_reads.specs.Stages.{ended}
 use Rattle.kmc_reads.proofs.PassedOn.{either_way}
-use Rattle.kmc_reads.proofs.Stands.{ended_are, taken_stands}
-use Rattle.kmc_reads.proofs.StandsCut.{cut_taken, hands_rows}
+use Rattle.kmc_reads.proofs.Stands.{ended_are, rows_taken}
 use Rattle.kmc_reads.proofs.feeder.Feeder.take.Goals as goal
 
 pub take-requires : goal.take-requires
@@ -28,24 +27,12 @@ returns-clause-all c = λ format text taken s.
     (c.take.ensures.taken s.rows s.spot s.front at)
 
 pub returns-clause-stands : goal.returns-clause-stands
-returns-clause-stands c = λ format text taken s.
-    let at = subst (λ t. At s.rows s.spot s.front t) (sym (ap (λ v. v.scan) c.self.view_is)) s.stands in
-    let next : FeederState = record { scan = c.take.new.self; refusal = c.self.inside.refusal } in
-    IfOk-weaker c.take.result (λ reads. (reads ≡ s.rows) × At [] s.spot s.front c.take.new.self) (λ reads. StandsAt format text (taken ++ reads) next)
-    (λ reads h. taken_stands format text taken reads c.args.self.now next s h.0 h.1 (ap (λ v. v.refusal) c.self.view_is ∙ s.sound))
-    (c.take.ensures.taken s.rows s.spot s.front at)
-
-pub returns-clause-cut : goal.returns-clause-cut
-returns-clause-cut c = λ overlap format text taken s.
+returns-clause-stands c = λ cut format text taken s.
     let at = subst (λ t. At s.rows s.spot s.front t) (sym (ap (λ v. v.scan) c.self.view_is)) s.stands in
     let next : FeederState = record { scan = c.take.new.self; refusal = c.self.inside.refusal } in
     IfOk-weaker c.take.result (λ reads. (reads ≡ s.rows) × At [] s.spot s.front c.take.new.self)
-    (λ reads. (reads ≡ s.rows) × StandsCut overlap format text (taken ++ reads) next)
-    (λ reads h. (
-      h.0,
-      cut_taken overlap format text taken c.args.self.now s reads next
-          (hands_rows overlap s.rows s.spot s.front reads c.take.new.self h.0 h.1) (ap (λ v. v.refusal) c.self.view_is ∙ s.sound),
-    ))
+    (λ reads. (reads ≡ s.rows) × Stands cut format text (taken ++ reads) next)
+    (λ reads h. (h.0, rows_taken cut format text taken c.args.self.now s reads next h.0 h.1 (ap (λ v. v.refusal) c.self.view_is ∙ s.sound)))
     (c.take.ensures.taken s.rows s.spot s.front at)
 
 pub returns-clause-waiting : goal.returns-clause-waiting

@@ -1,9 +1,9 @@
-use Rattle.std.proofs.Common.{[], ◌++◌, sym, ap, subst, ◌∙◌}
+use Rattle.std.proofs.Common.{[], Some, ◌++◌, sym, ap, subst, ◌∙◌}
 use Rattle.std.proofs.lemmas.Result.{IfOk-weaker, on_err_weaker}
-use Rattle.kmc_reads.specs.Standing.{FeederState, StandsCut, Hands, IsSomewhere, At}
+use Rattle.kmc_reads.specs.Standing.{FeederState, Stands, Hands, IsSomewhere, At}
 use Rattle.kmc_reads.proofs.Again.{stands_again, somewhere_again}
 use Rattle.kmc_reads.proofs.PassedOn.{either_way}
-use Rattle.kmc_reads.proofs.StandsCut.{cut_taken}
+use Rattle.kmc_reads.proofs.Stands.{pieces_taken}
 use Rattle.kmc_reads.proofs.feeder.Feeder.take_open.Goals as goal
 
 pub take_open-requires : goal.take_open-requires
@@ -23,8 +23,8 @@ returns-clause-stands c = λ format text taken s.
     let at = subst (λ t. At s.rows s.spot s.front t) (sym (ap (λ v. v.scan) c.self.view_is)) s.stands in
     let next : FeederState = record { scan = c.take_open.new.self; refusal = c.self.inside.refusal } in
     IfOk-weaker c.take_open.result (λ reads. Hands c.args.overlap s.rows s.spot s.front reads c.take_open.new.self)
-    (λ reads. StandsCut c.args.overlap format text (taken ++ reads) next)
-    (λ reads h. cut_taken c.args.overlap format text taken c.args.self.now s reads next h (ap (λ v. v.refusal) c.self.view_is ∙ s.sound))
+    (λ reads. Stands (Some c.args.overlap) format text (taken ++ reads) next)
+    (λ reads h. pieces_taken c.args.overlap format text taken c.args.self.now s reads next h (ap (λ v. v.refusal) c.self.view_is ∙ s.sound))
     (c.take_open.ensures.taken s.rows s.spot s.front at)
 
 pub returns-clause-waiting : goal.returns-clause-waiting

@@ -12,11 +12,6 @@ returns-clause-are c = λ format text taken s.
     (concat taken) (concat s.rows)
     ∙ ap (λ n. length (concat taken) + n) (sym (c.symbols.ensures s.rows s.spot s.front at))
 
-pub returns-clause-cut : goal.returns-clause-cut
-returns-clause-cut c = λ overlap format text taken s.
-    let at = subst (λ t. At s.rows s.spot s.front t) (sym (ap (λ v. v.scan) c.self.view_is)) s.stands in
-    c.symbols.ensures s.rows s.spot s.front at
-
 pub returns-clause-rows : goal.returns-clause-rows
 returns-clause-rows c = λ rows spot front at.
     c.symbols.ensures rows spot front (subst (λ t. At rows spot front t) (sym (ap (λ v. v.scan) c.self.view_is)) at)

@@ -2,7 +2,7 @@ use Rattle.std.proofs.Common.{◌≡◌, [], sym, ◌∙◌, arith}
 use Rattle.std.proofs.lemmas.Result.{IfOk-weaker, on_ok_weaker}
 use Rattle.kmc_reads.specs.Standing.{At, Hands}
 use Rattle.kmc_reads.proofs.HandedOut.{elsewhere, held_back, few_open}
-use Rattle.kmc_reads.proofs.StandsCut.{hands_rows}
+use Rattle.kmc_reads.proofs.HandedBy.{hands_rows}
 use Rattle.kmc_reads.proofs.scan.Scan.take_open.Goals as goal
 use Rattle.kmc_reads.proofs.scan.Scan.take_open.Goals.{then-not-symbols-via-then-not-symbols, then-not-symbols-via-else-not-symbols+then-self, then-not-symbols-via-else-not-symbols+else-self+then-len-self, in-Body, in_default}
 
