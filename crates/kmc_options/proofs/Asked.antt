@@ -23,11 +23,11 @@ same_some x y is = cc is
 
 -- the word that gives the slices and the bins that are given leave no choice
 pub slices_asked : (words : List Word) (r : CutRequest) (word : Word) (p : Params) → filter is_slices (joined words) ≡ word ∷ [] → AreGiven
-    (found KmcCut (options_of words)) p → IsCutRequest words r → IsNumberOfSlices word p.n r.slices
+    (found KmcCut (options_of words)) p → IsCutRequest words r → IsNumberOfSlices word p.bins r.slices
 slices_asked words r word p one given is =
     let same = same_first is.word word (sym is.slices_word ∙ one) in
-    let bins = same_some r.params.n p.n (sym is.given.n ∙ given.n) in
-    subst (λ w. IsNumberOfSlices w p.n r.slices) same (subst (λ n. IsNumberOfSlices is.word n r.slices) bins is.slices)
+    let bins = same_some r.params.bins p.bins (sym is.given.n ∙ given.n) in
+    subst (λ w. IsNumberOfSlices w p.bins r.slices) same (subst (λ n. IsNumberOfSlices is.word n r.slices) bins is.slices)
 
 -- an option that has a number is passed over in the search for one that has none
 passed : (rows : List Row) (s : Setting) (n : ℕ) (left : List Setting) → value_of rows s ≡ Some n
@@ -39,10 +39,10 @@ passed rows s n left is rest =
 pub given_in_range : (rows : List Row) (r : Params) → AreGiven rows r → first_out_of_range rows ≡ None
 given_in_range rows r g =
     passed rows K r.k (P ∷ N ∷ Ci ∷ Cx ∷ Cs ∷ Sp ∷ Sr ∷ []) g.k
-    (passed rows P r.p (N ∷ Ci ∷ Cx ∷ Cs ∷ Sp ∷ Sr ∷ []) g.p
-    (passed rows N r.n (Ci ∷ Cx ∷ Cs ∷ Sp ∷ Sr ∷ []) g.n
+    (passed rows P r.asked_signature_length (N ∷ Ci ∷ Cx ∷ Cs ∷ Sp ∷ Sr ∷ []) g.p
+    (passed rows N r.bins (Ci ∷ Cx ∷ Cs ∷ Sp ∷ Sr ∷ []) g.n
     (passed rows Ci r.limits.ci (Cx ∷ Cs ∷ Sp ∷ Sr ∷ []) g.ci
     (passed rows Cx r.limits.cx (Cs ∷ Sp ∷ Sr ∷ []) g.cx
     (passed rows Cs r.limits.cs (Sp ∷ Sr ∷ []) g.cs
-    (passed rows Sp r.sp (Sr ∷ []) g.sp
-    (passed rows Sr r.sr [] g.sr refl)))))))
+    (passed rows Sp r.splitters (Sr ∷ []) g.sp
+    (passed rows Sr r.counters [] g.sr refl)))))))

@@ -8,7 +8,7 @@ use Rattle.kmc_options.specs.declared.run_params.Params.{Params}
 use Rattle.kmc_options.specs.declared.setting.Setting.TheVariants.{K, P, N, Ci, Cx, Cs, Sp, Sr}
 
 abbrev pub KeepsNumbers : Params → Params → Type 0
-KeepsNumbers a b = (b.k ≡ a.k) × (b.p ≡ a.p) × (b.n ≡ a.n) × (b.sp ≡ a.sp) × (b.sr ≡ a.sr)
+KeepsNumbers a b = (b.k ≡ a.k) × (b.asked_signature_length ≡ a.asked_signature_length) × (b.bins ≡ a.bins) × (b.splitters ≡ a.splitters) × (b.counters ≡ a.counters)
 
 abbrev pub KeepsQueue : Params → Params → Type 0
 KeepsQueue a b =
@@ -23,16 +23,16 @@ KeepsSignatures a b = b.signature_length ≡ a.signature_length
 
 -- signatures of p symbols, or of a whole word where that has fewer
 abbrev pub HasAskedSignatures : Params → Type 0
-HasAskedSignatures a = a.signature_length ≡ min a.p a.k
+HasAskedSignatures a = a.signature_length ≡ min a.asked_signature_length a.k
 
 -- one storer, up to 8 parts of a writer in the queue, 1024 reads of a round for each writer
 abbrev pub HasUsualQueue : Params → Type 0
 HasUsualQueue a = (a.readers ≡ 1) × (a.per_writer ≡ 8) × (a.batch ≡ 1024)
 
 abbrev pub HasDefaultNumbers : Params → Type 0
-HasDefaultNumbers a = (a.k ≡ (bounds_of K).default) × (a.p ≡ (bounds_of P).default)
-    × (a.n ≡ (bounds_of N).default) × (a.sp ≡ (bounds_of Sp).default)
-    × (a.sr ≡ (bounds_of Sr).default)
+HasDefaultNumbers a = (a.k ≡ (bounds_of K).default) × (a.asked_signature_length ≡ (bounds_of P).default)
+    × (a.bins ≡ (bounds_of N).default) × (a.splitters ≡ (bounds_of Sp).default)
+    × (a.counters ≡ (bounds_of Sr).default)
 
 abbrev pub HasDefaultLimits : Params → Type 0
 HasDefaultLimits a = (a.limits.ci ≡ (bounds_of Ci).default)
@@ -45,4 +45,4 @@ IsDefault a = (a.format ≡ Fastq) × (a.strands ≡ Joined) × HasDefaultNumber
 
 -- a writer for each splitter, a reader for each storer
 abbrev pub IsQueueOf : Params → QueueShape → Type 0
-IsQueueOf p q = (q.writers ≡ p.sp) × (q.per_writer ≡ p.per_writer) × (q.readers ≡ p.readers)
+IsQueueOf p q = (q.writers ≡ p.splitters) × (q.per_writer ≡ p.per_writer) × (q.readers ≡ p.readers)

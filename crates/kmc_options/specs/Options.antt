@@ -25,13 +25,13 @@ pub record AreGiven (rows : List Row) (r : Params) : Type 0 where
   pub format : format_of rows ≡ Some r.format
   pub strands : r.strands ≡ strands_of rows
   pub k : value_of rows K ≡ Some r.k
-  pub p : value_of rows P ≡ Some r.p
-  pub n : value_of rows N ≡ Some r.n
+  pub p : value_of rows P ≡ Some r.asked_signature_length
+  pub n : value_of rows N ≡ Some r.bins
   pub ci : value_of rows Ci ≡ Some r.limits.ci
   pub cx : value_of rows Cx ≡ Some r.limits.cx
   pub cs : value_of rows Cs ≡ Some r.limits.cs
-  pub sp : value_of rows Sp ≡ Some r.sp
-  pub sr : value_of rows Sr ≡ Some r.sr
+  pub sp : value_of rows Sp ≡ Some r.splitters
+  pub sr : value_of rows Sr ≡ Some r.counters
 
 -- the program's own queue: one storer, up to 64 parts of a splitter in the queue, 65536 reads of a round for each splitter
 abbrev pub HasProgramQueue : Params → Type 0
@@ -40,7 +40,7 @@ HasProgramQueue r = (r.readers ≡ 1) × (r.per_writer ≡ 64) × (r.batch ≡ 6
 -- the program's own signatures: of as many symbols as `-p` says, or of a whole word, and where `-p` does not stand of as many as
 -- fit words of k symbols best
 abbrev pub HasProgramSignatures : List Row → Params → Type 0
-HasProgramSignatures rows r = r.signature_length ≡ (if is_some (given_text rows P) then min r.p r.k else fitting_length r.k)
+HasProgramSignatures rows r = r.signature_length ≡ (if is_some (given_text rows P) then min r.asked_signature_length r.k else fitting_length r.k)
 
 -- why the options give no settings
 abbrev pub Faults : List Row → ParamsError → Type 0

@@ -40,7 +40,7 @@ pub record IsCutRequest (words : List Word) (r : CutRequest) : Type 0 where
   pub prefix : filter is_file_name (joined words) ≡ string_bytes r.prefix ∷ []
   pub word : Word
   pub slices_word : filter is_slices (joined words) ≡ word ∷ []
-  pub slices : IsNumberOfSlices word r.params.n r.slices
+  pub slices : IsNumberOfSlices word r.params.bins r.slices
   pub given : AreGiven (found KmcCut (options_of words)) r.params
   pub signatures : HasProgramSignatures (found KmcCut (options_of words)) r.params
   pub queue : HasProgramQueue r.params

@@ -76,7 +76,7 @@ const SPLITTER_READS: usize = 65536;
 fn with_signatures(params: Params, are_asked: bool) -> Params
     requires { HasAskedSignatures params }
     ensures length { result.signature_length
-        ≡ (if are_asked then min params.p params.k else fitting_length params.k) }
+        ≡ (if are_asked then min params.asked_signature_length params.k else fitting_length params.k) }
     ensures kept { (result.strands ≡ params.strands) × KeepsOptions params result }
 {
     if are_asked {

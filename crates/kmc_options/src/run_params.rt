@@ -44,23 +44,24 @@ pub struct Params {
     /// The symbols of a counted word, 1 to 64.
     pub k: usize,
     /// The symbols that signatures are asked to have, 5 to 11.
-    pub p: usize,
+    pub asked_signature_length: usize,
     /// The symbols that signatures have, 0 to 11 and at most `k`: with none all words have one. [`Params::new`] makes it the lesser
-    /// of `p` and `k`, and [`Params::with_fitting_signatures`] what fits `k` best.
+    /// of these two, and [`Params::with_fitting_signatures`] what fits `k` best.
     pub signature_length: usize,
     /// The bins, 1 to 2000.
-    pub n: usize,
+    pub bins: usize,
     /// The threads that cut reads, 1 to 16: the writers of the queue.
-    pub sp: usize,
+    pub splitters: usize,
     /// The threads that count bins, 1 to 16.
-    pub sr: usize,
+    pub counters: usize,
     /// The threads that store parts, 1 to 8: the readers of the queue.
     pub readers: usize,
     /// The parts that one writer may have in the queue, 1 to 64.
     pub per_writer: usize,
     /// The reads of a round for each splitter, 1 to 65536.
     pub batch: usize,
-    pub ghost in_range: { AreSettings k p n sp sr × AreQueueSettings readers per_writer batch
+    pub ghost in_range: { AreSettings k asked_signature_length bins splitters counters
+        × AreQueueSettings readers per_writer batch
         × IsSignatureLength k signature_length },
 }
 
@@ -76,27 +77,29 @@ impl Params {
     ghost use Rattle.kmc_options.specs.Ranges.{fitting_length};
     ghost use Rattle.kmc_options.specs.Shape.{shape_of};
 
-    /// The settings of the command line, where they are in range. The strands are joined, signatures have p symbols or those of a
+    /// The settings of the command line, where they are in range. The strands are joined, signatures have as many symbols as asked for, or those of a
     /// whole word, and the queue has its usual size.
     pub fn new(
         format: Format,
         k: usize,
-        p: usize,
-        n: usize,
-        sp: usize,
-        sr: usize,
+        asked_signature_length: usize,
+        bins: usize,
+        splitters: usize,
+        counters: usize,
         limits: Limits,
     ) -> Option<Params>
-        ensures { MatchOption result (AreSettings k p n sp sr → ⊥)
+        ensures { MatchOption result
+            (AreSettings k asked_signature_length bins splitters counters → ⊥)
             (λ r. (r.format ≡ format) × (r.strands ≡ Joined) × (r.limits ≡ limits) × (r.k ≡ k)
-            × (r.p ≡ p) × (r.n ≡ n) × (r.sp ≡ sp) × (r.sr ≡ sr) × HasAskedSignatures r
+            × (r.asked_signature_length ≡ asked_signature_length) × (r.bins ≡ bins)
+            × (r.splitters ≡ splitters) × (r.counters ≡ counters) × HasAskedSignatures r
             × HasUsualQueue r) }
     {
         let in_range = Setting::K.takes(k as u64)
-            && Setting::P.takes(p as u64)
-            && Setting::N.takes(n as u64)
-            && Setting::Sp.takes(sp as u64)
-            && Setting::Sr.takes(sr as u64);
+            && Setting::P.takes(asked_signature_length as u64)
+            && Setting::N.takes(bins as u64)
+            && Setting::Sp.takes(splitters as u64)
+            && Setting::Sr.takes(counters as u64);
         if !in_range {
             return None;
         }
@@ -105,11 +108,11 @@ impl Params {
             strands: Strands::Joined,
             limits,
             k,
-            p,
-            signature_length: p.min(k),
-            n,
-            sp,
-            sr,
+            asked_signature_length,
+            signature_length: asked_signature_length.min(k),
+            bins,
+            splitters,
+            counters,
             readers: READERS,
             per_writer: PER_WRITER,
             batch: BATCH,
@@ -120,7 +123,7 @@ impl Params {
     pub fn shape(&self) -> Shape
         ensures { result ≡ shape_of self.now }
     {
-        match Shape::of_signature_length(self.k, self.signature_length, self.n) {
+        match Shape::of_signature_length(self.k, self.signature_length, self.bins) {
             Some(shape) => shape,
             None => unreachable!(),
         }
@@ -130,7 +133,7 @@ impl Params {
     pub fn queue(&self) -> QueueShape
         ensures { IsQueueOf self.now result }
     {
-        match QueueShape::new(self.sp, self.per_writer, self.readers) {
+        match QueueShape::new(self.splitters, self.per_writer, self.readers) {
             Some(queue) => queue,
             None => unreachable!(),
         }
@@ -197,11 +200,11 @@ impl Default for Params {
                 cs: Setting::Cs.bounds().default,
             },
             k: Setting::K.bounds().default as usize,
-            p: Setting::P.bounds().default as usize,
+            asked_signature_length: Setting::P.bounds().default as usize,
             signature_length: Setting::P.bounds().default.min(Setting::K.bounds().default) as usize,
-            n: Setting::N.bounds().default as usize,
-            sp: Setting::Sp.bounds().default as usize,
-            sr: Setting::Sr.bounds().default as usize,
+            bins: Setting::N.bounds().default as usize,
+            splitters: Setting::Sp.bounds().default as usize,
+            counters: Setting::Sr.bounds().default as usize,
             readers: READERS,
             per_writer: PER_WRITER,
             batch: BATCH,

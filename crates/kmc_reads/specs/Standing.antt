@@ -69,7 +69,8 @@ pub record IsSomewhere (v : Scan) : Type 0 where
 -- from this spot and open line the bytes p give these reads and lead to that spot and open line, whatever follows
 pub record Leads (s : Spot) (front p : List ℕ) (more : List (List ℕ)) (t : Spot) (left : List ℕ) : Type 0 where
   pub fault : (rest : List ℕ) → fault_from s (whole_from front (p ++ rest)) ≡ fault_from t (whole_from left rest)
-  pub ended : (rest : List ℕ) → ended_from s (whole_from front (p ++ rest)) (open_from front (p ++ rest)) ≡ more ++ ended_from t (whole_from left rest) (open_from left rest)
+  pub ended : (rest : List ℕ) → ended_from s (whole_from front (p ++ rest)) (open_from front (p ++ rest))
+      ≡ more ++ ended_from t (whole_from left rest) (open_from left rest)
   pub reads : (rest : List ℕ) → reads_from s (lines_from front (p ++ rest)) ≡ with_reads more (reads_from t (lines_from left rest))
 
 -- the same where reads may be cut in pieces that overlap by so many symbols

@@ -98,12 +98,12 @@ pub fn list_records<T: Threads + Sync, W: io::Write>(
     ensures silent { IfErr result (λ e. e ≢ Write → writer.new ≡ writer.old) }
 {
     let (slicing, bodies) = records.into_parts();
-    let bins = match judged_bins(rt, alloc, slicing.shape, bodies, params.sr) {
+    let bins = match judged_bins(rt, alloc, slicing.shape, bodies, params.counters) {
         Ok(bins) => bins,
         Err(JudgeError::Foreign(fault)) => return Err(ListError::Foreign(fault)),
         Err(JudgeError::Memory) => return Err(ListError::Memory),
     };
-    let lists = lists_of_bins(rt, alloc, bins, params.strands, &params.limits, params.sr)?;
-    let lines = write_bins(rt, alloc, writer, &lists, slicing.shape.k(), params.sr)?;
+    let lists = lists_of_bins(rt, alloc, bins, params.strands, &params.limits, params.counters)?;
+    let lines = write_bins(rt, alloc, writer, &lists, slicing.shape.k(), params.counters)?;
     Ok(lines)
 }

@@ -47,8 +47,8 @@ fn read_and_feed<R: Read>(
 }
 
 /// Reads and feeds until so many reads wait, or so many symbols of them or of an open read, or the text ends, or 2^32 reads gave
-/// bytes. The answer is whether it goes on. A round that is full takes nothing more. No read is made once `most` of them gave bytes: then the input is
-/// too long. A faulty text is refused with its first fault, as soon as the line is read that has it.
+/// bytes. The answer is whether it goes on. A round that is full takes nothing more. No read is made once `most` of them gave
+/// bytes: then the input is too long. A faulty text is refused with its first fault, as soon as the line is read that has it.
 pub fn fill_round<R: Read>(
     reader: &mut Counted<R>,
     feeder: &mut Feeder,

@@ -2,7 +2,7 @@
 use Rattle.kmc_record.specs.Shapes.{IsShape}
 use Rattle.kmc_options.specs.declared.run_params.Params.{Params}
 
-pub shape_is : (p : Params) → IsShape p.k p.signature_length p.n
+pub shape_is : (p : Params) → IsShape p.k p.signature_length p.bins
 shape_is p =
     let a = p.in_range.0 in
     record {

@@ -59,7 +59,7 @@ pub fn run_with_gate<T: Threads + Wait + Sync, R: Read, W: Write, G: Gate + Sync
 {
     memory_is_no_fault();
     let lists = count_input_with(rt, alloc, reader, params, gate, MOST_READS)?;
-    match write_bins(rt, alloc, writer, &lists, params.k, params.sr) {
+    match write_bins(rt, alloc, writer, &lists, params.k, params.counters) {
         Ok(lines) => Ok(lines),
         Err(error) => Err(told(error)),
     }

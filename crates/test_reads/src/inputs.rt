@@ -74,7 +74,7 @@ fn assert_filled<R: Abort + Threads + Wait + Sync>(
     assert!(rt;
         are_as_long(&answer?, whole),
         "{block}, {} splitters, rounds of {}",
-        params.sp,
+        params.splitters,
         params.batch
     );
     Ok(())

@@ -48,7 +48,7 @@ fn dump_in_pieces<R: Abort + Threads + Wait + Sync>(
     let bins = bins_in_pieces(rt, alloc, text, block, params, limit)?;
     let lists = stage_two(rt, alloc, bins, params)?;
     let mut writer = Counted::new(Vec::new(alloc));
-    match write_bins(rt, alloc, &mut writer, &lists, params.k, params.sr) {
+    match write_bins(rt, alloc, &mut writer, &lists, params.k, params.counters) {
         Ok(_) => Ok(writer.into_inner()),
         Err(_) => Err(Fail::from("not written")),
     }
@@ -108,7 +108,7 @@ fn assert_dump<R: Abort + Threads + Wait + Sync>(
         want.as_slice(),
         "{limit}, k {}, {} splitters, rounds of {}",
         params.k,
-        params.sp,
+        params.splitters,
         params.batch
     );
     Ok(want.len())

@@ -76,7 +76,7 @@ fn options_of_the_cut_are_kept(rt: HostRuntime) {
     let request = cut_of(&rt, line).expect(&rt, line);
     let params = &request.params;
     assert!(rt; matches!(params.format, Format::Fasta));
-    assert_eq!(rt; [params.k, params.p, params.n, params.sp], [31, 7, 64, 4]);
+    assert_eq!(rt; [params.k, params.asked_signature_length, params.bins, params.splitters], [31, 7, 64, 4]);
     assert_eq!(rt; (request.slices, request.prefix.as_str()), (64, "a/b.c"));
 }
 
@@ -157,7 +157,7 @@ fn files_are_listed_by_limits_strands_and_threads(rt: HostRuntime) {
             [params.limits.ci, params.limits.cx, params.limits.cs],
             [3, 90, 80]
         );
-        assert!(rt; (params.sr, params.strands) == (5, Strands::Apart));
+        assert!(rt; (params.counters, params.strands) == (5, Strands::Apart));
         assert_eq!(rt; request.files.len(), 2);
         assert_eq!(rt; request.files[0].as_str(), "a.0");
         assert_eq!(rt; request.files[1].as_str(), "b.0");

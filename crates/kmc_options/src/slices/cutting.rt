@@ -106,7 +106,7 @@ pub fn cut_request(alloc: Global, words: Vec<String>) -> Result<CutRequest, CutR
         Err(ParamsError::OutOfRange(setting)) => return Err(CutRequestError::OutOfRange(setting)),
         Err(ParamsError::Memory) => return Err(CutRequestError::Memory),
     };
-    match number_of_slices(&word, params.n) {
+    match number_of_slices(&word, params.bins) {
         Some(slices) => Ok(CutRequest {
             params,
             slices,

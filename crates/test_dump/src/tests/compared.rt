@@ -22,7 +22,7 @@ pub fn assert_dump<R: Abort + Threads + Wait + Sync>(
         "k {}, up to {}, {} threads",
         params.k,
         params.limits.cs,
-        params.sr
+        params.counters
     );
     Ok(())
 }

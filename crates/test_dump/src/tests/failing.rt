@@ -64,7 +64,7 @@ fn assert_front<R: Abort + Threads + Sync>(
         left,
         takes_none,
     });
-    let written = write_bins(rt, alloc, &mut writer, lists, params.k, params.sr);
+    let written = write_bins(rt, alloc, &mut writer, lists, params.k, params.counters);
     assert!(rt; written == Err(DumpError::Write) && writer.failures() == 1);
     let out = writer.into_inner().out;
     assert!(rt; out.len() == left && direct.starts_with(&out));
@@ -141,7 +141,7 @@ fn assert_written_or_silent<R: Abort + Threads + Sync>(
     requires { CanBeMerged params.now.k (lists_of lists.now) }
 {
     let mut writer = Counted::new(room);
-    match write_bins(rt, alloc, &mut writer, lists, params.k, params.sr) {
+    match write_bins(rt, alloc, &mut writer, lists, params.k, params.counters) {
         Ok(lines) => assert!(rt; lines > 0),
         Err(error) => {
             assert!(rt; error == DumpError::Memory && writer.into_inner().is_empty());

@@ -94,7 +94,7 @@ pub fn by_ranges<R: Abort + Threads + Wait + Sync>(
         return Err(Fail::from("out of memory"));
     };
     let mut writer = Counted::new(Vec::new(alloc));
-    match write_bins(rt, alloc, &mut writer, &lists, params.k, params.sr) {
+    match write_bins(rt, alloc, &mut writer, &lists, params.k, params.counters) {
         Ok(lines) => Ok((writer.into_inner(), lines)),
         Err(_) => Err(Fail::from("not written")),
     }

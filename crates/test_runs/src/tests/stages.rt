@@ -126,6 +126,6 @@ fn counted<R: Abort + Threads + Sync>(
     assert!(rt; bins.shape() == params.shape());
     let lists = stage_two(rt, alloc, bins, params).expect(rt, "memory");
     let mut writer = Counted::new(Vec::new(alloc));
-    write_bins(rt, alloc, &mut writer, &lists, params.k, params.sr).expect(rt, "written");
+    write_bins(rt, alloc, &mut writer, &lists, params.k, params.counters).expect(rt, "written");
     writer.into_inner()
 }

@@ -38,7 +38,7 @@ fn assert_counted_or_refused<R: Abort + Threads + Sync>(
     assert!(rt; bins.shape() == params.shape());
     let mut writer = Counted::new(room);
     if let Ok(lists) = stage_two(rt, alloc, bins, params) {
-        let written = write_bins(rt, alloc, &mut writer, &lists, params.k, params.sr);
+        let written = write_bins(rt, alloc, &mut writer, &lists, params.k, params.counters);
         assert_written_or_refused(rt, written, &writer.into_inner());
     }
 }

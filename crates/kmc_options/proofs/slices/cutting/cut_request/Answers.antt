@@ -24,5 +24,5 @@ returns-in-None-clause-slices c = λ _.
       in_range = given_in_range (found KmcCut (options_of words)) c.in-Ok.params given;
       none = λ r is.
           let asked = slices_asked words r (string_bytes c.in-Some-only.word) c.in-Ok.params (sym sorted.slices ∙ one) given is in
-          c.in-None.ensures r.slices (subst (λ w. IsNumberOfSlices w c.in-Ok.params.n r.slices) (sym c.deref.ensures) asked);
+          c.in-None.ensures r.slices (subst (λ w. IsNumberOfSlices w c.in-Ok.params.bins r.slices) (sym c.deref.ensures) asked);
     }
