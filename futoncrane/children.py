@@ -6,10 +6,15 @@ import resource
 import shutil
 import signal
 import subprocess
+import sys
 
 from futoncrane.faults import Ended, Fault, reason, shown
 
 ENDING = (signal.SIGINT, signal.SIGTERM, signal.SIGHUP)
+# these, and the one that brings back a signal that Python passed over
+HELD = (*ENDING, signal.SIGALRM)
+# seconds until it comes back
+PAUSE = 0.01
 PR_SET_PDEATHSIG = 1
 # a merge of 1000 dumps has so many files open, and some more
 MOST_OPEN = 4096
@@ -23,7 +28,7 @@ except (OSError, AttributeError):
 @contextlib.contextmanager
 def held_signals():
     """Holds the signals back, so that what is made is also noted. Gives the mask that was before."""
-    before = signal.pthread_sigmask(signal.SIG_BLOCK, ENDING)
+    before = signal.pthread_sigmask(signal.SIG_BLOCK, HELD)
     try:
         yield before
     finally:
@@ -33,7 +38,8 @@ def held_signals():
 def too_late():
     """Has the signals do nothing from now on: the answer is there. One that comes meanwhile is held back, and then passed over."""
     with held_signals():
-        for it in ENDING:
+        signal.setitimer(signal.ITIMER_REAL, 0)
+        for it in HELD:
             signal.signal(it, signal.SIG_IGN)
 
 
@@ -43,8 +49,19 @@ def end(number, frame):
     raise Ended(number)
 
 
+def come_again(passed):
+    """Where Python passes over the exception of a signal, as in what it does while it cleans up behind an import, it is raised again soon."""
+    if not isinstance(passed.exc_value, Ended):
+        sys.__unraisablehook__(passed)
+        return
+    number = passed.exc_value.number
+    signal.signal(signal.SIGALRM, lambda alarm, frame: end(number, frame))
+    signal.setitimer(signal.ITIMER_REAL, PAUSE)
+
+
 def catch_signals():
     """Has the signals that end a command raise Ended, but for those that the caller has it ignore."""
+    sys.unraisablehook = come_again
     for it in ENDING:
         if signal.getsignal(it) != signal.SIG_IGN:
             signal.signal(it, end)

@@ -5,10 +5,11 @@ import random
 import re
 import signal
 import subprocess
+import sys
 import threading
 import time
 
-from room import COMMAND, LONG, READS, SUMMARY, alive, content, descendants, program, wait_for, wait_until
+from room import COMMAND, LONG, READS, SUMMARY, TOP, alive, content, descendants, program, wait_for, wait_until
 
 MOMENTS = 20
 
@@ -59,6 +60,35 @@ def test_control_c_at_twenty_moments(room):
                 if os.path.exists(room.path(name)):
                     os.remove(room.path(name))
         assert room.files() == before, (status, room.files() - before)
+
+
+# a value that is let go when the signal comes: what is raised there Python passes over
+PASSED_OVER = """
+import signal
+import sys
+import time
+from futoncrane.children import catch_signals
+from futoncrane.faults import Ended
+
+
+class LetGo:
+    def __del__(self):
+        signal.raise_signal(signal.SIGINT)
+        time.sleep(0.001)
+
+
+catch_signals()
+try:
+    LetGo()
+    time.sleep(10)
+except Ended as fault:
+    sys.exit(128 + fault.number)
+"""
+
+
+def test_a_signal_that_python_passes_over_comes_again(room):
+    ran = subprocess.run([sys.executable, "-c", PASSED_OVER], cwd=TOP, env=room.environment, stderr=subprocess.PIPE, timeout=LONG, check=False)
+    assert (ran.returncode, ran.stderr) == (130, b"")
 
 
 def test_control_c_while_reads_still_come(room):
