@@ -21,16 +21,16 @@ use Rattle.kmc_join.specs.Laws.{HistogramsAdd, told}
 
 -- ---- pairs whose words rise
 
-record AreRising (ps : List (List ℕ × ℕ)) : Type 0 where
-  up : IsStrictlySortedBy kmer_cmp (words_of ps)
-  some : AllByRecursion (λ p. 1 ≤ p.1) ps
+pub record AreRising (ps : List (List ℕ × ℕ)) : Type 0 where
+  pub up : IsStrictlySortedBy kmer_cmp (words_of ps)
+  pub some : AllByRecursion (λ p. 1 ≤ p.1) ps
 
 module _ (p : List ℕ × ℕ) (ps : List (List ℕ × ℕ)) (rising : AreRising (p ∷ ps)) where
   above : (y : List ℕ) → Has y (words_of ps) → kmer_cmp p.0 y ≡ Less
   unfolding IsStrictlySortedBy
   above y m = below_has Below p.0 y (words_of ps) rising.up.0 m
 
-  tail : AreRising ps
+  pub tail : AreRising ps
   unfolding IsStrictlySortedBy
   tail = record { up = rising.up.1; some = rising.some.1 }
 
@@ -40,10 +40,10 @@ module _ (p : List ℕ × ℕ) (ps : List (List ℕ × ℕ)) (rising : AreRising
   none_behind : listed_count ps p.0 ≡ 0
   none_behind = none_listed p.0 ps (λ m. not_below_itself p.0 (above p.0 m))
 
-  count_first : listed_count (p ∷ ps) p.0 ≡ p.1
+  pub count_first : listed_count (p ∷ ps) p.0 ≡ p.1
   count_first = count_more p.0 ∙ (λ i. cond (same_itself p.0 i) p.1 0 + none_behind i) ∙ add-zero p.1
 
-  count_later : (x : List ℕ) → same_word p.0 x ≡ false → listed_count (p ∷ ps) x ≡ listed_count ps x
+  pub count_later : (x : List ℕ) → same_word p.0 x ≡ false → listed_count (p ∷ ps) x ≡ listed_count ps x
   count_later x other = count_more x ∙ ap (λ b. cond b p.1 0 + listed_count ps x) other ∙ zero-add (listed_count ps x)
 
   number_more : (n : ℕ) → number_with (p ∷ ps) n ≡ cond (p.1 == n) 1 0 + number_with ps n
@@ -216,7 +216,7 @@ told_is pairs rows histogram n = go (number_with pairs n) refl
     go (suc m) e = told_own (number_with pairs) n rows histogram.rising histogram.each
         (has_contains n (map (λ r. r.0) rows) (histogram.all n (omega (arith, e))))
 
-rising_of : (k : ℕ) (ps : List (List ℕ × ℕ)) → AreListed k ps → AreRising ps
+pub rising_of : (k : ℕ) (ps : List (List ℕ × ℕ)) → AreListed k ps → AreRising ps
 rising_of k ps listed = record { up = listed.rising; some = some_of ps listed.each }
   where
     some_of : (qs : List (List ℕ × ℕ)) → AllByRecursion (IsPair k) qs → AllByRecursion (λ p. 1 ≤ p.1) qs

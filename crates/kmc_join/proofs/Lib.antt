@@ -14,4 +14,5 @@ mod TableCaps
 mod Tabulations
 mod TakenWords
 mod Tallies
+mod Unions
 mod WordLines

@@ -1,9 +1,15 @@
--- Laws of histograms.
-use Rattle.std.specs.Prelude.{◌≡◌, ◌+◌, ◌≤◌, ◌==◌, ℕ, List, if◌then◌else◌}
+-- Laws of histograms and of unions.
+use Rattle.std.specs.Prelude.{◌≡◌, ◌+◌, ◌-◌, ◌≤◌, ◌^◌, ◌==◌, ℕ, List, [], ◌∷◌, if◌then◌else◌}
 use Rattle.std.specs.List.{sum_by}
-use Rattle.kmc_sum.specs.Listed.{AreListed}
+use Rattle.kmc_count.specs.declared.limits.Limits.{Limits}
+use Rattle.kmc_sum.specs.Listed.{AreListed, IsMerge}
 use Rattle.kmc_sum.specs.Sum.{listed_count}
 use Rattle.kmc_join.specs.Histogram.{IsHistogram}
+use Rattle.kmc_join.specs.Join.{IsJoin}
+use Rattle.kmc_join.specs.declared.operation.Choice.TheVariants.{Sum}
+use Rattle.kmc_join.specs.declared.operation.Operation.TheVariants.{Union}
+use Rattle.kmc_join.specs.declared.rule.CountRange.{CountRange}
+use Rattle.kmc_join.specs.declared.rule.JoinRule.{JoinRule}
 
 -- the two lists share no word, and the third has the pairs of both: of (AC, 2), (TT, 7) and (CA, 2) it is (AC, 2), (CA, 2), (TT, 7)
 pub record ArePairsOfBoth (left right both : List (List ℕ × ℕ)) : Type 0 where
@@ -20,3 +26,23 @@ abbrev pub HistogramsAdd : Type 0
 HistogramsAdd = (k : ℕ) (left right both : List (List ℕ × ℕ)) (first second whole : List (ℕ × ℕ)) → AreListed k left → AreListed k right
     → AreListed k both → ArePairsOfBoth left right both → IsHistogram left first → IsHistogram right second → IsHistogram both whole
     → (n : ℕ) → told whole n ≡ told first n + told second n
+
+-- each count that a dump may list is taken
+pub record TakesEach (range : CountRange) : Type 0 where
+  pub least : range.least ≤ 1
+  pub greatest : 2 ^ 64 - 1 ≤ range.greatest
+
+-- the words of either dump, by the sum of their counts
+pub record IsUnionBySum (rule : JoinRule) : Type 0 where
+  pub operation : rule.operation ≡ Union Sum
+  pub left : TakesEach rule.left
+  pub right : TakesEach rule.right
+
+-- the union of two dumps by the sum of their counts is their merge, as `kmc_merge` writes it
+pub record AreOneSum (rule : JoinRule) (l : Limits) (first second : List ℕ) (pairs : List (List ℕ × ℕ)) : Type 0 where
+  pub merge : IsJoin rule l first second pairs → IsMerge l (first ∷ second ∷ []) pairs
+  pub join : IsMerge l (first ∷ second ∷ []) pairs → IsJoin rule l first second pairs
+
+abbrev pub UnionBySumIsMerge : Type 0
+UnionBySumIsMerge = (rule : JoinRule) (l : Limits) (first second : List ℕ) (pairs : List (List ℕ × ℕ)) → IsUnionBySum rule
+    → AreOneSum rule l first second pairs
