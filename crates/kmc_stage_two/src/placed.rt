@@ -19,8 +19,8 @@ pub struct Placed<W: PackedKmer, C: CountWidth> {
     pub list: KmerList<W, C>,
 }
 
-/// The lists that threads made, those of each behind those of the threads before it, or the first error; `Memory` where the row
-/// cannot grow.
+/// The lists that threads made, each that of the body of its place. Where a thread made none, or the row cannot grow, the answer
+/// is an error, and the caller counts these bodies anew, which tells the cause.
 pub(crate) fn all_made<W: PackedKmer + Drop, C: CountWidth + Drop>(
     alloc: Global,
     rows: Vec<Result<Vec<Placed<W, C>>, BodyError>>,
