@@ -1,5 +1,5 @@
 -- Letters at the front of bytes, and the number in which their codes are packed.
-use Rattle.std.proofs.Common.{◌≡◌, ℕ, zero, suc, ◌+◌, ◌*◌, ◌-◌, ◌/◌, ◌%◌, ◌^◌, ◌<◌, ◌≤◌, ◌⊎◌, inl, inr, List, [], ◌∷◌, ◌++◌, length, take, drop, get_or, map, sym, ap, subst, ◌∙◌, arith, append_assoc, below_more, length-drop}
+use Rattle.std.proofs.Common.{◌≡◌, ℕ, zero, suc, ◌+◌, ◌*◌, ◌-◌, ◌/◌, ◌%◌, ◌^◌, ◌<◌, ◌≤◌, ◌⊎◌, inl, inr, List, [], ◌∷◌, ◌++◌, length, take, drop, get_or, map, refl, lit<, sym, ap, subst, ◌∙◌, arith, append_assoc, below_more, length-drop}
 use Rattle.std.proofs.Math.Nat.{pow-succ', mul_left_comm}
 use Rattle.std.proofs.Math.Seq.{take-add}
 use Rattle.std.proofs.lemmas.Bool.{cases_order}
@@ -36,6 +36,30 @@ quad_more xs n p q are inside small first second third last =
     let at_four : n + 3 + 1 ≡ n + 4 = omega arith in
     let whole : (((p * 4 + q / 64) * 4 + q / 16 % 4) * 4 + q / 4 % 4) * 4 + q % 4 ≡ p * 256 + q = omega arith in
     (rw (at_four, whole) at four)
+
+-- ---- the front of a quad
+
+no_letter : (xs : List ℕ) → AreLetters 0 0 xs
+no_letter xs = record { within = omega arith; fits = lit< tt; word = refl; each = λ i h. absurd (omega arith) }
+
+pub one_letter : (xs : List ℕ) (q : ℕ) → 1 ≤ length xs → q < 256 → get_or xs 0 0 ≡ letter (q / 64) → AreLetters 1 (q / 64) xs
+one_letter xs q inside small first =
+    let whole : 0 * 4 + q / 64 ≡ q / 64 = omega arith in
+    subst (λ p. AreLetters 1 p xs) whole (letter_more xs 0 0 (q / 64) (no_letter xs) (omega arith) (omega arith) first)
+
+pub two_letters : (xs : List ℕ) (q : ℕ) → 2 ≤ length xs → q < 256 → get_or xs 0 0 ≡ letter (q / 64) → get_or xs 1 0 ≡ letter (q / 16 % 4)
+    → AreLetters 2 (q / 16) xs
+two_letters xs q inside small first second =
+    let whole : q / 64 * 4 + q / 16 % 4 ≡ q / 16 = omega arith in
+    subst (λ p. AreLetters 2 p xs) whole
+    (letter_more xs 1 (q / 64) (q / 16 % 4) (one_letter xs q (omega arith) small first) (omega arith) (omega arith) second)
+
+pub three_letters : (xs : List ℕ) (q : ℕ) → 3 ≤ length xs → q < 256 → get_or xs 0 0 ≡ letter (q / 64) → get_or xs 1 0 ≡ letter (q / 16 % 4)
+    → get_or xs 2 0 ≡ letter (q / 4 % 4) → AreLetters 3 (q / 4) xs
+three_letters xs q inside small first second third =
+    let whole : q / 16 * 4 + q / 4 % 4 ≡ q / 4 = omega arith in
+    subst (λ p. AreLetters 3 p xs) whole
+    (letter_more xs 2 (q / 16) (q / 4 % 4) (two_letters xs q (omega arith) small first second) (omega arith) (omega arith) third)
 
 -- ---- two halves
 
@@ -96,6 +120,11 @@ half_most n x most h =
 
 pub half_room : (n m x y : ℕ) → n + m ≤ 32 → x < 4 ^ n → y < 4 ^ m → x * 4 ^ m + y < 2 ^ 64
 half_room n m x y most hx hy = half_most (n + m) (x * 4 ^ m + y) most (fits_both n m x y hx hy)
+
+-- what stands behind a front, in 64 bits
+pub shifted : (a b x : ℕ) → a + b ≤ 32 → x < 4 ^ a → x * 2 ^ (2 * b) % 2 ^ 64 ≡ x * 4 ^ b
+shifted a b x most h =
+    shl_exact (2 * a) (2 * b) 64 (subst (λ m. x < m) (pow_quad a) h) (omega arith) ∙ ap (λ m. x * m) (sym (pow_quad b))
 
 -- the second half is what stands behind the first
 pub halves_are : (xs : List ℕ) (a b x y u v : ℕ) → u ≡ x → v ≡ y → a ≤ 32 → b ≤ 32 → AreLetters a x xs → AreLetters b y (take (length xs - a) (drop a xs))

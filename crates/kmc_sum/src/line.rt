@@ -1,5 +1,5 @@
 //! One line of a dump, taken from the front of bytes.
-ghost use Rattle.std.specs.Prelude.{◌≡◌, ℕ, ◌+◌, ◌/◌, ◌%◌, ◌<◌, ◌≤◌, ◌^◌, ◌++◌, [], ◌∷◌, List, length, take, map, slice_index, IfSome, MatchOption, decimal};
+ghost use Rattle.std.specs.Prelude.{◌≡◌, ℕ, ◌+◌, ◌*◌, ◌/◌, ◌%◌, ◌<◌, ◌≤◌, ◌^◌, ◌++◌, [], ◌∷◌, List, length, take, drop, map, slice_index, IfSome, MatchOption, decimal};
 ghost use Rattle.std.specs.Str.Parse.{digits_value};
 ghost use Rattle.std.specs.Int.{IsInRange};
 ghost use Rattle.kmc_base.specs.Words.{letter};
@@ -67,8 +67,26 @@ static QUADS: [u32; 256] = [
     1095193684, 1128748116, 1195856980, 1413960788, 1096045652, 1129600084, 1196708948, 1414812756,
 ];
 
-/// The codes of the four letters from a place on, in a byte, where these are letters. Their second and third bits, brought
-/// together, tell which of the quads alone they can be.
+/// Four bytes from a place on, as a number: the first is the lowest byte.
+fn text_at(bytes: &[u8], at: usize) -> u32
+    requires { at + 4 ≤ length bytes.now }
+    ensures { result ≡ (slice_index bytes.now at + slice_index bytes.now (at + 1) * 256)
+        + (slice_index bytes.now (at + 2) + slice_index bytes.now (at + 3) * 256) * 65536 }
+{
+    let low = u32::from(bytes[at]) + u32::from(bytes[at + 1]) * 256;
+    let high = u32::from(bytes[at + 2]) + u32::from(bytes[at + 3]) * 256;
+    low + high * 65536
+}
+
+/// The second and third bits of four bytes, brought together: they tell which of the quads alone the bytes can be.
+fn gathered(text: u32) -> u8
+    ensures { result < 256 }
+{
+    let codes = ((text >> 1) ^ (text >> 2)) & 0x0303_0303;
+    (codes.wrapping_mul(0x4010_0401) >> 24) as u8
+}
+
+/// The codes of the four letters from a place on, in a byte, where these are letters.
 fn quad_at(bytes: &[u8], at: usize) -> Option<u8>
     requires { at + 4 ≤ length bytes.now }
     ensures { IfSome result (λ q. (q < 256) × (slice_index bytes.now at ≡ letter (q / 64))
@@ -76,11 +94,8 @@ fn quad_at(bytes: &[u8], at: usize) -> Option<u8>
         × (slice_index bytes.now (at + 2) ≡ letter (q / 4 % 4))
         × (slice_index bytes.now (at + 3) ≡ letter (q % 4))) }
 {
-    let low = u32::from(bytes[at]) + u32::from(bytes[at + 1]) * 256;
-    let high = u32::from(bytes[at + 2]) + u32::from(bytes[at + 3]) * 256;
-    let text = low + high * 65536;
-    let codes = ((text >> 1) ^ (text >> 2)) & 0x0303_0303;
-    let quad = (codes.wrapping_mul(0x4010_0401) >> 24) as u8;
+    let text = text_at(bytes, at);
+    let quad = gathered(text);
     if QUADS[quad as usize] == text {
         Some(quad)
     } else {
@@ -88,11 +103,31 @@ fn quad_at(bytes: &[u8], at: usize) -> Option<u8>
     }
 }
 
+/// The letters at the front of the four bytes from a place on, at most three or fewer than there are: how many, and these,
+/// packed.
+fn front_at(bytes: &[u8], at: usize) -> (usize, u64)
+    requires { at + 4 ≤ length bytes.now }
+    ensures most { result.0 ≤ 3 }
+    ensures letters { AreLetters result.0 result.1 (drop at bytes.now) }
+{
+    let text = text_at(bytes, at);
+    let quad = gathered(text);
+    let letters = QUADS[quad as usize];
+    if letters % 16777216 == text % 16777216 {
+        (3, u64::from(quad / 4))
+    } else if letters % 65536 == text % 65536 {
+        (2, u64::from(quad / 16))
+    } else if letters % 256 == text % 256 {
+        (1, u64::from(quad / 64))
+    } else {
+        (0, 0)
+    }
+}
+
 /// The most letters of half a word.
 const HALF: usize = 32;
 
-/// The whole quads of letters at the front of the bytes, as far as half a word may go, or fewer: how many letters, and
-/// these, packed.
+/// The letters at the front of the bytes, as far as half a word may go and in quads, or fewer: how many, and these, packed.
 fn quads(bytes: &[u8]) -> (usize, u64)
     ensures most { result.0 ≤ HALF }
     ensures letters { AreLetters result.0 result.1 bytes.now }
@@ -102,7 +137,10 @@ fn quads(bytes: &[u8]) -> (usize, u64)
     for j in 0..most {
         match quad_at(bytes, 4 * j) {
             Some(quad) => packed = packed * 256 + u64::from(quad),
-            None => return (4 * j, packed),
+            None => {
+                let (more, front) = front_at(bytes, 4 * j);
+                return (4 * j + more, (packed << (2 * more)) + front);
+            }
         }
     }
     (4 * most, packed)
@@ -172,8 +210,8 @@ fn digits(bytes: &[u8]) -> (usize, u128)
     (most, value)
 }
 
-/// A number from 1 to 2^64 - 1 with no leading zero and a line feed at the front of the bytes, and where they end.
-fn number(bytes: &[u8]) -> Option<(u64, usize)>
+/// A number from 1 to 2^64 - 1 with no leading zero and a line feed at the front of the bytes, and where they end, digit by digit.
+fn long_number(bytes: &[u8]) -> Option<(u64, usize)>
     ensures { MatchOption result
         ((n : ℕ) (more : List ℕ) → 1 ≤ n → n < 2 ^ 64 → bytes.now ≡ decimal n ++ 10 ∷ more → ⊥)
         (λ r. (1 ≤ r.0) × (r.0 < 2 ^ 64) × (r.1 ≤ length bytes.now)
@@ -187,6 +225,49 @@ fn number(bytes: &[u8]) -> Option<(u64, usize)>
         return None;
     }
     Some((value as u64, n + 1))
+}
+
+/// The digits at the front of four bytes, at most three: how many, and the number that they write.
+fn first_digits(bytes: &[u8]) -> (usize, u64)
+    requires { 4 ≤ length bytes.now }
+    ensures most { result.0 ≤ 3 }
+    ensures value { result.1 ≡ digits_value 10 (take result.0 bytes.now) }
+    ensures small { result.1 < 1000 }
+    ensures each { (i : ℕ) → i < result.0 → IsInRange 48 57 (slice_index bytes.now i) }
+{
+    let first = bytes[0].wrapping_sub(b'0');
+    let second = bytes[1].wrapping_sub(b'0');
+    let third = bytes[2].wrapping_sub(b'0');
+    let one = u64::from(first);
+    let two = one * 10 + u64::from(second);
+    let three = two * 10 + u64::from(third);
+    if first > 9 {
+        return (0, 0);
+    }
+    if second > 9 {
+        return (1, one);
+    }
+    if third > 9 {
+        return (2, two);
+    }
+    (3, three)
+}
+
+/// A number from 1 to 2^64 - 1 with no leading zero and a line feed at the front of the bytes, and where they end. Most counts
+/// have few digits, and how many cannot be foretold: so the first three are read without a branch.
+fn number(bytes: &[u8]) -> Option<(u64, usize)>
+    ensures { MatchOption result
+        ((n : ℕ) (more : List ℕ) → 1 ≤ n → n < 2 ^ 64 → bytes.now ≡ decimal n ++ 10 ∷ more → ⊥)
+        (λ r. (1 ≤ r.0) × (r.0 < 2 ^ 64) × (r.1 ≤ length bytes.now)
+        × (take r.1 bytes.now ≡ decimal r.0 ++ 10 ∷ [])) }
+{
+    if bytes.len() >= 4 {
+        let (n, value) = first_digits(bytes);
+        if n > 0 && bytes[0] != b'0' && bytes[n] == b'\n' {
+            return Some((value, n + 1));
+        }
+    }
+    long_number(bytes)
 }
 
 /// The line at the front of the bytes, where there is one.

@@ -1,14 +1,13 @@
-use Rattle.std.proofs.Common.{◌+◌, ◌<◌, refl, sym, ◌∙◌, arith}
-use Rattle.kmc_sum.proofs.Quads.{quad_is, top_byte}
+use Rattle.std.proofs.Common.{ℕ, ◌+◌, ◌<◌, get_or, refl, ◌∙◌, arith}
+use Rattle.kmc_sum.proofs.Quads.{quad_is}
 use Rattle.kmc_sum.specs.declared.line.TheConstants.{QUADS}
 use Rattle.kmc_sum.proofs.line.quad_at.Goals as goal
 
 pub returns-then-quad-text : goal.returns-then-quad-text
 returns-then-quad-text c =
+    let xs = c.args.bytes.now in
     let at = c.args.at in
-    let first : c.from.result < 256 = omega (arith, c.from.ensures, c.type_inv.bytes at) in
-    let second : c.from-2.result < 256 = omega (arith, c.from-2.ensures, c.type_inv.bytes (at + 1)) in
-    let third : c.from-3.result < 256 = omega (arith, c.from-3.ensures, c.type_inv.bytes (at + 2)) in
-    let last : c.from-4.result < 256 = omega (arith, c.from-4.ensures, c.type_inv.bytes (at + 3)) in
-    let are = quad_is QUADS _ _ _ _ _ refl (top_byte _) first second third last c.if-quad-text.true in
-    (top_byte _, sym c.from.ensures ∙ are.0, sym c.from-2.ensures ∙ are.1, sym c.from-3.ensures ∙ are.2, sym c.from-4.ensures ∙ are.3)
+    let byte : (i : ℕ) → get_or xs i 0 < 256 = λ i. omega (arith, c.type_inv.bytes i) in
+    let are = quad_is QUADS c.gathered-quad.result _ _ _ _ refl c.gathered-quad.ensures (byte at) (byte (at + 1)) (byte (at + 2)) (byte (at + 3))
+    (c.if-quad-text.true ∙ c.text_at-text.ensures) in
+    (c.gathered-quad.ensures, are.0, are.1, are.2, are.3)
