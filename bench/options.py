@@ -6,9 +6,8 @@ usage: options.py [--list]
 
 The options, the flags and the usage line of a program are those of its tables in program.rt; the names stand in named.rt, and the ranges
 and defaults in setting.rt. A usage line and a synopsis name each of them and no other, a help text and a page have an entry for each, and an
-entry tells the range and the default. -slices, --force, --help and --version are of kmc_cut and kmc_list, and -oc, -b, -lci, -lcx, -rci and
--rcx of kmc_db: they have no table.
-What `kmc_db pack` takes is that of its own usage line, in crates/kmc_db.
+entry tells the range and the default. --help and --version are of kmc_cut, kmc_list and kmc_merge, -slices and --force of kmc_cut, and
+-oc, -b, -lci, -lcx, -rci and -rcx of kmc_db: they have no table. What `kmc_db pack` takes is that of its own usage line, in crates/kmc_db.
 With --list the tables are printed.
 """
 import glob
@@ -23,7 +22,8 @@ from comparing import ended  # noqa: E402
 TOP = os.path.join(os.path.dirname(os.path.abspath(__file__)), "..")
 CRATES = os.path.join(TOP, "crates")
 NAMES = {"Kmc": "kmc", "KmcMerge": "kmc_merge", "KmcCut": "kmc_cut", "KmcList": "kmc_list", "KmcDb": "kmc_db"}
-OWN = {"kmc": set(), "kmc_merge": set(), "kmc_cut": {"slices", "-force", "-help", "-version"}, "kmc_list": {"-help", "-version"},
+TEXTS = {"-help", "-version"}
+OWN = {"kmc": set(), "kmc_merge": TEXTS, "kmc_cut": {"slices", "-force"} | TEXTS, "kmc_list": TEXTS,
        "kmc_db": {"oc", "b", "lci", "lcx", "rci", "rcx"}}
 # what the page of kmc_db tells, and its usage line leaves out
 LEFT_OUT = {"lci", "lcx", "rci", "rcx"}
@@ -106,21 +106,27 @@ def usage_of(name):
     return re.search(r'"usage: ' + name + r' ([^"]*)"', options_text("program.rt")).group(1)
 
 
-def help_of(name):
-    """The entries of a help text by name; none where the program has no help."""
-    for path in glob.glob(os.path.join(CRATES, "kmc_slices", "src", "programs", "*.rt")):
+def sources():
+    """The text of each file of code."""
+    for path in sorted(glob.glob(os.path.join(CRATES, "kmc_*", "src", "**", "*.rt"), recursive=True)):
         with open(path, encoding="utf-8") as file:
-            text = re.search(r"const HELP: &'static str =\s*\"(" + name + r": [^\"]*)\"", file.read())
-            if text:
-                lines = text.group(1).replace("\\n", "\n").split("\n")
-                usage = [line for line in lines if line.startswith("usage: ")]
-                entries = {}
-                for line in lines:
-                    entry = re.match(r"  (-\S+(?: -\S+)*)  +(.*)", line)
-                    if entry:
-                        for word in entry.group(1).split():
-                            entries[re.match(r"-(-?\w+)", word).group(1)] = entry.group(2)
-                return usage[0].removeprefix(f"usage: {name} "), entries
+            yield file.read()
+
+
+def help_of(name):
+    """The usage lines of a help text, behind the program's name, and its entries by name; none where the program has no help."""
+    for source in sources():
+        text = re.search(r"const HELP: &'static str =\s*\"(" + name + r": [^\"]*)\"", source)
+        if text:
+            lines = text.group(1).replace("\\n", "\n").split("\n")
+            usages = [line[len("usage: ") + len(name) + 1:] for line in lines if line.startswith((f"usage: {name} ", f"       {name} "))]
+            entries = {}
+            for line in lines:
+                entry = re.match(r"  (-\S+(?: -\S+)*)  +(.*)", line)
+                if entry:
+                    for word in entry.group(1).split():
+                        entries[re.match(r"-(-?\w+)", word).group(1)] = entry.group(2)
+            return usages, entries
     return None, None
 
 
@@ -128,7 +134,8 @@ def page_of(name):
     """The options of a page's synopsis, and its entries by name."""
     with open(os.path.join(TOP, "docs", name + ".1"), encoding="utf-8") as file:
         page = file.read()
-    synopsis = page.split(".Sh SYNOPSIS\n")[1].split(".Sh ")[0].partition(".Nm\n.Cm pack\n")[0]
+    uses = page.split(".Sh SYNOPSIS\n")[1].split(".Sh ")[0].split(".Nm\n")
+    synopsis = "".join(use for use in uses if not use.startswith(".Cm pack\n"))
     entries = {}
     for entry in page.split(".Sh OPTIONS\n")[1].split(".Sh ")[0].split("\n.It ")[1:]:
         head, _, text = entry.partition("\n")
@@ -137,12 +144,17 @@ def page_of(name):
     return set(re.findall(r"Fl (\S+)", synopsis)), entries
 
 
+def packing_options():
+    """What the usage line of `kmc_db pack` takes."""
+    with open(os.path.join(CRATES, "kmc_db", "src", "packing.rt"), encoding="utf-8") as file:
+        return set(re.findall(r"\[-(-?[a-z]+)", file.read().partition("usage: kmc_db pack")[2].partition('"')[0]))
+
+
 def packing_faults():
     """What the synopsis of `kmc_db pack` and its usage line do not share."""
-    with open(os.path.join(CRATES, "kmc_db", "src", "packing.rt"), encoding="utf-8") as file:
-        usage = set(re.findall(r"\[-(-?[a-z]+)", file.read().partition("usage: kmc_db pack")[2].partition('"')[0]))
+    usage = packing_options()
     with open(os.path.join(TOP, "docs", "kmc_db.1"), encoding="utf-8") as file:
-        page = set(re.findall(r"Fl (\S+)", file.read().partition(".Cm pack\n")[2].partition(".Sh ")[0]))
+        page = set(re.findall(r"Fl (\S+)", file.read().partition(".Cm pack\n")[2].partition(".Nm\n")[0]))
     return [] if usage and usage == page else [f"the synopsis of kmc_db pack has {sorted(page)}, and its usage line {sorted(usage)}"]
 
 
@@ -180,12 +192,12 @@ def main():
     for name, (options, flags) in told.items():
         names = set(options) | flags
         usage = usage_of(name)
-        same(f"the usage line of {name}", set(re.findall(r"(?<!\w)-(-?[a-z]+)", usage)), names | (OWN[name] - {"-help", "-version"} - LEFT_OUT))
+        same(f"the usage line of {name}", set(re.findall(r"(?<!\w)-(-?[a-z]+)", usage)), names | (OWN[name] - TEXTS - LEFT_OUT))
         shown, entries = help_of(name)
         if shown is not None:
-            if shown != usage:
+            if shown != [usage]:
                 faults.append(f"the help of {name} has another usage line")
-            same(f"the help of {name}", set(entries), names | (OWN[name] - {"-help", "-version"}))
+            same(f"the help of {name}", set(entries), names | (OWN[name] - TEXTS))
             ranges(f"the help of {name}", entries, options, False)
         synopsis, items = page_of(name)
         same(f"the synopsis of docs/{name}.1", synopsis, names | OWN[name])

@@ -2,7 +2,7 @@
 import os
 import subprocess
 
-from room import LONG, MOST, READS, content, plainly, program
+from room import LONG, MOST, READS, TOP, content, plainly, program
 
 USAGE = b"usage: kmc [-fa|-fq|-fm] [-k<len>] [-p<len>] [-ci<n>] [-cx<n>] [-cs<n>] [-n<bins>] [-sp<n>] [-sr<n>] [-b]\n"
 MERGE_USAGE = b"usage: kmc_merge [-ci<n>] [-cx<n>] [-cs<n>] a.dump b.dump ..\n"
@@ -64,6 +64,20 @@ def test_a_full_device_is_a_failed_write(room):
         assert ended(room, "kmc_merge", "a.dump", out=full) == (1, None, b"kmc_merge: cannot write\n")
 
 
+def test_help_and_the_version_are_shown(room):
+    room.write("a.dump", "AC\t2\n")
+    version = content(os.path.join(TOP, "VERSION")).strip() + b"\n"
+    for name, *words in (("kmc_cut", "-slices2", "part"), ("kmc_list", "a.dump"), ("kmc_merge", "a.dump"), ("kmc_merge", "-cs0"), ("kmc_merge",)):
+        for place in {0, len(words)}:
+            status, out, told = ended(room, name, *words[:place], "--help", *words[place:])
+            assert (status, told) == (0, b"") and out.startswith(name.encode() + b": ") and b"\nusage: " + name.encode() + b" " in out, (name, words, told)
+            assert ended(room, name, *words[:place], "--version", *words[place:]) == (0, version, b""), (name, words)
+            assert ended(room, name, "--version", *words[:place], "--help", *words[place:]) == (0, out, b""), (name, words)
+        with open("/dev/full", "wb") as full:
+            assert ended(room, name, *words, "--help", out=full) == (1, None, b""), (name, words)
+    assert set(os.listdir(room.folder)) == {"a.dump", "tmp"}
+
+
 def test_a_closed_pipe_is_not_told(room):
     room.write("a.dump", "AC\t2\nCA\t5\n")
     for name, *words in (("kmc",), ("kmc_merge", "a.dump")):
@@ -90,7 +104,7 @@ def test_a_merge_refuses_wrong_words(room):
     room.write("a.dump", "AC\t2\n")
     for words in ([], [b"a\xff.dump"], ["-ci1"], ["-ci1", "-ci1", "a.dump"], ["-ci1", "--ci=1", "a.dump"], ["-x", "a.dump"], ["-", "a.dump"],
                   ["-cs0", "-cx", "-ci1", "a.dump"], ["--ci", "a.dump"], ["-k31", "a.dump"], ["--sr=2", "a.dump"], ["-b", "a.dump"], ["-fa", "a.dump"],
-                  ["-slices2", "a.dump"], ["--force", "a.dump"], ["--help"], *[["a.dump"] * 1001]):
+                  ["-slices2", "a.dump"], ["--force", "a.dump"], *[["a.dump"] * 1001]):
         status, out, told = ended(room, "kmc_merge", *words)
         assert (status, out, told) == (2, b"", MERGE_USAGE), (words, told)
 

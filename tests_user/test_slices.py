@@ -75,9 +75,6 @@ def test_words_of_the_programs(room):
         done = subprocess.run([program(name), *words], cwd=room.folder, input=b"", stdout=subprocess.PIPE, stderr=subprocess.PIPE, check=False)
         assert done.returncode == 2 and done.stdout == b"" and done.stderr.count(b"\n") == 1, (name, words, done)
         assert done.stderr.startswith((b"usage: " + name.encode(), name.encode() + b": ")), done
-    for name in ("kmc_cut", "kmc_list"):
-        assert b"usage: " + name.encode() in ran(room, name, "--help"), name
-        assert content(os.path.join(os.path.dirname(READS), "..", "VERSION")).strip() in ran(room, name, "--version"), name
     assert set(os.listdir(room.folder)) == {"tmp"}
 
 

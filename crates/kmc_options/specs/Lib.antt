@@ -1,3 +1,4 @@
+pub mod About
 pub mod CommandLine
 pub mod Errors
 pub mod Glued

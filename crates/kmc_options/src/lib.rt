@@ -1,8 +1,9 @@
 //! What programs are told: the words of a command line, the settings that they give, and how a program ends that was told wrong or
-//! gave up: its line and its status. It stands on `clap`, and on the crates whose sizes bound the settings. The layers above take
-//! [`Params`] from words, and from a fault the line and the status.
+//! gave up: its line and its status; and help and the version. It stands on `clap`, on kmc_device for what is shown, and on the crates
+//! whose sizes bound the settings. The layers above take [`Params`] from words, and from a fault the line and the status.
 #![tactic(auto)]
 
+mod about;
 mod command;
 mod command_line;
 mod digits;
@@ -20,6 +21,7 @@ mod run_params;
 mod setting;
 mod slices;
 
+pub use about::{asked_text, asks_for_text, shown};
 pub use command_line::{params, settings, words};
 pub use digits::number;
 pub use ending::{Ending, ended};

@@ -1,6 +1,7 @@
-//! The program: from its arguments to the dump of the sum and the exit status.
-ghost use Rattle.std.specs.Prelude.{◌≡◌, ◌≢◌, ℕ, ◌-◌, ◌^◌, ◌<◌, ◌≤◌, ◌⊎◌, List, length, map, MatchResult, string_bytes};
+//! The program: from its arguments to the dump of the sum, or help, and the exit status.
+ghost use Rattle.std.specs.Prelude.{◌≡◌, ◌≢◌, ℕ, ◌-◌, ◌^◌, ◌<◌, ◌≤◌, ◌⊎◌, List, length, map, MatchResult, string_bytes, true, false};
 ghost use Rattle.std.specs.Process.{exit_status};
+ghost use Rattle.kmc_options.specs.About.{is_asked, text_asked, Shows, ShowsFront};
 ghost use Rattle.kmc_options.specs.Words.{Word};
 ghost use Rattle.kmc_sum.specs.Answer.{IsCause};
 ghost use Rattle.kmc_sum.specs.Request.{Explains};
@@ -8,6 +9,7 @@ ghost use Rattle.kmc_sum.specs.Numbers.{most_sources};
 ghost use Rattle.kmc_sum.specs.Program.{IsAnswered, IsGivenUp};
 ghost use Rattle.kmc_sum.specs.Sources.{failures_of, lefts_of};
 ghost use Rattle.kmc_sum.specs.State.{IsBegun, IsSumWritten};
+ghost use Rattle.kmc_sum.specs.declared.arguments.TheConstants.{HELP};
 
 use crate::error::SumError;
 use crate::fault::{Fault, Message, unnamed};
@@ -15,12 +17,15 @@ use crate::merging::{MOST_SOURCES, merge};
 use crate::request::{RequestError, asked_for};
 use kmc_count::Limits;
 use kmc_device::Counted;
-use kmc_options::{arguments, ended};
+use kmc_options::{arguments, asked_text, ended, shown};
 use std::alloc::Global;
 use std::fs;
 use std::io::{Read, Write};
 use std::process::ExitCode;
 use std::rt::{Env, Files};
+
+const HELP: &'static str =
+    "kmc_merge: the dump of the sum of dumps\n\nusage: kmc_merge [-ci<n>] [-cx<n>] [-cs<n>] a.dump b.dump ..\n\n  -ci<n>     words whose sum is less are not listed; 2 where it is not given\n  -cx<n>     words whose sum is greater are not listed; 10^9\n  -cs<n>     greater sums are shown as this; 255\n  a.dump ..  the files of 1 to 1000 sorted dumps\n\nDumps of parts of the reads are made with all counts, and dumps of slices are merged with all counts, by\n  -ci1 -cx9223372036854775808 -cs9223372036854775808\n";
 
 /// A reader for each file, or why there are none: the first file that cannot be opened, or want of memory.
 fn opened<T: Files + Alloc<A = Global>>(
@@ -121,23 +126,55 @@ pub fn sum_files<T: Files + Eprint + Alloc<A = Global>, W: Write>(
     )
 }
 
-/// The whole program: [`sum_files`] of the words that the process was given.
+/// Does what the words ask for: shows help or the version on the writer, and opens no file then, or merges the files that they name. The
+/// exit status of a text is 0 where it was written, and else 1, with no line of a fault; else it is that of [`sum_files`].
+pub fn sum_words<T: Files + Eprint + Alloc<A = Global>, W: Write>(
+    rt: &T,
+    words: Vec<String>,
+    writer: &mut Counted<W>,
+) -> ExitCode
+    requires { writer.old.failures < 2 ^ 64 - 1 }
+    ensures done { exit_status result ≡ 0 → is_asked (map string_bytes words.items) ≡ false
+        → IsAnswered (map string_bytes words.items) (W.contents writer.old.inner)
+        (W.contents writer.new.inner)
+        × (writer.new.failures ≡ writer.old.failures) }
+    ensures misused { exit_status result ≡ 2 → (is_asked (map string_bytes words.items) ≡ false)
+        × ((e : RequestError) × (e ≢ RequestError.Memory)
+        × Explains most_sources (map string_bytes words.items) e)
+        × (writer.new ≡ writer.old) }
+    ensures failed { exit_status result ≡ 1 → is_asked (map string_bytes words.items) ≡ false
+        → (writer.new ≡ writer.old)
+        ⊎ IsGivenUp (map string_bytes words.items) W.contents writer.old writer.new }
+    ensures shown { exit_status result ≡ 0 → is_asked (map string_bytes words.items) ≡ true
+        → Shows W.contents (text_asked HELP.now (map string_bytes words.items)) writer.old writer.new }
+    ensures unshown { exit_status result ≡ 1 → is_asked (map string_bytes words.items) ≡ true
+        → ShowsFront W.contents (text_asked HELP.now (map string_bytes words.items)) writer.old writer.new }
+    ensures statuses { exit_status result ≤ 2 }
+{
+    match asked_text(&words, HELP) {
+        Some(text) => shown(text, writer),
+        None => sum_files(rt, words, writer),
+    }
+}
+
+/// The whole program: [`sum_words`] of the words that the process was given.
 pub fn program<T: Files + Env + Eprint + Alloc<A = Global>, W: Write>(
     rt: &T,
     writer: &mut Counted<W>,
 ) -> ExitCode
     requires { writer.old.failures < 2 ^ 64 - 1 }
-    ensures done { exit_status result ≡ 0 → (words : List Word)
-        × IsAnswered words (W.contents writer.old.inner) (W.contents writer.new.inner)
-        × (writer.new.failures ≡ writer.old.failures) }
+    ensures done { exit_status result ≡ 0 → (words : List Word) × (is_asked words ≡ false
+        → IsAnswered words (W.contents writer.old.inner) (W.contents writer.new.inner)
+        × (writer.new.failures ≡ writer.old.failures))
+        × (is_asked words ≡ true → Shows W.contents (text_asked HELP.now words) writer.old writer.new) }
     ensures misused { exit_status result ≡ 2 → writer.new ≡ writer.old }
-    ensures failed { exit_status result ≡ 1 → (writer.new ≡ writer.old)
-        ⊎ ((words : List Word)
-        × IsGivenUp words W.contents writer.old writer.new) }
+    ensures failed { exit_status result ≡ 1 → (writer.new ≡ writer.old) ⊎ ((words : List Word)
+        × (is_asked words ≡ false → (writer.new ≡ writer.old) ⊎ IsGivenUp words W.contents writer.old writer.new)
+        × (is_asked words ≡ true → ShowsFront W.contents (text_asked HELP.now words) writer.old writer.new)) }
     ensures statuses { exit_status result ≤ 2 }
 {
     match arguments(rt) {
-        Ok(Some(words)) => sum_files(rt, words, writer),
+        Ok(Some(words)) => sum_words(rt, words, writer),
         Ok(None) => ended(rt, unnamed(Fault::Request(RequestError::Usage)), false),
         Err(error) => ended(rt, unnamed(Fault::from(error)), false),
     }

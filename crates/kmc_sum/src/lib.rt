@@ -17,7 +17,7 @@ mod source;
 mod sources;
 mod writing;
 
-pub use arguments::{program, sum_files, sum_readers};
+pub use arguments::{program, sum_files, sum_readers, sum_words};
 pub use error::{LineFault, SourceError, SourceFault, SumError};
 pub use fault::{Fault, Message};
 pub use heads::{Head, build};
