@@ -4,13 +4,17 @@ ghost use Rattle.kmc_options.specs.Words.{name_at};
 
 use std::alloc::{AllocError, Global};
 use std::env::{self, Args};
+use std::io::ErrorKind;
 use std::rt::Env;
 
-/// The process's arguments behind the program's name, or `None` where they cannot be read.
+/// The process's arguments behind the program's name, or `None` where one is no text; want of memory is told as such.
 pub fn arguments<T: Env + Alloc<A = Global>>(rt: &T) -> Result<Option<Vec<String>>, AllocError> {
     match env::args(rt) {
         Ok(arguments) => Ok(Some(behind_first(rt.alloc(), arguments)?)),
-        Err(_) => Ok(None),
+        Err(error) => match error.kind() {
+            ErrorKind::OutOfMemory => Err(AllocError),
+            _ => Ok(None),
+        },
     }
 }
 

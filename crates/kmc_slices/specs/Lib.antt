@@ -1,4 +1,3 @@
-pub mod Asking
 pub mod Cut
 pub mod CutProgram
 pub mod Files

@@ -103,7 +103,21 @@ pub fn list_records<T: Threads + Sync, W: io::Write>(
         Err(JudgeError::Foreign(fault)) => return Err(ListError::Foreign(fault)),
         Err(JudgeError::Memory) => return Err(ListError::Memory),
     };
-    let lists = lists_of_bins(rt, alloc, bins, params.strands, &params.limits, params.counters)?;
-    let lines = write_bins(rt, alloc, writer, &lists, slicing.shape.k(), params.counters)?;
+    let lists = lists_of_bins(
+        rt,
+        alloc,
+        bins,
+        params.strands,
+        &params.limits,
+        params.counters,
+    )?;
+    let lines = write_bins(
+        rt,
+        alloc,
+        writer,
+        &lists,
+        slicing.shape.k(),
+        params.counters,
+    )?;
     Ok(lines)
 }

@@ -1,6 +1,5 @@
 //! The programs that cut and list slices, from their words to their files, their dump and their status.
 
-mod asking;
 mod cut_fault;
 mod cutting;
 mod foreign;

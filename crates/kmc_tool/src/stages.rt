@@ -64,5 +64,12 @@ pub fn stage_two<R: Threads + Sync>(
     ensures all { IfOk result (λ lists. IsDumpOfBins params.now.strands params.now.k params.now.limits bins.bodies
         (spelled params.now.k (whole (lists_of lists)))) }
 {
-    lists_of_bins(rt, alloc, bins, params.strands, &params.limits, params.counters)
+    lists_of_bins(
+        rt,
+        alloc,
+        bins,
+        params.strands,
+        &params.limits,
+        params.counters,
+    )
 }

@@ -6,16 +6,17 @@ ghost use Rattle.kmc_options.specs.Requests.{IsCutRequest};
 ghost use Rattle.kmc_options.specs.declared.slices.cutting.CutRequest.{CutRequest};
 ghost use Rattle.kmc_slice_files.specs.Opening.{IsCreateFault};
 ghost use Rattle.kmc_slice_files.specs.declared.opening.CreateFault.{CreateFault};
-ghost use Rattle.kmc_slices.specs.Asking.{is_asked, text_asked, Shows, ShowsFront};
+ghost use Rattle.kmc_options.specs.About.{is_asked, text_asked, Shows, ShowsFront};
 ghost use Rattle.kmc_slices.specs.CutProgram.{AsksForNoCut, FailsToCut, IsCutFault, IsCutTo, IsFaultOfCut, WroteFiles};
 ghost use Rattle.kmc_slices.specs.declared.programs.cut_fault.CutFault.{CutFault};
 ghost use Rattle.kmc_slices.specs.declared.programs.cutting.TheConstants.{HELP};
 
-use crate::programs::asking::{asked_text, shown};
 use crate::programs::cut_fault::{CutFault, CutMessage, unnamed};
 use crate::slicing::cut_slices;
 use kmc_device::Counted;
-use kmc_options::{CutRequest, CutRequestError, Params, arguments, cut_request, ended};
+use kmc_options::{
+    CutRequest, CutRequestError, Params, arguments, asked_text, cut_request, ended, shown,
+};
 use kmc_slice_files::create_files;
 use std::alloc::{AllocError, Global};
 use std::io::{Read, Write};
@@ -144,6 +145,7 @@ pub fn cut_words<T: Threads + Wait + Sync + Files + Eprint + Alloc<A = Global>, 
         → FailsToCut R.remaining (map string_bytes words.items) reader.old reader.new }
     ensures misused { exit_status result ≡ 2 → AsksForNoCut (map string_bytes words.items)
         × (reader.new ≡ reader.old) × (writer.new ≡ writer.old) }
+    ensures unshown_misuse { exit_status result ≡ 2 → is_asked (map string_bytes words.items) ≡ false }
     ensures unasked { is_asked (map string_bytes words.items) ≡ false → writer.new ≡ writer.old }
     ensures unread { is_asked (map string_bytes words.items) ≡ true → reader.new ≡ reader.old }
     ensures shown { exit_status result ≡ 0 → is_asked (map string_bytes words.items) ≡ true

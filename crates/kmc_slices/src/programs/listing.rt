@@ -5,17 +5,18 @@ ghost use Rattle.kmc_options.specs.Words.{Word};
 ghost use Rattle.kmc_options.specs.Requests.{IsListRequest};
 ghost use Rattle.kmc_options.specs.declared.slices.listing.ListRequest.{ListRequest};
 ghost use Rattle.kmc_options.specs.declared.slices.listing.ListRequestError.{ListRequestError};
-ghost use Rattle.kmc_slices.specs.Asking.{is_asked, text_asked, Shows, ShowsFront};
+ghost use Rattle.kmc_options.specs.About.{is_asked, text_asked, Shows, ShowsFront};
 ghost use Rattle.kmc_slices.specs.ListProgram.{AsksForNothing, FailsToList, IsListed, IsListFault, of_files, opened_by};
 ghost use Rattle.kmc_slices.specs.declared.programs.list_fault.ListFault.{ListFault};
 ghost use Rattle.kmc_slices.specs.declared.programs.listing.TheConstants.{HELP};
 
 use crate::listing::list_records;
-use crate::programs::asking::{asked_text, shown};
 use crate::programs::gathering::{gather_readers, opened};
 use crate::programs::list_fault::{ListFault, ListMessage, unnamed};
 use kmc_device::Counted;
-use kmc_options::{ListRequest, ListRequestError, Params, arguments, ended, list_request};
+use kmc_options::{
+    ListRequest, ListRequestError, Params, arguments, asked_text, ended, list_request, shown,
+};
 use std::alloc::{AllocError, Global};
 use std::io::{Read, Write};
 use std::process::ExitCode;
@@ -45,7 +46,8 @@ fn listed<
         (W.contents writer.old.inner) (W.contents writer.new.inner)
         × (writer.new.failures ≡ writer.old.failures)) }
     ensures sound { IfErr result (λ e. (r : ListRequestError) → e ≢ ListFault.Request r) }
-    ensures fault { IfErr result (IsListFault (opened_by R.remaining (F.post opener.now)) count params.now W.contents writer.old writer.new) }
+    ensures fault { IfErr result
+        (IsListFault (opened_by R.remaining (F.post opener.now)) count params.now W.contents writer.old writer.new) }
 {
     let records = gather_readers(rt.alloc(), count, opener)?;
     match list_records(rt, rt.alloc(), records, params, writer) {
@@ -113,6 +115,7 @@ pub fn list_words<T: Threads + Sync + Files + Eprint + Alloc<A = Global>, W: Wri
         × IsListed of_files (length r.files.items) r.params (W.contents writer.old.inner) (W.contents writer.new.inner)
         × (writer.new.failures ≡ writer.old.failures) }
     ensures misused { exit_status result ≡ 2 → AsksForNothing (map string_bytes words.items) × (writer.new ≡ writer.old) }
+    ensures unshown_misuse { exit_status result ≡ 2 → is_asked (map string_bytes words.items) ≡ false }
     ensures shown { exit_status result ≡ 0 → is_asked (map string_bytes words.items) ≡ true
         → Shows W.contents (text_asked HELP.now (map string_bytes words.items)) writer.old writer.new }
     ensures unshown { exit_status result ≡ 1 → is_asked (map string_bytes words.items) ≡ true
