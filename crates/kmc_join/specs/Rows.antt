@@ -22,7 +22,10 @@ module _ {K : Type 0} (order : K → K → Ordering) where
   abbrev pub HasNoZero : BTreeMap K ℕ → Type 0
   HasNoZero tally = (key : K) → 1 ≤ unwrap_or (get order tally key) 1
 
-  -- this key was seen once more
-  pub record CountsOneMore (old new : BTreeMap K ℕ) (key : K) : Type 0 where
+  -- this key was seen so many times more
+  pub record CountsMore (old new : BTreeMap K ℕ) (key : K) (by : ℕ) : Type 0 where
     pub sound : HasNoZero new
-    pub counts : (other : K) → number_of new other ≡ number_of old other + (if eq_by_cmp order key other then 1 else 0)
+    pub counts : (other : K) → number_of new other ≡ number_of old other + (if eq_by_cmp order key other then by else 0)
+
+  abbrev pub CountsOneMore : BTreeMap K ℕ → BTreeMap K ℕ → K → Type 0
+  CountsOneMore old new key = CountsMore old new key 1

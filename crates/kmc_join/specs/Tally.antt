@@ -1,5 +1,5 @@
 -- The walk over one dump that tallies its counts.
-use Rattle.std.specs.Prelude.{◌≡◌, ℕ, List, Option, Result, IfErr, OnOk}
+use Rattle.std.specs.Prelude.{◌≡◌, ℕ, ◌+◌, ◌==◌, List, Option, Result, IfErr, OnOk, if◌then◌else◌, slice_index}
 use Rattle.std.specs.BTreeMap.{BTreeMap}
 use Rattle.kmc_device.specs.Device.{Watched, RisesByOne}
 use Rattle.kmc_sum.specs.Listed.{IsLength}
@@ -11,13 +11,22 @@ use Rattle.kmc_sum.specs.declared.heads.Head.{Head}
 use Rattle.kmc_sum.specs.declared.source.Room.{Room}
 use Rattle.std.specs.Ordering.{nat_cmp}
 use Rattle.kmc_join.specs.Histogram.{GaveDump, IsHistogramBegun, IsHistogramWritten, number_with}
-use Rattle.kmc_join.specs.Rows.{number_of}
+use Rattle.kmc_join.specs.Rows.{HasNoZero, number_of}
+
+-- how often a count was seen: by its place in a list, where this is so long, and in a map
+abbrev pub seen : List ℕ → BTreeMap ℕ ℕ → ℕ → ℕ
+seen small great n = slice_index small n + number_of nat_cmp great n
+
+-- a count was seen once more
+pub record SeesOneMore (small small' : List ℕ) (great great' : BTreeMap ℕ ℕ) (n : ℕ) : Type 0 where
+  pub sound : HasNoZero nat_cmp great'
+  pub counts : (other : ℕ) → seen small' great' other ≡ seen small great other + (if n == other then 1 else 0)
 
 -- so far a list was taken from the source, and its counts are tallied
-pub record IsTallied (k : ℕ) (starts nows : List (Option (List ℕ))) (rooms : List Room) (heads : List Head) (tally : BTreeMap ℕ ℕ) : Type 0 where
+pub record IsTallied (k : ℕ) (starts nows : List (Option (List ℕ))) (rooms : List Room) (heads : List Head) (number : ℕ → ℕ) : Type 0 where
   pub lists : List (List (List ℕ × ℕ))
   pub sources : AreSources k starts nows rooms heads lists
-  pub counts : (n : ℕ) → number_of nat_cmp tally n ≡ number_with (list_at lists 0) n
+  pub counts : (n : ℕ) → number n ≡ number_with (list_at lists 0) n
 
 -- the source gave a dump, and its counts are tallied
 pub record IsWholeTally (start now : Option (List ℕ)) (tally : BTreeMap ℕ ℕ) : Type 0 where

@@ -39,7 +39,7 @@ fn histogram_in<R: Read, W: Write>(
 }
 
 /// Reads the dump of one source, a block at a time, and writes a line for each count that a word of it has, the counts rising: the count, a
-/// tab, how many words have it. It takes 64 KiB for the source and some tens of bytes a count. Where it is given up, a front of the
+/// tab, how many words have it. It takes 72 KiB and some tens of bytes a count. Where it is given up, a front of the
 /// histogram is out if a write failed, and else nothing.
 pub fn histogram<R: Read, W: Write>(
     alloc: Global,

@@ -7,7 +7,7 @@ ghost use Rattle.kmc_sum.specs.Sources.{AreReady, AreSources, failures_of, left_
 ghost use Rattle.kmc_join.specs.Rows.{HasNoZero};
 ghost use Rattle.kmc_join.specs.Tally.{IsTallyCause, IsWholeTally};
 
-use crate::tally::{Tally, count_key};
+use crate::tally::{Tally, none_small, put_small, see_count};
 use kmc_device::Counted;
 use kmc_sum::{Head, Room, SumError, advance};
 use std::alloc::Global;
@@ -36,12 +36,16 @@ pub(crate) fn tallied<R: Read>(
         → IsTallyCause starts (lefts_of R.remaining readers.new) (failures_of readers.old)
         (failures_of readers.new) e) }
 {
+    let mut small = match none_small(alloc) {
+        Ok(small) => small,
+        Err(_) => return Err(SumError::Memory),
+    };
     let mut tally = BTreeMap::new(alloc);
     for _step in 0..u64::MAX - 1 {
         if !heads[1].live {
             break;
         }
-        match count_key(&mut tally, heads[1].count) {
+        match see_count(&mut small, &mut tally, heads[1].count) {
             Ok(()) => {}
             Err(_) => return Err(SumError::Memory),
         }
@@ -50,5 +54,8 @@ pub(crate) fn tallied<R: Read>(
     if heads[1].live {
         return Err(SumError::TooLong);
     }
-    Ok(tally)
+    match put_small(small.as_slice(), &mut tally) {
+        Ok(()) => Ok(tally),
+        Err(_) => Err(SumError::Memory),
+    }
 }

@@ -1,4 +1,4 @@
-use Rattle.std.proofs.Common.{◌≡◌, ◌≤◌, ◌^◌, ◌-◌, length, map, subst, ◌∙◌, arith, refl, true}
+use Rattle.std.proofs.Common.{◌≡◌, ℕ, List, ◌≤◌, ◌^◌, ◌-◌, length, map, subst, ◌∙◌, arith, refl, true}
 use Rattle.std.proofs.lemmas.List.{length-map}
 use Rattle.kmc_device.specs.Device.{Watched}
 use Rattle.kmc_sum.specs.Heads.{head_at}
@@ -8,23 +8,27 @@ use Rattle.kmc_sum.specs.Lemmas.Causes.{fault_since, handed_on}
 use Rattle.kmc_sum.specs.Lemmas.Counted.{taken_more, too_many}
 use Rattle.kmc_sum.specs.Lemmas.Taken.{gave_all, room_of}
 use Rattle.std.specs.Ordering.{nat_cmp}
-use Rattle.kmc_join.proofs.Numbering.{few_more, no_tally, none_seen}
-use Rattle.kmc_join.proofs.Tallies.{tally_next, tally_start, whole_tally}
+use Rattle.kmc_join.specs.Rows.{number_of}
+use Rattle.kmc_join.specs.Tally.{seen}
+use Rattle.kmc_join.proofs.Numbering.{no_tally, none_seen}
+use Rattle.kmc_join.proofs.Tallies.{seen_more, tally_next, tally_start, whole_tally}
 use Rattle.kmc_join.proofs.tallying.tallied.Goals as goal
 use Rattle.kmc_join.proofs.tallying.tallied.Goals.{else-loop-step-test, then-loop-step-test+then-not-heads}
 
 pub loop-step-init : goal.loop-step-init
 loop-step-init g c =
     let left = λ (r : Watched g.row.R.Denot). g.R.Read.remaining r.inner in
+    let none : (n : ℕ) → seen c.in-Ok.small.items c.new-tally.result n ≡ 0 =
+    λ n. omega (arith, c.in-Ok.ensures n, none_seen nat_cmp c.new-tally.result c.new-tally.ensures.empty n) in
     record {
       many = refl;
       same = refl;
       ready = c.requires.ready;
       tree = c.requires.tree;
       sound = no_tally nat_cmp c.new-tally.result c.new-tally.ensures.empty;
-      few = λ n. omega (arith, none_seen nat_cmp c.new-tally.result c.new-tally.ensures.empty n);
-      so = λ starts are. tally_start c.args.k starts _ _ _ c.new-tally.result
-          (omega (arith, length-map c.args.readers.now left, are.nows_long, c.requires.one)) c.new-tally.ensures.empty are;
+      few = λ n. omega (arith, none n);
+      so = λ starts are. tally_start c.args.k starts _ _ _ (seen c.in-Ok.small.items c.new-tally.result)
+          (omega (arith, length-map c.args.readers.now left, are.nows_long, c.requires.one)) none are;
       taken = λ starts are. record { lists = no_lists starts; sources = are; many = omega arith };
     }
 
@@ -46,17 +50,18 @@ loop-step-preserved g c =
     let inside = first_inside k n c.loop-step.rooms c.loop-step.heads i.ready i.tree some in
     let first : top.source ≡ 0 = omega (arith, inside, i.many, c.requires.one) in
     let live : top.live ≡ true = c.if-not-heads.false in
+    let more = c.in-Ok-see_count.ensures in
     record {
       many = c.advance.auto.readers ∙ i.many;
       same = c.in_ok-advance.ensures.kept ∙ i.same;
       ready = c.in_ok-advance.ensures.ready;
       tree = c.in_ok-advance.ensures.tree;
-      sound = c.in-Ok.ensures.sound;
-      few = few_more nat_cmp c.loop-step.tally c.count_key.new.tally top.count c.loop-step._step c.in-Ok.ensures i.few;
+      sound = more.sound;
+      few = seen_more c.loop-step.small.items _ c.loop-step.tally _ top.count c.loop-step._step more i.few;
       so = λ starts are.
           let so = i.so starts are in
-          tally_next k starts _ _ _ _ c.loop-step.heads _ c.loop-step.tally c.count_key.new.tally so live first
-          (omega (arith, inside, length-map c.loop-step.readers left, so.sources.nows_long, so.sources.lists_long)) c.in-Ok.ensures
+          tally_next k starts _ _ _ _ c.loop-step.heads _ _ _ so live first
+          (omega (arith, inside, length-map c.loop-step.readers left, so.sources.nows_long, so.sources.lists_long)) more.counts
           (c.in_ok-advance.ensures.sources starts so.lists so.sources);
       taken = λ starts are.
           let taken = i.taken starts are in
@@ -80,8 +85,8 @@ returns-then-heads-offset48-clause-cause g c = λ starts are.
       too_many c.args.k starts _ c.loop-step.rooms c.loop-step.heads c.loop-step._step (i.ready.rooms_long ∙ long) most taken,
     )
 
-pub returns-clause-whole : goal.returns-clause-whole
-returns-clause-whole g c = λ starts are.
+pub returns-in-Ok-put_small-clause-whole : goal.returns-in-Ok-put_small-clause-whole
+returns-in-Ok-put_small-clause-whole g c = λ starts are.
     let i = c.loop-step.invariant in
     let k = c.args.k in
     let so = i.so starts are in
@@ -90,7 +95,9 @@ returns-clause-whole g c = λ starts are.
     let long : length c.loop-step.readers ≡ length starts = omega (arith, length-map c.loop-step.readers left, so.sources.nows_long) in
     let one : length starts ≡ 1 = omega (arith, long, i.many, c.requires.one) in
     let some : 1 ≤ length starts = omega (arith, one) in
-    whole_tally k starts nows c.loop-step.rooms c.loop-step.heads c.loop-step.tally c.requires.long one so
+    let same = subst (λ (s : List ℕ). (n : ℕ) → number_of nat_cmp c.put_small.new.tally n ≡ seen s c.loop-step.tally n) c.as_slice.ensures.value
+    c.in-Ok-put_small.ensures.counts in
+    whole_tally k starts nows c.loop-step.rooms c.loop-step.heads _ _ c.requires.long one same so
     (gave_all k starts nows c.loop-step.rooms c.loop-step.heads so.lists so.sources
     (subst (λ m. AreReady k m c.loop-step.rooms c.loop-step.heads) long i.ready) i.tree some c.requires.long.1 c.if-heads-offset48.false
     (room_of c.loop-step.rooms (omega (arith, i.ready.rooms_long, i.many, c.requires.one))))
