@@ -6,8 +6,9 @@ usage: options.py [--list]
 
 The options, the flags and the usage line of a program are those of its tables in program.rt; the names stand in named.rt, and the ranges
 and defaults in setting.rt. A usage line and a synopsis name each of them and no other, a help text and a page have an entry for each, and an
-entry tells the range and the default. --help and --version are of kmc_cut, kmc_list and kmc_merge, -slices and --force of kmc_cut, and
--oc, -b, -lci, -lcx, -rci and -rcx of kmc_db: they have no table. What `kmc_db pack` takes is that of its own usage line, in crates/kmc_db.
+entry tells the range and the default. --help and --version are of all programs but kmc, -slices and --force of kmc_cut, and -oc, -b, -lci,
+-lcx, -rci and -rcx of kmc_db: they have no table. The help of kmc_db has the usage lines of what crates/kmc_db does, too, and what
+`kmc_db pack` takes is that of its own.
 With --list the tables are printed.
 """
 import glob
@@ -24,8 +25,8 @@ CRATES = os.path.join(TOP, "crates")
 NAMES = {"Kmc": "kmc", "KmcMerge": "kmc_merge", "KmcCut": "kmc_cut", "KmcList": "kmc_list", "KmcDb": "kmc_db"}
 TEXTS = {"-help", "-version"}
 OWN = {"kmc": set(), "kmc_merge": TEXTS, "kmc_cut": {"slices", "-force"} | TEXTS, "kmc_list": TEXTS,
-       "kmc_db": {"oc", "b", "lci", "lcx", "rci", "rcx"}}
-# what the page of kmc_db tells, and its usage line leaves out
+       "kmc_db": {"oc", "b", "lci", "lcx", "rci", "rcx"} | TEXTS}
+# what the page and the help of kmc_db tell, and its usage line leaves out
 LEFT_OUT = {"lci", "lcx", "rci", "rcx"}
 # a default that no page tells, since the program chooses where the option does not stand
 CHOSEN = {"p"}
@@ -130,6 +131,15 @@ def help_of(name):
     return None, None
 
 
+def more_usages():
+    """What crates/kmc_db does itself, by its usage lines behind the program's name."""
+    found = set()
+    for path in glob.glob(os.path.join(CRATES, "kmc_db", "src", "*.rt")):
+        with open(path, encoding="utf-8") as file:
+            found |= set(re.findall(r'const USAGE: &str =\s*"usage: kmc_db ([^"]*)"', file.read()))
+    return found
+
+
 def page_of(name):
     """The options of a page's synopsis, and its entries by name."""
     with open(os.path.join(TOP, "docs", name + ".1"), encoding="utf-8") as file:
@@ -195,9 +205,10 @@ def main():
         same(f"the usage line of {name}", set(re.findall(r"(?<!\w)-(-?[a-z]+)", usage)), names | (OWN[name] - TEXTS - LEFT_OUT))
         shown, entries = help_of(name)
         if shown is not None:
-            if shown != [usage]:
-                faults.append(f"the help of {name} has another usage line")
-            same(f"the help of {name}", set(entries), names | (OWN[name] - TEXTS))
+            more = more_usages() if name == "kmc_db" else set()
+            if set(shown) != set(usage.split(f", or {name} ")) | more:
+                faults.append(f"the help of {name} has other usage lines")
+            same(f"the help of {name}", set(entries), names | (OWN[name] - TEXTS) | (packing_options() if more else set()))
             ranges(f"the help of {name}", entries, options, False)
         synopsis, items = page_of(name)
         same(f"the synopsis of docs/{name}.1", synopsis, names | OWN[name])

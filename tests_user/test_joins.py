@@ -144,7 +144,7 @@ def test_a_join_refuses_wrong_words(room):
                   ["union", "-ocmin", "-ocmax", "a", "a"], ["subtract", "-ocmin", "a", "a"], ["union", "-k31", "a", "a"], ["histogram"],
                   ["union", "-lci1", "-lci1", "a", "a"], ["union", "-rcx", "a", "a"], ["union", "-lcx18446744073709551616", "a", "a"],
                   ["table", "-lci1", "a", "a"],
-                  ["histogram", "-ci1", "a"], ["histogram", "a", "a"], ["--help"]):
+                  ["histogram", "-ci1", "a"], ["histogram", "a", "a"]):
         assert ended(room, "kmc_db", *words) == (2, b"", USAGE), words
     assert ended(room, "kmc_db", "union", "-cs0", "a", "a") == (2, b"", b"kmc_db: value of -cs is out of range\n")
 

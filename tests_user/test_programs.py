@@ -67,7 +67,8 @@ def test_a_full_device_is_a_failed_write(room):
 def test_help_and_the_version_are_shown(room):
     room.write("a.dump", "AC\t2\n")
     version = content(os.path.join(TOP, "VERSION")).strip() + b"\n"
-    for name, *words in (("kmc_cut", "-slices2", "part"), ("kmc_list", "a.dump"), ("kmc_merge", "a.dump"), ("kmc_merge", "-cs0"), ("kmc_merge",)):
+    for name, *words in (("kmc_cut", "-slices2", "part"), ("kmc_list", "a.dump"), ("kmc_merge", "a.dump"), ("kmc_merge", "-cs0"), ("kmc_db", "union", "a.dump", "a.dump"),
+                         ("kmc_db", "pack", "a"), ("kmc_db", "dump", "a"), ("kmc_db",)):
         for place in {0, len(words)}:
             status, out, told = ended(room, name, *words[:place], "--help", *words[place:])
             assert (status, told) == (0, b"") and out.startswith(name.encode() + b": ") and b"\nusage: " + name.encode() + b" " in out, (name, words, told)

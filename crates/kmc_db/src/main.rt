@@ -1,6 +1,6 @@
 //! The program `kmc_db`: two dumps, joined or told of, on standard output; or a dump on standard input as a database in two files, or
-//! such a database as a dump. On a fault it writes one line to standard error and ends with the fault's status. The first is `kmc_join`'s,
-//! the others are `kmc_database`'s.
+//! such a database as a dump; or help. On a fault it writes one line to standard error and ends with the fault's status. The first and
+//! the last are `kmc_join`'s, the others are `kmc_database`'s.
 #![tactic(auto)]
 
 mod dumping;
@@ -10,13 +10,17 @@ mod request;
 use crate::dumping::{asks_to_dump, dump_files};
 use crate::packing::{asks_to_pack, pack_input};
 use kmc_device::Counted;
-use kmc_join::program;
-use kmc_options::arguments;
+use kmc_join::{program, program_words};
+use kmc_options::{arguments, asks_for_text};
 use std::io;
 use std::process::ExitCode;
 
 fn main(rt: HostRuntime) -> ExitCode {
     if let Ok(Some(words)) = arguments(&rt) {
+        if asks_for_text(&words) {
+            let mut writer = Counted::new(io::writer(&rt));
+            return program_words(&rt, words, rt.reader(), &mut writer);
+        }
         if asks_to_pack(&words) {
             let mut reader = Counted::new(rt.stdin());
             return pack_input(&rt, &words[1..], &mut reader);

@@ -1,6 +1,7 @@
-//! The program: from its arguments to the dump of the join, or the histogram, and the exit status.
-ghost use Rattle.std.specs.Prelude.{◌≡◌, ◌≢◌, ℕ, ◌-◌, ◌^◌, ◌<◌, ◌≤◌, ◌⊎◌, List, length, map, Some, string_bytes, true};
+//! The program: from its arguments to the dump of the join, the histogram or help, and the exit status.
+ghost use Rattle.std.specs.Prelude.{◌≡◌, ◌≢◌, ℕ, ◌-◌, ◌^◌, ◌<◌, ◌≤◌, ◌⊎◌, List, length, map, Some, string_bytes, true, false};
 ghost use Rattle.std.specs.Process.{exit_status};
+ghost use Rattle.kmc_options.specs.About.{is_asked, text_asked, Shows, ShowsFront};
 ghost use Rattle.kmc_options.specs.Words.{Word};
 ghost use Rattle.kmc_sum.specs.Answer.{IsCause};
 ghost use Rattle.kmc_sum.specs.Sources.{failures_of, left_at, lefts_of};
@@ -15,8 +16,10 @@ ghost use Rattle.kmc_join.specs.TableWords.{table_cap};
 ghost use Rattle.kmc_join.specs.Tabulation.{IsTableCause};
 ghost use Rattle.kmc_join.specs.Tally.{IsHistogramCause};
 ghost use Rattle.kmc_join.specs.Words.{asks_for_histogram};
+ghost use Rattle.kmc_join.specs.declared.help.TheConstants.{HELP};
 
 use crate::fault::{JoinFault, Message, unnamed};
+use crate::help::HELP;
 use crate::histograms::histogram;
 use crate::joining::join;
 use crate::opening::{full_names, opened};
@@ -29,7 +32,7 @@ use crate::tables::table;
 use crate::words::asks_for_histogram;
 use kmc_count::Limits;
 use kmc_device::Counted;
-use kmc_options::{arguments, ended};
+use kmc_options::{arguments, asked_text, ended, shown};
 use std::alloc::Global;
 use std::io::{Read, Write};
 use std::process::ExitCode;
@@ -291,24 +294,57 @@ pub fn run_words<T: Files + Eprint + Alloc<A = Global>, I: Read + Drop, W: Write
     }
 }
 
-/// The whole program: [`run_words`] of the words that the process was given.
+/// Does what the words ask for: shows help or the version on the writer, and opens no file and reads nothing of the input then, or what
+/// [`run_words`] does. The exit status of a text is 0 where it was written, and else 1, with no line of a fault; else it is that of
+/// [`run_words`].
+pub fn program_words<T: Files + Eprint + Alloc<A = Global>, I: Read + Drop, W: Write>(
+    rt: &T,
+    words: Vec<String>,
+    input: I,
+    writer: &mut Counted<W>,
+) -> ExitCode
+    requires { writer.old.failures < 2 ^ 64 - 1 }
+    ensures done { exit_status result ≡ 0 → is_asked (map string_bytes words.items) ≡ false
+        → IsDone (full_names (map string_bytes words.items)) (W.contents writer.old.inner)
+        (W.contents writer.new.inner)
+        × (writer.new.failures ≡ writer.old.failures) }
+    ensures misused { exit_status result ≡ 2 → (is_asked (map string_bytes words.items) ≡ false)
+        × ((e : JoinRequestError) × AskForNothing (full_names (map string_bytes words.items)) e)
+        × (writer.new ≡ writer.old) }
+    ensures failed { exit_status result ≡ 1 → is_asked (map string_bytes words.items) ≡ false
+        → (writer.new ≡ writer.old)
+        ⊎ IsLeft (full_names (map string_bytes words.items)) W.contents writer.old writer.new }
+    ensures shown { exit_status result ≡ 0 → is_asked (map string_bytes words.items) ≡ true
+        → Shows W.contents (text_asked HELP.now (map string_bytes words.items)) writer.old writer.new }
+    ensures unshown { exit_status result ≡ 1 → is_asked (map string_bytes words.items) ≡ true
+        → ShowsFront W.contents (text_asked HELP.now (map string_bytes words.items)) writer.old writer.new }
+    ensures statuses { exit_status result ≤ 2 }
+{
+    match asked_text(&words, HELP) {
+        Some(text) => shown(text, writer),
+        None => run_words(rt, words, input, writer),
+    }
+}
+
+/// The whole program: [`program_words`] of the words that the process was given.
 pub fn program<T: Files + Env + Eprint + Alloc<A = Global>, I: Read + Drop, W: Write>(
     rt: &T,
     input: I,
     writer: &mut Counted<W>,
 ) -> ExitCode
     requires { writer.old.failures < 2 ^ 64 - 1 }
-    ensures done { exit_status result ≡ 0 → (words : List Word)
-        × IsDone words (W.contents writer.old.inner) (W.contents writer.new.inner)
-        × (writer.new.failures ≡ writer.old.failures) }
+    ensures done { exit_status result ≡ 0 → (words : List Word) × (is_asked words ≡ false
+        → IsDone (full_names words) (W.contents writer.old.inner) (W.contents writer.new.inner)
+        × (writer.new.failures ≡ writer.old.failures))
+        × (is_asked words ≡ true → Shows W.contents (text_asked HELP.now words) writer.old writer.new) }
     ensures misused { exit_status result ≡ 2 → writer.new ≡ writer.old }
-    ensures failed { exit_status result ≡ 1 → (writer.new ≡ writer.old)
-        ⊎ ((words : List Word)
-        × IsLeft words W.contents writer.old writer.new) }
+    ensures failed { exit_status result ≡ 1 → (writer.new ≡ writer.old) ⊎ ((words : List Word)
+        × (is_asked words ≡ false → (writer.new ≡ writer.old) ⊎ IsLeft (full_names words) W.contents writer.old writer.new)
+        × (is_asked words ≡ true → ShowsFront W.contents (text_asked HELP.now words) writer.old writer.new)) }
     ensures statuses { exit_status result ≤ 2 }
 {
     match arguments(rt) {
-        Ok(Some(words)) => run_words(rt, words, input, writer),
+        Ok(Some(words)) => program_words(rt, words, input, writer),
         Ok(None) => ended(
             rt,
             unnamed(JoinFault::Request(JoinRequestError::Usage)),

@@ -50,7 +50,7 @@ fn next_word<Q: Read>(
 }
 
 /// How long the words are; 0 where there is none.
-pub(crate) fn length_of(words: &[Kmer]) -> usize
+pub fn length_of(words: &[Kmer]) -> usize
     ensures is { result ≡ length_of words.now }
     ensures most { result ≤ MAX_K }
 {
@@ -60,11 +60,9 @@ pub(crate) fn length_of(words: &[Kmer]) -> usize
     }
 }
 
-/// The words of the reader, in their order, all of one length.
-pub(crate) fn asked_words<Q: Read>(
-    alloc: Global,
-    reader: &mut Counted<Q>,
-) -> Result<Vec<Kmer>, QueryError>
+/// The words that a reader gives to its end, a line each of 1 to 64 upper-case letters, in their order, all of one length. They are held in
+/// memory, some 32 bytes each.
+pub fn asked_words<Q: Read>(alloc: Global, reader: &mut Counted<Q>) -> Result<Vec<Kmer>, QueryError>
     ensures gave { IfOk result (λ words. GaveAll (Q.remaining reader.old.inner)
         (Q.remaining reader.new.inner) (words_text words.items)) }
     ensures each { IfOk result (λ words. AreAsked (length_of words.items) words.items) }

@@ -6,6 +6,7 @@
 mod arguments;
 mod asking;
 mod fault;
+mod help;
 mod histograms;
 mod joining;
 mod key_counts;
@@ -32,8 +33,9 @@ mod word_lines;
 mod words;
 
 pub use arguments::{
-    histogram_reader, join_files, join_readers, program, run_words, table_readers,
+    histogram_reader, join_files, join_readers, program, program_words, run_words, table_readers,
 };
+pub use asking::{asked_words, length_of};
 pub use fault::{JoinFault, Message};
 pub use histograms::histogram;
 pub use joining::join;

@@ -1,5 +1,5 @@
 //! Tests of joins, of histograms, of tables and of queries, by public calls alone: each operation on two worked dumps, limits of
-//! the result and of each dump, dumps at fault, devices
+//! the result and of each dump, dumps at fault, lines of each length, devices
 //! that fail, and the command line. Nothing stands on this crate.
 #![tactic(auto)]
 
@@ -7,6 +7,8 @@
 mod devices;
 #[cfg(test)]
 mod histograms;
+#[cfg(test)]
+mod lines;
 #[cfg(test)]
 mod operations;
 #[cfg(test)]
