@@ -1,7 +1,8 @@
 #!/bin/sh
 # Compares kmc_db with `kmc_tools simple` of KMC 3: union, intersection, and both differences of two sets of reads that share half of their genome.
 # The answers must be equal. The table of the two stands beside them, which KMC 3 has not: its numbers must add up to the k-mers of the union.
-# Prints a Markdown table.
+# Then what a database and a histogram of reads take beside the dump that they are made of, and a thousand words looked up.
+# Prints two Markdown tables.
 #
 # usage: bench/joins.sh
 #
@@ -25,8 +26,8 @@ python3 "$top/bench/simulate_reads.py" "$reads" 100 5000000 1 > first.fq
 for side in first second; do
     kmc "-k$k" -fq -ci1 -cs1000000 -t4 "$side.fq" "$side" files > log 2>&1
     "$top/kmc" "-k$k" -ci1 -cs1000000 -sp4 -sr4 < "$side.fq" > "$side.dump"
-    rm "$side.fq"
 done
+rm second.fq
 
 # best NAME: the line of the least wall time, memory in MB
 best() {
@@ -67,3 +68,28 @@ done
 [ "$(awk '{ all += $3 } END { print all + 0 }' rows)" = "$either" ]
 echo "table | $read_in | $(wc -l < rows) | $(best ours)" |
     awk -F ' [|] ' '{ printf "| %s | %.1f | %d rows | %s | %s | %s | - | - | - | - |\n", $1, $2 / 1e6, $3, $4, $5, $6 }'
+
+# alone or with what reads the dump through a pipe
+count="$top/kmc -k$k -ci1 -cs1000000 -sp4 -sr4 < first.fq"
+awk -v step="$(($(wc -l < first.dump) / 1000))" 'NR % step == 1 && n++ < 1000 { print $1 }' first.dump > words
+rm -f ./*.times
+round=0
+while [ "$round" -lt "$rounds" ]; do
+    /usr/bin/time -a -o alone.times -f '%e %U %M' sh -c "$count > alone.dump"
+    /usr/bin/time -a -o pack.times -f '%e %U %M' sh -c "$count | $top/kmc_db pack -k$k -ci1 -cs1000000 --force packed"
+    /usr/bin/time -a -o histogram.times -f '%e %U %M' sh -c "$count | $top/kmc_db histogram - > rows"
+    /usr/bin/time -a -o query.times -f '%e %U %M' sh -c "$top/kmc_db query first.dump < words > counts"
+    round=$((round + 1))
+done
+[ "$(wc -l < counts)" = 1000 ]
+echo
+echo "| $(wc -l < first.dump | awk '{ printf "%.1f", $1 / 1e6 }') million k-mers | wall s | user s | MB | wall, of that of the dump alone |"
+echo "|---|---|---|---|---|"
+while read -r name what; do
+    echo "$what | $(best "$name") | $(best alone)" | awk -F ' [|] ' '{ printf "| %s | %s | %s | %s | %.2f |\n", $1, $2, $3, $4, $2 / $5 }'
+done <<END
+alone a dump of reads
+pack a database of reads
+histogram the histogram of reads
+query a thousand words in the dump
+END
