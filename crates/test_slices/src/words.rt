@@ -76,7 +76,15 @@ fn options_of_the_cut_are_kept(rt: HostRuntime) {
     let request = cut_of(&rt, line).expect(&rt, line);
     let params = &request.params;
     assert!(rt; matches!(params.format, Format::Fasta));
-    assert_eq!(rt; [params.k, params.asked_signature_length, params.bins, params.splitters], [31, 7, 64, 4]);
+    assert_eq!(rt;
+        [
+            params.k,
+            params.asked_signature_length,
+            params.bins,
+            params.splitters
+        ],
+        [31, 7, 64, 4]
+    );
     assert_eq!(rt; (request.slices, request.prefix.as_str()), (64, "a/b.c"));
 }
 

@@ -106,8 +106,8 @@ fn the_order_of_words_stays(rt: HostRuntime) {
 fn numbers_of(given: &Params) -> [u64; 11] {
     [
         given.k as u64,
-        given.p as u64,
-        given.n as u64,
+        given.asked_signature_length as u64,
+        given.bins as u64,
         given.limits.ci,
         given.limits.cx,
         given.limits.cs,

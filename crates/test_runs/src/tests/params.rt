@@ -10,7 +10,13 @@ fn sized(k: usize, p: usize, n: usize, sp: usize, sr: usize) -> Option<Params> {
 
 /// The numbers of k, p, n, sp and sr.
 fn sizes_of(params: &Params) -> [usize; 5] {
-    [params.k, params.asked_signature_length, params.bins, params.splitters, params.counters]
+    [
+        params.k,
+        params.asked_signature_length,
+        params.bins,
+        params.splitters,
+        params.counters,
+    ]
 }
 
 /// The numbers of readers, of parts a writer and of reads a splitter.
