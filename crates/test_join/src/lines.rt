@@ -32,6 +32,19 @@ fn two_lines(alloc: Global, long: usize) -> Result<Vec<u8>, AllocError> {
     Ok(text)
 }
 
+/// Two lines of so many letters, with another byte at a place.
+fn spoilt_lines(
+    rt: &(impl Abort + Alloc<A = Global>),
+    long: usize,
+    place: usize,
+    byte: u8,
+) -> Result<Vec<u8>, Fail> {
+    let mut text = two_lines(rt.alloc(), long)?;
+    assert!(rt; place < text.len());
+    text[place] = byte;
+    Ok(text)
+}
+
 /// What the merge of one text answers and writes.
 fn merged(
     rt: &(impl Abort + Alloc<A = Global>),
@@ -76,12 +89,10 @@ fn a_wrong_byte_is_found_at_each_place_of_each_length(rt: HostRuntime) -> Result
     for long in 1..65 {
         for place in 0..long {
             let wrong = bytes[(long + place) % 8];
-            let mut text = two_lines(rt.alloc(), long)?;
-            text[place] = wrong;
+            let text = spoilt_lines(&rt, long, place, wrong)?;
             let (answer, _) = merged(&rt, text.as_slice())?;
             assert_eq!(rt; answer, Err(at(0, SourceFault::Line(1, malformed))));
-            let mut text = two_lines(rt.alloc(), long)?;
-            text[long + 3 + place] = wrong;
+            let text = spoilt_lines(&rt, long, long + 3 + place, wrong)?;
             let (answer, _) = merged(&rt, text.as_slice())?;
             assert_eq!(rt; answer, Err(at(0, SourceFault::Line(2, malformed))));
         }
