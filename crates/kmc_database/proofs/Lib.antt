@@ -1,11 +1,15 @@
 mod Beginnings
 mod Bytes
 mod Checks
+mod Cuts
+mod Entries
 mod Exits
 mod Gathering
 mod Given
 mod HeaderParts
+mod InDatabase
 mod LastHeader
+mod Parts
 mod Ranges
 mod ReadBack
 mod RowBytes

@@ -119,21 +119,33 @@ module _ (l : Layout) (is : IsLayout l) where
         is.counter,
       )
 
+  -- a row of a first part tells its word and its count
+  pub row_same : (p q : List ℕ × ℕ) → IsWord l.k p.0 → IsWord l.k q.0 → first_part l p.0 ≡ first_part l q.0 → p.1 < 256 ^ l.counter
+      → q.1 < 256 ^ l.counter → row_of l p ≡ row_of l q → (p.0 ≡ q.0) × (p.1 ≡ q.1)
+  row_same p q hp hq front fp fq e =
+      let size : length (packed_codes (drop l.prefix p.0)) ≡ length (packed_codes (drop l.prefix q.0)) =
+      omega (arith, length_packed (drop l.prefix p.0), length_packed (drop l.prefix q.0), behind_same p.0 q.0 hp hq) in
+      let halves = cut_same (packed_codes (drop l.prefix p.0)) (low_first l.counter p.1) (packed_codes (drop l.prefix q.0)) (low_first l.counter q.1)
+      size e in
+      let rest = packed_same (drop l.prefix p.0) (drop l.prefix q.0) (codes_behind l.prefix p.0 hp.1) (codes_behind l.prefix q.0 hq.1)
+      (behind_same p.0 q.0 hp hq) halves.0 in
+      (word_same p.0 q.0 hp hq front rest, low_same l.counter p.1 q.1 fp fq halves.1)
+
   -- ---- the entries
 
-  abbrev one : ℕ → List ℕ × ℕ → ℕ
+  abbrev pub one : ℕ → List ℕ × ℕ → ℕ
   one i p = cond (nat_lt (first_part l p.0) i) 1 0
 
-  abbrev AreWordsFrom : ℕ → List (List ℕ × ℕ) → Type 0
+  abbrev pub AreWordsFrom : ℕ → List (List ℕ × ℕ) → Type 0
   AreWordsFrom n pairs = AllByRecursion (λ p. n ≤ first_part l p.0) pairs
 
-  none_below : (n : ℕ) (pairs : List (List ℕ × ℕ)) → AreWordsFrom n pairs → number_below l pairs n ≡ 0
+  pub none_below : (n : ℕ) (pairs : List (List ℕ × ℕ)) → AreWordsFrom n pairs → number_below l pairs n ≡ 0
   none_below n [] h = refl
   none_below n (p ∷ pairs) h =
       let own : one n p ≡ 0 = ap (λ b. cond b 1 0) (le-ltb (first_part l p.0) n h.0) in
       sum_by-cons (one n) p pairs ∙ omega (arith, own, none_below n pairs h.1)
 
-  all_above : (p : List ℕ × ℕ) (pairs : List (List ℕ × ℕ)) (n : ℕ) → n ≤ first_part l p.0 → IsWord l.k p.0 → AllByRecursion (IsPair l.k) pairs
+  pub all_above : (p : List ℕ × ℕ) (pairs : List (List ℕ × ℕ)) (n : ℕ) → n ≤ first_part l p.0 → IsWord l.k p.0 → AllByRecursion (IsPair l.k) pairs
       → AllByRecursion (λ w. kmer_cmp p.0 w ≡ Less) (words_of pairs) → AreWordsFrom n pairs
   all_above p [] n low word each up = tt
   all_above p (q ∷ pairs) n low word each up =
@@ -216,11 +228,11 @@ module _ (l : Layout) (is : IsLayout l) where
 -- ---- the header
 
 -- two texts with ends of one length
-cut_end : (xs ys us vs : List ℕ) → length ys ≡ length vs → xs ++ ys ≡ us ++ vs → (xs ≡ us) × (ys ≡ vs)
+pub cut_end : (xs ys us vs : List ℕ) → length ys ≡ length vs → xs ++ ys ≡ us ++ vs → (xs ≡ us) × (ys ≡ vs)
 cut_end xs ys us vs long e =
     cut_same xs ys us vs (omega (arith, long, ap length e, length-append xs ys, length-append us vs)) e
 
-length_header : (l : Layout) (rows : ℕ) (limits strands : List ℕ) → length limits ≡ 8 → length strands ≡ 28
+pub length_header : (l : Layout) (rows : ℕ) (limits strands : List ℕ) → length limits ≡ 8 → length strands ≡ 28
     → length (header_of l rows limits strands) ≡ 72
 length_header l rows limits strands limits_long strands_long = simp length-append (omega (arith, limits_long, strands_long))
 

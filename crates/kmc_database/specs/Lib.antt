@@ -9,8 +9,10 @@ pub mod Given
 pub mod Header
 pub mod Laws
 pub mod Layout
+pub mod LookedUp
 pub mod Messages
 pub mod Numbers
+pub mod Part
 pub mod RefusalNumbers
 pub mod Rows
 pub mod TakenRow

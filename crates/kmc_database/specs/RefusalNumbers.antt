@@ -2,6 +2,8 @@
 use Rattle.std.specs.Prelude.{ℕ}
 use Rattle.kmc_database.specs.declared.error.PackError.{PackError}
 use Rattle.kmc_database.specs.declared.error.PackError.TheVariants.{Source, Empty, Prefix, TooGreat, WritePrefix, WriteSuffix, Memory, TooLong}
+use Rattle.kmc_database.specs.declared.look_up_error.LookUpError.{LookUpError}
+use Rattle.kmc_database.specs.declared.look_up_error.LookUpError.TheVariants as look_up
 use Rattle.kmc_database.specs.declared.reading.FormFault.{FormFault}
 use Rattle.kmc_database.specs.declared.reading.FormFault.TheVariants.{Marker, Newer, Version, Size, Mode, NoLayout}
 use Rattle.kmc_database.specs.declared.unpack_error.UnpackError.{UnpackError}
@@ -40,3 +42,9 @@ number_of_unpack_error unpack.ReadPrefix = 11
 number_of_unpack_error unpack.ReadSuffix = 12
 number_of_unpack_error unpack.Write = 13
 number_of_unpack_error unpack.Memory = 14
+
+abbrev pub number_of_look_up_error : LookUpError → ℕ
+number_of_look_up_error (look_up.Entry _) = 1
+number_of_look_up_error look_up.Changed = 2
+number_of_look_up_error look_up.ReadPrefix = 3
+number_of_look_up_error look_up.ReadSuffix = 4

@@ -40,7 +40,7 @@ fn word_at(layout: &Layout, part: u64, bytes: &[u8]) -> u128
 }
 
 /// The row at the front of the bytes, of a word with this first part.
-fn row_at(layout: &Layout, part: u64, bytes: &[u8]) -> Row
+pub(crate) fn row_at(layout: &Layout, part: u64, bytes: &[u8]) -> Row
     requires layout { IsLayout layout.now }
     requires part { part < 4 ^ layout.now.prefix }
     requires inside { row_long layout.now ≤ length bytes.now }
