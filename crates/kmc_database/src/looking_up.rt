@@ -112,9 +112,10 @@ fn range_of_part<P: Places>(
     Ok((from, to))
 }
 
-/// The count that a database has for a word, 0 where it does not list it: found by two entries of the table and by halves among the rows of
-/// the word's first part, so that few bytes of the files are read, however large they are. The files are judged by nothing else: the rows of
-/// the first part are to rise, and the others may be any. Where a word and its reverse complement are counted together, give the lesser.
+/// The count that a database has for a word, 0 where it does not list it: found by two entries of the table and by halves among the rows
+/// of the word's first part, so that few bytes of the files are read, however large they are. The files are judged by nothing else: the
+/// rows of the first part are to rise, and the others may be any. Where a word and its reverse complement are counted together, give the
+/// lesser.
 pub fn look_up<P: Places, S: Places>(
     header: &Header,
     prefix: &mut P,
