@@ -295,16 +295,22 @@ listed_there f pairs prefix suffix d h layout rows w word count there =
     ∙ sym (count_upper l is pairs d.listed d.fit w)
 
 -- the header at the end of the prefix file tells its layout and how many rows there are
-header_there : (f : Form) (pairs : Pairs) (prefix suffix : List ℕ) → IsDatabase f pairs prefix suffix → (h : Header) → IsHeaderIn prefix h
-    → h ≡ record { layout = f.layout; rows = length pairs }
-header_there f pairs prefix suffix d h is =
+pub header_end : (f : Form) (pairs : Pairs) (prefix suffix : List ℕ) → IsDatabase f pairs prefix suffix
+    → drop (length prefix - 72) prefix ≡ header_of f.layout (length pairs) (limits_of f) (strands_of f)
+header_end f pairs prefix suffix d =
     let l = f.layout in
     let start : List ℕ = prefix_start l pairs in
     let header : List ℕ = header_of l (length pairs) (limits_of f) (strands_of f) in
     let long : length header ≡ 72 = length_header l (length pairs) (limits_of f) (strands_of f) refl refl in
     let before : length start ≡ length prefix - 72 = omega (arith, long, length-append start header, ap length d.prefix) in
-    let there : drop (length prefix - 72) prefix ≡ header =
-    ap (drop (length prefix - 72)) d.prefix ∙ drop_at start header (length prefix - 72) before in
+    ap (drop (length prefix - 72)) d.prefix ∙ drop_at start header (length prefix - 72) before
+
+pub header_there : (f : Form) (pairs : Pairs) (prefix suffix : List ℕ) → IsDatabase f pairs prefix suffix → (h : Header) → IsHeaderIn prefix h
+    → h ≡ record { layout = f.layout; rows = length pairs }
+header_there f pairs prefix suffix d h is =
+    let l = f.layout in
+    let header : List ℕ = header_of l (length pairs) (limits_of f) (strands_of f) in
+    let there = header_end f pairs prefix suffix d in
     one_header header h (record { layout = l; rows = length pairs }) (subst (λ (t : List ℕ). IsHeaderOf t h) there is) (record {
       layout = d.layout;
       few = d.few;

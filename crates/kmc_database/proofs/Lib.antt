@@ -9,6 +9,7 @@ mod Given
 mod HeaderParts
 mod InDatabase
 mod LastHeader
+mod Opened
 mod Parts
 mod Ranges
 mod ReadBack

@@ -12,6 +12,7 @@ pub mod Layout
 pub mod LookedUp
 pub mod Messages
 pub mod Numbers
+pub mod Opened
 pub mod Part
 pub mod RefusalNumbers
 pub mod Rows

@@ -4,6 +4,8 @@ use Rattle.kmc_database.specs.declared.error.PackError.{PackError}
 use Rattle.kmc_database.specs.declared.error.PackError.TheVariants.{Source, Empty, Prefix, TooGreat, WritePrefix, WriteSuffix, Memory, TooLong}
 use Rattle.kmc_database.specs.declared.look_up_error.LookUpError.{LookUpError}
 use Rattle.kmc_database.specs.declared.look_up_error.LookUpError.TheVariants as look_up
+use Rattle.kmc_database.specs.declared.open_error.OpenError.{OpenError}
+use Rattle.kmc_database.specs.declared.open_error.OpenError.TheVariants as open_error
 use Rattle.kmc_database.specs.declared.reading.FormFault.{FormFault}
 use Rattle.kmc_database.specs.declared.reading.FormFault.TheVariants.{Marker, Newer, Version, Size, Mode, NoLayout}
 use Rattle.kmc_database.specs.declared.unpack_error.UnpackError.{UnpackError}
@@ -48,3 +50,14 @@ number_of_look_up_error (look_up.Entry _) = 1
 number_of_look_up_error look_up.Changed = 2
 number_of_look_up_error look_up.ReadPrefix = 3
 number_of_look_up_error look_up.ReadSuffix = 4
+
+abbrev pub number_of_open_error : OpenError → ℕ
+number_of_open_error (open_error.Form _) = 1
+number_of_open_error open_error.PrefixLength = 2
+number_of_open_error open_error.Strands = 3
+number_of_open_error open_error.PrefixMarker = 4
+number_of_open_error open_error.SuffixLength = 5
+number_of_open_error open_error.SuffixMarker = 6
+number_of_open_error open_error.Changed = 7
+number_of_open_error open_error.ReadPrefix = 8
+number_of_open_error open_error.ReadSuffix = 9

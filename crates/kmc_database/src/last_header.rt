@@ -17,7 +17,7 @@ use kmc_sum::Room;
 use std::io::Read;
 
 /// The bytes of a prefix file with this layout.
-fn prefix_long(layout: &Layout) -> u64
+pub(crate) fn prefix_long(layout: &Layout) -> u64
     requires { IsLayout layout.now }
     ensures { result ≡ prefix_long layout.now }
 {
