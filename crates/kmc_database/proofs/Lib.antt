@@ -11,10 +11,12 @@ mod InDatabase
 mod LastHeader
 mod Opened
 mod Parts
+mod Queries
 mod Ranges
 mod ReadBack
 mod RowBytes
 mod RowExits
+mod Searches
 mod SoFar
 mod StepExits
 mod Tables

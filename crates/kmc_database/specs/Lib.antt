@@ -14,8 +14,11 @@ pub mod Messages
 pub mod Numbers
 pub mod Opened
 pub mod Part
+pub mod Queried
 pub mod RefusalNumbers
 pub mod Rows
+pub mod SearchMessages
+pub mod Searched
 pub mod TakenRow
 pub mod UnpackAnswer
 pub mod UnpackCauses

@@ -8,7 +8,8 @@ use Rattle.kmc_database.specs.Numbers.{low_first}
 use Rattle.kmc_database.specs.Part.{StandsAt}
 use Rattle.kmc_database.specs.Rows.{row_long}
 use Rattle.kmc_database.specs.declared.open_error.OpenError.{OpenError}
-use Rattle.kmc_database.specs.declared.open_error.OpenError.TheVariants.{Form, PrefixLength, Strands, PrefixMarker, SuffixLength, SuffixMarker, Changed, ReadPrefix, ReadSuffix}
+use Rattle.kmc_database.specs.declared.open_error.OpenError.TheVariants.{Form, PrefixLength, Strands, PrefixMarker}
+use Rattle.kmc_database.specs.declared.open_error.OpenError.TheVariants.{SuffixLength, SuffixMarker, Changed, ReadPrefix, ReadSuffix}
 use Rattle.kmc_database.specs.declared.opening.OpenDatabase.{OpenDatabase}
 use Rattle.kmc_database.specs.declared.reading.Header.{Header}
 

@@ -8,6 +8,8 @@ use Rattle.kmc_database.specs.declared.open_error.OpenError.{OpenError}
 use Rattle.kmc_database.specs.declared.open_error.OpenError.TheVariants as open_error
 use Rattle.kmc_database.specs.declared.reading.FormFault.{FormFault}
 use Rattle.kmc_database.specs.declared.reading.FormFault.TheVariants.{Marker, Newer, Version, Size, Mode, NoLayout}
+use Rattle.kmc_database.specs.declared.search_error.SearchError.{SearchError}
+use Rattle.kmc_database.specs.declared.search_error.SearchError.TheVariants as search_error
 use Rattle.kmc_database.specs.declared.unpack_error.UnpackError.{UnpackError}
 use Rattle.kmc_database.specs.declared.unpack_error.UnpackError.TheVariants as unpack
 
@@ -61,3 +63,11 @@ number_of_open_error open_error.SuffixMarker = 6
 number_of_open_error open_error.Changed = 7
 number_of_open_error open_error.ReadPrefix = 8
 number_of_open_error open_error.ReadSuffix = 9
+
+abbrev pub number_of_search_error : SearchError → ℕ
+number_of_search_error (search_error.Open _) = 1
+number_of_search_error search_error.OneStrand = 2
+number_of_search_error (search_error.Words _) = 3
+number_of_search_error search_error.OtherLength = 4
+number_of_search_error (search_error.LookUp _) = 5
+number_of_search_error search_error.Write = 6

@@ -1,22 +1,19 @@
 //! Why a word is not looked up in a database.
-ghost use Rattle.std.specs.Prelude.{◌≡◌};
+ghost use Rattle.std.specs.Prelude.{◌≡◌, Some};
+ghost use Rattle.kmc_database.specs.SearchMessages.{text_of_look_up_error};
 
-use thiserror::Error;
+use std::fmt;
 
 /// Why a word is not looked up in a database.
-#[derive(Clone, Copy, Debug, PartialEq, Eq, Error)]
+#[derive(Clone, Copy, Debug, PartialEq, Eq)]
 pub enum LookUpError {
     /// The rows of this first part end before they begin, or behind the last row of all.
-    #[error("entry {0} of the table is out of order")]
     Entry(u64),
     /// A file is shorter than its header asks for.
-    #[error("a file of the database is shorter than it was")]
     Changed,
     /// A read of the prefix file failed.
-    #[error("cannot read the prefix file")]
     ReadPrefix,
     /// A read of the suffix file failed.
-    #[error("cannot read the suffix file")]
     ReadSuffix,
 }
 
@@ -32,6 +29,19 @@ impl LookUpError {
             LookUpError::Changed => 2,
             LookUpError::ReadPrefix => 3,
             LookUpError::ReadSuffix => 4,
+        }
+    }
+}
+
+impl fmt::Display for LookUpError {
+    ghost output = { λ e. Some (text_of_look_up_error e) };
+
+    fn fmt<W: fmt::Write>(&self, f: &mut fmt::Formatter<W>) -> fmt::Result {
+        match self {
+            LookUpError::Entry(entry) => write!(f, "entry {entry} of the table is out of order"),
+            LookUpError::Changed => write!(f, "a file of the database is shorter than it was"),
+            LookUpError::ReadPrefix => write!(f, "cannot read the prefix file"),
+            LookUpError::ReadSuffix => write!(f, "cannot read the suffix file"),
         }
     }
 }

@@ -1,38 +1,30 @@
 //! Why a database is not opened.
-ghost use Rattle.std.specs.Prelude.{◌≡◌};
+ghost use Rattle.std.specs.Prelude.{◌≡◌, Some};
+ghost use Rattle.kmc_database.specs.SearchMessages.{text_of_open_error};
 
 use crate::reading::FormFault;
-use thiserror::Error;
+use std::fmt;
 
 /// Why a database is not opened.
-#[derive(Clone, Copy, Debug, PartialEq, Eq, Error)]
+#[derive(Clone, Copy, Debug, PartialEq, Eq)]
 pub enum OpenError {
     /// The last 72 bytes of the prefix file are no header.
-    #[error("{0}")]
     Form(FormFault),
     /// The prefix file is shorter than a header, or not as long as its header asks for.
-    #[error("the prefix file is not as long as its header asks for")]
     PrefixLength,
     /// The header tells neither that a word and its reverse complement are counted together nor that each is by itself.
-    #[error("the header tells of strands that are unknown")]
     Strands,
     /// The prefix file does not begin with its marker.
-    #[error("the prefix file does not begin with its marker")]
     PrefixMarker,
     /// The suffix file is not as long as the rows that the header tells.
-    #[error("the suffix file is not as long as the header asks for")]
     SuffixLength,
     /// The suffix file does not begin and end with its marker.
-    #[error("the suffix file does not begin and end with its marker")]
     SuffixMarker,
     /// The prefix file is shorter than it was.
-    #[error("the prefix file is shorter than it was")]
     Changed,
     /// A read of the prefix file failed.
-    #[error("cannot read the prefix file")]
     ReadPrefix,
     /// A read of the suffix file failed.
-    #[error("cannot read the suffix file")]
     ReadSuffix,
 }
 
@@ -53,6 +45,33 @@ impl OpenError {
             OpenError::Changed => 7,
             OpenError::ReadPrefix => 8,
             OpenError::ReadSuffix => 9,
+        }
+    }
+}
+
+impl fmt::Display for OpenError {
+    ghost output = { λ e. Some (text_of_open_error e) };
+
+    fn fmt<W: fmt::Write>(&self, f: &mut fmt::Formatter<W>) -> fmt::Result {
+        match self {
+            OpenError::Form(fault) => write!(f, "{fault}"),
+            OpenError::PrefixLength => write!(
+                f,
+                "the prefix file is not as long as its header asks for"
+            ),
+            OpenError::Strands => write!(f, "the header tells of strands that are unknown"),
+            OpenError::PrefixMarker => write!(f, "the prefix file does not begin with its marker"),
+            OpenError::SuffixLength => write!(
+                f,
+                "the suffix file is not as long as the header asks for"
+            ),
+            OpenError::SuffixMarker => write!(
+                f,
+                "the suffix file does not begin and end with its marker"
+            ),
+            OpenError::Changed => write!(f, "the prefix file is shorter than it was"),
+            OpenError::ReadPrefix => write!(f, "cannot read the prefix file"),
+            OpenError::ReadSuffix => write!(f, "cannot read the suffix file"),
         }
     }
 }
