@@ -1,14 +1,16 @@
 //! The program `kmc_db`: two dumps, joined or told of, on standard output; or a dump on standard input as a database in two files, or
-//! such a database as a dump; or help. On a fault it writes one line to standard error and ends with the fault's status. The first and
-//! the last are `kmc_join`'s, the others are `kmc_database`'s.
+//! such a database as a dump, or words with their counts in it; or help. On a fault it writes one line to standard error and ends with the
+//! fault's status. The first and the last are `kmc_join`'s, the others are `kmc_database`'s.
 #![tactic(auto)]
 
 mod dumping;
 mod packing;
+mod querying;
 mod request;
 
 use crate::dumping::{asks_to_dump, dump_files};
 use crate::packing::{asks_to_pack, pack_input};
+use crate::querying::query_files;
 use kmc_device::Counted;
 use kmc_join::{program, program_words};
 use kmc_options::{arguments, asks_for_text};
@@ -28,6 +30,10 @@ fn main(rt: HostRuntime) -> ExitCode {
         if asks_to_dump(&words) {
             let mut writer = Counted::new(io::writer(&rt));
             return dump_files(&rt, &words[1..], &mut writer);
+        }
+        let mut writer = Counted::new(io::writer(&rt));
+        if let Some(status) = query_files(&rt, &words, rt.reader(), &mut writer) {
+            return status;
         }
     }
     let mut writer = Counted::new(io::writer(&rt));

@@ -1,0 +1,65 @@
+//! `kmc_db query` of a database in two files: words on standard input with their counts, on standard output.
+ghost use Rattle.std.specs.Prelude.{◌-◌, ◌^◌, ◌<◌};
+
+use kmc_base::Strands;
+use kmc_database::{Sought, query_places};
+use kmc_device::Counted;
+use kmc_join::query_strands;
+use std::alloc::Global;
+use std::fs;
+use std::io::{Read, Write};
+use std::process::ExitCode;
+use std::rt::Files;
+
+/// The file of the database with this end, where it can be opened.
+fn sought<T: Files + Alloc<A = Global>>(
+    rt: &T,
+    database: &str,
+    end: &str,
+) -> Option<Sought<T::File>> {
+    let name = format!(in rt.alloc(); "{database}.{end}").ok()?;
+    let file = fs::open(rt, name.as_str()).ok()?;
+    Some(Sought::new(file))
+}
+
+/// The name of the database that a word names: by its prefix file, or by what stands before the ends of both files where no file has the
+/// very name.
+fn database_named<'a, T: Files>(rt: &T, name: &'a str) -> Option<&'a str> {
+    if let Some(front) = name.strip_suffix(".kmc_pre") {
+        return Some(front);
+    }
+    match fs::open(rt, name) {
+        Ok(_) => None,
+        Err(_) => Some(name),
+    }
+}
+
+/// Queries the database that these words name, where they ask for a query and name one whose prefix file can be opened; else nothing is
+/// done. The exit status is 0 where the counts were written, and else 1.
+pub fn query_files<T: Files + Eprint + Alloc<A = Global>, I: Read + Drop, W: Write>(
+    rt: &T,
+    words: &[String],
+    input: I,
+    writer: &mut Counted<W>,
+) -> Option<ExitCode>
+    requires { writer.old.failures < 2 ^ 64 - 1 }
+{
+    let strands = query_strands(words)?;
+    let name = database_named(rt, words.last()?.as_str())?;
+    let mut prefix = sought(rt, name, "kmc_pre")?;
+    let Some(mut suffix) = sought(rt, name, "kmc_suf") else {
+        let _ = eprintln!(rt; "kmc_db: {name}.kmc_suf: cannot be opened");
+        return Some(ExitCode::from(1));
+    };
+    let mut asked = Counted::new(input);
+    let apart = strands == Strands::Apart;
+    Some(query_places(
+        rt,
+        name,
+        apart,
+        &mut prefix,
+        &mut suffix,
+        &mut asked,
+        writer,
+    ))
+}
