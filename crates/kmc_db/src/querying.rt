@@ -22,20 +22,16 @@ fn sought<T: Files + Alloc<A = Global>>(
     Some(Sought::new(file))
 }
 
-/// The name of the database that a word names: by its prefix file, or by what stands before the ends of both files where no file has the
-/// very name.
-fn database_named<'a, T: Files>(rt: &T, name: &'a str) -> Option<&'a str> {
-    if let Some(front) = name.strip_suffix(".kmc_pre") {
-        return Some(front);
-    }
-    match fs::open(rt, name) {
-        Ok(_) => None,
-        Err(_) => Some(name),
+/// The name of the database of whose files a word names the first, or which it names itself.
+fn database_named(word: &str) -> &str {
+    match word.strip_suffix(".kmc_pre") {
+        Some(name) => name,
+        None => word,
     }
 }
 
-/// Queries the database that these words name, where they ask for a query and name one whose prefix file can be opened; else nothing is
-/// done. The exit status is 0 where the counts were written, and else 1.
+/// Queries the database that these words name, where they ask for a query and name one whose prefix file can be opened, or that file, and
+/// no file has the very name; else nothing is done. The exit status is 0 where the counts were written, and else 1.
 pub fn query_files<T: Files + Eprint + Alloc<A = Global>, I: Read + Drop, W: Write>(
     rt: &T,
     words: &[String],
@@ -45,8 +41,13 @@ pub fn query_files<T: Files + Eprint + Alloc<A = Global>, I: Read + Drop, W: Wri
     requires { writer.old.failures < 2 ^ 64 - 1 }
 {
     let strands = query_strands(words)?;
-    let name = database_named(rt, words.last()?.as_str())?;
+    let word = words.last()?.as_str();
+    let name = database_named(word);
     let mut prefix = sought(rt, name, "kmc_pre")?;
+    // looked for behind the prefix file, since who opens a pipe by its name takes its writer away
+    if name.len() == word.len() && fs::open(rt, word).is_ok() {
+        return None;
+    }
     let Some(mut suffix) = sought(rt, name, "kmc_suf") else {
         let _ = eprintln!(rt; "kmc_db: {name}.kmc_suf: cannot be opened");
         return Some(ExitCode::from(1));

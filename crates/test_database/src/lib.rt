@@ -16,6 +16,12 @@ mod headers;
 #[cfg(test)]
 mod packs;
 #[cfg(test)]
+mod queries;
+#[cfg(test)]
 mod refusals;
+#[cfg(test)]
+mod searches;
+#[cfg(test)]
+mod unanswered;
 #[cfg(test)]
 mod unpacks;
