@@ -2,13 +2,16 @@
 """What three forms of the count save that no contract can show: each is left out of a copy of the sources, which is proved and built, and both
 programs run in turn on a text that has much of what the form is for. The dumps must be equal. Prints a Markdown table.
 
-usage: bench/forms.py
+usage: bench/forms.py [build]
 
-Wants `rt` and GNU time. ROUNDS (3) says how often each program runs; a row has the least wall time of either. The copies and the text, the
-workload `short` of bench/compare.sh, lie in $TMPDIR or /tmp; the copies are removed at the end. What was built for the sources as they are is
-used again, and what stands above the form is built anew: some minutes for each.
+Wants `rt` and GNU time. ROUNDS (3) says how often each program runs; a row has the least wall time of either. The text, the workload `short` of
+bench/compare.sh, lies in $TMPDIR or /tmp, and so do the programs without a form, kmc_without_SUM, each of which is built once for the
+sources as they are: what stands below the form is used again, and what stands above it is built anew, some minutes for each. With the word
+`build` nothing is measured, so that building and measuring may be done at different hours.
 """
 import filecmp
+import glob
+import hashlib
 import os
 import shutil
 import subprocess
@@ -28,8 +31,28 @@ FORMS = [
 ]
 
 
-def without(folder, path, line, other):
-    """Makes a copy of the sources without the form, and gives the program that is built of it."""
+def sum_of(path, line, other):
+    """A sum of the sources and of what is changed in them."""
+    found = hashlib.sha256(repr((path, line, other)).encode())
+    for part in ("src", "specs", "proofs"):
+        for name in sorted(glob.glob(os.path.join(TOP, "crates", "*", part, "**", "*.*"), recursive=True)):
+            with open(name, "rb") as file:
+                found.update(repr((os.path.relpath(name, TOP), file.read())).encode())
+    return found.hexdigest()[:16]
+
+
+def without(path, line, other):
+    """The program without the form, which is built of a copy of the sources where it is not there."""
+    program = os.path.join(os.environ.get("TMPDIR", "/tmp"), "kmc_without_" + sum_of(path, line, other))
+    if not os.path.exists(program):
+        with tempfile.TemporaryDirectory(prefix="kmc-forms-") as folder:
+            shutil.copy(built(folder, path, line, other), program + ".part")
+        os.rename(program + ".part", program)
+    return program
+
+
+def built(folder, path, line, other):
+    """Makes a copy of the sources without the form in a folder, and gives the program that is built of it."""
     for name in ("crates", "build"):
         shutil.copytree(os.path.join(TOP, name), os.path.join(folder, name), symlinks=True)
     shutil.copy(os.path.join(TOP, "crates.txt"), folder)
@@ -40,9 +63,9 @@ def without(folder, path, line, other):
         sys.exit("forms.py: %s does not have the line once: %s" % (path, line))
     with open(path, "w", encoding="utf-8") as file:
         file.write(text.replace(line, other))
-    built = subprocess.run(["build/program.py", "kmc"], cwd=folder, stdout=subprocess.PIPE, stderr=subprocess.STDOUT, text=True, check=False)
-    if built.returncode:
-        sys.exit("forms.py: %s\n%s" % (path, built.stdout))
+    ran = subprocess.run(["build/program.py", "kmc"], cwd=folder, stdout=subprocess.PIPE, stderr=subprocess.STDOUT, text=True, check=False)
+    if ran.returncode:
+        sys.exit("forms.py: %s\n%s" % (path, ran.stdout))
     return os.path.join(folder, "crates", "kmc", "out", "kmc")
 
 
@@ -55,6 +78,10 @@ def timed(program, options, dump):
 
 
 def main():
+    if sys.argv[1:] == ["build"]:
+        for _, *form, _ in FORMS:
+            without(*form)
+        return
     if not os.path.exists(TEXT):
         with open(TEXT + ".part", "wb") as out:
             subprocess.run([sys.executable, os.path.join(TOP, "bench", "simulate_reads.py"), "1500000", "100", "5000000", "1"], stdout=out, check=True)
@@ -63,7 +90,7 @@ def main():
     print("|---|---|---|---|---|---|---|---|---|")
     for name, path, line, other, options in FORMS:
         with tempfile.TemporaryDirectory(prefix="kmc-forms-") as folder:
-            programs = os.path.join(TOP, "kmc"), without(folder, path, line, other)
+            programs = os.path.join(TOP, "kmc"), without(path, line, other)
             dumps = [os.path.join(folder, it) for it in ("with", "without")]
             found = [[], []]
             for _ in range(ROUNDS):
