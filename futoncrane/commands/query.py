@@ -4,7 +4,7 @@ import re
 import sys
 import tempfile
 
-from futoncrane import merging, notes, report, shared
+from futoncrane import databases, dumping, merging, notes, report, shared
 from futoncrane.children import Children
 from futoncrane.faults import Fault, Misuse, shown
 from futoncrane.inputs import is_same_file
@@ -20,7 +20,8 @@ and T as the dump's k-mers. All of them are held in memory.
 A word and its reverse complement have one count, but in a dump that was made with --forward: the note of the dump, DUMP.json, or the header
 of a database says so, and --forward or --both-strands where there is neither.
 
-The dump may be packed, or a database as NAME.kmc, and is read once. The counts are found by kmc_db, whose answer is proved.
+The dump may be packed, and is read once; a database, as NAME.kmc, is searched where its files stand. The counts are found by kmc_db, whose
+answer is proved.
 """
 OPTIONS = [
     Option(["--forward"], "forward", text="looks words up as they are written"),
@@ -63,16 +64,24 @@ def check(words, is_of_command):
 
 def answers(name, words, apart, children, setting):
     """The words with their counts in the dump, a line each, once all are found."""
-    lines = []
     with tempfile.TemporaryFile() as file:
         file.writelines(b"%s\n" % it for it in words)
         file.seek(0)
         try:
-            merging.merged([name], [], children, setting, reader=lines.extend, program="kmc_db", words=["query", *(["-b"] if apart else [])], source=file)
+            return answered(name, file, apart, children, setting)
         except Fault as fault:
             if "line 1 has a word that is not as long as those of" in str(fault):
                 raise Fault("%s: its k-mers are not as long as the words" % shown(name)) from None
             raise
+
+
+def answered(name, words, apart, children, setting):
+    """What kmc_db answers to the words of a file: a database of these strands is searched in place, and any other dump is read to its end."""
+    stem = databases.stem_of(name)
+    if stem is not None and databases.header_of(stem).is_forward == apart:
+        return dumping.queried(stem, words, children)
+    lines = []
+    merging.merged([name], [], children, setting, reader=lines.extend, program="kmc_db", words=["query", *(["-b"] if apart else [])], source=words)
     return lines
 
 
