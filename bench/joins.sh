@@ -78,7 +78,9 @@ while [ "$round" -lt "$rounds" ]; do
     /usr/bin/time -a -o alone.times -f '%e %U %M' sh -c "$count > alone.dump"
     /usr/bin/time -a -o pack.times -f '%e %U %M' sh -c "$count | $top/kmc_db pack -k$k -ci1 -cs1000000 --force packed"
     /usr/bin/time -a -o histogram.times -f '%e %U %M' sh -c "$count | $top/kmc_db histogram - > rows"
-    /usr/bin/time -a -o query.times -f '%e %U %M' sh -c "$top/kmc_db query first.dump < words > counts"
+    /usr/bin/time -a -o walk.times -f '%e %U %M' sh -c "$top/kmc_db query first.dump < words > walked"
+    /usr/bin/time -a -o query.times -f '%e %U %M' sh -c "$top/kmc_db query packed < words > counts"
+    cmp counts walked
     round=$((round + 1))
 done
 [ "$(wc -l < counts)" = 1000 ]
@@ -91,5 +93,6 @@ done <<END
 alone a dump of reads
 pack a database of reads
 histogram the histogram of reads
-query a thousand words in the dump
+walk a thousand words in the dump
+query a thousand words in the database
 END

@@ -103,19 +103,19 @@ def test_a_database_is_queried_in_place(room):
 
 def test_a_query_in_place_tells_what_is_at_fault(room):
     prefix, suffix = packed(room, "db", b"ACGTA\t1\nCGTAA\t2\nGTAAC\t302\n", "-prefix1", "-ci1", "-cs1000")
-    for words, line in ((b"ACGTA\nACGT\n", b"standard input: line 2 has a word that is not as long as the first\n"), (b"ACGNA\n", b"standard input: line 1 has no word\n")):
+    for words, line in ((b"ACGTA\nACGT\n", b"kmc_db: standard input: line 2 "), (b"ACGNA\n", b"kmc_db: standard input: line 1 is no word of 1 to 64 letters")):
         status, out, told = ended(room, "kmc_db", "query", "db", text=words)
-        assert (status, out) == (1, b"") and told.startswith(b"kmc_db: ") and told.count(b"\n") == 1, (told, line)
+        assert (status, out) == (1, b"") and told.startswith(line) and told.count(b"\n") == 1, told
     status, out, told = ended(room, "kmc_db", "query", "db", text=b"ACG\n")
     assert (status, out) == (1, b"") and b"not as long as those of db" in told, told
-    damaged = [(prefix[1:], suffix, b"the header has another size, or the file does not end with one"), (prefix, suffix[:-1], b"the suffix file is not as long as the header asks for"),
+    damaged = [(prefix[1:], suffix, b"the prefix file is not as long as its header asks for"), (prefix, suffix[:-1], b"the suffix file is not as long as the header asks for"),
                (prefix, b"KMCP" + suffix[4:], b"the suffix file does not begin and end with its marker"), (b"KMCS" + prefix[4:], suffix, b"the prefix file does not begin with its marker"),
                (prefix[:4] + prefix[12:20] + prefix[4:12] + prefix[20:], suffix, b"entry 0 of the table is out of order")]
     for pre, suf, why in damaged:
         room.write("db.kmc_pre", pre)
         room.write("db.kmc_suf", suf)
         status, out, told = ended(room, "kmc_db", "query", "db", text=b"ACGTA\n")
-        assert (status, out) == (1, b"") and told.startswith(b"kmc_db: ") and told.count(b"\n") == 1, (why, told)
+        assert (status, out, told) == (1, b"", b"kmc_db: db: %s\n" % why), told
     os.remove(room.path("db.kmc_suf"))
     assert ended(room, "kmc_db", "query", "db", text=b"ACGTA\n") == (1, b"", b"kmc_db: db.kmc_suf: cannot be opened\n")
 
