@@ -21,7 +21,7 @@ A word and its reverse complement have one count, but in a dump that was made wi
 of a database says so, and --forward or --both-strands where there is neither.
 
 The dump may be packed, and is read once; a database, as NAME.kmc, is searched where its files stand. The counts are found by kmc_db, whose
-answer is proved.
+search is proved.
 """
 OPTIONS = [
     Option(["--forward"], "forward", text="looks words up as they are written"),
