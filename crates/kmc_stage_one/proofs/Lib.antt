@@ -4,6 +4,7 @@ mod Filled
 mod Fresh
 mod Merges
 mod OnePiece
+mod ReadAhead
 mod Returned
 mod Sent
 mod Stored

@@ -1,3 +1,4 @@
+pub mod Blocks
 pub mod Causes
 pub mod Fed
 pub mod Laws

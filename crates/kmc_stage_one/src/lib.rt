@@ -4,6 +4,7 @@
 //! not.
 #![tactic(auto)]
 
+mod ahead;
 mod beginning;
 mod dealing;
 mod filling;
