@@ -113,8 +113,6 @@ pub(crate) fn cut_rounds<T: Threads + Wait + Sync, R: Read, W: Write, G: Gate + 
     let mut feeder = Feeder::new(dealing.alloc, settings.format);
     let most = reader.reads() + max_reads;
     let mut more = match fill_round(
-        rt,
-        dealing.alloc,
         reader,
         &mut feeder,
         most,

@@ -4,7 +4,6 @@ mod Filled
 mod Fresh
 mod Merges
 mod OnePiece
-mod ReadAhead
 mod Returned
 mod Sent
 mod Stored

@@ -1,4 +1,3 @@
-pub mod Blocks
 pub mod Causes
 pub mod Fed
 pub mod Laws

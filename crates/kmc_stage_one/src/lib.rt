@@ -4,7 +4,6 @@
 //! not.
 #![tactic(auto)]
 
-mod ahead;
 mod beginning;
 mod dealing;
 mod filling;

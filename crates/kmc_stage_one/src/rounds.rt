@@ -8,7 +8,7 @@ ghost use Rattle.kmc_reads.specs.Standing.{IsHandedOut, Stands};
 ghost use Rattle.kmc_stage_one.specs.Lemmas.Stored.{AreStored, AreStoredBy};
 ghost use Rattle.kmc_stage_one.specs.Fed.{IsFedBy, IsFilled, IsNextRound, IsWholeRound, AreCounts, AreCountsOf};
 ghost use Rattle.kmc_stage_one.specs.Rounds.{HoldsPieces, HoldsInput, IsInputError, reads_of_round};
-ghost use Rattle.kmc_stage_one.specs.declared.ahead.TheConstants.{STRETCH};
+ghost use Rattle.kmc_stage_one.specs.declared.round.TheConstants.{BLOCK};
 
 use crate::dealing::{Dealing, store_round};
 use crate::round::fill_round;
@@ -66,14 +66,13 @@ pub fn feed_round<T: Threads + Wait + Sync, R: Read, G: Gate + Sync>(
     ensures filled { (overlap : ℕ) (format : Format) (text : List ℕ) (taken : List (List ℕ))
         → Stands (Some overlap) format text taken feeder.old
         → OnOk result.1
-        (IsFilled (reads_of_round dealing.now.settings.queue.writers dealing.now.settings.batch) dealing.now.symbols STRETCH
+        (IsFilled (reads_of_round dealing.now.settings.queue.writers dealing.now.settings.batch) dealing.now.symbols BLOCK
         overlap format (R.remaining reader.old.inner) (R.remaining reader.new.inner) text taken feeder.old feeder.new) }
     ensures full { IsWholeRound (reads_of_round dealing.now.settings.queue.writers dealing.now.settings.batch)
         dealing.now.symbols reader.old.reads reader.new.reads feeder.new result.1 }
 {
     let reads = round_of(&dealing.settings);
     let symbols = dealing.symbols;
-    let alloc = dealing.alloc;
     join_mut(
         rt,
         &mut || -> Result<(), AllocError>
@@ -82,7 +81,7 @@ pub fn feed_round<T: Threads + Wait + Sync, R: Read, G: Gate + Sync>(
         &mut || -> Result<bool, InputError>
             requires failures { reader.now.failures < 2 ^ 64 - 1 }
             requires reads { reader.now.reads ≤ most }
-        { fill_round(rt, alloc, reader, feeder, most, reads, symbols) },
+        { fill_round(reader, feeder, most, reads, symbols) },
     )
 }
 
@@ -154,7 +153,7 @@ fn next_round<T: Threads + Wait + Sync, R: Read, G: Gate + Sync>(
     ensures counts { AreCounts most reader.old.reads reader.new.reads reader.old.failures reader.new.failures result }
     ensures at_end { result ≡ Ok false → IsAtEnd (R.remaining reader.new.inner) }
     ensures held { OnOk result (IsNextRound
-        (reads_of_round dealing.now.settings.queue.writers dealing.now.settings.batch) dealing.now.symbols STRETCH
+        (reads_of_round dealing.now.settings.queue.writers dealing.now.settings.batch) dealing.now.symbols BLOCK
         (dealing.now.settings.shape.k - 1) (R.remaining reader.old.inner) (R.remaining reader.new.inner) feeder.new) }
 {
     let round = take_round(feeder, dealing.alloc, dealing.settings.shape)?;
@@ -198,15 +197,7 @@ fn earlier_rounds<T: Threads + Wait + Sync, R: Read, G: Gate + Sync>(
 {
     let most = reader.reads() + max_reads;
     let full = round_of(&dealing.settings);
-    let mut more = fill_round(
-        rt,
-        dealing.alloc,
-        reader,
-        feeder,
-        most,
-        full,
-        dealing.symbols,
-    )?;
+    let mut more = fill_round(reader, feeder, most, full, dealing.symbols)?;
     for _ in 0..1u64 << 32 {
         if !more {
             return Ok(());

@@ -9,14 +9,14 @@ use kmc_reads::{Format, InputError, ReadsError, read_all, slices_of};
 use kmc_stage_one::{PIECE_SYMBOLS, bins_of_input};
 use kmc_store::Bins;
 use kmc_tool::{round_settings, stage_one};
-use std::alloc::{AllocError, Global};
+use std::alloc::Global;
 use std::io;
 use std::io::Read;
 use std::process::Abort;
 use std::sync::Wait;
 use std::test::Fail;
 use std::thread::Threads;
-use test_support::{BlockReader, Dice};
+use test_support::BlockReader;
 
 const FASTQ: &[u8] =
     b"@a\nACGTACGTAC\n+\nIIIIIIIIII\n@b\r\nGATTACANNGATTACA\r\n+\r\nIIIIIIIIIIIIIIII\r\n\n@c\n\n+\n\n@d\nTTTTTTTTTTTTTTTTTTTT\n+\nIIIIIIIIIIIIIIIIIIII";
@@ -103,38 +103,6 @@ fn rounds_fill_the_bins_that_one_stage_fills(rt: HostRuntime) -> Result<(), Fail
         for (sp, batch) in [(1, 1), (3, 2), (2, 1000)] {
             let params = settings(&rt, format, 4, sp, batch);
             assert_rounds(&rt, rt.alloc(), text, &reads, &params)?;
-        }
-    }
-    Ok(())
-}
-
-/// A text of so many reads of 100 random bases.
-fn long_text(alloc: Global, reads: usize) -> Result<Vec<u8>, AllocError> {
-    let mut dice = Dice { state: 9 };
-    let mut text = Vec::new(alloc);
-    for _ in 0..reads {
-        text.extend_from_slice(b"@r\n")?;
-        for _ in 0..100 {
-            text.push(b"ACGT"[dice.roll(4)])?;
-        }
-        text.extend_from_slice(b"\n+\n")?;
-        text.extend_from_slice([b'I'; 100].as_slice())?;
-        text.push(b'\n')?;
-    }
-    Ok(text)
-}
-
-/// Some 6 MB, so that blocks are fed while others are read, in more than one stretch.
-#[test]
-fn a_long_text_fills_the_bins_that_one_stage_fills(rt: HostRuntime) -> Result<(), Fail> {
-    let text = long_text(rt.alloc(), 30_000)?;
-    let reads = read_all(rt.alloc(), &text, Format::Fastq)?;
-    for batch in [1000, 60_000] {
-        let params = settings(&rt, Format::Fastq, 12, 2, batch);
-        let slices = slices_of(rt.alloc(), &reads)?;
-        let whole = stage_one(&rt, rt.alloc(), &slices, &params, &NoGate)?;
-        for block in [65_537, 1 << 20, 1 << 30] {
-            assert_filled(&rt, rt.alloc(), &text, block, &params, &whole)?;
         }
     }
     Ok(())

@@ -1,14 +1,10 @@
 use Rattle.std.proofs.Common.{◌≡◌, ◌⊎◌, ◌≤◌}
-use Rattle.std.specs.Prelude.{vec_len}
-use Rattle.kmc_stage_one.specs.declared.ahead.TheConstants.{BLOCK}
 use Rattle.kmc_stage_one.specs.Fed.{HasRoomForReads}
 use Rattle.kmc_stage_one.specs.Lemmas.Fed.{IsUnderWay}
 use Rattle.kmc_stage_one.proofs.round.fill_round.Given as goal
 
 abbrev pub invariant-loop : goal.invariant-loop
 invariant-loop g l = record {
-  here : vec_len l.here ≡ BLOCK;
-  next : vec_len l.next ≡ BLOCK;
   most : l.reader.reads ≤ l.most;
   room : (l.feeder ≡ l.initial.feeder) ⊎ HasRoomForReads l.reads l.symbols l.feeder;
   way : IsUnderWay (g.R.Read.remaining l.initial.reader.inner)

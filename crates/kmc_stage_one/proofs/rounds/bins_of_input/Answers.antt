@@ -1,4 +1,4 @@
-use Rattle.std.proofs.Common.{◌+◌, ◌-◌, [], ◌++◌, refl, sym, ap, subst, arith, Some}
+use Rattle.std.proofs.Common.{◌≡◌, ◌+◌, ◌-◌, [], ◌++◌, refl, sym, ap, subst, ◌∙◌, arith, Some}
 use Rattle.kmc_store.specs.Bins.{BinList}
 use Rattle.kmc_store.specs.Holds.{HoldsReads}
 use Rattle.kmc_reads.specs.Errors.{input_error}

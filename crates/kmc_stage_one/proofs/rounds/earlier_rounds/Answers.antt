@@ -1,4 +1,4 @@
-use Rattle.std.proofs.Common.{◌+◌, ◌-◌, [], Ok, ap, subst, ◌∙◌, arith}
+use Rattle.std.proofs.Common.{◌≡◌, ◌+◌, ◌-◌, [], Ok, ap, subst, ◌∙◌, arith}
 use Rattle.kmc_stage_one.specs.Fed.{AreCountsOf}
 use Rattle.kmc_base.specs.Lemmas.PassedOn.{not_ok, passed_on}
 use Rattle.kmc_stage_one.specs.Lemmas.Fed.{unfaulted, risen, counts_on}

@@ -1,6 +1,6 @@
-use Rattle.std.proofs.Common.{◌≡◌, Bool, ◌-◌, [], ◌++◌, OnOk, refl, subst, ◌∙◌, arith}
+use Rattle.std.proofs.Common.{◌≡◌, Bool, ◌+◌, ◌-◌, [], ◌++◌, OnOk, refl, subst, ◌∙◌, arith}
 use Rattle.std.specs.Prelude.{Result, Ok, IsErrAnd}
-use Rattle.kmc_stage_one.specs.declared.ahead.TheConstants.{STRETCH}
+use Rattle.kmc_stage_one.specs.declared.round.TheConstants.{BLOCK}
 use Rattle.kmc_stage_one.specs.Fed.{AreCounts, IsFedBy, IsFilled}
 use Rattle.kmc_stage_one.specs.Rounds.{HoldsPieces, reads_of_round}
 use Rattle.kmc_reads.specs.declared.input_error.InputError.TheVariants.{Memory}
@@ -112,7 +112,7 @@ returns-clause-held g c =
     record {
       emptied = c.take_round.new.feeder;
       handed = c.in_ok-round.ensures.handed;
-      filled = λ format text taken s. subst (λ o. OnOk o (IsFilled (reads_of_round d.settings.queue.writers d.settings.batch) d.symbols STRETCH k format
+      filled = λ format text taken s. subst (λ o. OnOk o (IsFilled (reads_of_round d.settings.queue.writers d.settings.batch) d.symbols BLOCK k format
           (g.R.Read.remaining old.inner) (g.R.Read.remaining new.inner) text taken c.take_round.new.feeder c.feed_round-stored.new.feeder))
           c.in_ok-more.was (c.feed_round-stored.ensures.filled k format text taken s);
     }

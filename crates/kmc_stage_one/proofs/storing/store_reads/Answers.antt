@@ -1,7 +1,9 @@
 use Rattle.std.proofs.Common.{ℕ, ◌*◌, ◌≤◌, List, map, Bor, sym, subst, arith}
 use Rattle.std.proofs.lemmas.List.{length-map}
 use Rattle.kmc_partcore.specs.declared.shape.TheConstants.{MAX_ITEMS}
+use Rattle.kmc_record.specs.Shapes.{Sizes}
 use Rattle.kmc_stage_one.specs.Causes.{IsCause}
+use Rattle.kmc_partqueue.specs.declared.refusal.Refusal.TheVariants.{NumbersSpent}
 use Rattle.kmc_stage_one.specs.declared.storing.TheConstants.{CHUNKS_OF_A_SPLITTER}
 use Rattle.kmc_stage_one.proofs.storing.store_reads.Goals as goal
 
