@@ -31,13 +31,22 @@ FORMS = [
 ]
 
 
+def below(name, named):
+    """The crates of the repository that a crate stands on, and itself."""
+    return {name}.union(*(below(it, named) for it in named[name] if it in named))
+
+
 def sum_of(path, line, other):
-    """A sum of the sources and of what is changed in them."""
+    """A sum of the sources that the program stands on, and of what is changed in them."""
+    with open(os.path.join(TOP, "crates.txt"), encoding="utf-8") as listed:
+        pairs = [it.partition("#")[0].partition(":") for it in listed]
+    named = {name.strip(): names.split() for name, colon, names in pairs if colon}
     found = hashlib.sha256(repr((path, line, other)).encode())
-    for part in ("src", "specs", "proofs"):
-        for name in sorted(glob.glob(os.path.join(TOP, "crates", "*", part, "**", "*.*"), recursive=True)):
-            with open(name, "rb") as file:
-                found.update(repr((os.path.relpath(name, TOP), file.read())).encode())
+    for crate in sorted(below("kmc", named)):
+        for part in ("src", "specs", "proofs"):
+            for name in sorted(glob.glob(os.path.join(TOP, "crates", crate, part, "**", "*.*"), recursive=True)):
+                with open(name, "rb") as file:
+                    found.update(repr((os.path.relpath(name, TOP), file.read())).encode())
     return found.hexdigest()[:16]
 
 

@@ -71,8 +71,9 @@ def machine():
 
 
 def version():
-    with open(os.path.join(TOP, "CHANGELOG.md")) as file:
-        return file.readline().strip("# \n").split()[0]
+    """The version, which the head may be behind."""
+    with open(os.path.join(TOP, "VERSION")) as number, open(os.path.join(TOP, "CHANGELOG.md")) as changes:
+        return number.read().strip() + (" and later" if "Unreleased" in changes.readline() else "")
 
 
 def section(name, heading, words, last):
@@ -110,7 +111,7 @@ def rows_of(sections, name):
 
 def told_of(sections, name):
     """When and with which version a section was measured."""
-    found = re.search(r"^(\d{4}-\d\d-\d\d, version [\d.]+)", sections.get(name, ""), re.M)
+    found = re.search(r"^(\d{4}-\d\d-\d\d, version [\d.]+( and later)?)", sections.get(name, ""), re.M)
     return found.group(1) if found else "not measured"
 
 
