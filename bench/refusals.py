@@ -1,5 +1,5 @@
 #!/usr/bin/env python3
-"""The table of docs/REFUSALS.md against the code: each refusal's number, text and exit status, one line for each difference.
+"""The tables of docs/REFUSALS.md and crates/REFUSALS.md against the code: each refusal's number, text and exit status, one line for each difference.
 
 usage: refusals.py [--list]
 
@@ -19,7 +19,7 @@ sys.dont_write_bytecode = True  # no files beside the scripts
 from comparing import ended  # noqa: E402
 
 TOP = os.path.join(os.path.dirname(os.path.abspath(__file__)), "..")
-TABLE = os.path.join(TOP, "docs", "REFUSALS.md")
+TABLES = [os.path.join(TOP, folder, "REFUSALS.md") for folder in ("docs", "crates")]
 KIND = r"\w*(?:Error|Fault|Refusal)"
 MISUSED, FAILED = "2", "1"
 
@@ -175,11 +175,12 @@ class Code:
 
 
 def rows():
-    with open(TABLE, encoding="utf-8") as file:
-        for line in file:
-            cells = [c.strip().replace("\\|", "|") for c in re.split(r"(?<!\\)\|", line.rstrip("\n"))[1:-1]]
-            if cells and re.fullmatch(r"`\w+::\w+`", cells[0]):
-                yield cells
+    for path in TABLES:
+        with open(path, encoding="utf-8") as file:
+            for line in file:
+                cells = [c.strip().replace("\\|", "|") for c in re.split(r"(?<!\\)\|", line.rstrip("\n"))[1:-1]]
+                if cells and re.fullmatch(r"`\w+::\w+`", cells[0]):
+                    yield cells
 
 
 def blanks(text):
@@ -227,7 +228,7 @@ def main():
     for key in code.numbers:
         if key not in listed:
             faults.append(f"{key[0]}::{key[1]} stands in the code and not in the table")
-    return ended("refusals", faults, f"docs/REFUSALS.md has the {len(listed)} refusals of the code, with their numbers, texts and exit statuses")
+    return ended("refusals", faults, f"the tables have the {len(listed)} refusals of the code, with their numbers, texts and exit statuses")
 
 
 if __name__ == "__main__":

@@ -71,7 +71,7 @@ def machine():
 
 
 def version():
-    """The version, which the head may be behind."""
+    """The version, and whether the sources have changes since."""
     with open(os.path.join(TOP, "VERSION")) as number, open(os.path.join(TOP, "CHANGELOG.md")) as changes:
         return number.read().strip() + (" and later" if "Unreleased" in changes.readline() else "")
 
@@ -138,8 +138,8 @@ def headline(sections):
     lines = ["| four threads | k | seconds | KMC 3 | time, of KMC 3's | memory, of KMC 3's |", "|---|---|---|---|---|---|"]
     lines += ["| %s | %s | %s | %s | %s | %s |" % (HEADLINE[cells[0]], cells[1], cells[3], cells[6], cells[10], cells[11]) for cells in rows]
     dates = sorted({told_of(sections, name) for name in ("size", "kmc3") if name in sections})
-    return [*lines, "", "KMC 3.2.1 in the faster of its two modes, with its sorted dump; the dumps are equal byte for byte. Measured %s:" % "; ".join(dates),
-            "[bench/RESULTS.md](bench/RESULTS.md), [docs/KMC3.md](docs/KMC3.md)."]
+    return [*lines, "", "KMC 3.2.1 in the faster of its two modes, with its sorted dump; the dumps are equal byte for byte.",
+            "Measured %s:" % "; ".join(dates), "[bench/RESULTS.md](bench/RESULTS.md), [docs/KMC3.md](docs/KMC3.md)."]
 
 
 def table(sections):
