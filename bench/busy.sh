@@ -61,6 +61,7 @@ echo "| round | ours: wall s | KMC 3: wall s | ours / KMC 3 |"
 echo "|---|---|---|---|"
 round=1
 while [ "$round" -le "$rounds" ]; do
+    rm -f "$work"/*.dump "$work"/base.* # some file systems have who writes over a file wait for the disk when it is closed
     seconds_of ours
     our_seconds=$seconds
     seconds_of theirs

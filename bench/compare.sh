@@ -51,16 +51,19 @@ options_of() {
     esac
 }
 
-# timed NAME COMMAND: adds a line 'wall user memory' to the times of NAME
+# timed NAME COMMAND: adds a line 'wall user memory' to the times of NAME. What it writes are new files: some file systems, as ext4, have
+# who writes over a file wait for the disk when it is closed
 timed() {
     name=$1
     shift
+    rm -f "$work"/base.*
     /usr/bin/time -a -o "$work/$name.times" -f '%e %U %M' sh -c "$*"
 }
 
 # theirs MODE OPTIONS THREADS TEXT: KMC 3 and its sorted dump
 theirs() {
     mkdir -p "$work/files"
+    rm -f "$work/theirs.dump"
     timed "$1_$3" "kmc $2 -t$3 $4 $work/base $work/files > $work/log 2>&1 && kmc_tools -t$3 transform $work/base dump -s $work/theirs.dump > $work/log 2>&1"
 }
 
@@ -88,6 +91,7 @@ for workload in "$@"; do
         round=0
         while [ "$round" -lt "$rounds" ]; do
             for threads in $counts; do
+                rm -f "$work/ours.dump"
                 timed "ours_$threads" "$freed $top/kmc -k$k $options $own -sp$threads -sr$threads < $text > $work/ours.dump"
                 theirs memory "-k$k $options -r" "$threads" "$text"
                 cmp "$work/ours.dump" "$work/theirs.dump"

@@ -31,7 +31,7 @@ fi
 # timed NAME COMMAND: runs it, notes 'wall processor' under the name, and compares the dump with the first one
 timed() {
     /usr/bin/time -a -o "$1.times" -f '%e %U %S' sh -c "$2 > dump"
-    if [ -f wanted ]; then cmp wanted dump; else mv dump wanted; fi
+    if [ -f wanted ]; then cmp wanted dump && rm dump; else mv dump wanted; fi
 }
 
 # best NAME: the least wall and the least processor seconds of its runs

@@ -9,6 +9,7 @@ bench/compare.sh, lies in $TMPDIR or /tmp, and so do the programs without a form
 sources as they are: what stands below the form is used again, and what stands above it is built anew, some minutes for each. With the word
 `build` nothing is measured, so that building and measuring may be done at different hours.
 """
+import contextlib
 import filecmp
 import glob
 import hashlib
@@ -80,6 +81,8 @@ def built(folder, path, line, other):
 
 def timed(program, options, dump):
     """The wall and user seconds of a run, and the MB that it took."""
+    with contextlib.suppress(FileNotFoundError):  # some file systems have who writes over a file wait for the disk when it is closed
+        os.remove(dump)
     with open(TEXT, "rb") as reads, open(dump, "wb") as out:
         ran = subprocess.run(["/usr/bin/time", "-f", "%e %U %M", program, *options], stdin=reads, stdout=out, stderr=subprocess.PIPE, text=True, check=True)
     wall, user, kilobytes = ran.stderr.split()[-3:]

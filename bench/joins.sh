@@ -41,6 +41,8 @@ while read -r name theirs; do
     rm -f ./*.times
     round=0
     while [ "$round" -lt "$rounds" ]; do
+        # new files: some file systems have who writes over a file wait for the disk when it is closed
+        rm -f ours.dump joined.*
         /usr/bin/time -a -o ours.times -f '%e %U %M' "$top/kmc_db" "$name" -ci1 -cs4294967295 first.dump second.dump > ours.dump
         /usr/bin/time -a -o theirs.times -f '%e %U %M' kmc_tools -t4 simple first second "$theirs" joined -cs4294967295 > log 2>&1
         round=$((round + 1))
@@ -75,8 +77,9 @@ awk -v step="$(($(wc -l < first.dump) / 1000))" 'NR % step == 1 && n++ < 1000 { 
 rm -f ./*.times
 round=0
 while [ "$round" -lt "$rounds" ]; do
+    rm -f alone.dump packed.*
     /usr/bin/time -a -o alone.times -f '%e %U %M' sh -c "$count > alone.dump"
-    /usr/bin/time -a -o pack.times -f '%e %U %M' sh -c "$count | $top/kmc_db pack -k$k -ci1 -cs1000000 --force packed"
+    /usr/bin/time -a -o pack.times -f '%e %U %M' sh -c "$count | $top/kmc_db pack -k$k -ci1 -cs1000000 packed"
     /usr/bin/time -a -o histogram.times -f '%e %U %M' sh -c "$count | $top/kmc_db histogram - > rows"
     /usr/bin/time -a -o walk.times -f '%e %U %M' sh -c "$top/kmc_db query first.dump < words > walked"
     /usr/bin/time -a -o query.times -f '%e %U %M' sh -c "$top/kmc_db query packed < words > counts"

@@ -30,6 +30,7 @@ for name in "a.dump", "b.dump":
 END
 export LC_ALL=C TIMEFORMAT=%R
 for _ in 1 2 3; do
+    rm -f sorted merged # some file systems have who writes over a file wait for the disk when it is closed
     { time sort -m a.dump b.dump > sorted; } 2>> sort.times
     { time "$KMC_MERGE" -ci1 -cx9223372036854775808 -cs9223372036854775808 a.dump b.dump > merged; } 2>> merge.times
 done

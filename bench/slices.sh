@@ -58,7 +58,8 @@ reads_of() {
     esac
 }
 
-# timed NAME COMMAND: adds a line 'wall user kilobytes' to the times of NAME
+# timed NAME COMMAND: adds a line 'wall user kilobytes' to the times of NAME. What it writes are new files: some file systems have who
+# writes over a file wait for the disk when it is closed
 timed() {
     /usr/bin/time -a -o "$1.times" -f '%e %U %M' sh -c "$2"
 }
@@ -87,6 +88,7 @@ unwatch() {
 }
 
 in_one_run() {
+    rm -f one.dump
     timed one "$freed $top/kmc -k$k -sp$threads -sr$threads < reads > one.dump"
 }
 
@@ -96,6 +98,7 @@ in_slices() {
     cat cut/part.* | wc -c > records
     number=0
     dumps=''
+    rm -f slices.dump
     : > list.times
     while [ "$number" -lt "$slices" ]; do
         timed list "$freed $top/kmc_list -sr$threads cut/part.$number > cut/dump.$number"
@@ -116,6 +119,7 @@ in_slices() {
 in_kmc3() {
     watch theirs
     mkdir theirs/files
+    rm -f kmc3.dump
     timed kmc3 "kmc -k$k -ci2 -m${KMC_GB:-2} -t$threads reads theirs/base theirs/files > log 2>&1 && kmc_tools -t$threads transform theirs/base dump -s kmc3.dump >> log 2>&1"
     unwatch
     cmp one.dump kmc3.dump
@@ -130,6 +134,7 @@ done
 
 in_cluster() {
     watch cluster
+    rm -f cluster.dump
     timed cluster "FUTONCRANE_BIN=$top $dask $top/futoncrane/futoncrane cluster --workers $threads --slices $slices --directory cluster -k$k reads > cluster.dump 2> log"
     unwatch
     cmp one.dump cluster.dump
