@@ -1,6 +1,6 @@
 #!/bin/sh
-# Compares kmc_db with `kmc_tools simple` of KMC 3: union, intersection, and both differences of two sets of reads that share half of their genome.
-# The answers must be equal. The table of the two stands beside them, which KMC 3 has not: its numbers must add up to the k-mers of the union.
+# Compares `futoncrane` with `kmc_tools simple` of KMC 3, and with one kmc_db alone: union, intersection, and both differences of two sets of reads
+# that share half of their genome. The answers must be equal. The table of the two stands beside them, which KMC 3 has not: its numbers must add up to the k-mers of the union.
 # Then what a database and a histogram of reads take beside the dump that they are made of, and a thousand words looked up.
 # Prints two Markdown tables.
 #
@@ -8,7 +8,7 @@
 #
 # Wants `kmc` and `kmc_tools` (Debian's package kmc) and GNU time. READS (1500000), K (31) and ROUNDS (3) are variables: so many reads of 100
 # symbols are simulated for each side. Ours reads two dumps and writes one; KMC's reads two databases and writes one, and its dump is made
-# apart, for comparison alone. A row has the least wall time of either. The files lie in a folder of $TMPDIR or /tmp, which is removed at
+# apart, for comparison alone. Memory is that of the largest program. A row has the least wall time of either. The files lie in a folder of $TMPDIR or /tmp, which is removed at
 # the end.
 set -eu
 top=$(cd "$(dirname "$0")/.." && pwd)
@@ -34,42 +34,49 @@ best() {
     sort -n "$1.times" | head -1 | awk '{ printf "%.2f | %.2f | %.0f", $1, $2, $3 / 1024 }'
 }
 
-echo "| operation | k-mers of both sides, millions | of the answer | ours: wall s | user s | MB | kmc_tools: wall s | user s | MB | wall, ours / kmc_tools |"
-echo "|---|---|---|---|---|---|---|---|---|---|"
+echo "| operation | k-mers of both sides, millions | of the answer | futoncrane: wall s | user s | MB | kmc_db alone: wall s | user s | MB | kmc_tools: wall s | user s | MB | wall, futoncrane / kmc_tools | kmc_db / kmc_tools |"
+echo "|---|---|---|---|---|---|---|---|---|---|---|---|---|---|"
 read_in=$(cat first.dump second.dump | wc -l)
-while read -r name theirs; do
+while read -r name theirs command; do
     rm -f ./*.times
     round=0
     while [ "$round" -lt "$rounds" ]; do
         # new files: some file systems have who writes over a file wait for the disk when it is closed
-        rm -f ours.dump joined.*
+        rm -f ours.dump ranged.dump joined.*
+        # shellcheck disable=SC2086 # words of a command
+        FUTONCRANE_BIN=$top /usr/bin/time -a -o ranged.times -f '%e %U %M' "$top/futoncrane/futoncrane" $command -q -t4 --cap 4294967295 \
+            -o ranged.dump first.dump second.dump
         /usr/bin/time -a -o ours.times -f '%e %U %M' "$top/kmc_db" "$name" -ci1 -cs4294967295 first.dump second.dump > ours.dump
         /usr/bin/time -a -o theirs.times -f '%e %U %M' kmc_tools -t4 simple first second "$theirs" joined -cs4294967295 > log 2>&1
         round=$((round + 1))
     done
     kmc_tools -t4 transform joined dump -s theirs.dump > log 2>&1
     cmp ours.dump theirs.dump
+    cmp ranged.dump theirs.dump
     if [ "$name" = union ]; then
         either=$(wc -l < ours.dump)
     fi
-    echo "$name | $read_in | $(wc -l < ours.dump) | $(best ours) | $(best theirs)" |
-        awk -F ' [|] ' '{ printf "| %s | %.1f | %.1f | %s | %s | %s | %s | %s | %s | %.2f |\n", $1, $2 / 1e6, $3 / 1e6, $4, $5, $6, $7, $8, $9, $4 / $7 }'
+    echo "$name | $read_in | $(wc -l < ours.dump) | $(best ranged) | $(best ours) | $(best theirs)" | awk -F ' [|] ' '{
+        printf "| %s | %.1f | %.1f | %s | %s | %s | %s | %s | %s | %s | %s | %s | %.2f | %.2f |\n",
+            $1, $2 / 1e6, $3 / 1e6, $4, $5, $6, $7, $8, $9, $10, $11, $12, $4 / $10, $7 / $10 }'
 done <<END
-intersect intersect
-union union
-subtract kmers_subtract
-counters-subtract counters_subtract
+intersect intersect intersect
+union union union
+subtract kmers_subtract subtract
+counters-subtract counters_subtract subtract --counts
 END
 
 rm -f ./*.times
 round=0
 while [ "$round" -lt "$rounds" ]; do
+    FUTONCRANE_BIN=$top /usr/bin/time -a -o ranged.times -f '%e %U %M' "$top/futoncrane/futoncrane" table -q -t4 first.dump second.dump > ranged.rows
     /usr/bin/time -a -o ours.times -f '%e %U %M' "$top/kmc_db" table first.dump second.dump > rows
+    cmp rows ranged.rows
     round=$((round + 1))
 done
 [ "$(awk '{ all += $3 } END { print all + 0 }' rows)" = "$either" ]
-echo "table | $read_in | $(wc -l < rows) | $(best ours)" |
-    awk -F ' [|] ' '{ printf "| %s | %.1f | %d rows | %s | %s | %s | - | - | - | - |\n", $1, $2 / 1e6, $3, $4, $5, $6 }'
+echo "table | $read_in | $(wc -l < rows) | $(best ranged) | $(best ours)" | awk -F ' [|] ' '{
+    printf "| %s | %.1f | %d rows | %s | %s | %s | %s | %s | %s | - | - | - | - | - |\n", $1, $2 / 1e6, $3, $4, $5, $6, $7, $8, $9 }'
 
 # alone or with what reads the dump through a pipe
 count="$top/kmc -k$k -ci1 -cs1000000 -sp4 -sr4 < first.fq"

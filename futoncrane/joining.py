@@ -1,5 +1,5 @@
 """The join of two dumps by kmc_db: what the commands union, intersect and subtract share."""
-from futoncrane import merging, notes, operands, run, shared
+from futoncrane import merging, notes, operands, ranges, run, shared
 from futoncrane.children import Children
 from futoncrane.database_output import output_of, words_of_sum
 from futoncrane.faults import Misuse, shown
@@ -9,7 +9,8 @@ from futoncrane.options import MOST, Option, number, one_of
 CHOICES = ("min", "max", "sum", "diff", "left", "right")
 TEXT = """
 Both dumps must have been made with the same -k, and with or without --forward alike: where DUMP.json stands beside a dump that is looked
-at. They may be packed, or databases as NAME.kmc, and are read once, side by side. The work is done by kmc_db, whose answer is proved.
+at. They may be packed, or databases as NAME.kmc, and are read once, side by side. The work is done by kmc_db, whose answer is proved; large
+plain dumps are joined by as many of it as there are threads, each for a range of k-mers.
 
 The limits judge the count that the answer has for a k-mer, and every k-mer is listed unless they are given. --first-min, --first-max,
 --second-min and --second-max judge the counts of the dumps, before they are joined.
@@ -19,7 +20,7 @@ LIMITS = [
     Option(["--max"], "greatest", "COUNT", number(0, MOST, MOST), MOST, "k-mers with a higher count in the answer are left out (none: no limit)", ["-cx", "--cx"]),
     Option(["--cap"], "cap", "COUNT", number(1, MOST, MOST), MOST, "the greatest count that is shown, or none (none)", ["-cs", "--cs"]),
 ]
-OPTIONS = [*LIMITS, *operands.OPTIONS, shared.JSON, shared.QUIET, shared.OUT_DUMP]
+OPTIONS = [*LIMITS, *operands.OPTIONS, shared.THREADS, shared.JSON, shared.QUIET, shared.OUT_DUMP]
 
 
 def choice(default):
@@ -55,3 +56,20 @@ def join(command, operation, asked, words=()):
     setting.k, setting.forward = (note["k"], note["strands"] == notes.APART) if note else (None, None)
     run.tell(command, setting, asked, names)
     return 0
+
+
+def table_by_ranges(names, cap, children, setting):
+    """The table of two dumps, made range by range: the two counts of a k-mer, each at most `cap`, and how many k-mers have them. The rows rise.
+    None where the dumps are not plain files, or are small, or at fault."""
+    if not all(map(merging.is_plain, names)):
+        return None
+    found = ranges.tallied(names, "kmc_db", ["table", "-cs%d" % cap], children, setting)
+    return None if found is None else [(*counts, found[counts]) for counts in sorted(found)]
+
+
+def table_of(names, cap, children, setting):
+    """The same table, in whichever way it can be made."""
+    found, rows = table_by_ranges(names, cap, children, setting), []
+    if found is None:
+        merging.merged(names, [], children, setting, reader=rows.extend, program="kmc_db", words=["table", "-cs%d" % cap])
+    return found if found is not None else [tuple(map(int, row.split())) for row in rows]

@@ -5,7 +5,7 @@ import signal
 import stat
 import subprocess
 
-from futoncrane import databases, dumping, packing, places
+from futoncrane import databases, dumping, packing, places, ranges
 from futoncrane.children import ended, open_more, signal_of
 from futoncrane.faults import Fault, Misuse, reason, shown
 from futoncrane.feeding import judge_unpacker
@@ -107,6 +107,11 @@ def is_piped(name):
         raise Fault("%s: %s" % (shown(name), reason(fault))) from None
 
 
+def is_plain(name):
+    """Whether a dump is a file that can be read from any place of it on."""
+    return name != "-" and not name.startswith(("/dev/", "/proc/")) and os.path.isfile(name) and not is_piped(name)
+
+
 def at_once(names):
     """How many of the first dumps are merged at once: one that is read through a pipe has two files open here, and names are words of a command line."""
     files, words = open_more() - OTHERS, MOST_WORDS
@@ -118,9 +123,12 @@ def at_once(names):
     return MOST_DUMPS
 
 
-def merged(names, limits, children, setting, output=None, reader=None, sink=None, program="kmc_merge", words=(), source=subprocess.DEVNULL):
+def merged(names, limits, children, setting, output=None, reader=None, sink=None, program="kmc_merge", words=(), source=subprocess.DEVNULL,
+           is_dump=True):
     """Merges these dumps at once, or joins them by another program with these words, into the output, the file `sink`, or what `reader` reads.
-    Its standard input is `source`, or ours where that is one of the dumps."""
+    Its standard input is `source`, or ours where that is one of the dumps. An answer that is a dump is made range by range where it can be."""
+    if is_dump and not reader and not sink and all(map(is_plain, names)) and ranges.joined(names, program, [*words, *limits], children, setting, output):
+        return
     parts = Parts(names, children)
     command = [places.find(program), *words, *limits, *parts.given]
     out = subprocess.PIPE if reader else output.descriptor if output else sink

@@ -186,6 +186,16 @@ class Output:
             os.close(self.descriptor)
             self.descriptor = None
 
+    def write(self, text):
+        """Writes bytes that this command itself made."""
+        try:
+            write_all(self.descriptor, text)
+        except BrokenPipeError:
+            if self.packer is None:
+                raise Quiet from None
+        except OSError as fault:
+            raise Fault("%s: %s" % (self.shown, reason(fault))) from None
+
     def judge_packer(self):
         """Waits for the packer, and tells why it did not pack all, if so."""
         self.counter.join()

@@ -1,9 +1,16 @@
-"""The dumps of slices, merged by ranges of k-mers in several programs side by side. Slices share no k-mer, and each line is written as it
-stands. So the lines of a range take as many bytes as in the dumps, and each program writes its own at their place in the answer."""
+"""Dumps merged or joined by ranges of k-mers in several programs side by side. A range begins and ends at a line of each dump, and the k-mers
+of a range are above those of the range before. Each program refuses lines that do not rise within its range, and so what was taken of a dump
+rises as a whole. Where a program refuses, one program is given all, whose fault tells the line.
+
+Slices share no k-mer, and each of their lines is written as it stands: a range takes as many bytes as in the dumps, and each program writes its
+own at their place in the answer. What a join writes is as long as it comes out: it is put behind that of the range before."""
+import collections
 import contextlib
 import fcntl
+import itertools
 import os
 import subprocess
+import tempfile
 import threading
 
 from futoncrane import places
@@ -15,6 +22,8 @@ from futoncrane.progress import Watch, merging, read_by
 LONGEST_LINE = 64 + 22
 # fewer bytes are merged by one program; so many pipes lead to all of them at most, and each holds so many bytes
 LEAST_BYTES, MOST_PIPES, PIPE_BYTES = 1 << 24, 256, 1 << 20
+# a range of a join has about so many bytes of the dumps, since what it writes is kept until it is its turn
+RANGE_BYTES = 1 << 26
 
 
 def line_from(file, place):
@@ -45,15 +54,24 @@ def bounds_of(file, size, many):
 
 
 def ranges_of(files, sizes, many):
-    """For each range the dumps that have lines of it, each with the places where they begin and end."""
+    """For each range where it begins and ends in each of the dumps, which may have no line of it."""
     largest = max(range(len(files)), key=lambda it: sizes[it])
     starts = [0] * len(files)
     for bound in [*bounds_of(files[largest], sizes[largest], many), None]:
         ends = list(sizes) if bound is None else [first_from(file, size, bound) for file, size in zip(files, sizes)]
-        found = [(file, start, end) for file, start, end in zip(files, starts, ends) if start < end]
-        if found:
-            yield found
+        if starts != ends:
+            yield list(zip(files, starts, ends))
         starts = ends
+
+
+def some_of(parts):
+    """Those of a range's parts that have lines."""
+    return [it for it in parts if it[1] < it[2]]
+
+
+def are_of_one_length(ranges):
+    """Whether the k-mers of all ranges are as long as each other, by the first line of each part."""
+    return len({len(line_from(file, start)[1]) for parts in ranges for file, start, _ in some_of(parts)}) < 2
 
 
 def send(file, start, end, sink):
@@ -64,60 +82,101 @@ def send(file, start, end, sink):
     os.close(sink)
 
 
-class Merger:
-    """A program that merges a range to its place in the answer."""
+class Ranged:
+    """A program that reads a range of each dump, and writes to `sink`."""
 
-    def __init__(self, words, parts, path, place, children):
-        self.children, self.end = children, place + sum(end - start for _, start, end in parts)
-        self.sink = os.open(path, os.O_WRONLY | os.O_CLOEXEC)
-        os.lseek(self.sink, place, os.SEEK_SET)
+    def __init__(self, words, parts, sink, children):
+        self.children, self.bytes = children, sum(end - start for _, start, end in parts)
         pipes = [os.pipe() for _ in parts]
         for _, target in pipes:
             with contextlib.suppress(OSError):
                 fcntl.fcntl(target, fcntl.F_SETPIPE_SZ, PIPE_BYTES)
         sources = [source for source, _ in pipes]
-        self.program = children.start([*words, *("/dev/fd/%d" % it for it in sources)], pass_fds=sources, stdin=subprocess.DEVNULL, stdout=self.sink)
+        self.program = children.start([*words, *("/dev/fd/%d" % it for it in sources)], pass_fds=sources, stdin=subprocess.DEVNULL, stdout=sink)
         for it in sources:
             os.close(it)
         for part, (_, target) in zip(parts, pipes):
             begun(threading.Thread(target=send, args=(*part, target), daemon=True))
 
+    def is_ended_well(self):
+        """Waits for the end of the program, and tells whether it did its work."""
+        status, _ = ended(self.program)
+        self.children.forget(self.program)
+        return status == 0
+
+
+class Merger(Ranged):
+    """A program that merges a range to its place in the answer."""
+
+    def __init__(self, words, parts, path, place, children):
+        self.sink = os.open(path, os.O_WRONLY | os.O_CLOEXEC)
+        os.lseek(self.sink, place, os.SEEK_SET)
+        super().__init__(words, parts, self.sink, children)
+        self.end = place + self.bytes
+
     def is_done(self):
         """Waits for the end of the program, and tells whether it wrote what it was to write."""
-        status, _ = ended(self.program)
-        place = os.lseek(self.sink, 0, os.SEEK_CUR)
+        is_done = self.is_ended_well() and os.lseek(self.sink, 0, os.SEEK_CUR) == self.end
         os.close(self.sink)
-        self.children.forget(self.program)
-        return status == 0 and place == self.end
+        return is_done
+
+
+class Joiner(Ranged):
+    """A program that writes what it makes of a range to `made`, a file without a name in this folder."""
+
+    def __init__(self, words, parts, folder, children):
+        self.made = tempfile.TemporaryFile(dir=folder, buffering=0)
+        super().__init__(words, parts, self.made, children)
+
+    def stop(self):
+        """Has the program end at once."""
+        self.program.kill()
+        self.is_ended_well()
+        self.made.close()
 
 
 class Progress:
-    """How far all programs are."""
+    """How far all programs are: `running` ones, and those before, which read so many bytes."""
 
-    def __init__(self, mergers, size):
-        self.mergers, self.size = mergers, size
+    def __init__(self, running, size):
+        self.running, self.size, self.done = running, size, 0
 
     def total(self):
         return self.size
 
     def place(self, program):
-        return sum(read_by(it.program) for it in self.mergers)
+        return self.done + sum(read_by(it.program) for it in list(self.running))
+
+
+def at_once(names, setting):
+    """How many programs may read these dumps at once."""
+    return min(setting.threads, MOST_PIPES // max(1, len(names)))
+
+
+def is_file(output):
+    """Whether the output is a file of its own, which may be written at any place."""
+    return output is not None and output.is_made and not output.packer
+
+
+def opened(names, files):
+    """The dumps, open for reading until `files` are closed, and their sizes."""
+    dumps = [files.enter_context(open(name, "rb", buffering=0)).fileno() for name in names]
+    return dumps, [os.fstat(it).st_size for it in dumps]
 
 
 def merged(names, limits, children, setting, output):
     """Merges the dumps of slices into the output by as many programs as there are threads. Answers whether that was done: not for an
     answer that is no file of its own, nor for few bytes; and where a program did not do its work the answer is empty again."""
-    many = min(setting.threads, MOST_PIPES // max(1, len(names)))
-    if many < 2 or output is None or not output.is_made or output.packer:
+    many = at_once(names, setting)
+    if many < 2 or not is_file(output):
         return False
     with contextlib.ExitStack() as files:
-        dumps = [files.enter_context(open(name, "rb", buffering=0)).fileno() for name in names]
-        sizes = [os.fstat(it).st_size for it in dumps]
+        dumps, sizes = opened(names, files)
         if sum(sizes) < LEAST_BYTES:
             return False
         words, mergers = [places.find("kmc_merge"), *limits], []
         for parts in ranges_of(dumps, sizes, many):
-            mergers.append(Merger(words, parts, output.work, mergers[-1].end if mergers else 0, children))
+            mergers.append(Merger(words, some_of(parts), output.work, mergers[-1].end if mergers else 0, children))
         with Watch(Progress(mergers, sum(sizes)), mergers[0].program, not setting.quiet, step=merging):
             is_done = all([it.is_done() for it in mergers])
     if not is_done or mergers[-1].end != sum(sizes):
@@ -126,3 +185,76 @@ def merged(names, limits, children, setting, output):
     setting.report.step("kmc_merge")
     setting.report.written = sum(sizes)
     return True
+
+
+def made_in_order(names, command, folder, children, setting, take):
+    """Has programs of this command make something of each range of plain dumps, and gives `take` the files that they wrote, in their order.
+    Answers whether that was done: not for few bytes, nor where a program or `take` did not do its work."""
+    many = at_once(names, setting)
+    if many < 2:
+        return False
+    with contextlib.ExitStack() as files:
+        dumps, sizes = opened(names, files)
+        if sum(sizes) < LEAST_BYTES:
+            return False
+        ranges = list(ranges_of(dumps, sizes, max(many, sum(sizes) // RANGE_BYTES)))
+        if not are_of_one_length(ranges):
+            return False
+        left = (Joiner(command, parts, folder, children) for parts in ranges)
+        running = collections.deque(itertools.islice(left, many))
+        progress = Progress(running, sum(sizes))
+        with Watch(progress, running[0].program, not setting.quiet, step=merging):
+            while running:
+                first = running.popleft()
+                is_done = first.is_ended_well()
+                progress.done += first.bytes
+                running.extend(itertools.islice(left, 1 if is_done else 0))
+                with first.made:
+                    is_done = is_done and take(first.made)
+                if not is_done:
+                    for it in running:
+                        it.stop()
+                    return False
+    return True
+
+
+def joined(names, program, words, children, setting, output):
+    """Joins plain dumps, or merges those that share k-mers, into the output by a program with these words for each range. Answers whether that
+    was done, as `merged` does."""
+    def take(made):
+        place, end = 0, os.fstat(made.fileno()).st_size
+        with contextlib.suppress(OSError):  # who is asked to do it again has a fault that tells
+            while place < end:
+                place += os.sendfile(sink, made.fileno(), place, end - place)
+        return place == end
+
+    if not is_file(output):
+        return False
+    sink = os.open(output.work, os.O_WRONLY | os.O_CLOEXEC)
+    try:
+        if not made_in_order(names, [places.find(program), *words], os.path.dirname(output.work), children, setting, take):
+            os.ftruncate(sink, 0)
+            return False
+        setting.report.written = os.lseek(sink, 0, os.SEEK_CUR)
+    finally:
+        os.close(sink)
+    setting.report.step(program)
+    return True
+
+
+def tallied(names, program, words, children, setting):
+    """The table of plain dumps by a program with these words for each range, as numbers of k-mers by their counts; none where that was not
+    done. A k-mer is in one range, so its table is the sum of theirs."""
+    found = collections.Counter()
+
+    def take(made):
+        made.seek(0)
+        for line in made.read().splitlines():
+            *counts, number = map(int, line.split())
+            found[tuple(counts)] += number
+        return True
+
+    if not made_in_order(names, [places.find(program), *words], None, children, setting, take):
+        return None
+    setting.report.step(program)
+    return found

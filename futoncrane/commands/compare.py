@@ -1,7 +1,6 @@
 """futoncrane compare: the k-mers that two dumps share, and how well an assembly has those of its reads."""
 import bisect
 import math
-import types
 
 from futoncrane.children import Children
 from futoncrane.dumps import Dump
@@ -9,7 +8,7 @@ from futoncrane.faults import Fault, Misuse
 from futoncrane.inputs import is_same_file
 from futoncrane.options import MOST, Option, number
 from futoncrane.output import Output, text_output
-from futoncrane import merging, notes, report, shared
+from futoncrane import joining, merging, notes, shared
 
 USAGE = "[--common | --first | --second | --same | --assembly] [-o FILE] FIRST.dump SECOND.dump"
 TEXT = """
@@ -31,7 +30,7 @@ OPTIONS = [
     Option(["--same"], "what", constant="same", text="writes the lines that stand in both: k-mers with equal counts"),
     Option(["--assembly"], "what", constant="assembly", text="tells the completeness and the quality (QV) of the second, an assembly of the first's reads"),
     Option(["--solid"], "solid", "COUNT", number(1, MOST), 1, "k-mers of the reads that occur so often are solid, with --assembly (1: each that is listed)"),
-    shared.QUIET, shared.OUT,
+    shared.THREADS, shared.QUIET, shared.OUT,
 ]
 EXAMPLES = ["futoncrane compare mother.dump child.dump", "futoncrane compare --second -o new.dump mother.dump child.dump.gz",
             "futoncrane compare --assembly --solid 5 reads.dump assembly.dump"]
@@ -82,13 +81,6 @@ def alone(asked, children, setting):
         output.finish()
 
 
-def table_of(asked, children, setting):
-    """For each two counts that a k-mer has in the first and in the second dump, how many k-mers have them."""
-    rows = []
-    merging.merged(asked.files, [], children, setting, reader=rows.extend, program="kmc_db", words=["table", "-cs%d" % MOST])
-    return [tuple(map(int, row.split())) for row in rows]
-
-
 def numbers(rows):
     """How many k-mers are in both, in the first and in the second."""
     return [sum(many for one, other, many in rows if is_in(one, other)) for is_in in (
@@ -134,13 +126,13 @@ def main(asked):
     if asked.what == "assembly" and not is_for_kmc_db(asked):
         raise Misuse("--assembly wants two files")
     notes.check_pair(notes.of_dumps(asked.files, "compared", asked.quiet), asked.quiet)
-    setting = types.SimpleNamespace(quiet=asked.quiet, report=report.Report(False))
+    setting = shared.settings(asked)
     with Children() as children:
         if is_for_kmc_db(asked) and asked.what in ("first", "second"):
             alone(asked, children, setting)
             return 0
         with text_output(asked.out, children) as lines:
-            rows = table_of(asked, children, setting) if is_for_kmc_db(asked) else None
+            rows = joining.table_of(asked.files, MOST, children, setting) if is_for_kmc_db(asked) else None
             both, in_first, in_second = numbers(rows) if rows is not None else read_here(asked, children, lines)
             if asked.what in (None, "assembly"):
                 index = both / (in_first + in_second - both) if in_first or in_second else 1

@@ -17,7 +17,7 @@ dump that is looked at, and what cannot be summed is refused. They may be packed
 Any number of dumps is taken. More than 1000, or than there may be files open, are merged in levels, by way of dumps in --directory. In these
 a sum above 9223372036854775808 is left out.
 """
-OPTIONS = [*shared.LIMITS, shared.CAP, shared.DIRECTORY, shared.JSON, shared.QUIET, shared.OUT_DUMP]
+OPTIONS = [*shared.LIMITS, shared.CAP, shared.THREADS, shared.DIRECTORY, shared.JSON, shared.QUIET, shared.OUT_DUMP]
 EXAMPLES = [
     "futoncrane merge --min 1 --cap none -o whole.dump slice.*.dump",
     "futoncrane count --min 1 --cap none -o a.dump.gz lane_a.fastq.gz",

@@ -11,18 +11,27 @@ k-mers have both. A count of 0 says that the dump does not list the k-mer. The l
 are drawn from it, and how alike two samples are.
 
 Both dumps must have been made with the same -k, and with or without --forward alike: where DUMP.json stands beside a dump that is looked
-at. They may be packed, or databases as NAME.kmc, and are read once, side by side. The work is done by kmc_db, whose answer is proved.
+at. They may be packed, or databases as NAME.kmc, and are read once, side by side. The work is done by kmc_db, whose answer is proved; large
+plain dumps are read by as many of it as there are threads, each for a range of k-mers.
 """
 OPTIONS = [
     Option(["--cap"], "cap", "COUNT", number(1, MOST, MOST), 1000, "greater counts are taken for this, or for none (1000)", ["-cs", "--cs"]),
-    shared.QUIET, shared.OUT,
+    shared.THREADS, shared.QUIET, shared.OUT,
 ]
 EXAMPLES = ["futoncrane table --cap 200 -o spectra.txt reads.dump assembly.dump"]
+
+
+# with a cap above this one there may be too many rows to hold
+MOST_CAP = 1000
 
 
 def main(asked):
     names, setting, _ = joining.two_dumps(asked, "compared")
     with Children() as children, Output(asked.out, children) as output:
-        merging.merged(names, [], children, setting, output, program="kmc_db", words=["table", "-cs%d" % asked.cap])
+        rows = joining.table_by_ranges(names, asked.cap, children, setting) if asked.cap <= MOST_CAP else None
+        if rows is None:
+            merging.merged(names, [], children, setting, output, program="kmc_db", words=["table", "-cs%d" % asked.cap], is_dump=False)
+        else:
+            output.write(b"".join(b"%d\t%d\t%d\n" % row for row in rows))
         output.finish()
     return 0
