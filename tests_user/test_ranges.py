@@ -194,3 +194,19 @@ def test_a_table_by_ranges_is_the_table(room):
             with Children() as children:
                 setting = types.SimpleNamespace(threads=3, quiet=True, report=report.Report(False))
                 assert joining.table_by_ranges(names, cap, children, setting) == sorted((*counts, wanted[counts]) for counts in wanted)
+
+
+def test_large_dumps_are_joined_and_their_fault_is_told_with_its_line(room):
+    program("kmc_db")
+    words = ["".join("ACGT"[number >> place & 3] for place in range(40, -2, -2)).encode() for number in range(1, 1 << 42, 1 << 22)]
+    lines = [b"%s\t7\n" % word for word in words]
+    left, right = room.write("left.dump", b"".join(lines)), room.write("right.dump", b"".join(lines[::2]))
+    assert len(content(room.path(left))) + len(content(room.path(right))) > 1 << 24
+    for threads in ("-t1", "-t3"):
+        room.run("subtract", "-q", threads, "-o", "answer" + threads, left, right)
+        assert content(room.path("answer" + threads)) == b"".join(lines[1::2])
+    place = len(lines) * 2 // 3
+    lines[place:place + 2] = lines[place + 1], lines[place]
+    room.write("wrong.dump", b"".join(lines))
+    room.refuses(1, "wrong.dump", "line %d" % (place + 2), words=["intersect", "-q", "-t3", "-o", "none", left, "wrong.dump"])
+    assert not os.path.exists(room.path("none"))
