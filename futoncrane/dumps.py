@@ -27,7 +27,11 @@ class Histogram:
             if ": line " not in self.fault:  # a line that is none may be the end of a dump whose program failed, which tells its own fault
                 raise Fault(self.fault)
         self.children.forget(child)
-        self.rows.update(dict(rows))
+        self.add(dict(rows))
+
+    def add(self, numbers):
+        """Adds a histogram of k-mers that were in none before."""
+        self.rows.update(numbers)
 
     def numbers(self):
         if self.fault:

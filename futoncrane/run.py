@@ -1,7 +1,7 @@
 """A run over inputs, whole or in slices."""
 import sys
 
-from futoncrane import doubts, folders, inputs, memory, merging, notes, places, report, shared, slices
+from futoncrane import doubts, dumps, folders, inputs, memory, merging, notes, places, ranges, report, shared, slices
 from futoncrane.faults import Fault, Misuse, shown
 from futoncrane.programs import fed
 
@@ -67,6 +67,11 @@ def read_dumps(found, setting, children, reader):
         if not notes.is_whole(note):
             report.say("%s was counted with %s: the answer lacks what these leave out" % (shown(name), notes.limits_of(note)), setting.quiet)
     setting.k, setting.report.bytes_read = found[0].k, sum(it.bytes for it in found)
+    if isinstance(reader, dumps.Histogram) and len(names) == 1 and setting.cap >= setting.greatest and merging.is_plain(names[0]):
+        found = ranges.tallied(names, "kmc_db", ["histogram"], children, setting)
+        if found is not None:
+            reader.add({count: number for (count,), number in found.items() if setting.least <= count <= setting.greatest})
+            return
     limits = ["-ci%d" % setting.least, "-cx%d" % setting.greatest, "-cs%d" % setting.cap]
     merging.merge(names, limits, children, setting, lambda: folders.made(folders.place_for(setting.directory, setting.out)), None, reader)
 

@@ -205,8 +205,10 @@ def test_large_dumps_are_joined_and_their_fault_is_told_with_its_line(room):
     for threads in ("-t1", "-t3"):
         room.run("subtract", "-q", threads, "-o", "answer" + threads, left, right)
         assert content(room.path("answer" + threads)) == b"".join(lines[1::2])
+        assert room.run("histogram", "-q", threads, left).out == b"7\t%d\n" % len(lines)
     place = len(lines) * 2 // 3
     lines[place:place + 2] = lines[place + 1], lines[place]
     room.write("wrong.dump", b"".join(lines))
     room.refuses(1, "wrong.dump", "line %d" % (place + 2), words=["intersect", "-q", "-t3", "-o", "none", left, "wrong.dump"])
+    room.refuses(1, "wrong.dump", "line %d" % (place + 2), words=["histogram", "-q", "-t3", "wrong.dump"])
     assert not os.path.exists(room.path("none"))
