@@ -1,5 +1,5 @@
 //! The buffer in which the bytes of a file are gathered on their way out.
-ghost use Rattle.std.specs.Prelude.{◌≡◌, ◌-◌, ◌^◌, ◌<◌, ◌≤◌, ◌++◌, length, OnOk, OnErr};
+ghost use Rattle.std.specs.Prelude.{◌≡◌, ◌≤◌, ◌++◌, length, OnOk, OnErr};
 ghost use Rattle.std.specs.Io.KnownBytes.{Appends};
 ghost use Rattle.kmc_device.specs.Device.{AppendsFront, RisesByOne, WritesOut};
 
@@ -42,7 +42,6 @@ impl ByteBuffer {
 
     /// Puts bytes behind what is held, which goes out first where not both fit.
     pub fn put<W: Write>(&mut self, writer: &mut Counted<W>, bytes: &[u8]) -> Result<(), WriteFault>
-        requires failures { writer.old.failures < 2 ^ 64 - 1 }
         requires few { length bytes.now ≤ ROOM }
         ensures ok { OnOk result (WritesOut (W.contents writer.old.inner)
             (W.contents writer.new.inner) (self.old ++ bytes.now) self.new) }
@@ -64,7 +63,6 @@ impl ByteBuffer {
         writer: &mut Counted<W>,
         bytes: &[u8],
     ) -> Result<(), WriteFault>
-        requires { writer.old.failures < 2 ^ 64 - 1 }
         ensures ok { OnOk result (Appends (W.contents writer.old.inner)
             (W.contents writer.new.inner) (self ++ bytes.now)) }
         ensures kept { OnOk result (writer.new.failures ≡ writer.old.failures) }

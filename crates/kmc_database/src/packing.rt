@@ -1,5 +1,5 @@
 //! A dump as a database.
-ghost use Rattle.std.specs.Prelude.{◌≡◌, ◌-◌, ◌^◌, ◌<◌, List, ℕ, Option, OnOk, IfOk, IfErr};
+ghost use Rattle.std.specs.Prelude.{◌^◌, ◌<◌, List, ℕ, Option, OnOk, IfOk, IfErr};
 ghost use Rattle.kmc_sum.specs.Source.{IsRoom};
 ghost use Rattle.kmc_sum.specs.Sources.{IsFresh};
 ghost use Rattle.kmc_database.specs.Answer.{IsPackAnswer};
@@ -55,8 +55,6 @@ fn end<W: Write>(
     body: ByteBuffer,
 ) -> Result<(), PackError>
     requires layout { IsLayout form.now.layout }
-    requires prefix { prefix.old.failures < 2 ^ 64 - 1 }
-    requires suffix { suffix.old.failures < 2 ^ 64 - 1 }
     ensures ok { OnOk result (IsEnded W.contents form.now rows prefix.old prefix.new table suffix.old
         suffix.new body) }
     ensures err { IfErr result (IsNotEnded W.contents form.now rows prefix.old prefix.new table
@@ -84,8 +82,6 @@ fn pack_rows<R: Read, W: Write>(
     requires room { IsRoom room.old }
     requires layout { IsLayout form.now.layout }
     requires fits { first.packed < 4 ^ form.now.layout.k }
-    requires prefix { prefix.old.failures < 2 ^ 64 - 1 }
-    requires suffix { suffix.old.failures < 2 ^ 64 - 1 }
     ensures { (o : PackOptions) (start : Option (List ℕ))
         → IsAsked o start (R.remaining reader.old.inner) room.old first form.now
         → IsPackAnswer R.remaining W.contents o start reader.old reader.new prefix.old prefix.new
@@ -139,8 +135,6 @@ pub fn pack<R: Read, W: Write>(
     prefix: &mut Counted<W>,
     suffix: &mut Counted<W>,
 ) -> Result<u64, PackError>
-    requires prefix { prefix.old.failures < 2 ^ 64 - 1 }
-    requires suffix { suffix.old.failures < 2 ^ 64 - 1 }
     ensures { IsPackAnswer R.remaining W.contents options.now (R.remaining reader.old.inner)
         reader.old reader.new prefix.old prefix.new suffix.old suffix.new result }
 {

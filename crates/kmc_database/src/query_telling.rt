@@ -1,5 +1,5 @@
 //! A database queried for a user, who is told of a refusal.
-ghost use Rattle.std.specs.Prelude.{◌≡◌, ◌≤◌, ◌-◌, ◌^◌, ◌<◌, ℕ, List, Some};
+ghost use Rattle.std.specs.Prelude.{◌≡◌, ◌≤◌, ℕ, List, Some};
 ghost use Rattle.std.specs.Process.{exit_status};
 ghost use Rattle.kmc_database.specs.Files.{IsDatabase};
 ghost use Rattle.kmc_database.specs.Queried.{AreCounted, IsQueried, IsQueryCause};
@@ -27,7 +27,6 @@ pub fn query_places<T: Eprint + Alloc<A = Global>, P: Places, S: Places, Q: Read
     words: &mut Counted<Q>,
     writer: &mut Counted<W>,
 ) -> ExitCode
-    requires { writer.old.failures < 2 ^ 64 - 1 }
     ensures done { let before = search_of P.bytes P.failures S.bytes S.failures Q.remaining W.contents
         prefix.old suffix.old words.old writer.old in
         let after = search_of P.bytes P.failures S.bytes S.failures Q.remaining W.contents

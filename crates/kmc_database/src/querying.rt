@@ -1,5 +1,5 @@
 //! A query of a database: it is opened, and words are looked up in it.
-ghost use Rattle.std.specs.Prelude.{◌≡◌, ◌-◌, ◌^◌, ◌<◌, ℕ, List, IfErr, IfOk, Some};
+ghost use Rattle.std.specs.Prelude.{◌≡◌, ℕ, List, IfErr, IfOk, Some};
 ghost use Rattle.kmc_database.specs.Files.{IsDatabase};
 ghost use Rattle.kmc_database.specs.Queried.{AreCounted, IsQueried, IsQueryCause};
 ghost use Rattle.kmc_database.specs.Searched.{search_of};
@@ -25,7 +25,6 @@ pub fn query_database<P: Places, S: Places, Q: Read, W: Write>(
     words: &mut Counted<Q>,
     writer: &mut Counted<W>,
 ) -> Result<u64, SearchError>
-    requires { writer.old.failures < 2 ^ 64 - 1 }
     ensures prefix { P.bytes prefix.new ≡ P.bytes prefix.old }
     ensures suffix { S.bytes suffix.new ≡ S.bytes suffix.old }
     ensures ok { let before = search_of P.bytes P.failures S.bytes S.failures Q.remaining W.contents

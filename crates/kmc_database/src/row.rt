@@ -1,5 +1,5 @@
 //! The rows of a database.
-ghost use Rattle.std.specs.Prelude.{◌≡◌, ◌-◌, ◌*◌, ◌/◌, ◌^◌, ◌<◌, ◌≤◌, ◌++◌, ◌↔◌, IsTrue, OnOk, OnErr};
+ghost use Rattle.std.specs.Prelude.{◌≡◌, ◌-◌, ◌/◌, ◌^◌, ◌<◌, ◌++◌, ◌↔◌, IsTrue, OnOk, OnErr};
 ghost use Rattle.kmc_base.specs.Packed.{unpack};
 ghost use Rattle.kmc_device.specs.Device.{AppendsFront, RisesByOne, WritesOut};
 ghost use Rattle.kmc_database.specs.Layout.{IsLayout};
@@ -38,7 +38,6 @@ pub(crate) fn put_row<W: Write>(
     packed: u128,
     count: u64,
 ) -> Result<(), WriteFault>
-    requires failures { writer.old.failures < 2 ^ 64 - 1 }
     requires layout { IsLayout layout.now }
     ensures ok { OnOk result (WritesOut (W.contents writer.old.inner)
         (W.contents writer.new.inner)

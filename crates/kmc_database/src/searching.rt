@@ -1,5 +1,5 @@
 //! Words looked up in a database, and written with their counts.
-ghost use Rattle.std.specs.Prelude.{◌≡◌, ◌-◌, ◌^◌, ◌<◌, ℕ, List, Option, Contains, IfErr, IfOk, OnErr, OnOk};
+ghost use Rattle.std.specs.Prelude.{◌≡◌, ℕ, List, Option, Contains, IfErr, IfOk, OnErr, OnOk};
 ghost use Rattle.kmc_base.specs.Lemmas.Keys.{IsWord};
 ghost use Rattle.kmc_database.specs.LookedUp.{IsReach};
 ghost use Rattle.kmc_database.specs.Searched.{AreBegun, AreWritten, IsFindingCause, IsSearchCause, IsSearched, search_of};
@@ -25,7 +25,6 @@ fn put_found<P: Places, S: Places, W: Write>(
 ) -> Result<(), SearchError>
     requires reach { IsReach database.now.header }
     requires each { (w : List ℕ) → Contains words.now w → IsWord database.now.header.layout.k w }
-    requires writer { writer.old.failures < 2 ^ 64 - 1 }
     ensures prefix { P.bytes prefix.new ≡ P.bytes prefix.old }
     ensures suffix { S.bytes suffix.new ≡ S.bytes suffix.old }
     ensures ok { OnOk result (AreWritten database.now (P.bytes prefix.old) (S.bytes suffix.old)
@@ -86,7 +85,6 @@ pub fn query_opened<P: Places, S: Places, Q: Read, W: Write>(
     writer: &mut Counted<W>,
 ) -> Result<u64, SearchError>
     requires reach { IsReach database.now.header }
-    requires writer { writer.old.failures < 2 ^ 64 - 1 }
     ensures prefix { P.bytes prefix.new ≡ P.bytes prefix.old }
     ensures suffix { S.bytes suffix.new ≡ S.bytes suffix.old }
     ensures ok { let before = search_of P.bytes P.failures S.bytes S.failures Q.remaining W.contents

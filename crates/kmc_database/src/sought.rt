@@ -32,7 +32,10 @@ fn fill_at<T: Read + Seek>(device: &mut T, place: u64, buffer: &mut [u8]) -> io:
 
 impl<T> Sought<T> {
     /// The device with no failure yet.
-    pub fn new(inner: T) -> Sought<T> {
+    pub fn new(inner: T) -> Sought<T>
+        ensures inner { result.inner ≡ inner }
+        ensures failures { result.failures ≡ 0 }
+    {
         Sought { inner, failures: 0 }
     }
 

@@ -1,5 +1,5 @@
 //! The table of a database, as its rows come.
-ghost use Rattle.std.specs.Prelude.{◌≡◌, ◌-◌, ◌^◌, ◌<◌, ◌≤◌, ◌++◌, OnOk, OnErr};
+ghost use Rattle.std.specs.Prelude.{◌≡◌, ◌-◌, ◌≤◌, ◌++◌, OnOk, OnErr};
 ghost use Rattle.kmc_device.specs.Device.{AppendsFront, RisesByOne, WritesOut};
 ghost use Rattle.kmc_database.specs.Rows.{repeated};
 
@@ -15,7 +15,6 @@ pub(crate) fn put_entries<W: Write>(
     to: u64,
     rows: u64,
 ) -> Result<(), WriteFault>
-    requires failures { writer.old.failures < 2 ^ 64 - 1 }
     requires order { from ≤ to }
     ensures ok { OnOk result (WritesOut (W.contents writer.old.inner)
         (W.contents writer.new.inner) (buffer.old ++ repeated (to - from) rows) buffer.new) }

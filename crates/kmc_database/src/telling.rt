@@ -1,5 +1,5 @@
 //! A dump packed for a user, who is told of a refusal.
-ghost use Rattle.std.specs.Prelude.{◌≡◌, ◌≤◌, ◌-◌, ◌^◌, ◌<◌, ◌⊎◌, ℕ};
+ghost use Rattle.std.specs.Prelude.{◌≡◌, ◌≤◌, ◌⊎◌, ℕ};
 ghost use Rattle.std.specs.Process.{exit_status};
 ghost use Rattle.kmc_database.specs.Answer.{failures_of, IsCause, IsPacked};
 ghost use Rattle.kmc_database.specs.Begun.{IsBegun};
@@ -31,8 +31,6 @@ pub fn pack_reader<T: Eprint + Alloc<A = Global>, R: Read, W: Write>(
     prefix: &mut Counted<W>,
     suffix: &mut Counted<W>,
 ) -> ExitCode
-    requires prefix { prefix.old.failures < 2 ^ 64 - 1 }
-    requires suffix { suffix.old.failures < 2 ^ 64 - 1 }
     ensures done { exit_status result ≡ 0
         → ((rows : ℕ) × IsPacked options.now (R.remaining reader.old.inner)
         (R.remaining reader.new.inner) rows (W.contents prefix.old.inner)

@@ -1,5 +1,5 @@
 //! A database unpacked for a user, who is told of a refusal.
-ghost use Rattle.std.specs.Prelude.{◌≡◌, ◌≤◌, ◌-◌, ◌^◌, ◌<◌, ◌⊎◌, ℕ};
+ghost use Rattle.std.specs.Prelude.{◌≡◌, ◌≤◌, ◌⊎◌, ℕ};
 ghost use Rattle.std.specs.Process.{exit_status};
 ghost use Rattle.kmc_database.specs.Given.{IsUnpackBegun};
 ghost use Rattle.kmc_database.specs.UnpackAnswer.{IsUnpackCause, starts_of, unpack_failures};
@@ -25,7 +25,6 @@ pub fn unpack_readers<T: Eprint + Alloc<A = Global>, R: Read, W: Write>(
     suffix: &mut Counted<R>,
     writer: &mut Counted<W>,
 ) -> ExitCode
-    requires { writer.old.failures < 2 ^ 64 - 1 }
     ensures done { exit_status result ≡ 0 → let s = starts_of R.remaining W.contents prefix.old
         suffix.old writer.old in ((rows : ℕ) × IsUnpacked (R.remaining first.old.inner)
         (R.remaining first.new.inner) s (R.remaining prefix.new.inner)

@@ -1,5 +1,5 @@
 //! A database as a dump.
-ghost use Rattle.std.specs.Prelude.{◌≡◌, ℕ, ◌+◌, ◌-◌, ◌^◌, ◌<◌, ◌≤◌, ◌⊎◌, ◌++◌, [], List, Option, OnOk, OnErr, IfOk, IfErr};
+ghost use Rattle.std.specs.Prelude.{◌≡◌, ℕ, ◌+◌, ◌-◌, ◌^◌, ◌<◌, ◌≤◌, ◌⊎◌, ◌++◌, [], List, Option, OnOk, IfOk, IfErr};
 ghost use Rattle.kmc_sum.specs.Source.{GoesOn, IsRoom, unread};
 ghost use Rattle.kmc_database.specs.Files.{prefix_marker, suffix_marker};
 ghost use Rattle.kmc_database.specs.Given.{EndsAt, IsUnpackBegun, Starts};
@@ -93,7 +93,6 @@ fn unpack_part<R: Read, W: Write>(
     requires layout { IsLayout header.now.layout }
     requires part { part.number < 4 ^ header.now.layout.prefix }
     requires order { part.from ≤ part.to }
-    requires writer { writer.old.failures < 2 ^ 64 - 1 }
     ensures room { IsRoom room.new }
     ensures read { OnOk result (reader.new.failures ≡ reader.old.failures) }
     ensures kept { OnOk result (writer.new.failures ≡ writer.old.failures) }
@@ -180,7 +179,6 @@ fn unpack_parts<R: Read, W: Write>(
     requires layout { IsLayout header.now.layout }
     requires table { IsRoom table.old }
     requires body { IsRoom body.old }
-    requires writer { writer.old.failures < 2 ^ 64 - 1 }
     ensures table { IsRoom table.new }
     ensures body { IsRoom body.new }
     ensures kept { OnOk result (writer.new.failures ≡ writer.old.failures) }
@@ -228,7 +226,6 @@ fn end_unpacking<R: Read, W: Write>(
 ) -> Result<(), UnpackError>
     requires table { IsRoom table.old }
     requires body { IsRoom body.old }
-    requires writer { writer.old.failures < 2 ^ 64 - 1 }
     ensures { (s : Starts) → AreAllUnpacked header.now.layout s (R.remaining prefix.old.inner)
         (unread table.old) (R.remaining suffix.old.inner) (unread body.old)
         (W.contents writer.old.inner) buffer header.now.rows
@@ -266,7 +263,6 @@ fn unpack_with<R: Read, W: Write>(
     requires layout { IsLayout header.now.layout }
     requires table { IsRoom table.old × (unread table.old ≡ []) }
     requires body { IsRoom body.old × (unread body.old ≡ []) }
-    requires writer { writer.old.failures < 2 ^ 64 - 1 }
     ensures { let s = starts_of R.remaining W.contents prefix.old suffix.old writer.old in
         IsStepAnswer R.remaining W.contents header.now s prefix.old prefix.new suffix.old
         suffix.new writer.old writer.new result (IsReadOut header.now s
@@ -292,7 +288,6 @@ pub fn unpack<R: Read, W: Write>(
     suffix: &mut Counted<R>,
     writer: &mut Counted<W>,
 ) -> Result<u64, UnpackError>
-    requires { writer.old.failures < 2 ^ 64 - 1 }
     ensures { IsUnpackAnswer R.remaining W.contents first.old first.new prefix.old prefix.new
         suffix.old suffix.new writer.old writer.new result }
 {

@@ -1,5 +1,5 @@
 //! `kmc_db dump`: the dump of a database in two files, on standard output.
-ghost use Rattle.std.specs.Prelude.{◌≡◌, ◌-◌, ◌^◌, ◌<◌, length, true, IfOk};
+ghost use Rattle.std.specs.Prelude.{◌≡◌, ◌<◌, length, true};
 
 use kmc_database::unpack_readers;
 use kmc_device::Counted;
@@ -57,9 +57,7 @@ fn dump_from<T: Files + Eprint + Alloc<A = Global>, W: Write>(
     rt: &T,
     database: &str,
     writer: &mut Counted<W>,
-) -> Result<ExitCode, ExitCode>
-    requires { writer.old.failures < 2 ^ 64 - 1 }
-{
+) -> Result<ExitCode, ExitCode> {
     let mut first = reader_for(rt, database, "kmc_pre")?;
     let mut prefix = reader_for(rt, database, "kmc_pre")?;
     let mut suffix = reader_for(rt, database, "kmc_suf")?;
@@ -71,9 +69,7 @@ pub fn dump_files<T: Files + Eprint + Alloc<A = Global>, W: Write>(
     rt: &T,
     words: &[String],
     writer: &mut Counted<W>,
-) -> ExitCode
-    requires { writer.old.failures < 2 ^ 64 - 1 }
-{
+) -> ExitCode {
     let Some(database) = dump_request(words) else {
         let _ = rt.eprintln(USAGE);
         return ExitCode::from(2);

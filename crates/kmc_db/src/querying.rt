@@ -1,5 +1,4 @@
 //! `kmc_db query` of a database in two files: words on standard input with their counts, on standard output.
-ghost use Rattle.std.specs.Prelude.{◌-◌, ◌^◌, ◌<◌};
 
 use kmc_base::Strands;
 use kmc_database::{Sought, query_places};
@@ -37,9 +36,7 @@ pub fn query_files<T: Files + Eprint + Alloc<A = Global>, I: Read + Drop, W: Wri
     words: &[String],
     input: I,
     writer: &mut Counted<W>,
-) -> Option<ExitCode>
-    requires { writer.old.failures < 2 ^ 64 - 1 }
-{
+) -> Option<ExitCode> {
     let strands = query_strands(words)?;
     let word = words.last()?.as_str();
     let name = database_named(word);

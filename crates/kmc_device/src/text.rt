@@ -1,5 +1,5 @@
 //! A text on a device, in as many writes as the device wants.
-ghost use Rattle.std.specs.Prelude.{◌≡◌, ◌-◌, ◌^◌, ◌<◌, OnOk, OnErr};
+ghost use Rattle.std.specs.Prelude.{◌≡◌, OnOk, OnErr};
 ghost use Rattle.std.specs.Io.KnownBytes.{Appends};
 ghost use Rattle.kmc_device.specs.Device.{AppendsFront, RisesByOne};
 
@@ -12,7 +12,6 @@ pub struct WriteFault;
 
 /// Writes all of the text, in as many writes as the device wants.
 pub fn write_text<W: Write>(writer: &mut Counted<W>, text: &[u8]) -> Result<(), WriteFault>
-    requires { writer.old.failures < 2 ^ 64 - 1 }
     ensures ok { OnOk result (Appends (W.contents writer.old.inner)
         (W.contents writer.new.inner) text.now) }
     ensures kept { OnOk result (writer.new.failures ≡ writer.old.failures) }

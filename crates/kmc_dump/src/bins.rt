@@ -1,5 +1,5 @@
 //! The dump of the lists of all bins, whatever their widths.
-ghost use Rattle.std.specs.Prelude.{◌≡◌, ◌-◌, ◌^◌, ◌<◌, ◌≤◌, length, OnOk, IfOk, IsErrOf};
+ghost use Rattle.std.specs.Prelude.{◌≡◌, ◌≤◌, length, OnOk, IfOk, IsErrOf};
 ghost use Rattle.std.specs.Io.KnownBytes.{Appends};
 ghost use Rattle.kmc_device.specs.Device.{AppendsFront, RisesByOne};
 ghost use Rattle.kmc_lists.specs.Line.{text_of};
@@ -28,7 +28,6 @@ fn write_sized<R: Threads + Sync, D: Write>(
 ) -> Result<u64, DumpError>
     requires merge { CanBeMerged size.k (lists_of lists.now) }
     requires threads { 1 ≤ threads }
-    requires failures { writer.old.failures < 2 ^ 64 - 1 }
     ensures { IsDumped D.contents (text_of (spelled size.k (whole (lists_of lists.now))))
         (length (whole (lists_of lists.now))) writer.old writer.new result }
 {
@@ -70,7 +69,6 @@ pub fn write_bins<R: Threads + Sync, D: Write>(
     requires most { k ≤ MAX_K }
     requires merge { CanBeMerged k (lists_of lists.now) }
     requires threads { 1 ≤ threads }
-    requires failures { writer.old.failures < 2 ^ 64 - 1 }
     ensures ok { OnOk result (Appends (D.contents writer.old.inner) (D.contents writer.new.inner)
         (text_of (spelled k (whole (lists_of lists.now))))) }
     ensures lines { IfOk result (λ lines. lines ≡ length (whole (lists_of lists.now))) }

@@ -1,5 +1,5 @@
 //! A turn: full buffers are written while empty ones are filled.
-ghost use Rattle.std.specs.Prelude.{ℕ, ◌-◌, ◌^◌, ◌<◌, ◌≤◌, length, take, All};
+ghost use Rattle.std.specs.Prelude.{◌≤◌, length, take, All};
 ghost use Rattle.std.specs.List.{flat_map};
 ghost use Rattle.kmc_dump.specs.Filled.{AreFilled, CanBeFilled};
 ghost use Rattle.kmc_dump.specs.Written.{IsWritten};
@@ -18,7 +18,6 @@ pub fn write_buffers<D: Write, W: PackedKmer + Drop>(
     writer: &mut Counted<D>,
     buffers: &[Buffer<W>],
 ) -> Result<(), WriteFault>
-    requires failures { writer.old.failures < 2 ^ 64 - 1 }
     requires within { All (λ b. b.filled ≤ length b.text.items) buffers.now }
     ensures { IsWritten D.contents (flat_map (λ b. take b.filled b.text.items) buffers.now)
         writer.old writer.new result }
@@ -65,7 +64,6 @@ fn write_beside<
     first: usize,
     empty: &mut [Buffer<W>],
 ) -> Result<(), WriteFault>
-    requires failures { writer.old.failures < 2 ^ 64 - 1 }
     requires within { All (λ b. b.filled ≤ length b.text.items) full.now }
     requires some { 1 ≤ length empty.old }
     requires room { CanBeFilled filling.now.ranges.now filling.now.lists.now C.most_digits first
@@ -102,7 +100,6 @@ pub fn write_and_fill<
     first: usize,
     empty: &mut [Buffer<W>],
 ) -> Result<(), WriteFault>
-    requires failures { writer.old.failures < 2 ^ 64 - 1 }
     requires within { All (λ b. b.filled ≤ length b.text.items) full.now }
     requires room { CanBeFilled filling.now.ranges.now filling.now.lists.now C.most_digits first
         empty.old }

@@ -1,5 +1,5 @@
 //! The text of all ranges on a device, a wave at a time.
-ghost use Rattle.std.specs.Prelude.{◌-◌, ◌^◌, ◌<◌, ◌≤◌, length, take, All};
+ghost use Rattle.std.specs.Prelude.{◌≤◌, length, take, All};
 ghost use Rattle.std.specs.List.{flat_map};
 ghost use Rattle.kmc_lists.specs.Line.{line_room, text_of};
 ghost use Rattle.kmc_dump.specs.Ranges.{AreRanges};
@@ -22,7 +22,6 @@ fn write_last<D: Write, W: PackedKmer + Drop>(
     writer: &mut Counted<D>,
     buffers: &[Buffer<W>],
 ) -> Result<(), WriteFault>
-    requires failures { writer.old.failures < 2 ^ 64 - 1 }
     requires within { All (λ b. b.filled ≤ length b.text.items) buffers.now }
     ensures { IsWritten D.contents (flat_map (λ b. take b.filled b.text.items) buffers.now)
         writer.old writer.new result }
@@ -51,7 +50,6 @@ fn write_rows<
     requires some { 1 ≤ length back.old }
     requires front { All (HasRoomForRange filling.now.ranges.now.widest (line_room filling.now.ranges.now.k C.most_digits)) front.old }
     requires back { All (HasRoomForRange filling.now.ranges.now.widest (line_room filling.now.ranges.now.k C.most_digits)) back.old }
-    requires failures { writer.old.failures < 2 ^ 64 - 1 }
     ensures { IsWritten D.contents
         (text_of (spelled filling.now.ranges.now.k (whole filling.now.lists.now)))
         writer.old writer.new result }
@@ -93,7 +91,6 @@ pub fn write_ranges<
     requires ranges { AreRanges ranges.now lists.now }
     requires buffers { 1 ≤ length buffers.old }
     requires room { All (HasRoomForRange ranges.now.widest (line_room ranges.now.k C.most_digits)) buffers.old }
-    requires failures { writer.old.failures < 2 ^ 64 - 1 }
     ensures { IsWritten D.contents (text_of (spelled ranges.now.k (whole lists.now)))
         writer.old writer.new result }
 {

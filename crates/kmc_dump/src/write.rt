@@ -1,5 +1,5 @@
 //! The dump of lists that share no word, on a device.
-ghost use Rattle.std.specs.Prelude.{◌≡◌, ◌-◌, ◌^◌, ◌<◌, ◌≤◌, length, OnErr, IfOk};
+ghost use Rattle.std.specs.Prelude.{◌≡◌, ◌^◌, ◌≤◌, length, OnErr, IfOk};
 ghost use Rattle.kmc_lists.specs.Line.{text_of};
 ghost use Rattle.kmc_lists.specs.Listed.{spelled};
 ghost use Rattle.kmc_lists.specs.Ordered.{CanBeMerged, joined, packs, whole};
@@ -89,7 +89,6 @@ pub(crate) fn write_lists<
 ) -> Result<u64, DumpError>
     requires merge { CanBeMerged size.k lists.now }
     requires threads { 1 ≤ threads }
-    requires failures { writer.old.failures < 2 ^ 64 - 1 }
     ensures { IsDumped D.contents (text_of (spelled size.k (whole lists.now))) (length (whole lists.now))
         writer.old writer.new result }
 {

@@ -1,5 +1,5 @@
 //! The program: from its arguments to the dump of the join, the histogram or help, and the exit status.
-ghost use Rattle.std.specs.Prelude.{◌≡◌, ◌≢◌, ℕ, ◌-◌, ◌^◌, ◌<◌, ◌≤◌, ◌⊎◌, List, length, map, Some, string_bytes, true, false};
+ghost use Rattle.std.specs.Prelude.{◌≡◌, ◌≢◌, ℕ, ◌≤◌, ◌⊎◌, List, length, map, Some, string_bytes, true, false};
 ghost use Rattle.std.specs.Process.{exit_status};
 ghost use Rattle.kmc_options.specs.About.{is_asked, text_asked, Shows, ShowsFront};
 ghost use Rattle.kmc_options.specs.Words.{Word};
@@ -51,7 +51,6 @@ pub fn join_readers<T: Eprint + Alloc<A = Global>, R: Read, W: Write>(
 ) -> ExitCode
     requires two { length readers.old ≡ 2 }
     requires each { length readers.old ≡ length files.now }
-    requires writer { writer.old.failures < 2 ^ 64 - 1 }
     ensures done { exit_status result ≡ 0 → ((lines : ℕ) × IsJoinWritten rule limits.now
         (lefts_of R.remaining readers.old) (lefts_of R.remaining readers.new) lines
         (W.contents writer.old.inner) (W.contents writer.new.inner))
@@ -84,7 +83,6 @@ pub fn join_files<T: Files + Eprint + Alloc<A = Global>, I: Read + Drop, W: Writ
     input: I,
     writer: &mut Counted<W>,
 ) -> ExitCode
-    requires { writer.old.failures < 2 ^ 64 - 1 }
     ensures done { exit_status result ≡ 0
         → IsAnswered (map string_bytes words.items) (W.contents writer.old.inner)
         (W.contents writer.new.inner)
@@ -128,7 +126,6 @@ pub fn histogram_reader<T: Eprint + Alloc<A = Global>, R: Read, W: Write>(
     writer: &mut Counted<W>,
 ) -> ExitCode
     requires one { length readers.old ≡ 1 }
-    requires writer { writer.old.failures < 2 ^ 64 - 1 }
     ensures done { exit_status result ≡ 0 → IsHistogramWritten (left_at (lefts_of R.remaining readers.old) 0)
         (left_at (lefts_of R.remaining readers.new) 0) (W.contents writer.old.inner) (W.contents writer.new.inner)
         × (failures_of readers.new ≡ failures_of readers.old)
@@ -157,7 +154,6 @@ fn histogram_file<T: Files + Eprint + Alloc<A = Global>, I: Read + Drop, W: Writ
     writer: &mut Counted<W>,
 ) -> ExitCode
     requires asks { asks_for_histogram (map string_bytes words.now) ≡ true }
-    requires writer { writer.old.failures < 2 ^ 64 - 1 }
     ensures done { exit_status result ≡ 0
         → IsHistogramAnswered (map string_bytes words.now) (W.contents writer.old.inner)
         (W.contents writer.new.inner)
@@ -185,7 +181,6 @@ pub fn table_readers<T: Eprint + Alloc<A = Global>, R: Read, W: Write>(
     writer: &mut Counted<W>,
 ) -> ExitCode
     requires two { length readers.old ≡ 2 }
-    requires writer { writer.old.failures < 2 ^ 64 - 1 }
     ensures done { exit_status result ≡ 0 → IsTableWritten cap (lefts_of R.remaining readers.old)
         (lefts_of R.remaining readers.new) (W.contents writer.old.inner) (W.contents writer.new.inner)
         × (failures_of readers.new ≡ failures_of readers.old)
@@ -216,7 +211,6 @@ fn table_files<T: Files + Eprint + Alloc<A = Global>, I: Read + Drop, W: Write>(
 ) -> ExitCode
     requires asks { table_cap (map string_bytes words.now) ≡ Some cap }
     requires long { 3 ≤ length words.now }
-    requires writer { writer.old.failures < 2 ^ 64 - 1 }
     ensures done { exit_status result ≡ 0
         → IsTableAnswered (map string_bytes words.now) (W.contents writer.old.inner)
         (W.contents writer.new.inner)
@@ -241,7 +235,6 @@ fn run_named<T: Files + Eprint + Alloc<A = Global>, I: Read + Drop, W: Write>(
     input: I,
     writer: &mut Counted<W>,
 ) -> ExitCode
-    requires { writer.old.failures < 2 ^ 64 - 1 }
     ensures done { exit_status result ≡ 0
         → IsDone (map string_bytes words.items) (W.contents writer.old.inner)
         (W.contents writer.new.inner)
@@ -276,7 +269,6 @@ pub fn run_words<T: Files + Eprint + Alloc<A = Global>, I: Read + Drop, W: Write
     input: I,
     writer: &mut Counted<W>,
 ) -> ExitCode
-    requires { writer.old.failures < 2 ^ 64 - 1 }
     ensures done { exit_status result ≡ 0
         → IsDone (full_names (map string_bytes words.items)) (W.contents writer.old.inner)
         (W.contents writer.new.inner)
@@ -303,7 +295,6 @@ pub fn program_words<T: Files + Eprint + Alloc<A = Global>, I: Read + Drop, W: W
     input: I,
     writer: &mut Counted<W>,
 ) -> ExitCode
-    requires { writer.old.failures < 2 ^ 64 - 1 }
     ensures done { exit_status result ≡ 0 → is_asked (map string_bytes words.items) ≡ false
         → IsDone (full_names (map string_bytes words.items)) (W.contents writer.old.inner)
         (W.contents writer.new.inner)
@@ -332,7 +323,6 @@ pub fn program<T: Files + Env + Eprint + Alloc<A = Global>, I: Read + Drop, W: W
     input: I,
     writer: &mut Counted<W>,
 ) -> ExitCode
-    requires { writer.old.failures < 2 ^ 64 - 1 }
     ensures done { exit_status result ≡ 0 → (words : List Word) × (is_asked words ≡ false
         → IsDone (full_names words) (W.contents writer.old.inner) (W.contents writer.new.inner)
         × (writer.new.failures ≡ writer.old.failures))

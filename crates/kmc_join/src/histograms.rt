@@ -1,5 +1,5 @@
 //! The histogram of a dump: for each count that occurs, how many words have it.
-ghost use Rattle.std.specs.Prelude.{◌≡◌, ℕ, ◌*◌, ◌-◌, ◌^◌, ◌<◌, length, slice_index_or};
+ghost use Rattle.std.specs.Prelude.{◌≡◌, ℕ, ◌*◌, ◌<◌, length, slice_index_or};
 ghost use Rattle.kmc_sum.specs.Sources.{IsFresh, lefts_of};
 ghost use Rattle.kmc_join.specs.Tally.{IsHistogramAnswer};
 
@@ -23,7 +23,6 @@ fn histogram_in<R: Read, W: Write>(
         × ((i : ℕ) (room : _) → i < length readers.old
         → IsFresh (slice_index_or rooms.old i room)) }
     requires heads { length heads.old ≡ 2 * length readers.old }
-    requires writer { writer.old.failures < 2 ^ 64 - 1 }
     ensures { IsHistogramAnswer R.remaining W.contents (lefts_of R.remaining readers.old)
         readers.old readers.new writer.old writer.new result }
 {
@@ -47,7 +46,6 @@ pub fn histogram<R: Read, W: Write>(
     writer: &mut Counted<W>,
 ) -> Result<(), SumError>
     requires one { length readers.old ≡ 1 }
-    requires writer { writer.old.failures < 2 ^ 64 - 1 }
     ensures { IsHistogramAnswer R.remaining W.contents (lefts_of R.remaining readers.old)
         readers.old readers.new writer.old writer.new result }
 {

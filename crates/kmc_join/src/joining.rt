@@ -1,5 +1,5 @@
 //! The dump of the join of two dumps.
-ghost use Rattle.std.specs.Prelude.{◌≡◌, ℕ, ◌*◌, ◌-◌, ◌^◌, ◌<◌, List, length, Option, slice_index_or};
+ghost use Rattle.std.specs.Prelude.{◌≡◌, ℕ, ◌*◌, ◌<◌, List, length, Option, slice_index_or};
 ghost use Rattle.kmc_sum.specs.Heads.{IsTree};
 ghost use Rattle.kmc_sum.specs.Listed.{IsLength};
 ghost use Rattle.kmc_sum.specs.Sources.{IsFresh, AreReady, lefts_of, no_lists};
@@ -28,7 +28,6 @@ fn drain<R: Read, W: Write>(
     requires two { length readers.old ≡ 2 }
     requires tree { IsTree heads.old }
     requires long { IsLength k }
-    requires writer { writer.old.failures < 2 ^ 64 - 1 }
     ensures { (starts : List (Option (List ℕ)))
         → AreAbreast k starts (lefts_of R.remaining readers.old) rooms.old heads.old (no_lists starts)
         → IsJoinAnswer R.remaining W.contents rule limits.now starts readers.old readers.new
@@ -70,7 +69,6 @@ fn join_in<R: Read, W: Write>(
         × ((i : ℕ) (room : _) → i < length readers.old
         → IsFresh (slice_index_or rooms.old i room)) }
     requires heads { length heads.old ≡ 2 * length readers.old }
-    requires writer { writer.old.failures < 2 ^ 64 - 1 }
     ensures { IsJoinAnswer R.remaining W.contents rule limits.now
         (lefts_of R.remaining readers.old) readers.old readers.new writer.old writer.new result }
 {
@@ -90,7 +88,6 @@ pub fn join<R: Read, W: Write>(
     writer: &mut Counted<W>,
 ) -> Result<u64, SumError>
     requires two { length readers.old ≡ 2 }
-    requires writer { writer.old.failures < 2 ^ 64 - 1 }
     ensures { IsJoinAnswer R.remaining W.contents rule limits.now
         (lefts_of R.remaining readers.old) readers.old readers.new writer.old writer.new result }
 {

@@ -1,5 +1,5 @@
 //! The counts that a dump has for given words.
-ghost use Rattle.std.specs.Prelude.{◌≡◌, ◌-◌, ◌^◌, ◌<◌, ℕ, List, Contains, IfOk, IsSorted, OnErr, OnOk, length, map};
+ghost use Rattle.std.specs.Prelude.{◌≡◌, ℕ, List, Contains, IsSorted, OnErr, OnOk, length, map};
 ghost use Rattle.std.specs.Io.KnownBytes.{Appends};
 ghost use Rattle.kmc_base.specs.Strands.{key};
 ghost use Rattle.kmc_base.specs.Words.{kmer_cmp};
@@ -29,7 +29,6 @@ fn put_answers<W: Write>(
     requires each { length counts.now ≡ length keys.now }
     requires sorted { IsSorted kmer_cmp keys.now }
     requires there { (w : List ℕ) → Contains words.now w → Contains keys.now (key strands w) }
-    requires writer { writer.old.failures < 2 ^ 64 - 1 }
     ensures ok { OnOk result ((count : List ℕ → ℕ) → AreCounts count keys.now counts.now
         → Appends (W.contents writer.old.inner) (W.contents writer.new.inner)
         (text_of (map (λ w. (w, count (key strands w))) words.now))) }
@@ -59,7 +58,6 @@ pub fn query<D: Read, Q: Read, W: Write>(
     strands: Strands,
     writer: &mut Counted<W>,
 ) -> Result<u64, QueryError>
-    requires { writer.old.failures < 2 ^ 64 - 1 }
     ensures { IsQueryAnswer W.contents strands
         (inputs_of D.remaining Q.remaining dump.old words.old)
         (inputs_of D.remaining Q.remaining dump.new words.new) writer.old writer.new result }

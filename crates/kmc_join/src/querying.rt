@@ -1,5 +1,5 @@
 //! The program's query: from its words to the counts of the words on standard input, and the exit status.
-ghost use Rattle.std.specs.Prelude.{◌≡◌, ◌-◌, ◌^◌, ◌<◌, ◌≤◌, ◌⊎◌, ℕ, Some, length, map, string_bytes};
+ghost use Rattle.std.specs.Prelude.{◌≡◌, ◌≤◌, ◌⊎◌, ℕ, Some, length, map, string_bytes};
 ghost use Rattle.std.specs.Process.{exit_status};
 ghost use Rattle.kmc_join.specs.Program.{IsQueryAnswered, IsQueryGivenUp};
 ghost use Rattle.kmc_join.specs.Query.{IsQueryWritten};
@@ -28,7 +28,6 @@ pub fn query_readers<T: Eprint + Alloc<A = Global>, D: Read, Q: Read, W: Write>(
     words: &mut Counted<Q>,
     writer: &mut Counted<W>,
 ) -> ExitCode
-    requires { writer.old.failures < 2 ^ 64 - 1 }
     ensures done { let before = inputs_of D.remaining Q.remaining dump.old words.old in
         let after = inputs_of D.remaining Q.remaining dump.new words.new in exit_status result ≡ 0
         → ((lines : ℕ) × IsQueryWritten strands before.dump after.dump before.words after.words
@@ -59,7 +58,6 @@ pub(crate) fn query_file<T: Files + Eprint + Alloc<A = Global>, I: Read + Drop, 
 ) -> ExitCode
     requires asks { query_strands (map string_bytes words.now) ≡ Some strands }
     requires some { 1 ≤ length words.now }
-    requires writer { writer.old.failures < 2 ^ 64 - 1 }
     ensures done { exit_status result ≡ 0
         → IsQueryAnswered (map string_bytes words.now) (W.contents writer.old.inner)
         (W.contents writer.new.inner)

@@ -1,5 +1,5 @@
 //! The rows of a histogram and of a table, as text.
-ghost use Rattle.std.specs.Prelude.{◌≡◌, ◌-◌, ◌^◌, ◌<◌, IfOk, OnOk, OnErr, string_bytes};
+ghost use Rattle.std.specs.Prelude.{◌≡◌, IfOk, OnOk, OnErr, string_bytes};
 ghost use Rattle.std.specs.BTreeMap.{IsOrdered};
 ghost use Rattle.std.specs.Io.KnownBytes.{Appends};
 ghost use Rattle.std.specs.Ordering.{nat_cmp};
@@ -54,7 +54,6 @@ pub(crate) fn table_rows(alloc: Global, tally: Tally<(u64, u64)>) -> Result<Stri
 
 /// Writes a text, and flushes the device.
 pub(crate) fn put_text<W: Write>(writer: &mut Counted<W>, text: &str) -> Result<(), WriteFault>
-    requires { writer.old.failures < 2 ^ 64 - 1 }
     ensures ok { OnOk result (Appends (W.contents writer.old.inner)
         (W.contents writer.new.inner) text.now) }
     ensures kept { OnOk result (writer.new.failures ≡ writer.old.failures) }

@@ -1,5 +1,5 @@
 //! The table of two dumps: for each two counts that a word of either has there, how many words have them.
-ghost use Rattle.std.specs.Prelude.{◌≡◌, ℕ, ◌*◌, ◌-◌, ◌^◌, ◌<◌, length, slice_index_or};
+ghost use Rattle.std.specs.Prelude.{◌≡◌, ℕ, ◌*◌, ◌<◌, length, slice_index_or};
 ghost use Rattle.kmc_sum.specs.Sources.{IsFresh, lefts_of};
 ghost use Rattle.kmc_join.specs.Tabulation.{IsTableAnswer};
 
@@ -24,7 +24,6 @@ fn table_in<R: Read, W: Write>(
         × ((i : ℕ) (room : _) → i < length readers.old
         → IsFresh (slice_index_or rooms.old i room)) }
     requires heads { length heads.old ≡ 2 * length readers.old }
-    requires writer { writer.old.failures < 2 ^ 64 - 1 }
     ensures { IsTableAnswer R.remaining W.contents cap (lefts_of R.remaining readers.old)
         readers.old readers.new writer.old writer.new result }
 {
@@ -52,7 +51,6 @@ pub fn table<R: Read, W: Write>(
     writer: &mut Counted<W>,
 ) -> Result<(), SumError>
     requires two { length readers.old ≡ 2 }
-    requires writer { writer.old.failures < 2 ^ 64 - 1 }
     ensures { IsTableAnswer R.remaining W.contents cap (lefts_of R.remaining readers.old)
         readers.old readers.new writer.old writer.new result }
 {

@@ -1,5 +1,5 @@
 //! The lines of a dump, gathered in a buffer, so that a device is called once for each full buffer.
-ghost use Rattle.std.specs.Prelude.{◌≡◌, ◌+◌, ◌-◌, ◌^◌, ◌<◌, ◌≤◌, length, take, ◌++◌, OnErr, IfOk};
+ghost use Rattle.std.specs.Prelude.{◌≡◌, ◌+◌, ◌≤◌, length, take, ◌++◌, OnErr, IfOk};
 ghost use Rattle.kmc_device.specs.Device.{AppendsFront, RisesByOne, WritesOut};
 ghost use Rattle.kmc_lists.specs.Line.{line_bytes, line_of, line_room};
 
@@ -52,7 +52,6 @@ pub fn make_room<W: Write>(
     filled: usize,
     more: usize,
 ) -> Result<usize, WriteFault>
-    requires failures { writer.old.failures < 2 ^ 64 - 1 }
     requires within { filled ≤ length room.now }
     requires long { more ≤ length room.now }
     ensures ok { IfOk result (λ left. (left + more ≤ length room.now)

@@ -1,5 +1,5 @@
 //! What the words ask for beside the work: help and the version.
-ghost use Rattle.std.specs.Prelude.{◌≡◌, ◌-◌, ◌^◌, ◌<◌, ◌≤◌, MatchOption, OnOk, OnErr, map, string_bytes, true, false};
+ghost use Rattle.std.specs.Prelude.{◌≡◌, ◌≤◌, MatchOption, OnOk, OnErr, map, string_bytes, true, false};
 ghost use Rattle.std.specs.Process.{exit_status};
 ghost use Rattle.kmc_options.specs.About.{has_word, is_asked, text_asked, Shows, ShowsFront};
 
@@ -48,7 +48,6 @@ pub fn asked_text(words: &[String], help: &'static str) -> Option<&'static str>
 
 /// Writes the text and flushes the device.
 fn written<W: Write>(text: &str, writer: &mut Counted<W>) -> Result<(), WriteFault>
-    requires { writer.old.failures < 2 ^ 64 - 1 }
     ensures ok { OnOk result (Shows W.contents text.now writer.old writer.new) }
     ensures failed { OnErr result (ShowsFront W.contents text.now writer.old writer.new) }
 {
@@ -62,7 +61,6 @@ fn written<W: Write>(text: &str, writer: &mut Counted<W>) -> Result<(), WriteFau
 /// Shows a text that is asked for, and tells of no fault. The exit status is 0 where it was written and no call of the device failed,
 /// and else 1.
 pub fn shown<W: Write>(text: &str, writer: &mut Counted<W>) -> ExitCode
-    requires { writer.old.failures < 2 ^ 64 - 1 }
     ensures done { exit_status result ≡ 0 → Shows W.contents text.now writer.old writer.new }
     ensures failed { exit_status result ≡ 1 → ShowsFront W.contents text.now writer.old writer.new }
     ensures statuses { exit_status result ≤ 1 }

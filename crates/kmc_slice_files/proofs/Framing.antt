@@ -219,16 +219,6 @@ module _ (n S b : ℕ) (bodies : List (List ℕ)) (olds mids : List (Option (Lis
 pub head_front : (a b : Option (List ℕ)) (h head body : List ℕ) → h ≡ head → AppendsFront a b h → AppendsFront a b (head ++ body)
 head_front a b h head body e front = front_of a b head body (subst (AppendsFront a b) e front)
 
--- no writer failed since the first, and so each may fail
-pub may_fail : {T : Type 0} (writers firsts : List (Watched T)) (was : Watched T) (s : ℕ) → length writers ≡ length firsts
-    → map (λ (w : Watched T). w.failures) writers ≡ map (λ (w : Watched T). w.failures) firsts → s < length firsts
-    → ((t : ℕ) → t < length firsts → get_or (map (λ (w : Watched T). w.failures) firsts) t 0 < 2 ^ 64 - 1)
-    → (get_or writers s was).failures < 2 ^ 64 - 1
-may_fail {T} writers firsts was s wide same inside few =
-    let here = get_or-map (λ (w : Watched T). w.failures) writers s was 0 (omega (arith, wide, inside)) in
-    let before = ap (λ (l : List ℕ). get_or l s 0) same in
-    omega (arith, here, before, few s inside)
-
 module _ {T : Type 0} (hold : Watched T → Option (List ℕ)) (writers : List (Watched T)) (was new : Watched T) (s : ℕ) (inside : s < length writers)
   where
     abbrev was_here : Watched T

@@ -1,5 +1,5 @@
 //! The files of all slices: begun, ended, or written whole.
-ghost use Rattle.std.specs.Prelude.{◌≡◌, ℕ, ◌-◌, ◌^◌, ◌<◌, ◌≤◌, length, map, OnOk, OnErr, IfErr, slice_index};
+ghost use Rattle.std.specs.Prelude.{◌≡◌, ℕ, ◌^◌, ◌<◌, ◌≤◌, length, map, OnOk, OnErr, IfErr, slice_index};
 ghost use Rattle.std.specs.Io.KnownBytes.{Appends};
 ghost use Rattle.kmc_device.specs.Device.{AppendsFront, RisesByOne, HasFailed};
 ghost use Rattle.kmc_slice_files.specs.Files.{header_bytes};
@@ -22,8 +22,6 @@ pub fn begin_files<W: Write>(
 ) -> Result<(), usize>
     requires few { length writers.old < 2 ^ 16 }
     requires counts { length counts.old ≡ length writers.old }
-    requires failures { (s : ℕ) → s < length writers.old
-        → slice_index (map (λ w. w.failures) writers.old) s < 2 ^ 64 - 1 }
     ensures ok { OnOk result
         (EachGot (header_bytes shape (length writers.old)) (length writers.old)
         (map (λ w. W.contents w.inner) writers.old) (map (λ w. W.contents w.inner) writers.new)) }
@@ -54,7 +52,6 @@ pub fn begin_files<W: Write>(
 
 /// Writes what stands behind the last of so many frames, and lets the device write out what it holds.
 fn end_file<W: Write>(writer: &mut Counted<W>, frames: u64) -> Result<(), WriteFault>
-    requires { writer.old.failures < 2 ^ 64 - 1 }
     ensures ok { OnOk result (Appends (W.contents writer.old.inner)
         (W.contents writer.new.inner) (end_bytes frames)) }
     ensures kept { OnOk result (writer.new.failures ≡ writer.old.failures) }
@@ -73,8 +70,6 @@ fn end_file<W: Write>(writer: &mut Counted<W>, frames: u64) -> Result<(), WriteF
 /// out what it holds. It fails by the number of the first writer that fails.
 pub fn end_files<W: Write>(writers: &mut [Counted<W>], counts: &[u64]) -> Result<(), usize>
     requires counts { length counts.now ≡ length writers.old }
-    requires failures { (s : ℕ) → s < length writers.old
-        → slice_index (map (λ w. w.failures) writers.old) s < 2 ^ 64 - 1 }
     ensures ok { OnOk result
         (EachGot (λ s. end_bytes (slice_index counts.now s)) (length writers.old)
         (map (λ w. W.contents w.inner) writers.old) (map (λ w. W.contents w.inner) writers.new)) }
@@ -107,8 +102,6 @@ pub fn write_files<W: Write>(
     requires few { length writers.old < 2 ^ 16 }
     requires counts { length counts.old ≡ length writers.old }
     requires bins { length bodies.now ≡ shape.n }
-    requires failures { (s : ℕ) → s < length writers.old
-        → slice_index (map (λ w. w.failures) writers.old) s < 2 ^ 64 - 1 }
     ensures ok { OnOk result
         (AreFiles shape (length writers.old) (map (λ b. b.items) bodies.now)
         (map (λ w. W.contents w.inner) writers.old) (map (λ w. W.contents w.inner) writers.new)) }

@@ -1,5 +1,5 @@
 //! One frame of a slice's file.
-ghost use Rattle.std.specs.Prelude.{◌≡◌, ◌-◌, ◌^◌, ◌<◌, ◌≤◌, length, OnOk, OnErr, IfOk};
+ghost use Rattle.std.specs.Prelude.{◌≡◌, ◌^◌, ◌≤◌, length, OnOk, OnErr, IfOk};
 ghost use Rattle.std.specs.Io.KnownBytes.{Appends};
 ghost use Rattle.kmc_device.specs.Device.{AppendsFront, RisesByOne};
 ghost use Rattle.kmc_slice_files.specs.Frames.{head_bytes, frame, frame_bytes, end_bytes};
@@ -32,7 +32,6 @@ fn head(bin: u16, long: u32, check: u64) -> [u8; HEAD]
 
 /// Writes a frame.
 fn write_frame<W: Write>(writer: &mut Counted<W>, bin: u16, body: &[u8]) -> Result<(), WriteFault>
-    requires failures { writer.old.failures < 2 ^ 64 - 1 }
     requires long { length body.now ≤ 2 ^ 20 }
     ensures ok { OnOk result (Appends (W.contents writer.old.inner)
         (W.contents writer.new.inner) (frame_bytes (frame bin body.now))) }
@@ -48,7 +47,6 @@ fn write_frame<W: Write>(writer: &mut Counted<W>, bin: u16, body: &[u8]) -> Resu
 
 /// Writes what stands behind the last of so many frames.
 pub fn write_end<W: Write>(writer: &mut Counted<W>, frames: u64) -> Result<(), WriteFault>
-    requires { writer.old.failures < 2 ^ 64 - 1 }
     ensures ok { OnOk result (Appends (W.contents writer.old.inner)
         (W.contents writer.new.inner) (end_bytes frames)) }
     ensures kept { OnOk result (writer.new.failures ≡ writer.old.failures) }
@@ -66,7 +64,6 @@ pub fn write_bin<W: Write>(
     bin: u16,
     body: &[u8],
 ) -> Result<u64, WriteFault>
-    requires { writer.old.failures < 2 ^ 64 - 1 }
     ensures ok { IfOk result (λ n. IsBinWritten bin body.now n (W.contents writer.old.inner)
         (W.contents writer.new.inner)) }
     ensures kept { OnOk result (writer.new.failures ≡ writer.old.failures) }

@@ -1,5 +1,5 @@
 //! The header of a slice's file: 28 bytes that tell a slice's place, and their check word.
-ghost use Rattle.std.specs.Prelude.{◌≡◌, ◌-◌, ◌^◌, ◌<◌, OnOk, OnErr, IfOk, IfErr, MatchOption};
+ghost use Rattle.std.specs.Prelude.{◌≡◌, OnOk, OnErr, IfOk, IfErr, MatchOption};
 ghost use Rattle.std.specs.Io.KnownBytes.{Appends, Consumes};
 ghost use Rattle.kmc_device.specs.Device.{AppendsFront, RisesByOne};
 ghost use Rattle.kmc_slice_files.specs.Files.{IsSlicing, slicing_bytes, header_bytes};
@@ -93,7 +93,6 @@ fn front(slicing: &Slicing) -> [u8; FRONT]
 
 /// Writes the header of a file.
 pub fn write_header<W: Write>(writer: &mut Counted<W>, slicing: &Slicing) -> Result<(), WriteFault>
-    requires { writer.old.failures < 2 ^ 64 - 1 }
     ensures ok { OnOk result (Appends (W.contents writer.old.inner) (W.contents writer.new.inner)
         (header_bytes slicing.now.shape slicing.now.slices slicing.now.slice)) }
     ensures kept { OnOk result (writer.new.failures ≡ writer.old.failures) }

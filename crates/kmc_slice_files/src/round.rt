@@ -1,5 +1,5 @@
 //! Bins on the writers of their slices.
-ghost use Rattle.std.specs.Prelude.{◌≡◌, ℕ, ◌-◌, ◌^◌, ◌<◌, ◌≤◌, length, map, OnOk, OnErr, IfErr, slice_index};
+ghost use Rattle.std.specs.Prelude.{◌≡◌, ◌<◌, ◌≤◌, length, map, OnOk, OnErr, IfErr};
 ghost use Rattle.kmc_slice_files.specs.Writes.{AreFramed, AreBegun};
 ghost use Rattle.kmc_device.specs.Device.{HasFailed};
 
@@ -17,8 +17,6 @@ pub fn write_round<W: Write>(
     requires some { 1 ≤ length writers.old }
     requires counts { length counts.old ≡ length writers.old }
     requires bins { length bodies.now < 65536 }
-    requires failures { (s : ℕ) → s < length writers.old
-        → slice_index (map (λ w. w.failures) writers.old) s < 2 ^ 64 - 1 }
     ensures ok { OnOk result
         (AreFramed (length bodies.now) (length writers.old) (length bodies.now)
         (map (λ b. b.items) bodies.now) (map (λ w. W.contents w.inner) writers.old)

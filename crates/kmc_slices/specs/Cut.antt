@@ -1,7 +1,7 @@
 -- Reads cut to the files of slices.
 use Rattle.std.specs.Prelude.{◌≡◌, ◌⊎◌, ℕ, ◌+◌, ◌-◌, ◌<◌, ◌≤◌, List, [], length, map, Option, None, Result, Ok, Err, IfErr, OnOk}
 use Rattle.std.specs.Io.KnownBytes.{Consumes}
-use Rattle.kmc_device.specs.Device.{AppendsFront, GaveAll, Watched, HasFailed}
+use Rattle.kmc_device.specs.Device.{AppendsFront, GaveAll, RisesByOne, Watched, HasFailed}
 use Rattle.kmc_reads.specs.declared.format.Format.{Format}
 use Rattle.kmc_reads.specs.Cuts.{AreCut}
 use Rattle.kmc_reads.specs.Reads.{reads_of}
@@ -54,7 +54,7 @@ IsToldAs input.TooLong e = e ≡ TooLong
 -- how many reads gave bytes, at most so many, and how many calls of the reader failed, by the cause of a refusal
 abbrev pub AreReadCounts : ℕ → ℕ → ℕ → ℕ → ℕ → CutError → Type 0
 AreReadCounts most before after failed fails Memory = (fails ≡ failed) × (before ≤ after) × (after ≤ most)
-AreReadCounts most before after failed fails Read = (fails ≡ failed + 1) × (before ≤ after) × (after < most)
+AreReadCounts most before after failed fails Read = RisesByOne failed fails × (before ≤ after) × (after < most)
 AreReadCounts most before after failed fails (Write s) = (fails ≡ failed) × (before ≤ after) × (after ≤ most)
 AreReadCounts most before after failed fails (Input e) = (fails ≡ failed) × (before ≤ after) × (after ≤ most)
 AreReadCounts most before after failed fails TooLong = (fails ≡ failed) × (before ≤ after) × (after ≡ most)

@@ -1,5 +1,5 @@
 //! The reads of a text, a round at a time, to the files of slices.
-ghost use Rattle.std.specs.Prelude.{◌≡◌, ℕ, ◌+◌, ◌-◌, ◌^◌, ◌<◌, ◌≤◌, List, [], length, map, slice_index, Option, OnOk, OnErr, IfErr, Some};
+ghost use Rattle.std.specs.Prelude.{◌≡◌, ℕ, ◌+◌, ◌-◌, ◌^◌, ◌<◌, ◌≤◌, List, [], length, map, Option, OnOk, OnErr, IfErr, Some};
 ghost use Rattle.kmc_reads.specs.declared.format.Format.{Format};
 ghost use Rattle.kmc_reads.specs.Standing.{Stands};
 ghost use Rattle.kmc_slices.specs.Cut.{AreReadCounts, AreWriteCounts, IsCutError, IsLastCutError};
@@ -28,8 +28,6 @@ fn cut_last_round<T: Threads + Wait + Sync, W: Write, G: Gate + Sync>(
 ) -> Result<(), CutError>
     requires some { 1 ≤ length writers.old }
     requires counts { length counts.old ≡ length writers.old }
-    requires failures { (s : ℕ) → s < length writers.old
-        → slice_index (map (λ w. w.failures) writers.old) s < 2 ^ 64 - 1 }
     ensures ok { (format : Format) (text : List ℕ) (taken : List (List ℕ)) (olds : List (Option (List ℕ)))
         → Stands (Some (dealing.now.settings.shape.k - 1)) format text taken feeder
         → AreRounds dealing.now.settings.shape dealing.now.limit (length writers.old) taken olds
@@ -74,13 +72,10 @@ pub(crate) fn cut_rounds<T: Threads + Wait + Sync, R: Read, W: Write, G: Gate + 
     dealing: &Dealing<'_, G>,
     max_reads: u64,
 ) -> Result<(), CutError>
-    requires reader { reader.old.failures < 2 ^ 64 - 1 }
     requires reads { reader.old.reads + max_reads < 2 ^ 64 }
     requires most { max_reads ≤ 2 ^ 32 }
     requires some { 1 ≤ length writers.old }
     requires counts { length counts.old ≡ length writers.old }
-    requires failures { (s : ℕ) → s < length writers.old
-        → slice_index (map (λ w. w.failures) writers.old) s < 2 ^ 64 - 1 }
     ensures ok { (olds : List (Option (List ℕ)))
         → AreRounds dealing.now.settings.shape dealing.now.limit (length writers.old) [] olds
         (map (λ w. W.contents w.inner) writers.old) counts.old

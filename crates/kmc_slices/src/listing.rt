@@ -1,5 +1,5 @@
 //! The dump of a slice.
-ghost use Rattle.std.specs.Prelude.{◌≡◌, ◌≢◌, ℕ, ◌-◌, ◌^◌, ◌<◌, List, length, IfOk, IfErr, IsErrOf};
+ghost use Rattle.std.specs.Prelude.{◌≡◌, ◌≢◌, ℕ, List, length, IfOk, IfErr, IsErrOf};
 ghost use Rattle.std.specs.Io.KnownBytes.{Appends};
 ghost use Rattle.kmc_device.specs.Device.{AppendsFront, RisesByOne};
 ghost use Rattle.kmc_lists.specs.Line.{text_of};
@@ -81,7 +81,6 @@ pub fn list_records<T: Threads + Sync, W: io::Write>(
     params: &Params,
     writer: &mut Counted<W>,
 ) -> Result<u64, ListError>
-    requires failures { writer.old.failures < 2 ^ 64 - 1 }
     ensures ok { IfOk result (λ lines. (pairs : List (List ℕ × ℕ))
         × IsDumpOfBins params.now.strands records.shape.k params.now.limits records.bodies pairs
         × (lines ≡ length pairs)

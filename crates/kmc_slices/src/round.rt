@@ -1,5 +1,5 @@
 //! The reads of a round in bins of their own.
-ghost use Rattle.std.specs.Prelude.{◌≡◌, ℕ, ◌-◌, ◌^◌, ◌<◌, ◌≤◌, List, false, IfOk, IfErr, Ok, Some};
+ghost use Rattle.std.specs.Prelude.{◌≡◌, ℕ, ◌-◌, ◌≤◌, List, false, IfOk, IfErr, Ok, Some};
 ghost use Rattle.std.specs.Io.KnownBytes.{IsAtEnd};
 ghost use Rattle.kmc_reads.specs.declared.format.Format.{Format};
 ghost use Rattle.kmc_reads.specs.Standing.{Stands};
@@ -44,7 +44,6 @@ pub(crate) fn next_bins<T: Threads + Wait + Sync, R: Read, G: Gate + Sync>(
     most: u64,
 ) -> Result<(Bins, bool), InputError>
     requires shape { last.shape ≡ dealing.now.settings.shape }
-    requires failures { reader.old.failures < 2 ^ 64 - 1 }
     requires reads { reader.old.reads ≤ most }
     ensures shape { IfOk result (λ p. p.0.shape ≡ dealing.now.settings.shape) }
     ensures counts { IfOk result (λ p. AreCounts most reader.old.reads reader.new.reads

@@ -1,5 +1,5 @@
 //! All that a reader gives, to the files of all slices.
-ghost use Rattle.std.specs.Prelude.{◌≡◌, ℕ, ◌+◌, ◌-◌, ◌^◌, ◌<◌, ◌≤◌, length, map, slice_index, IfOk, OnOk, IfErr};
+ghost use Rattle.std.specs.Prelude.{◌≡◌, ◌+◌, ◌^◌, ◌<◌, ◌≤◌, length, map, IfOk, OnOk, IfErr};
 ghost use Rattle.kmc_stage_one.specs.declared.settings.TheConstants.{PIECE_SYMBOLS};
 ghost use Rattle.kmc_slices.specs.Cut.{AreReadCounts, AreWriteCounts, IsCutError, IsCutting, IsLeft, WroteSlices};
 
@@ -29,14 +29,11 @@ fn cut_files<T: Threads + Wait + Sync, R: Read, W: Write, G: Gate + Sync>(
     dealing: &Dealing<'_, G>,
     max_reads: u64,
 ) -> Result<(), CutError>
-    requires reader { reader.old.failures < 2 ^ 64 - 1 }
     requires reads { reader.old.reads + max_reads < 2 ^ 64 }
     requires most { max_reads ≤ 2 ^ 32 }
     requires some { 1 ≤ length writers.old }
     requires few { length writers.old < 2 ^ 16 }
     requires counts { length counts.old ≡ length writers.old }
-    requires failures { (s : ℕ) → s < length writers.old
-        → slice_index (map (λ w. w.failures) writers.old) s < 2 ^ 64 - 1 }
     ensures ok { OnOk result
         (WroteSlices dealing.now.settings.format dealing.now.settings.shape dealing.now.limit
         (length writers.old) (R.remaining reader.old.inner) (R.remaining reader.new.inner)
@@ -100,12 +97,9 @@ pub fn cut_slices<T: Threads + Wait + Sync, R: Read, W: Write>(
     writers: &mut [Counted<W>],
     params: &Params,
 ) -> Result<(), CutError>
-    requires reader { reader.old.failures < 2 ^ 64 - 1 }
     requires reads { reader.old.reads + 2 ^ 32 < 2 ^ 64 }
     requires some { 1 ≤ length writers.old }
     requires few { length writers.old < 2 ^ 16 }
-    requires failures { (s : ℕ) → s < length writers.old
-        → slice_index (map (λ w. w.failures) writers.old) s < 2 ^ 64 - 1 }
     ensures { IsCutting R.remaining W.contents params.now PIECE_SYMBOLS (2 ^ 32) reader.old reader.new writers.old writers.new result }
 {
     cut_slices_with(rt, alloc, reader, writers, params, &NoGate, MOST_READS)
@@ -122,13 +116,10 @@ pub fn cut_slices_with<T: Threads + Wait + Sync, R: Read, W: Write, G: Gate + Sy
     gate: &G,
     max_reads: u64,
 ) -> Result<(), CutError>
-    requires reader { reader.old.failures < 2 ^ 64 - 1 }
     requires reads { reader.old.reads + max_reads < 2 ^ 64 }
     requires most { max_reads ≤ 2 ^ 32 }
     requires some { 1 ≤ length writers.old }
     requires few { length writers.old < 2 ^ 16 }
-    requires failures { (s : ℕ) → s < length writers.old
-        → slice_index (map (λ w. w.failures) writers.old) s < 2 ^ 64 - 1 }
     ensures { IsCutting R.remaining W.contents params.now PIECE_SYMBOLS max_reads reader.old reader.new writers.old writers.new result }
 {
     let mut counts = noughts(alloc, writers.len())?;

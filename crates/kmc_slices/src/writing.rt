@@ -1,5 +1,5 @@
 //! The bins of a round as frames behind those of the rounds before.
-ghost use Rattle.std.specs.Prelude.{◌≡◌, ℕ, ◌-◌, ◌^◌, ◌<◌, ◌≤◌, List, ◌++◌, length, map, slice_index, Option, OnOk, OnErr, IfErr};
+ghost use Rattle.std.specs.Prelude.{◌≡◌, ℕ, ◌≤◌, List, ◌++◌, length, map, Option, OnOk, OnErr, IfErr};
 ghost use Rattle.kmc_device.specs.Device.{HasFailed};
 ghost use Rattle.kmc_slices.specs.Rounds.{AreRounds, AreUnended};
 ghost use Rattle.kmc_stage_one.specs.Rounds.{HoldsPieces};
@@ -18,8 +18,6 @@ pub(crate) fn write_bins<W: Write>(
 ) -> Result<(), usize>
     requires some { 1 ≤ length writers.old }
     requires counts { length counts.old ≡ length writers.old }
-    requires failures { (s : ℕ) → s < length writers.old
-        → slice_index (map (λ w. w.failures) writers.old) s < 2 ^ 64 - 1 }
     ensures ok { (limit : ℕ) (taken round : List (List ℕ)) (olds : List (Option (List ℕ)))
         → AreRounds bins.now.shape limit (length writers.old) taken olds
         (map (λ w. W.contents w.inner) writers.old) counts.old

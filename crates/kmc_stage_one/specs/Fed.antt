@@ -3,6 +3,7 @@ use Rattle.std.specs.Prelude.{◌≡◌, ◌⊎◌, ℕ, ◌+◌, ◌^◌, ◌<�
 use Rattle.std.specs.List.{concat}
 use Rattle.std.specs.Io.BufRead.{strip_last}
 use Rattle.std.specs.Io.KnownBytes.{Consumes, IsAtEnd}
+use Rattle.kmc_device.specs.Device.{RisesByOne}
 use Rattle.kmc_reads.specs.declared.error.ReadsError.{ReadsError}
 use Rattle.kmc_reads.specs.declared.format.Format.{Format}
 use Rattle.kmc_reads.specs.Reads.{reads_of}
@@ -76,7 +77,7 @@ pub record IsNextRound (reads symbols block overlap : ℕ) (from to : Option (Li
 -- how many reads gave bytes, at most so many, and how many calls failed, by the cause of a refusal
 abbrev pub AreCountsOf : ℕ → ℕ → ℕ → ℕ → ℕ → InputError → Type 0
 AreCountsOf most before after failed fails Memory = (fails ≡ failed) × (before ≤ after) × (after ≤ most)
-AreCountsOf most before after failed fails Read = (fails ≡ failed + 1) × (before ≤ after) × (after < most)
+AreCountsOf most before after failed fails Read = RisesByOne failed fails × (before ≤ after) × (after < most)
 AreCountsOf most before after failed fails (Faulty e) = (fails ≡ failed) × (before ≤ after) × (after ≤ most)
 AreCountsOf most before after failed fails TooLong = (fails ≡ failed) × (before ≤ after) × (after ≡ most)
 

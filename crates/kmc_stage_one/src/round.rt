@@ -19,7 +19,6 @@ fn read_and_feed<R: Read>(
     feeder: &mut Feeder,
     block: &mut [u8],
 ) -> Result<bool, InputError>
-    requires failures { reader.old.failures < 2 ^ 64 - 1 }
     requires reads { reader.old.reads < 2 ^ 64 - 1 }
     requires room { length block.old ≡ BLOCK }
     ensures counts { AreCounts (reader.old.reads
@@ -56,7 +55,6 @@ pub fn fill_round<R: Read>(
     reads: usize,
     symbols: usize,
 ) -> Result<bool, InputError>
-    requires failures { reader.old.failures < 2 ^ 64 - 1 }
     requires reads { reader.old.reads ≤ most }
     ensures counts { AreCounts most reader.old.reads reader.new.reads reader.old.failures reader.new.failures result }
     ensures fed { (overlap : ℕ) (format : Format) (text : List ℕ) (taken : List (List ℕ))

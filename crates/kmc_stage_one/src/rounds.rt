@@ -1,5 +1,5 @@
 //! The reads of a text, a round at a time, into bins: a round is cut in threads while the caller's thread reads on.
-ghost use Rattle.std.specs.Prelude.{◌≡◌, ◌≢◌, ℕ, ◌+◌, ◌-◌, ◌*◌, ◌^◌, ◌<◌, ◌≤◌, min, List, [], ◌++◌, Option, false, IfOk, IfErr, OnOk, OnErr, Ok, Err, Some};
+ghost use Rattle.std.specs.Prelude.{◌≡◌, ◌≢◌, ℕ, ◌+◌, ◌-◌, ◌^◌, ◌<◌, ◌≤◌, List, [], ◌++◌, Option, false, IfOk, IfErr, OnOk, OnErr, Ok, Err, Some};
 ghost use Rattle.std.specs.Io.KnownBytes.{IsAtEnd};
 ghost use Rattle.kmc_reads.specs.declared.format.Format.{Format};
 ghost use Rattle.kmc_reads.specs.Cuts.{AreCut};
@@ -49,7 +49,6 @@ pub fn feed_round<T: Threads + Wait + Sync, R: Read, G: Gate + Sync>(
     most: u64,
 ) -> (Result<(), AllocError>, Result<bool, InputError>)
     requires shape { bins.old.shape ≡ dealing.now.settings.shape }
-    requires failures { reader.old.failures < 2 ^ 64 - 1 }
     requires reads { reader.old.reads ≤ most }
     ensures shape { bins.new.shape ≡ dealing.now.settings.shape }
     ensures holds { (held : List (List ℕ))
@@ -79,7 +78,6 @@ pub fn feed_round<T: Threads + Wait + Sync, R: Read, G: Gate + Sync>(
             requires { bins.now.shape ≡ dealing.now.settings.shape }
         { store_round(rt, bins, round, dealing) },
         &mut || -> Result<bool, InputError>
-            requires failures { reader.now.failures < 2 ^ 64 - 1 }
             requires reads { reader.now.reads ≤ most }
         { fill_round(reader, feeder, most, reads, symbols) },
     )
@@ -142,7 +140,6 @@ fn next_round<T: Threads + Wait + Sync, R: Read, G: Gate + Sync>(
     most: u64,
 ) -> Result<bool, InputError>
     requires shape { bins.old.shape ≡ dealing.now.settings.shape }
-    requires failures { reader.old.failures < 2 ^ 64 - 1 }
     requires reads { reader.old.reads ≤ most }
     ensures shape { bins.new.shape ≡ dealing.now.settings.shape }
     ensures stored { (format : Format) (first : Option (List ℕ)) (before : ℕ)
@@ -177,7 +174,6 @@ fn earlier_rounds<T: Threads + Wait + Sync, R: Read, G: Gate + Sync>(
     requires bins { HoldsPieces dealing.now.settings.shape dealing.now.limit [] bins.old.bodies }
     requires feeder { Stands
         (Some (dealing.now.settings.shape.k - 1)) dealing.now.settings.format [] [] feeder.old }
-    requires failures { reader.old.failures < 2 ^ 64 - 1 }
     requires reads { reader.old.reads + max_reads < 2 ^ 64 }
     requires most { max_reads ≤ 2 ^ 32 }
     ensures shape { bins.new.shape ≡ dealing.now.settings.shape }
@@ -219,7 +215,6 @@ pub fn bins_of_input<T: Threads + Wait + Sync, R: Read, G: Gate + Sync>(
     max_reads: u64,
     limit: usize,
 ) -> Result<Bins, InputError>
-    requires failures { reader.old.failures < 2 ^ 64 - 1 }
     requires reads { reader.old.reads + max_reads < 2 ^ 64 }
     requires most { max_reads ≤ 2 ^ 32 }
     requires limit { settings.now.shape.k ≤ limit }

@@ -1,5 +1,5 @@
 //! The program: from its arguments to the dump of the sum, or help, and the exit status.
-ghost use Rattle.std.specs.Prelude.{◌≡◌, ◌≢◌, ℕ, ◌-◌, ◌^◌, ◌<◌, ◌≤◌, ◌⊎◌, List, length, map, MatchResult, string_bytes, true, false};
+ghost use Rattle.std.specs.Prelude.{◌≡◌, ◌≢◌, ℕ, ◌<◌, ◌≤◌, ◌⊎◌, List, length, map, MatchResult, string_bytes, true, false};
 ghost use Rattle.std.specs.Process.{exit_status};
 ghost use Rattle.kmc_options.specs.About.{is_asked, text_asked, Shows, ShowsFront};
 ghost use Rattle.kmc_options.specs.Words.{Word};
@@ -61,7 +61,6 @@ pub fn sum_readers<T: Eprint + Alloc<A = Global>, R: Read, W: Write>(
     requires some { 1 ≤ length readers.old }
     requires most { length readers.old ≤ most_sources }
     requires each { length readers.old ≡ length files.now }
-    requires writer { writer.old.failures < 2 ^ 64 - 1 }
     ensures done { exit_status result ≡ 0 → ((lines : ℕ) × IsSumWritten limits.now
         (lefts_of R.remaining readers.old) (lefts_of R.remaining readers.new) lines
         (W.contents writer.old.inner) (W.contents writer.new.inner))
@@ -93,7 +92,6 @@ pub fn sum_files<T: Files + Eprint + Alloc<A = Global>, W: Write>(
     words: Vec<String>,
     writer: &mut Counted<W>,
 ) -> ExitCode
-    requires { writer.old.failures < 2 ^ 64 - 1 }
     ensures done { exit_status result ≡ 0
         → IsAnswered (map string_bytes words.items) (W.contents writer.old.inner)
         (W.contents writer.new.inner)
@@ -133,7 +131,6 @@ pub fn sum_words<T: Files + Eprint + Alloc<A = Global>, W: Write>(
     words: Vec<String>,
     writer: &mut Counted<W>,
 ) -> ExitCode
-    requires { writer.old.failures < 2 ^ 64 - 1 }
     ensures done { exit_status result ≡ 0 → is_asked (map string_bytes words.items) ≡ false
         → IsAnswered (map string_bytes words.items) (W.contents writer.old.inner)
         (W.contents writer.new.inner)
@@ -162,7 +159,6 @@ pub fn program<T: Files + Env + Eprint + Alloc<A = Global>, W: Write>(
     rt: &T,
     writer: &mut Counted<W>,
 ) -> ExitCode
-    requires { writer.old.failures < 2 ^ 64 - 1 }
     ensures done { exit_status result ≡ 0 → (words : List Word) × (is_asked words ≡ false
         → IsAnswered words (W.contents writer.old.inner) (W.contents writer.new.inner)
         × (writer.new.failures ≡ writer.old.failures))

@@ -1,5 +1,5 @@
 //! The dump of the sum of dumps.
-ghost use Rattle.std.specs.Prelude.{◌≡◌, ℕ, ◌*◌, ◌-◌, ◌^◌, ◌<◌, ◌≤◌, List, length, Option, slice_index_or};
+ghost use Rattle.std.specs.Prelude.{◌≡◌, ℕ, ◌*◌, ◌<◌, ◌≤◌, List, length, Option, slice_index_or};
 ghost use Rattle.kmc_sum.specs.Answer.{IsMergeAnswer};
 ghost use Rattle.kmc_sum.specs.Sum.{sum_of};
 ghost use Rattle.kmc_sum.specs.Listed.{IsLength};
@@ -31,7 +31,6 @@ fn drain<R: Read, W: Write>(
     requires some { 1 ≤ length readers.old }
     requires tree { IsTree heads.old }
     requires long { IsLength k }
-    requires writer { writer.old.failures < 2 ^ 64 - 1 }
     ensures { (starts : List (Option (List ℕ))) (lists : List (List (List ℕ × ℕ)))
         → AreSources k starts (lefts_of R.remaining readers.old) rooms.old heads.old lists
         → ((x : List ℕ) → sum_of lists x ≡ 0)
@@ -85,7 +84,6 @@ fn merge_in<R: Read, W: Write>(
         × ((i : ℕ) (room : _) → i < length readers.old
         → IsFresh (slice_index_or rooms.old i room)) }
     requires heads { length heads.old ≡ 2 * length readers.old }
-    requires writer { writer.old.failures < 2 ^ 64 - 1 }
     ensures { IsMergeAnswer R.remaining W.contents limits.now
         (lefts_of R.remaining readers.old) readers.old readers.new writer.old writer.new result }
 {
@@ -109,7 +107,6 @@ pub fn merge<R: Read, W: Write>(
 ) -> Result<u64, SumError>
     requires some { 1 ≤ length readers.old }
     requires most { length readers.old ≤ MOST_SOURCES }
-    requires writer { writer.old.failures < 2 ^ 64 - 1 }
     ensures { IsMergeAnswer R.remaining W.contents limits.now
         (lefts_of R.remaining readers.old) readers.old readers.new writer.old writer.new result }
 {

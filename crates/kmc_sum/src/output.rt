@@ -1,5 +1,5 @@
 //! The buffer in which the lines of a dump are gathered on their way out.
-ghost use Rattle.std.specs.Prelude.{◌≡◌, ◌-◌, ◌^◌, ◌<◌, ◌≤◌, ◌++◌, [], List, take, length, OnOk, OnErr};
+ghost use Rattle.std.specs.Prelude.{◌≡◌, ◌≤◌, ◌++◌, [], List, take, length, OnOk, OnErr};
 ghost use Rattle.std.specs.Io.KnownBytes.{Appends};
 ghost use Rattle.kmc_device.specs.Device.{AppendsFront, RisesByOne, WritesOut};
 ghost use Rattle.kmc_lists.specs.Line.{line_of};
@@ -46,7 +46,6 @@ impl OutputBuffer {
         word: &Kmer,
         count: u64,
     ) -> Result<(), WriteFault>
-        requires { writer.old.failures < 2 ^ 64 - 1 }
         ensures ok { OnOk result (WritesOut (W.contents writer.old.inner)
             (W.contents writer.new.inner) (self.old ++ line_of (word.now, count)) self.new) }
         ensures room { length self.new ≤ ROOM }
@@ -63,7 +62,6 @@ impl OutputBuffer {
 
     /// Writes out what is held, and flushes the device.
     pub fn flush_into<W: Write>(self, writer: &mut Counted<W>) -> Result<(), WriteFault>
-        requires { writer.old.failures < 2 ^ 64 - 1 }
         ensures ok { OnOk result (Appends (W.contents writer.old.inner)
             (W.contents writer.new.inner) self) }
         ensures kept { OnOk result (writer.new.failures ≡ writer.old.failures) }

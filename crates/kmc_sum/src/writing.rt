@@ -1,5 +1,5 @@
 //! The pairs of a sum, written one after the other.
-ghost use Rattle.std.specs.Prelude.{◌≡◌, ◌-◌, ◌^◌, ◌<◌, ◌≤◌, ◌++◌, length, OnOk, OnErr, IfOk};
+ghost use Rattle.std.specs.Prelude.{◌≡◌, ◌^◌, ◌<◌, ◌≤◌, ◌++◌, length, OnOk, OnErr, IfOk};
 ghost use Rattle.kmc_base.specs.Packed.{unpack};
 ghost use Rattle.kmc_device.specs.Device.{AppendsFront, RisesByOne, WritesOut};
 ghost use Rattle.kmc_lists.specs.Line.{text_of};
@@ -21,7 +21,6 @@ pub fn put_pair<W: Write>(
     packed: u128,
     count: u64,
 ) -> Result<u64, WriteFault>
-    requires failures { writer.old.failures < 2 ^ 64 - 1 }
     requires some { 1 ≤ k }
     requires most { k ≤ MAX_K }
     requires fits { packed < 4 ^ k }

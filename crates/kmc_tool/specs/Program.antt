@@ -1,7 +1,7 @@
 -- What the program's arguments ask for, and what it answers.
 use Rattle.std.specs.Prelude.{◌≡◌, ◌≢◌, ℕ, ◌+◌, ◌^◌, ◌≤◌, true, List, [], length, None, Option, Result, IfOk, IfErr, IsErrOf}
 use Rattle.std.specs.Io.KnownBytes.{Appends, Consumes}
-use Rattle.kmc_device.specs.Device.{AppendsFront, GaveAll, Watched}
+use Rattle.kmc_device.specs.Device.{AppendsFront, GaveAll, RisesByOne, Watched}
 use Rattle.kmc_reads.specs.Stages.{fault}
 use Rattle.kmc_reads.specs.declared.error.ReadsError.{ReadsError}
 use Rattle.kmc_stage_one.specs.Fed.{IsRefused}
@@ -40,8 +40,8 @@ pub record IsCount {R W : Type 0} (words : List Word) (remaining : R → Option 
   pub run : (e : RunError) → IsErrOf answer (Run e) → IsAsked words
   pub input : (e : ReadsError) → IsErrOf answer (Run (Input e)) → (asked : IsAsked words)
       × IsRefused asked.params.format (remaining reader.inner) (remaining read.inner) [] e
-  pub read_failed : IsErrOf answer (Run Read) → read.failures ≡ reader.failures + 1
-  pub write_failed : IsErrOf answer (Run Write) → (written.failures ≡ writer.failures + 1) × (bytes text : List ℕ) × (lines : ℕ)
+  pub read_failed : IsErrOf answer (Run Read) → RisesByOne reader.failures read.failures
+  pub write_failed : IsErrOf answer (Run Write) → RisesByOne writer.failures written.failures × (bytes text : List ℕ) × (lines : ℕ)
       × GaveAll (remaining reader.inner) (remaining read.inner) bytes
       × IsAnswered words bytes text lines × AppendsFront (contents writer.inner) (contents written.inner) text
   pub long : IsErrOf answer (Run TooLong) → (asked : IsAsked words) × (read.reads ≡ reader.reads + 2 ^ 32)
@@ -72,4 +72,4 @@ pub record LeavesFront {R W : Type 0} (words : List Word) (remaining : R → Opt
   pub given : GaveAll (remaining reader.inner) (remaining read.inner) bytes
   pub answered : IsAnswered words bytes text lines
   pub out : AppendsFront (contents writer.inner) (contents written.inner) text
-  pub failed : written.failures ≡ writer.failures + 1
+  pub failed : RisesByOne writer.failures written.failures

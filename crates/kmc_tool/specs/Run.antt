@@ -1,7 +1,7 @@
 -- What a run does.
 use Rattle.std.specs.Prelude.{◌≡◌, ◌≢◌, ℕ, ◌+◌, ◌^◌, ◌<◌, ◌≤◌, List, [], length, Ok, Option, None, Result, IfOk, IfErr, OnOk, IsErrOf}
 use Rattle.std.specs.Io.KnownBytes.{Appends, Consumes}
-use Rattle.kmc_device.specs.Device.{AppendsFront, GaveAll, Watched}
+use Rattle.kmc_device.specs.Device.{AppendsFront, GaveAll, RisesByOne, Watched}
 use Rattle.kmc_base.specs.declared.strands.Strands.{Strands}
 use Rattle.kmc_reads.specs.declared.format.Format.{Format}
 use Rattle.kmc_reads.specs.Reads.{reads_of}
@@ -59,8 +59,8 @@ pub record IsRun {R W : Type 0} (remaining : R → Option (List ℕ)) (contents 
   -- no failure was passed over
   pub sound : OnOk answer ((read.failures ≡ reader.failures) × (written.failures ≡ writer.failures) × (read.reads < reader.reads + 2 ^ 32))
   -- each refusal has its cause
-  pub read_failed : IsErrOf answer Read → (read.failures ≡ reader.failures + 1) × (read.reads < reader.reads + 2 ^ 32)
-  pub write_failed : IsErrOf answer Write → (written.failures ≡ writer.failures + 1) × (bytes text : List ℕ) × (lines : ℕ)
+  pub read_failed : IsErrOf answer Read → RisesByOne reader.failures read.failures × (read.reads < reader.reads + 2 ^ 32)
+  pub write_failed : IsErrOf answer Write → RisesByOne writer.failures written.failures × (bytes text : List ℕ) × (lines : ℕ)
       × GaveAll (remaining reader.inner) (remaining read.inner) bytes
       × IsDumpOf params.format bytes params.strands params.k params.limits text lines × AppendsFront (contents writer.inner) (contents written.inner) text
   pub input : (e : ReadsError) → IsErrOf answer (Input e) → IsRefused params.format (remaining reader.inner) (remaining read.inner) [] e

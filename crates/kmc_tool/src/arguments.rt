@@ -1,5 +1,5 @@
 //! The program: from its arguments to the dump and the exit status.
-ghost use Rattle.std.specs.Prelude.{◌≡◌, ◌≢◌, ◌+◌, ◌-◌, ◌^◌, ◌<◌, ◌≤◌, ◌⊎◌, List, map, string_bytes};
+ghost use Rattle.std.specs.Prelude.{◌≡◌, ◌≢◌, ◌+◌, ◌^◌, ◌<◌, ◌≤◌, ◌⊎◌, List, map, string_bytes};
 ghost use Rattle.std.specs.Process.{exit_status};
 ghost use Rattle.kmc_options.specs.Words.{Word};
 ghost use Rattle.kmc_options.specs.Glued.{long_forms};
@@ -26,8 +26,6 @@ pub fn count<T: Threads + Wait + Sync, R: Read, W: Write>(
     reader: &mut Counted<R>,
     writer: &mut Counted<W>,
 ) -> Result<u64, Fault>
-    requires reader { reader.old.failures < 2 ^ 64 - 1 }
-    requires writer { writer.old.failures < 2 ^ 64 - 1 }
     requires reads { reader.old.reads + 2 ^ 32 < 2 ^ 64 }
     ensures { IsCount (long_forms (map string_bytes argv.items)) R.remaining W.contents reader.old reader.new writer.old writer.new result }
 {
@@ -51,8 +49,6 @@ pub fn program_of<T: Threads + Wait + Sync + Eprint + Alloc<A = Global>, R: Read
     reader: &mut Counted<R>,
     writer: &mut Counted<W>,
 ) -> ExitCode
-    requires reader { reader.old.failures < 2 ^ 64 - 1 }
-    requires writer { writer.old.failures < 2 ^ 64 - 1 }
     requires reads { reader.old.reads + 2 ^ 32 < 2 ^ 64 }
     ensures done { exit_status result ≡ 0
         → IsDone (long_forms (map string_bytes argv.items)) R.remaining W.contents reader.old reader.new writer.old writer.new }
@@ -76,8 +72,6 @@ pub fn program<T: Threads + Wait + Sync + Env + Eprint + Alloc<A = Global>, R: R
     reader: &mut Counted<R>,
     writer: &mut Counted<W>,
 ) -> ExitCode
-    requires reader { reader.old.failures < 2 ^ 64 - 1 }
-    requires writer { writer.old.failures < 2 ^ 64 - 1 }
     requires reads { reader.old.reads + 2 ^ 32 < 2 ^ 64 }
     ensures done { exit_status result ≡ 0 → (words : List Word)
         × IsDone words R.remaining W.contents reader.old reader.new writer.old writer.new }

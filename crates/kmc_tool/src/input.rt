@@ -1,5 +1,5 @@
 //! From the bytes of a reader to the lists of their dump.
-ghost use Rattle.std.specs.Prelude.{◌+◌, ◌-◌, ◌^◌, ◌<◌, ◌≤◌};
+ghost use Rattle.std.specs.Prelude.{◌+◌, ◌^◌, ◌<◌, ◌≤◌};
 ghost use Rattle.kmc_tool.specs.Run.{IsCountedInput};
 
 use crate::stages::{round_settings, stage_two};
@@ -24,7 +24,6 @@ pub fn count_input<T: Threads + Wait + Sync, R: Read>(
     reader: &mut Counted<R>,
     params: &Params,
 ) -> Result<BinLists, InputError>
-    requires failures { reader.old.failures < 2 ^ 64 - 1 }
     requires reads { reader.old.reads + 2 ^ 32 < 2 ^ 64 }
     ensures { IsCountedInput R.remaining params.now (2 ^ 32) reader.old reader.new result }
 {
@@ -41,7 +40,6 @@ pub fn count_input_with<T: Threads + Wait + Sync, R: Read, G: Gate + Sync>(
     gate: &G,
     max_reads: u64,
 ) -> Result<BinLists, InputError>
-    requires failures { reader.old.failures < 2 ^ 64 - 1 }
     requires reads { reader.old.reads + max_reads < 2 ^ 64 }
     requires most { max_reads ≤ 2 ^ 32 }
     ensures { IsCountedInput R.remaining params.now max_reads reader.old reader.new result }

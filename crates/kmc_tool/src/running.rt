@@ -1,5 +1,5 @@
 //! A run: from the bytes of a reader to the dump on a writer.
-ghost use Rattle.std.specs.Prelude.{◌≡◌, ◌+◌, ◌-◌, ◌^◌, ◌<◌};
+ghost use Rattle.std.specs.Prelude.{◌≡◌, ◌+◌, ◌^◌, ◌<◌};
 ghost use Rattle.kmc_tool.specs.Errors.{write_error};
 ghost use Rattle.kmc_tool.specs.Run.{IsRun};
 
@@ -35,8 +35,6 @@ pub fn run<T: Threads + Wait + Sync, R: Read, W: Write>(
     writer: &mut Counted<W>,
     params: &Params,
 ) -> Result<u64, RunError>
-    requires reader { reader.old.failures < 2 ^ 64 - 1 }
-    requires writer { writer.old.failures < 2 ^ 64 - 1 }
     requires reads { reader.old.reads + 2 ^ 32 < 2 ^ 64 }
     ensures { IsRun R.remaining W.contents params.now reader.old reader.new writer.old writer.new result }
 {
@@ -52,8 +50,6 @@ pub fn run_with_gate<T: Threads + Wait + Sync, R: Read, W: Write, G: Gate + Sync
     params: &Params,
     gate: &G,
 ) -> Result<u64, RunError>
-    requires reader { reader.old.failures < 2 ^ 64 - 1 }
-    requires writer { writer.old.failures < 2 ^ 64 - 1 }
     requires reads { reader.old.reads + 2 ^ 32 < 2 ^ 64 }
     ensures { IsRun R.remaining W.contents params.now reader.old reader.new writer.old writer.new result }
 {

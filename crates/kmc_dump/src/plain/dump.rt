@@ -1,5 +1,5 @@
 //! The dump of pairs in plain form on a device: lines gathered in a buffer on the stack.
-ghost use Rattle.std.specs.Prelude.{◌≡◌, ◌-◌, ◌^◌, ◌<◌, length, OnOk, OnErr, IfOk};
+ghost use Rattle.std.specs.Prelude.{◌≡◌, length, OnOk, OnErr, IfOk};
 ghost use Rattle.std.specs.Io.KnownBytes.{Appends};
 ghost use Rattle.kmc_device.specs.Device.{AppendsFront, RisesByOne};
 ghost use Rattle.kmc_lists.specs.Line.{text_of};
@@ -15,7 +15,6 @@ pub fn write_dump<W: Write>(
     writer: &mut Counted<W>,
     pairs: &[(Kmer, u64)],
 ) -> Result<u64, WriteFault>
-    requires { writer.old.failures < 2 ^ 64 - 1 }
     ensures ok { OnOk result (Appends (W.contents writer.old.inner) (W.contents writer.new.inner)
         (text_of pairs.now)) }
     ensures kept { OnOk result (writer.new.failures ≡ writer.old.failures) }

@@ -1,5 +1,5 @@
 //! The program that cuts reads into slices.
-ghost use Rattle.std.specs.Prelude.{◌≡◌, ℕ, ◌+◌, ◌-◌, ◌^◌, ◌<◌, ◌≤◌, ◌⊎◌, List, length, map, slice_index, string_bytes, true, false, IfOk, IfErr, OnOk};
+ghost use Rattle.std.specs.Prelude.{◌≡◌, ℕ, ◌+◌, ◌^◌, ◌<◌, ◌≤◌, ◌⊎◌, List, length, map, slice_index, string_bytes, true, false, IfOk, IfErr, OnOk};
 ghost use Rattle.std.specs.Process.{exit_status};
 ghost use Rattle.kmc_options.specs.Words.{Word};
 ghost use Rattle.kmc_options.specs.Requests.{IsCutRequest};
@@ -35,12 +35,9 @@ fn cut_through<T: Threads + Wait + Sync + Alloc<A = Global>, R: Read, W: Write>(
     reader: &mut Counted<R>,
     writers: &mut [Counted<W>],
 ) -> Result<(), CutFault>
-    requires reader { reader.old.failures < 2 ^ 64 - 1 }
     requires reads { reader.old.reads + 2 ^ 32 < 2 ^ 64 }
     requires some { 1 ≤ length writers.old }
     requires few { length writers.old < 2 ^ 16 }
-    requires failures { (s : ℕ) → s < length writers.old
-        → slice_index (map (λ w. w.failures) writers.old) s < 2 ^ 64 - 1 }
     ensures ok { OnOk result (IsCutTo R.remaining W.contents params.now reader.old reader.new writers.old writers.new) }
     ensures fault { IfErr result (IsFaultOfCut R.remaining W.contents params.now reader.old reader.new writers.old writers.new) }
 {
@@ -59,12 +56,9 @@ pub fn cut_to<T: Threads + Wait + Sync + Eprint + Alloc<A = Global>, R: Read, W:
     reader: &mut Counted<R>,
     writers: &mut [Counted<W>],
 ) -> ExitCode
-    requires reader { reader.old.failures < 2 ^ 64 - 1 }
     requires reads { reader.old.reads + 2 ^ 32 < 2 ^ 64 }
     requires some { 1 ≤ length writers.old }
     requires few { length writers.old < 2 ^ 16 }
-    requires failures { (s : ℕ) → s < length writers.old
-        → slice_index (map (λ w. w.failures) writers.old) s < 2 ^ 64 - 1 }
     ensures done { exit_status result ≡ 0
         → IsCutTo R.remaining W.contents params.now reader.old reader.new writers.old writers.new }
     ensures failed { exit_status result ≡ 1 → (fault : CutFault)
@@ -100,7 +94,6 @@ fn cut<T: Threads + Wait + Sync + Files + Eprint + Alloc<A = Global>, R: Read>(
 ) -> ExitCode
     requires some { 1 ≤ request.now.slices }
     requires few { request.now.slices < 2 ^ 16 }
-    requires reader { reader.old.failures < 2 ^ 64 - 1 }
     requires reads { reader.old.reads + 2 ^ 32 < 2 ^ 64 }
     ensures done { exit_status result ≡ 0 → WroteFiles request.now.params request.now.slices
         (R.remaining reader.old.inner) (R.remaining reader.new.inner)
@@ -134,9 +127,7 @@ pub fn cut_words<T: Threads + Wait + Sync + Files + Eprint + Alloc<A = Global>, 
     reader: &mut Counted<R>,
     writer: &mut Counted<W>,
 ) -> ExitCode
-    requires reader { reader.old.failures < 2 ^ 64 - 1 }
     requires reads { reader.old.reads + 2 ^ 32 < 2 ^ 64 }
-    requires writer { writer.old.failures < 2 ^ 64 - 1 }
     ensures done { exit_status result ≡ 0 → is_asked (map string_bytes words.items) ≡ false
         → (r : CutRequest) × IsCutRequest (map string_bytes words.items) r
         × WroteFiles r.params r.slices (R.remaining reader.old.inner) (R.remaining reader.new.inner)
@@ -169,9 +160,7 @@ pub fn cut_program<
     R: Read,
     W: Write,
 >(rt: &T, reader: &mut Counted<R>, writer: &mut Counted<W>) -> ExitCode
-    requires reader { reader.old.failures < 2 ^ 64 - 1 }
     requires reads { reader.old.reads + 2 ^ 32 < 2 ^ 64 }
-    requires writer { writer.old.failures < 2 ^ 64 - 1 }
     ensures done { exit_status result ≡ 0 → (words : List Word) × (is_asked words ≡ false
         → (r : CutRequest) × IsCutRequest words r
         × WroteFiles r.params r.slices (R.remaining reader.old.inner) (R.remaining reader.new.inner)

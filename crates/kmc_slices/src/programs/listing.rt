@@ -1,5 +1,5 @@
 //! The program that lists a slice.
-ghost use Rattle.std.specs.Prelude.{◌≡◌, ◌≢◌, ◌≤◌, ◌-◌, ◌^◌, ◌<◌, ◌⊎◌, List, length, map, string_bytes, true, false, IfOk, IfErr};
+ghost use Rattle.std.specs.Prelude.{◌≡◌, ◌≢◌, ◌≤◌, ◌⊎◌, List, length, map, string_bytes, true, false, IfOk, IfErr};
 ghost use Rattle.std.specs.Process.{exit_status};
 ghost use Rattle.kmc_options.specs.Words.{Word};
 ghost use Rattle.kmc_options.specs.Requests.{IsListRequest};
@@ -41,7 +41,6 @@ fn listed<
 ) -> Result<u64, ListFault>
     requires some { 1 ≤ count }
     requires opener { F.IsAlwaysCallable opener.now }
-    requires failures { writer.old.failures < 2 ^ 64 - 1 }
     ensures ok { IfOk result (λ lines. IsListed (opened_by R.remaining (F.post opener.now)) count params.now
         (W.contents writer.old.inner) (W.contents writer.new.inner)
         × (writer.new.failures ≡ writer.old.failures)) }
@@ -68,7 +67,6 @@ pub fn list_readers<
 >(rt: &T, files: &[String], params: &Params, opener: &F, writer: &mut Counted<W>) -> ExitCode
     requires some { 1 ≤ length files.now }
     requires opener { F.IsAlwaysCallable opener.now }
-    requires failures { writer.old.failures < 2 ^ 64 - 1 }
     ensures done { exit_status result ≡ 0 → IsListed (opened_by R.remaining (F.post opener.now)) (length files.now) params.now
         (W.contents writer.old.inner) (W.contents writer.new.inner)
         × (writer.new.failures ≡ writer.old.failures) }
@@ -89,7 +87,6 @@ pub fn list_files<T: Threads + Sync + Files + Eprint + Alloc<A = Global>, W: Wri
     writer: &mut Counted<W>,
 ) -> ExitCode
     requires some { 1 ≤ length request.now.files.items }
-    requires failures { writer.old.failures < 2 ^ 64 - 1 }
     ensures done { exit_status result ≡ 0 → IsListed of_files (length request.now.files.items) request.now.params
         (W.contents writer.old.inner) (W.contents writer.new.inner)
         × (writer.new.failures ≡ writer.old.failures) }
@@ -109,7 +106,6 @@ pub fn list_words<T: Threads + Sync + Files + Eprint + Alloc<A = Global>, W: Wri
     words: Vec<String>,
     writer: &mut Counted<W>,
 ) -> ExitCode
-    requires { writer.old.failures < 2 ^ 64 - 1 }
     ensures done { exit_status result ≡ 0 → is_asked (map string_bytes words.items) ≡ false
         → (r : ListRequest) × IsListRequest (map string_bytes words.items) r
         × IsListed of_files (length r.files.items) r.params (W.contents writer.old.inner) (W.contents writer.new.inner)
@@ -138,7 +134,6 @@ pub fn list_program<T: Threads + Sync + Files + Env + Eprint + Alloc<A = Global>
     rt: &T,
     writer: &mut Counted<W>,
 ) -> ExitCode
-    requires { writer.old.failures < 2 ^ 64 - 1 }
     ensures done { exit_status result ≡ 0 → (words : List Word) × (is_asked words ≡ false
         → (r : ListRequest) × IsListRequest words r
         × IsListed of_files (length r.files.items) r.params (W.contents writer.old.inner) (W.contents writer.new.inner)

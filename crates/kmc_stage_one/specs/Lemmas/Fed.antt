@@ -2,6 +2,7 @@
 use Rattle.std.proofs.Common.{◌≡◌, ◌≢◌, ◌⊎◌, inl, ℕ, zero, suc, ◌+◌, ◌<◌, ◌≤◌, Bool, true, false, List, [], ◌++◌, Option, Some, None, Result, Ok, Err, refl, sym, ap, subst, ◌∙◌, append_assoc, append-nil, length-append, arith}
 use Rattle.std.specs.Prelude.{IsErrAnd}
 use Rattle.std.specs.Io.KnownBytes.{Consumes, IsAtEnd}
+use Rattle.kmc_device.specs.Device.{RisesByOne}
 use Rattle.kmc_reads.specs.declared.error.ReadsError.{ReadsError}
 use Rattle.kmc_reads.specs.declared.error.ReadsError.TheVariants as reads
 use Rattle.kmc_reads.specs.declared.format.Format.{Format}
@@ -114,7 +115,7 @@ risen most before after failed fails false c = record { kept = c.0; least = c.1;
 pub counts_on : (e : InputError) (most before mid after failed between fails : ℕ) → before ≤ mid → between ≡ failed
     → AreCountsOf most mid after between fails e → AreCountsOf most before after failed fails e
 counts_on Memory most before mid after failed between fails less same c = (c.0 ∙ same, omega (arith, c.1, less), c.2)
-counts_on Read most before mid after failed between fails less same c = (c.0 ∙ ap (λ n. n + 1) same, omega (arith, c.1, less), c.2)
+counts_on Read most before mid after failed between fails less same c = (subst (λ n. RisesByOne n fails) same c.0, omega (arith, c.1, less), c.2)
 counts_on (Faulty e) most before mid after failed between fails less same c = (c.0 ∙ same, omega (arith, c.1, less), c.2)
 counts_on TooLong most before mid after failed between fails less same c = (c.0 ∙ same, omega (arith, c.1, less), c.2)
 

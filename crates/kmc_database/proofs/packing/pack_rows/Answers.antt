@@ -206,8 +206,10 @@ returns-then-head g c = λ o start asked.
           (prefix_so_far l _ _ _ _ _ _ _ _ _ _ _ _ so i.most) (suffix_so_far l _ _ _ _ _ _ _ _ _ _ _ _ so));
     }
 
-pub put_entries-requires-2-clause-order : goal.put_entries-requires-2-clause-order
-put_entries-requires-2-clause-order g c = omega (arith, c.loop-step.invariant.most, all_entries c.args.form.now.layout c.requires.layout)
+pub put_entries-requires-2 : goal.put_entries-requires-2
+put_entries-requires-2 g c = record {
+  order = omega (arith, c.loop-step.invariant.most, all_entries c.args.form.now.layout c.requires.layout);
+}
 
 pub returns-in-Err-put_entries : goal.returns-in-Err-put_entries
 returns-in-Err-put_entries g c = λ o start asked.

@@ -15,9 +15,6 @@ write_lists-requires-clause-merge g c κs within =
 pub write_lists-requires-clause-threads : goal.write_lists-requires-clause-threads
 write_lists-requires-clause-threads g c κs within = c.requires.threads
 
-pub write_lists-requires-clause-failures : goal.write_lists-requires-clause-failures
-write_lists-requires-clause-failures g c κs within = c.requires.failures
-
 pub write_lists-requires-in-Narrow-U32-clause-merge : goal.write_lists-requires-in-Narrow-U32-clause-merge
 write_lists-requires-in-Narrow-U32-clause-merge g c κs within =
     let same = ap lists_of (c.in-Narrow-U32.is ∙ ap Narrow (rw c.in-Narrow-U32.is at c.in-Narrow-U32.field-0-is)) ∙ sym c.deref-in-Narrow-U32.ensures.value in
@@ -25,9 +22,6 @@ write_lists-requires-in-Narrow-U32-clause-merge g c κs within =
 
 pub write_lists-requires-in-Narrow-U32-clause-threads : goal.write_lists-requires-in-Narrow-U32-clause-threads
 write_lists-requires-in-Narrow-U32-clause-threads g c κs within = c.requires.threads
-
-pub write_lists-requires-in-Narrow-U32-clause-failures : goal.write_lists-requires-in-Narrow-U32-clause-failures
-write_lists-requires-in-Narrow-U32-clause-failures g c κs within = c.requires.failures
 
 pub write_lists-requires-in-Narrow-U64-clause-merge : goal.write_lists-requires-in-Narrow-U64-clause-merge
 write_lists-requires-in-Narrow-U64-clause-merge g c κs within =
@@ -37,9 +31,6 @@ write_lists-requires-in-Narrow-U64-clause-merge g c κs within =
 pub write_lists-requires-in-Narrow-U64-clause-threads : goal.write_lists-requires-in-Narrow-U64-clause-threads
 write_lists-requires-in-Narrow-U64-clause-threads g c κs within = c.requires.threads
 
-pub write_lists-requires-in-Narrow-U64-clause-failures : goal.write_lists-requires-in-Narrow-U64-clause-failures
-write_lists-requires-in-Narrow-U64-clause-failures g c κs within = c.requires.failures
-
 pub write_lists-requires-in-Wide-U8-clause-merge : goal.write_lists-requires-in-Wide-U8-clause-merge
 write_lists-requires-in-Wide-U8-clause-merge g c κs within =
     let same = ap lists_of (c.in-Wide-U8.is ∙ ap Wide (rw c.in-Wide-U8.is at c.in-Wide-U8.field-0-is)) ∙ sym c.deref-in-Wide-U8.ensures.value in
@@ -47,9 +38,6 @@ write_lists-requires-in-Wide-U8-clause-merge g c κs within =
 
 pub write_lists-requires-in-Wide-U8-clause-threads : goal.write_lists-requires-in-Wide-U8-clause-threads
 write_lists-requires-in-Wide-U8-clause-threads g c κs within = c.requires.threads
-
-pub write_lists-requires-in-Wide-U8-clause-failures : goal.write_lists-requires-in-Wide-U8-clause-failures
-write_lists-requires-in-Wide-U8-clause-failures g c κs within = c.requires.failures
 
 pub write_lists-requires-in-Wide-U32-clause-merge : goal.write_lists-requires-in-Wide-U32-clause-merge
 write_lists-requires-in-Wide-U32-clause-merge g c κs within =
@@ -59,9 +47,6 @@ write_lists-requires-in-Wide-U32-clause-merge g c κs within =
 pub write_lists-requires-in-Wide-U32-clause-threads : goal.write_lists-requires-in-Wide-U32-clause-threads
 write_lists-requires-in-Wide-U32-clause-threads g c κs within = c.requires.threads
 
-pub write_lists-requires-in-Wide-U32-clause-failures : goal.write_lists-requires-in-Wide-U32-clause-failures
-write_lists-requires-in-Wide-U32-clause-failures g c κs within = c.requires.failures
-
 pub write_lists-requires-in-Wide-U64-clause-merge : goal.write_lists-requires-in-Wide-U64-clause-merge
 write_lists-requires-in-Wide-U64-clause-merge g c κs within =
     let same = ap lists_of (c.in-Wide-U64.is ∙ ap Wide (rw c.in-Wide-U64.is at c.in-Wide-U64.field-0-is)) ∙ sym c.deref-in-Wide-U64.ensures.value in
@@ -69,9 +54,6 @@ write_lists-requires-in-Wide-U64-clause-merge g c κs within =
 
 pub write_lists-requires-in-Wide-U64-clause-threads : goal.write_lists-requires-in-Wide-U64-clause-threads
 write_lists-requires-in-Wide-U64-clause-threads g c κs within = c.requires.threads
-
-pub write_lists-requires-in-Wide-U64-clause-failures : goal.write_lists-requires-in-Wide-U64-clause-failures
-write_lists-requires-in-Wide-U64-clause-failures g c κs within = c.requires.failures
 
 pub returns-in-Narrow-U8 : goal.returns-in-Narrow-U8
 returns-in-Narrow-U8 g c =

@@ -4,11 +4,8 @@ use Rattle.kmc_dump.proofs.Texts.{wave_text}
 use Rattle.kmc_dump.proofs.Writing.{none_out}
 use Rattle.kmc_dump.proofs.turn.write_and_fill.Goals as goal
 
-pub write_buffers-requires-clause-failures : goal.write_buffers-requires-clause-failures
-write_buffers-requires-clause-failures g c = c.requires.failures
-
-pub write_buffers-requires-clause-within : goal.write_buffers-requires-clause-within
-write_buffers-requires-clause-within g c = c.requires.within
+pub write_buffers-requires : goal.write_buffers-requires
+write_buffers-requires g c = record { within = c.requires.within }
 
 pub returns-then-is_empty-clause-written : goal.returns-then-is_empty-clause-written
 returns-then-is_empty-clause-written g c = c.write_buffers.ensures
@@ -34,9 +31,6 @@ returns-then-is_empty-2-clause-written g c =
 
 pub returns-then-is_empty-2-clause-filled : goal.returns-then-is_empty-2-clause-filled
 returns-then-is_empty-2-clause-filled g c = c.fill_row.ensures
-
-pub write_beside-requires-clause-failures : goal.write_beside-requires-clause-failures
-write_beside-requires-clause-failures g c κs within = c.requires.failures
 
 pub write_beside-requires-clause-within : goal.write_beside-requires-clause-within
 write_beside-requires-clause-within g c κs within = c.requires.within

@@ -4,11 +4,8 @@ use Rattle.kmc_device.specs.Lemmas.Devices.{front_all}
 use Rattle.kmc_dump.proofs.Writing.{all_out, refused}
 use Rattle.kmc_dump.proofs.waves.write_last.Goals as goal
 
-pub write_buffers-requires-clause-failures : goal.write_buffers-requires-clause-failures
-write_buffers-requires-clause-failures g c = c.requires.failures
-
-pub write_buffers-requires-clause-within : goal.write_buffers-requires-clause-within
-write_buffers-requires-clause-within g c = c.requires.within
+pub write_buffers-requires : goal.write_buffers-requires
+write_buffers-requires g c = record { within = c.requires.within }
 
 pub returns-in_err-write_buffers : goal.returns-in_err-write_buffers
 returns-in_err-write_buffers g c =

@@ -27,9 +27,6 @@ loop-next-init g c =
       );
     }
 
-pub write_and_fill-requires-clause-failures : goal.write_and_fill-requires-clause-failures
-write_and_fill-requires-clause-failures g c κs within = omega (arith, c.requires.failures, c.loop-next.invariant.kept)
-
 pub write_and_fill-requires-clause-within : goal.write_and_fill-requires-clause-within
 write_and_fill-requires-clause-within g c κs within = c.loop-next.invariant.within
 
@@ -54,10 +51,6 @@ returns-in_default g c =
     c.loop-next.next _ c.in_default.field-0 _
     (omega (arith, c.loop-next.invariant.inside, c.requires.ranges.ends)) c.loop-next.invariant.kept c.loop-next.invariant.out
     c.in_default.ensures.written refl
-
-pub write_and_fill-requires-in-loop-next-clause-failures : goal.write_and_fill-requires-in-loop-next-clause-failures
-write_and_fill-requires-in-loop-next-clause-failures g c κs within =
-    omega (arith, c.requires.failures, c.loop-next.invariant.kept, c.in-Ok.ensures.written.kept)
 
 pub write_and_fill-requires-in-loop-next-clause-within : goal.write_and_fill-requires-in-loop-next-clause-within
 write_and_fill-requires-in-loop-next-clause-within g c κs within =
@@ -162,11 +155,8 @@ loop-next-preserved g c =
           ∙ ap (λ n. between bytes r lists c.requires.ranges (next + wave) (next + wave + n)) long_then);
     }
 
-pub write_last-requires-clause-failures : goal.write_last-requires-clause-failures
-write_last-requires-clause-failures g c = omega (arith, c.requires.failures, c.loop-next.invariant.kept)
-
-pub write_last-requires-clause-within : goal.write_last-requires-clause-within
-write_last-requires-clause-within g c = c.loop-next.invariant.within
+pub write_last-requires : goal.write_last-requires
+write_last-requires g c = record { within = c.loop-next.invariant.within }
 
 pub returns : goal.returns
 returns g c =

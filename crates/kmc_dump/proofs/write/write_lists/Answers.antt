@@ -22,9 +22,6 @@ pub returns-in_err-buffers : goal.returns-in_err-buffers
 returns-in_err-buffers g c =
     none_dumped g.D.Write.contents _ _ c.args.writer.now c.from_residual-in_err-buffers.result c.from_residual-in_err-buffers.ensures.1
 
-pub write_ranges-requires-clause-failures : goal.write_ranges-requires-clause-failures
-write_ranges-requires-clause-failures g c κs within = c.requires.failures
-
 pub write_ranges-requires-clause-ranges : goal.write_ranges-requires-clause-ranges
 write_ranges-requires-clause-ranges g c κs within = c.in_ok-ranges.ensures.1
 

@@ -2,14 +2,9 @@ use Rattle.std.proofs.Common.{◌<◌, length, ◌∙◌, arith}
 use Rattle.std.proofs.lemmas.List.{length-set}
 use Rattle.kmc_device.specs.Device.{Watched}
 use Rattle.kmc_slice_files.specs.Files.{header_bytes}
-use Rattle.kmc_slice_files.proofs.Framing.{may_fail, same_failures, writer_failed}
+use Rattle.kmc_slice_files.proofs.Framing.{same_failures, writer_failed}
 use Rattle.kmc_slice_files.proofs.Each.{zero_below, writer_got, writer_begun}
 use Rattle.kmc_slice_files.proofs.files.begin_files.Goals as goal
-
-pub write_header-requires : goal.write_header-requires
-write_header-requires g c =
-    may_fail c.loop-s.writers c.args.writers.now c.index-writers-s.result c.loop-s.s c.loop-s.invariant.wide c.loop-s.invariant.same
-    c.loop-s-test.true c.requires.failures
 
 pub returns-in-Err-clause-begun : goal.returns-in-Err-clause-begun
 returns-in-Err-clause-begun g c =

@@ -2,7 +2,7 @@ use Rattle.std.proofs.Common.{◌<◌, length, get_or, ◌∙◌, arith}
 use Rattle.std.proofs.lemmas.List.{length-set}
 use Rattle.kmc_device.specs.Device.{Watched}
 use Rattle.kmc_slice_files.specs.Frames.{end_bytes}
-use Rattle.kmc_slice_files.proofs.Framing.{may_fail, same_failures, writer_failed}
+use Rattle.kmc_slice_files.proofs.Framing.{same_failures, writer_failed}
 use Rattle.kmc_slice_files.proofs.Each.{writer_got, writer_begun}
 use Rattle.kmc_slice_files.proofs.files.end_files.Goals as goal
 
@@ -10,11 +10,6 @@ pub returns-in-Err-clause-failed : goal.returns-in-Err-clause-failed
 returns-in-Err-clause-failed g c =
     writer_failed (λ (w : Watched g.row.W.Denot). g.W.Write.contents w.inner) c.loop-s.writers c.index-writers-s.result c.end_file.new.writer
     c.loop-s.s (omega (arith, c.loop-s-test.true, c.loop-s.invariant.wide)) _ c.loop-s.invariant.same c.in-Err.ensures.failed
-
-pub end_file-requires : goal.end_file-requires
-end_file-requires g c =
-    may_fail c.loop-s.writers c.args.writers.now c.index-writers-s.result c.loop-s.s c.loop-s.invariant.wide c.loop-s.invariant.same
-    c.loop-s-test.true c.requires.failures
 
 pub loop-s-preserved : goal.loop-s-preserved
 loop-s-preserved g c =

@@ -5,7 +5,7 @@ use Rattle.std.specs.declared.alloc.Global.{Global}
 use Rattle.kmc_device.specs.Device.{Watched}
 use Rattle.kmc_store.specs.Bins.{body_at}
 use Rattle.kmc_slice_files.specs.Writes.{AreFramed, IsBinWritten}
-use Rattle.kmc_slice_files.proofs.Framing.{none_framed, may_fail, same_failures, writer_failed, writers_framed, writers_begun}
+use Rattle.kmc_slice_files.proofs.Framing.{none_framed, same_failures, writer_failed, writers_framed, writers_begun}
 use Rattle.kmc_slice_files.proofs.round.write_round.Goals as goal
 
 pub loop-b-init : goal.loop-b-init
@@ -15,11 +15,6 @@ loop-b-init g c = record {
   same = refl;
   framed = none_framed _ _ _ _ c.args.counts.now (λ s inside. omega (arith, c.type_inv.counts s));
 }
-
-pub write_bin-requires : goal.write_bin-requires
-write_bin-requires g c =
-    may_fail c.loop-b.writers c.args.writers.now c.index-writers-s.result (c.loop-b.b % length c.args.writers.now) c.loop-b.invariant.wide
-    c.loop-b.invariant.same (omega (arith, c.requires.some)) c.requires.failures
 
 pub returns-in-Err-clause-failed : goal.returns-in-Err-clause-failed
 returns-in-Err-clause-failed g c =

@@ -1,4 +1,4 @@
-use Rattle.std.proofs.Common.{◌≡◌, ◌<◌, ◌^◌, ◌+◌, ◌-◌, ℕ, List, [], ◌++◌, Ok, OnErr, length, map, slice_index, refl, sym, ap, subst, ◌∙◌, arith, Some}
+use Rattle.std.proofs.Common.{◌≡◌, ◌+◌, ◌-◌, ℕ, [], ◌++◌, Ok, OnErr, length, map, refl, sym, ap, subst, ◌∙◌, arith, Some}
 use Rattle.kmc_device.specs.Device.{Watched}
 use Rattle.kmc_device.specs.Lemmas.Devices.{on_err, on_ok, on_ok_then}
 use Rattle.kmc_record.specs.Shapes.{Sizes}
@@ -51,11 +51,6 @@ loop-init g c =
         written = λ olds before. before;
       };
     }
-
-pub cut_last_round-requires-clause-failures : goal.cut_last_round-requires-clause-failures
-cut_last_round-requires-clause-failures g c κs within = λ s inside.
-    let inv = c.loop.invariant in
-    subst (λ (l : List ℕ). slice_index l s < 2 ^ 64 - 1) (sym inv.same) (c.requires.failures s (omega (arith, inside, inv.wide)))
 
 pub returns-then-not-more-clause-ok : goal.returns-then-not-more-clause-ok
 returns-then-not-more-clause-ok g c = λ olds before.
@@ -136,11 +131,6 @@ returns-in-Err-next_bins-clause-left g c = λ olds before.
     let st = c.loop.invariant.way in
     rounds_unended c.args.dealing.now.settings.shape c.args.dealing.now.limit (length c.args.writers.now) olds st.taken _ c.loop.counts
     (st.written olds before)
-
-pub write_bins-requires-clause-failures : goal.write_bins-requires-clause-failures
-write_bins-requires-clause-failures g c = λ s inside.
-    let inv = c.loop.invariant in
-    subst (λ (l : List ℕ). slice_index l s < 2 ^ 64 - 1) (sym inv.same) (c.requires.failures s (omega (arith, inside, inv.wide)))
 
 pub returns-in-Err-write_bins-clause-read_counts : goal.returns-in-Err-write_bins-clause-read_counts
 returns-in-Err-write_bins-clause-read_counts g c =

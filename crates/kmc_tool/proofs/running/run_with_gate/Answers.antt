@@ -63,7 +63,7 @@ returns g c =
       read_failed = λ is. absurd (no_read e (same ∙ of_told is));
       write_failed = λ is.
           let at = is_write e (same ∙ of_told is) in (
-            (refused.failed (ap Err at)).0 c.requires.writer,
+            refused.failed (ap Err at),
             input.bytes,
             text_of pairs,
             length pairs,
