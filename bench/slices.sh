@@ -1,6 +1,7 @@
 #!/bin/sh
-# Compares one run of ./kmc, the slices (kmc_cut, kmc_list slice after slice, kmc_merge) and KMC 3 on its files (`-m2`): the dumps byte for
-# byte, wall and user seconds, peak memory of the greatest process, and the disk. Prints Markdown tables.
+# Compares one run of ./kmc, `futoncrane count --slices`, its steps one after the other (kmc_cut, kmc_list slice after slice, kmc_merge) and
+# KMC 3 on its files (`-m2`): the dumps byte for byte, wall and user seconds, peak memory of the greatest process (of futoncrane that of all
+# programs at once, looked at five times a second), and the disk. Prints Markdown tables.
 #
 # usage: bench/slices.sh [WORKLOAD ..]
 #
@@ -9,9 +10,10 @@
 #
 #   short   SHORT_READS (6000000: 1.3 GB) reads of 100 symbols from a genome of 20 million (30-fold), FASTQ
 #   hifi    LONG_READS (20000: 600 MB) reads of 15,000 symbols from a genome of 10 million (30-fold) with errors in 2 of 1000, FASTQ
-#   plant, fly, plant_fifth, fly_fifth    as bench/compare.sh has them, which are not among those where none is named
+#   deep, plant, fly, plant_fifth, fly_fifth    as bench/compare.sh has them, which are not among those where none is named
 #
-# SLICES (8), THREADS (4), ROUNDS (3), K (25) and KMC_GB (2: the memory that KMC 3 is given) are variables too. The programs run in turn,
+# SLICES (8), THREADS (4), ROUNDS (3), K (25) and KMC_GB (2: the memory that KMC 3 is given) are variables too, and ROOM: the memory that
+# futoncrane is given, as 1G, where it is to choose the number of slices by itself. The programs run in turn,
 # ROUNDS times each; a row has the run with the least wall time. KMC's sorted dump is part of its time. The disk is that of the files of the
 # meantime, without reads and dump, looked at five times a second. FOLDER (of $TMPDIR or /tmp) has the files, as /dev/shm for a file system
 # in memory, which are removed at the end; the texts lie there too, or stay in the folder TEXTS for the next time. The second table has the
@@ -24,6 +26,8 @@ rounds=${ROUNDS:-3}
 k=${K:-25}
 work=$(mktemp -d "${FOLDER:-${TMPDIR:-/tmp}}/slices-XXXXXX")
 texts=${TEXTS:-$work}
+room="--slices $slices"
+[ -z "${ROOM:-}" ] || room="--memory $ROOM"
 trap 'touch "$work/ended"; wait; rm -rf "$work"' EXIT
 cd "$work"
 whole="-ci1 -cx9223372036854775808 -cs9223372036854775808"
@@ -35,7 +39,7 @@ freed=MALLOC_MMAP_THRESHOLD_=65536
 # linked WORKLOAD READS: makes its text where it is not there, and calls it `reads`
 linked() {
     case $1 in
-        plant* | fly*) text=$(text_of "$1") ;;
+        deep | plant* | fly*) text=$(text_of "$1") ;;
         *) text="$texts/slices_$1_$2" ;;
     esac
     if [ ! -f "$text" ]; then
@@ -53,7 +57,7 @@ reads_of() {
     case $1 in
         short) echo "${SHORT_READS:-6000000}" ;;
         hifi) echo "${LONG_READS:-20000}" ;;
-        plant* | fly*) echo all ;;
+        deep | plant* | fly*) echo all ;;
         *) echo "slices.sh: no workload $1" >&2; return 2 ;;
     esac
 }
@@ -64,13 +68,17 @@ timed() {
     /usr/bin/time -a -o "$1.times" -f '%e %U %M' sh -c "$2"
 }
 
-# watched FOLDER: notes the greatest kilobytes that the folder takes, until it is told to end
+# watched FOLDER: notes the greatest kilobytes that the folder takes, and those that the programs of slices hold, until it is told to end
 watched() {
     greatest=0
+    most=0
     while [ ! -e ended ]; do
         now=$(du -sk "$1" 2> /dev/null | cut -f 1)
         [ "${now:-0}" -le "$greatest" ] || greatest=$now
         echo "$greatest" > "$1.disk"
+        now=$(ps -C kmc_cut,kmc_list,kmc_merge -o rss= | awk '{ n += $1 } END { print n + 0 }')
+        [ "$now" -le "$most" ] || most=$now
+        echo "$most" > "$1.memory"
         sleep 0.2
     done
 }
@@ -116,6 +124,18 @@ in_slices() {
     rm -rf cut
 }
 
+in_futoncrane() {
+    watch sliced
+    rm -f futoncrane.dump
+    timed futoncrane "FUTONCRANE_BIN=$top $top/futoncrane/futoncrane count --quiet $room -t $threads --directory sliced -k$k -o futoncrane.dump reads"
+    unwatch
+    # the memory is that of all programs together
+    { sed '$d' futoncrane.times; tail -n 1 futoncrane.times | awk -v most="$(cat sliced.memory)" '{ print $1, $2, most }'; } > all.times
+    mv all.times futoncrane.times
+    cmp one.dump futoncrane.dump
+    rm -rf sliced
+}
+
 in_kmc3() {
     watch theirs
     mkdir theirs/files
@@ -135,7 +155,7 @@ done
 in_cluster() {
     watch cluster
     rm -f cluster.dump
-    timed cluster "FUTONCRANE_BIN=$top $dask $top/futoncrane/futoncrane cluster --workers $threads --slices $slices --directory cluster -k$k reads > cluster.dump 2> log"
+    timed cluster "FUTONCRANE_BIN=$top $dask $top/futoncrane/futoncrane cluster --workers $threads --slices $slices --directory cluster -k$k -o cluster.dump reads 2> log"
     unwatch
     cmp one.dump cluster.dump
     rm -rf cluster
@@ -169,12 +189,14 @@ for workload; do
     round=0
     while [ "$round" -lt "$rounds" ]; do
         in_one_run
+        in_futoncrane
         in_slices
         in_kmc3
         [ -z "$dask" ] || in_cluster
         round=$((round + 1))
     done
     row "$workload, $size" one 0
+    row "$workload, $size" futoncrane "$(megabytes sliced.disk)"
     row "$workload, $size" slices "$(megabytes cut.disk)"
     row "$workload, $size" kmc3 "$(megabytes theirs.disk)"
     [ -z "$dask" ] || row "$workload, $size" cluster "$(megabytes cluster.disk)"

@@ -159,6 +159,11 @@ def ended(child):
     return child.wait(), written
 
 
+def has_ended(child):
+    """Whether a child has ended. Its end is still to be waited for."""
+    return os.waitid(os.P_PID, child.pid, os.WEXITED | os.WNOWAIT | os.WNOHANG) is not None
+
+
 def all_told(child):
     """What a program that ended said on standard error."""
     return child.stderr.read().decode(errors="replace")

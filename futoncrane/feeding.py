@@ -31,6 +31,18 @@ def write_all(sink, text):
         rest = rest[os.write(sink, rest):]
 
 
+def passed(sink, descriptor, place=None, most=BLOCK):
+    """Has the system move some bytes of a regular file into a pipe: from this place on, or from where it is read. Answers how many."""
+    try:
+        return os.sendfile(sink, descriptor, place, most)
+    except OSError as fault:
+        if fault.errno not in (errno.EINVAL, errno.ENOSYS):
+            raise
+    block = os.read(descriptor, most) if place is None else os.pread(descriptor, most, place)
+    write_all(sink, block)
+    return len(block)
+
+
 def last_byte(descriptor, end):
     return os.pread(descriptor, 1, end - 1) if end > 0 else b"\n"
 
@@ -103,16 +115,7 @@ class Feed:
 
     def _send(self, descriptor):
         """Has the system move a regular file into the pipe."""
-        while True:
-            try:
-                moved = os.sendfile(self.sink, descriptor, None, BLOCK)
-            except OSError as fault:
-                if fault.errno not in (errno.EINVAL, errno.ENOSYS):
-                    raise
-                moved = len(block := os.read(descriptor, BLOCK))
-                write_all(self.sink, block)
-            if moved == 0:
-                return
+        for moved in iter(lambda: passed(self.sink, descriptor), 0):
             self.moved += moved
 
     def _copy(self, it, descriptor, sink):

@@ -35,6 +35,8 @@ ADDRESSES_OF_A_THREAD = 10 * MEGA
 LISTED_WITH_ERRORS = 0.5
 LISTED_WITHOUT = 0.05
 MOST_SLICES = 1000
+# slices that are listed side by side at most: with four, processors rest no longer while one is read or written
+MOST_AT_ONCE = 4
 # slices are of unequal size, as signatures are of unequal frequency: where the mean is 1, the greatest is taken to be 1, and
 # so much more for each time that the number of slices is doubled (as measured on sequences of which 41 in 100 letters are C or G)
 UNEVEN = 0.25
@@ -125,6 +127,16 @@ def plan(symbols, listed, k, cap, threads, room, at_once=1):
         if not found.slices and of_slices(slices, 1, symbols, listed, k, cap, threads, bins) <= room:
             found = Plan(slices, whole, bins)
     return found
+
+
+def at_once(sizes, symbols, listed, k, cap, threads, room, bins=BINS):
+    """How many slices fit the room side by side, where their files have these sizes. They share the threads."""
+    whole, sizes = max(1, sum(sizes)), sorted(sizes, reverse=True)
+    symbols = symbols or whole / records(1, k)  # of what came through a pipe nothing else is known
+    for many in range(min(MOST_AT_ONCE, threads, len(sizes)), 1, -1):
+        if sum(listing(symbols, listed, k, cap, -(-threads // many), it / whole, bins) for it in sizes[:many]) <= room:
+            return many
+    return 1
 
 
 def disk(symbols):

@@ -1,4 +1,4 @@
-"""Files of reads in parts, cut between records, for `futoncrane cluster`."""
+"""Files of reads in parts, cut between records."""
 import mmap
 import os
 
@@ -69,3 +69,36 @@ def of_files(found, is_fasta, size):
                         start = end
         if start < it.bytes:
             yield path, command, start, it.bytes
+
+
+def fasta_record_behind(file, place):
+    """Where the first FASTA record begins behind this place, or the end of the file."""
+    with mmap.mmap(file.fileno(), 0, access=mmap.ACCESS_READ) as text:
+        found = text.find(b"\n>", place)
+        return found + 1 if found >= 0 else len(text)
+
+
+def place_between(files, sizes, is_fasta, place):
+    """Which file has this place of all of them in a row, and where the first record begins behind it, or none where the lines do not tell. In
+    the last lines of a file that is its end."""
+    number = 0
+    while place >= sizes[number]:
+        place, number = place - sizes[number], number + 1
+    with open(files[number], "rb", closefd=False) as file:
+        found = (fasta_record_behind if is_fasta else record_behind)(file, place)
+        return number, found if found is not None or file.read(1) else sizes[number]
+
+
+def shares(files, sizes, is_fasta, many):
+    """Plain files, which are open, in so many shares of about one size, each the pieces of its files: (file, first byte, byte behind the last).
+    They are fewer where the lines do not tell between which records a share would end, or where records are too long."""
+    ends = [place_between(files, sizes, is_fasta, sum(sizes) * number // many) for number in range(1, many)]
+    if any(place is None for _, place in ends):
+        return []
+    made, begin = [], (0, 0)
+    for end in [*ends, (len(files), 0)]:
+        pieces = [(file, begin[1] if number == begin[0] else 0, end[1] if number == end[0] else sizes[number])
+                  for number, file in enumerate(files) if begin[0] <= number <= end[0]]
+        made.append([it for it in pieces if it[1] < it[2]])
+        begin = end
+    return [it for it in made if it]

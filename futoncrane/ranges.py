@@ -6,22 +6,20 @@ Slices share no k-mer, and each of their lines is written as it stands: a range 
 own at their place in the answer. What a join writes is as long as it comes out: it is put behind that of the range before."""
 import collections
 import contextlib
-import fcntl
 import itertools
 import os
 import subprocess
 import tempfile
-import threading
 
 from futoncrane import places
 from futoncrane.children import ended
-from futoncrane.output import begun
 from futoncrane.progress import Watch, merging, read_by
+from futoncrane.sending import Sender
 
 # no line of a dump is longer, with the line feed
 LONGEST_LINE = 64 + 22
-# fewer bytes are merged by one program; so many pipes lead to all of them at most, and each holds so many bytes
-LEAST_BYTES, MOST_PIPES, PIPE_BYTES = 1 << 24, 256, 1 << 20
+# fewer bytes are merged by one program; so many pipes lead to all of them at most
+LEAST_BYTES, MOST_PIPES = 1 << 24, 256
 # a range of a join has about so many bytes of the dumps, since what it writes is kept until it is its turn
 RANGE_BYTES = 1 << 26
 
@@ -74,35 +72,22 @@ def are_of_one_length(ranges):
     return len({len(line_from(file, start)[1]) for parts in ranges for file, start, _ in some_of(parts)}) < 2
 
 
-def send(file, start, end, sink):
-    """Passes bytes of a file on to a pipe."""
-    with contextlib.suppress(OSError):  # who reads no more has a status that tells
-        while start < end:
-            start += os.sendfile(sink, file, start, end - start)
-    os.close(sink)
-
-
 class Ranged:
     """A program that reads a range of each dump, and writes to `sink`."""
 
     def __init__(self, words, parts, sink, children):
         self.children, self.bytes = children, sum(end - start for _, start, end in parts)
-        pipes = [os.pipe() for _ in parts]
-        for _, target in pipes:
-            with contextlib.suppress(OSError):
-                fcntl.fcntl(target, fcntl.F_SETPIPE_SZ, PIPE_BYTES)
-        sources = [source for source, _ in pipes]
+        self.senders = [Sender([it]) for it in parts]
+        sources = [it.source for it in self.senders]
         self.program = children.start([*words, *("/dev/fd/%d" % it for it in sources)], pass_fds=sources, stdin=subprocess.DEVNULL, stdout=sink)
-        for it in sources:
-            os.close(it)
-        for part, (_, target) in zip(parts, pipes):
-            begun(threading.Thread(target=send, args=(*part, target), daemon=True))
+        for it in self.senders:
+            it.begin()
 
     def is_ended_well(self):
-        """Waits for the end of the program, and tells whether it did its work."""
+        """Waits for the end of the program, and tells whether it did its work, on all that it was to be given."""
         status, _ = ended(self.program)
         self.children.forget(self.program)
-        return status == 0
+        return status == 0 and all(it.is_whole() for it in self.senders)
 
 
 class Merger(Ranged):

@@ -29,7 +29,7 @@ def run(found, setting, children, output, reader=None):
         setting.report.bytes_read = sum(it.bytes for it in found)
     work = None
     if plan.slices != 1 or setting.slices:
-        work = slices.Work(setting, found, format_name, plan, children)
+        work = slices.Work(setting, found, format_name, (symbols, listed), plan, children)
         dumps = None if slices.takes_parts(reader) else memory.disk_of_dumps(listed, setting.k)
         work.begin(plan.wanted, memory.disk(symbols), dumps)
         work.count(output, reader)

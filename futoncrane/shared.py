@@ -37,8 +37,7 @@ THREADS = Option(["--threads", "-t"], "threads", "N", at_most(MOST_THREADS), glu
                  text="threads, 1 to 16 (as many as there are processors)")
 MEMORY = Option(["--memory", "-m"], "memory", "SIZE", size(64 << 20), glues=True, text="memory that the run may take, as 8G or 500M: what is estimated to "
                 "want more is done in slices, and a program that takes more is ended (none: the machine's memory)")
-SLICES = Option(["--slices"], "slices", "N", number(1, memory.MOST_SLICES), text="so many slices, 1 to 1000, one or two of which are listed at a time (as many as the memory "
-                "wants)")
+SLICES = Option(["--slices"], "slices", "N", number(1, memory.MOST_SLICES), text="so many slices, 1 to 1000, some of which are listed at a time (as many as the memory wants)")
 DIRECTORY = Option(["--directory"], "directory", "DIR", text="where files of the meantime lie, which slices need (beside -o, else TMPDIR)")
 # KMC's words for what is seen or chosen here
 OLD = [
@@ -85,8 +84,8 @@ def words(told, format_name):
     return words_of_cut(told, format_name) + words_of_list(told)
 
 
-def words_of_cut(told, format_name):
-    found = ["-k%d" % told.k, "-sp%d" % told.splitters, "-fm" if format_name == "FASTA" else "-fq"]
+def words_of_cut(told, format_name, splitters=None):
+    found = ["-k%d" % told.k, "-sp%d" % (splitters or told.splitters), "-fm" if format_name == "FASTA" else "-fq"]
     found += ["-p%d" % told.signature] if told.signature else []
     return found + (["-n%d" % told.bins] if told.bins else [])
 
@@ -108,8 +107,7 @@ def plan(told, symbols, listed):
     found = memory.plan(symbols, listed, told.k, told.cap, told.threads, room, at_once)
     if told.slices:
         bins = memory.MOST_BINS if told.slices > memory.FEW_SLICES else memory.BINS
-        fits = memory.of_slices(told.slices, at_once, symbols, listed, told.k, told.cap, told.threads, bins) <= room
-        found = found._replace(slices=told.slices, bins=bins, at_once=at_once if fits else 1)
+        found = found._replace(slices=told.slices, bins=bins)
     if found.slices is None:
         memory.refuse(found, room, told.memory is not None)
     if told.bins and found.slices > told.bins:

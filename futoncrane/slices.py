@@ -1,16 +1,20 @@
-"""Counting in slices: the reads are cut once into files of records, a file for each slice; the slices are listed within the limits, one or two at
-a time; and the dumps, which share no word, are merged. kmc_cut, kmc_list and kmc_merge do it."""
-import collections
+"""Counting in slices: the reads are cut once into files of records, a file for each slice; the slices are listed within the limits, some at a
+time; and the dumps, which share no word, are merged. kmc_cut, kmc_list and kmc_merge do it."""
 import contextlib
 import os
 import subprocess
+import time
 
-from futoncrane import folders, memory, merging, places, progress, ranges, shared
-from futoncrane.children import TEMPORARY, ended, held_signals, told
+from futoncrane import cutting, folders, memory, merging, places, progress, ranges, shared
+from futoncrane.children import TEMPORARY, ended, has_ended, held_signals, told
 from futoncrane.faults import Fault, Misuse, shown
 from futoncrane.memory import human
 from futoncrane.programs import fed, judge_memory, judge_silence, name_and_text, name_of
 from futoncrane.report import say
+
+
+# seconds between two looks at which listing has ended
+PAUSE = 0.01
 
 
 class Disk:
@@ -32,7 +36,7 @@ class Disk:
 def cut(found, setting, format_name, slices, prefix, children):
     """Cuts the inputs into files PREFIX.0, PREFIX.1 and so on, which are gone when the command ends, unless they are let go."""
     command = [places.find("kmc_cut"), *shared.words_of_cut(setting, format_name), "-slices%d" % slices, prefix]
-    names = ["%s.%d" % (prefix, number) for number in range(slices)]
+    names = cutting.names_of(prefix, slices)
     TEMPORARY.update(names)
     fed(command, found, setting, children, None, step=progress.cutting, disk=Disk(prefix))
     return names
@@ -97,9 +101,10 @@ def takes_parts(reader):
 class Work:
     """A count in slices. Its folder is gone when it ends, unless it is to be kept for a later run."""
 
-    def __init__(self, setting, found, format_name, plan, children):
+    def __init__(self, setting, found, format_name, sizes, plan, children):
         self.setting, self.found, self.format, self.children = setting, found, format_name, children
-        self.slices, self.at_once, self.programs, self.kept = plan.slices, plan.at_once, [], None
+        self.sizes, self.slices, self.at_once, self.programs, self.kept = sizes, plan.slices, 1, [], None
+        self.shares = cutting.many_for(found, sizes[0], setting)
         self.directory = folders.place_for(setting.directory, setting.out)
         if setting.keep and setting.directory is None:
             raise Misuse("--keep wants a --directory")
@@ -129,6 +134,7 @@ class Work:
         then none lies on the disk."""
         if not self._is_cut():
             self._cut()
+        self.at_once = self._fitting()
         if takes_parts(reader):
             self._read_parts(reader)
         else:
@@ -150,7 +156,7 @@ class Work:
         for it in self._listings(range(self.slices), is_read=True):
             reader(it.stream)
             written += it.finish() or 0
-            os.unlink(self._part(it.number))
+            self._drop_parts(it.number)
         self.setting.report.written = written
 
     def drop(self):
@@ -164,27 +170,49 @@ class Work:
             return None
         setting = self.setting
         reads = [list(it.identity()) for it in self.found]
-        return {"version": places.version(), "reads": reads, "format": self.format, "slices": self.slices,
+        return {"version": places.version(), "reads": reads, "format": self.format, "slices": self.slices, "shares": self.shares,
                 "k": setting.k, "signature": setting.signature, "bins": setting.bins}
 
     def _is_cut(self):
+        """Whether an earlier run cut the reads, into as many shares as now or into one."""
         note = self._note() if self.kept else None
-        return note is not None and self.kept.has(note)
+        for shares in (self.shares, 1):
+            if note is not None and self.kept.has({**note, "shares": shares}):
+                self.shares = shares
+                return True
+        return False
 
     def _cut(self):
         if self.kept:
             self.kept.clear()
-        names = cut(self.found, self.setting, self.format, self.slices, self._path("part"), self.children)
+        prefixes = [self._path("share-%d" % number) for number in range(self.shares)]
+        if self.shares > 1 and cutting.cut(self.found, self.setting, self.format, self.slices, prefixes, self.children):
+            names = [name for prefix in prefixes for name in cutting.names_of(prefix, self.slices)]
+        else:
+            self.shares = 1
+            names = cut(self.found, self.setting, self.format, self.slices, prefixes[0], self.children)
         with held_signals():
             if self.kept:
                 self.kept.set(self._note())
                 TEMPORARY.difference_update(names)
 
+    def _fitting(self):
+        """How many slices fit the memory side by side."""
+        setting, (symbols, listed) = self.setting, self.sizes
+        sizes = [sum(map(os.path.getsize, self._parts(number))) for number in range(self.slices)]
+        room = setting.memory or memory.of_machine()
+        return memory.at_once(sizes, symbols, listed, setting.k, setting.cap, setting.counters, room, setting.bins or memory.BINS)
+
     def _path(self, name):
         return os.path.join(self.path, name)
 
-    def _part(self, number):
-        return self._path("part.%d" % number)
+    def _parts(self, number):
+        """The files of a slice, one of each share of the reads."""
+        return [self._path("share-%d.%d" % (share, number)) for share in range(self.shares)]
+
+    def _drop_parts(self, number):
+        for it in self._parts(number):
+            os.unlink(it)
 
     def _dump(self, number):
         """The dump of a slice within these limits."""
@@ -192,20 +220,28 @@ class Work:
         return self._path("dump-%d-%d-%d%s.%d" % (setting.least, setting.greatest, setting.cap, "-b" if setting.forward else "", number))
 
     def _listings(self, numbers, is_read=False):
-        """The listings of these slices in their order, of which so many run at once; each is to be finished before the next one is taken."""
-        running = collections.deque()
+        """The listings of these slices, of which so many run at once; each is to be finished before the next one is taken. Those that are read
+        come in their order, and else whichever has ended."""
+        running = []
         with contextlib.ExitStack() as watches:
             for number in numbers:
                 running.append(self._begun(number, watches, running, is_read))
                 if len(running) == self.at_once:
-                    yield self._first_of(running)
+                    yield self._one_of(running, is_read)
             while running:
-                yield self._first_of(running)
+                yield self._one_of(running, is_read)
 
     @staticmethod
-    def _first_of(running):
-        running[0].watch.waits = False
-        return running.popleft()
+    def _one_of(running, is_read):
+        """Takes out a listing: the first, or one that has ended. The first of the others is shown from then on."""
+        found = running[0] if is_read else None
+        while found is None:
+            found = next((it for it in running if has_ended(it.program)), None)
+            if found is None:
+                time.sleep(PAUSE)
+        running.remove(found)
+        (found if is_read else running[0] if running else found).watch.waits = False
+        return found
 
     def _begun(self, number, watches, running, is_read):
         """The listing of a slice, to a file of its own or to be read; the threads are shared out."""
@@ -215,9 +251,8 @@ class Work:
             with held_signals():
                 TEMPORARY.add(work)
             file = watches.enter_context(open(work, "wb"))
-        whole, more = divmod(self.setting.counters, self.at_once)
-        counters = whole + (1 if number % self.at_once < more else 0)
-        found = Listing([self._part(number)], self.setting, self.children, progress.listing(number, self.slices), watches, None, file, counters, self.programs)
+        counters = -(-self.setting.counters // self.at_once)
+        found = Listing(self._parts(number), self.setting, self.children, progress.listing(number, self.slices), watches, None, file, counters, self.programs)
         found.number, found.watch.waits = number, bool(running)
         self.programs.append(found.program)
         return found
@@ -233,4 +268,4 @@ class Work:
             os.replace(listing.file.name, self._dump(listing.number))
             TEMPORARY.discard(listing.file.name)
             if not self.kept:
-                os.unlink(self._part(listing.number))
+                self._drop_parts(listing.number)

@@ -55,6 +55,23 @@ def test_a_run_or_slices_are_chosen(room):
             assert memory.of_slices(two.slices, 2, *asked, two.bins) <= room_of_it * GB // 4
 
 
+def test_as_many_slices_are_listed_at_a_time_as_fit(room):
+    asked = (90 * REAL, 3 * REAL, 31, 255)
+    alike, one_large = [10 * REAL] * 8, [66 * REAL] + [2 * REAL] * 7
+    assert memory.at_once(alike, *asked, 8, 256 * GB) == memory.at_once(one_large, *asked, 8, 256 * GB) == 4
+    assert memory.at_once(alike, *asked, 3, 256 * GB) == 3 and memory.at_once(alike, *asked, 1, 256 * GB) == 1
+    assert memory.at_once(alike[:2], *asked, 8, 256 * GB) == 2 and memory.at_once([], *asked, 8, GB) == 1
+    # the sum of the largest ones fits
+    for sizes in (alike, one_large):
+        for room_of_it in range(1, 120):
+            many = memory.at_once(sizes, *asked, 8, room_of_it * GB)
+            wanted = [sum(memory.listing(*asked, -(-8 // it), size / sum(sizes)) for size in sizes[:it]) for it in (1, 2, 3, 4)]
+            assert many == 4 or wanted[many] > room_of_it * GB, (sizes, room_of_it, many)
+            assert many == 1 or wanted[many - 1] <= room_of_it * GB
+    # of a stream the files of its records tell how much it was
+    assert memory.at_once(alike, 0, 0, 31, 255, 8, 256 * GB) == 4 and memory.at_once(alike, 0, 0, 31, 255, 8, 30 * GB) < 4
+
+
 def test_listed_kmers_are_guessed_within_bounds(room):
     assert memory.listed_of(10**9, "FASTA", 31, 1) == 10**9
     assert memory.listed_of(10**9, "FASTQ", 31, 1) <= 10**9

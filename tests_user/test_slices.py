@@ -302,17 +302,19 @@ def test_an_earlier_run_is_gone_on_with(room):
     os.mkdir(room.path("disk"))
     room.write("reads", content(READS))
     words = ["count", "-k25", "--slices", "3", "--directory", "disk", "--keep", "reads", "-o", "dump"]
-    stand_in(room, "kmc_list", "#!/bin/sh\ncase $* in *part.1*) : > begun; exec sleep 10000 ;; *) exec '%s' \"$@\" ;; esac\n" % program("kmc_list"))
+    stand_in(room, "kmc_list", "#!/bin/sh\ncase $* in *share-0.1*) : > begun; exec sleep 10000 ;; *) exec '%s' \"$@\" ;; esac\n" % program("kmc_list"))
     child = subprocess.Popen([*COMMAND, *words], cwd=room.folder, env=room.environment, stderr=subprocess.PIPE)
     wait_for(room, "begun")
+    wait_for(room, "disk/futoncrane-slices/dump-2-%d-255.0" % MOST)
     other = room.run(*words)
     assert other.status == 1 and "another run uses it" in other.err, other
     child.send_signal(signal.SIGINT)
     child.communicate(timeout=LONG)
-    assert child.returncode == 130 and len(os.listdir(room.path("disk/futoncrane-slices"))) == 5, os.listdir(room.path("disk/futoncrane-slices"))
+    # the records of three slices, their note, and the dump of the first, and of the third if that was listed meanwhile
+    assert child.returncode == 130 and len(os.listdir(room.path("disk/futoncrane-slices"))) in (5, 6), os.listdir(room.path("disk/futoncrane-slices"))
     # nothing is cut again, and the first slice is not listed again
     stand_in(room, "kmc_cut", "#!/bin/sh\nexit 1\n")
-    stand_in(room, "kmc_list", "#!/bin/sh\ncase $* in *part.0*) exit 1 ;; *) exec '%s' \"$@\" ;; esac\n" % program("kmc_list"))
+    stand_in(room, "kmc_list", "#!/bin/sh\ncase $* in *share-0.0*) exit 1 ;; *) exec '%s' \"$@\" ;; esac\n" % program("kmc_list"))
     done = room.run(*words)
     assert done.status == 0 and "3 slices stand in " in done.err and content(room.path("dump")) == plainly(content(READS), 25, 2, MOST), done
     assert os.listdir(room.path("disk")) == []

@@ -6,8 +6,9 @@ import os
 import subprocess
 import sys
 import time
+import types
 
-from futoncrane import doubts, folders, inputs, memory, merging, notes, parts, places, report, run, shared, workers
+from futoncrane import doubts, folders, inputs, memory, merging, notes, parts, places, ranges, report, run, shared, workers
 from futoncrane.children import Children
 from futoncrane.faults import Fault, Misuse, shown
 from futoncrane.database_output import output_of, words_of_run
@@ -152,6 +153,13 @@ def listed_dumps(client, made, slices, setting, format_name, directory):
     return [os.path.join(directory, "dump", str(it)) for it in range(slices)]
 
 
+def merge(dumps, asked, setting, directory, output, children):
+    """Merges the slices' dumps here, by as many programs as the workers of this machine had threads."""
+    here = types.SimpleNamespace(**{**vars(setting), "threads": min(shared.processors(), setting.threads * (asked.workers or 1))})
+    if not ranges.merged(dumps, merging.WHOLE, children, here, output):
+        merging.merge(dumps, merging.WHOLE, children, setting, lambda: os.path.join(directory, "work"), output)
+
+
 def count(client, asked, setting, found, directory, output, children):
     """Counts with the workers of a client."""
     format_name = inputs.format_of_all(found, setting.format)
@@ -161,7 +169,7 @@ def count(client, asked, setting, found, directory, output, children):
     report.say("%d parts, %d slices; files in %s take about %s" % (len(made), slices, shown(place), memory.human(disk)), setting.quiet)
     dumps = listed_dumps(client, made, slices, setting, format_name, directory) if made else []
     if dumps:
-        merging.merge(dumps, merging.WHOLE, children, setting, lambda: os.path.join(directory, "work"), output)
+        merge(dumps, asked, setting, directory, output, children)
     else:
         setting.report.written = 0
     setting.report.doubt = doubts.of(found, setting)
