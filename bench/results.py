@@ -35,6 +35,7 @@ SECTIONS = [
     ("reading", "Reading and feeding alone", ["bench/reading.sh"], False),
     ("feeding", "What futoncrane takes beside the program", ["bench/feeding.sh"], False),
     ("slices", "Slices: what does not fit one memory", ["bench/slices.sh"], False),
+    ("room", "Slices within a memory of 1 GB, k 31", ["env", "ROOM=1G", "K=31", "KMC_GB=6", "bench/slices.sh", LARGE[0]], False),
     ("merge", "Merging two dumps of 5.6 million lines", ["bench/merge_time.sh"], True),
     ("joins", "Joining two dumps beside kmc_tools simple", ["bench/joins.sh"], False),
     ("fuzz", "Hostile texts and options (make fuzz)", ["bench/fuzz.py", "--seed", "7"], True),

@@ -6,15 +6,16 @@
 # usage: bench/slices.sh [WORKLOAD ..]
 #
 # Wants `kmc` and `kmc_tools` (Debian's package kmc) and GNU time. Where dask.distributed is installed (python3-distributed), `futoncrane
-# cluster` with a worker of one thread for each of THREADS runs too. The workloads, both where none is named:
+# cluster` with a worker of one thread for each of THREADS runs too. The workloads, the first three where none is named:
 #
 #   short   SHORT_READS (6000000: 1.3 GB) reads of 100 symbols from a genome of 20 million (30-fold), FASTQ
+#   deep    as bench/compare.sh has it: 0.3 GB, 88-fold
 #   hifi    LONG_READS (20000: 600 MB) reads of 15,000 symbols from a genome of 10 million (30-fold) with errors in 2 of 1000, FASTQ
-#   deep, plant, fly, plant_fifth, fly_fifth    as bench/compare.sh has them, which are not among those where none is named
+#   plant, fly, plant_fifth, fly_fifth    as bench/compare.sh has them
 #
 # SLICES (8), THREADS (4), ROUNDS (3), K (25) and KMC_GB (2: the memory that KMC 3 is given) are variables too, and ROOM: the memory that
-# futoncrane is given, as 1G, where it is to choose the number of slices by itself. The programs run in turn,
-# ROUNDS times each; a row has the run with the least wall time. KMC's sorted dump is part of its time. The disk is that of the files of the
+# futoncrane is given, as 1G, to choose the number of slices by itself. Then one run by futoncrane stands beside that, which waits as it does
+# until the dump is on the disk, in the place of the steps, of the cluster and of the other tables. The programs run in turn, ROUNDS times each; a row has the run with the least wall time. KMC's sorted dump is part of its time. The disk is that of the files of the
 # meantime, without reads and dump, looked at five times a second. FOLDER (of $TMPDIR or /tmp) has the files, as /dev/shm for a file system
 # in memory, which are removed at the end; the texts lie there too, or stay in the folder TEXTS for the next time. The second table has the
 # steps of the slices; the third has the peak of kmc_cut on a quarter of the short reads, as often as CUT_TIMES (1 4 16: 0.3, 1.3 and 5 GB) say.
@@ -136,6 +137,12 @@ in_futoncrane() {
     rm -rf sliced
 }
 
+in_one_run_of_futoncrane() {
+    rm -f whole.dump
+    timed whole "FUTONCRANE_BIN=$top $top/futoncrane/futoncrane count --quiet -t $threads -k$k -o whole.dump reads"
+    cmp one.dump whole.dump
+}
+
 in_kmc3() {
     watch theirs
     mkdir theirs/files
@@ -149,7 +156,7 @@ in_kmc3() {
 # the python that has dask.distributed, or nothing
 dask=''
 for python in python3 /usr/bin/python3; do
-    if "$python" -c 'import distributed' 2> /dev/null; then dask=$python; break; fi
+    if [ -z "${ROOM:-}" ] && "$python" -c 'import distributed' 2> /dev/null; then dask=$python; break; fi
 done
 
 in_cluster() {
@@ -176,7 +183,7 @@ megabytes() {
     awk '{ printf "%.0f", $1 / 1024 }' "$1"
 }
 
-[ $# -gt 0 ] || set -- short hifi
+[ $# -gt 0 ] || set -- short deep hifi
 : > steps
 echo "| reads | run | wall s | user s | MB | disk MB | wall, as a part of one run's | memory, so |"
 echo "|---|---|---|---|---|---|---|---|"
@@ -184,27 +191,30 @@ for workload; do
     many=$(reads_of "$workload")
     linked "$workload" "$many"
     size=$(awk -v bytes="$(wc -c < reads)" 'BEGIN { printf "%.1f GB", bytes / 1e9 }')
-    symbols=$(awk 'NR % 4 == 2 { n += length($0) } END { print n }' reads)
     rm -f ./*.times
     round=0
     while [ "$round" -lt "$rounds" ]; do
         in_one_run
         in_futoncrane
-        in_slices
+        if [ -n "${ROOM:-}" ]; then in_one_run_of_futoncrane; else in_slices; fi
         in_kmc3
         [ -z "$dask" ] || in_cluster
         round=$((round + 1))
     done
     row "$workload, $size" one 0
     row "$workload, $size" futoncrane "$(megabytes sliced.disk)"
-    row "$workload, $size" slices "$(megabytes cut.disk)"
+    [ -z "${ROOM:-}" ] || row "$workload, $size" whole 0
+    [ -n "${ROOM:-}" ] || row "$workload, $size" slices "$(megabytes cut.disk)"
     row "$workload, $size" kmc3 "$(megabytes theirs.disk)"
     [ -z "$dask" ] || row "$workload, $size" cluster "$(megabytes cluster.disk)"
+    [ -z "${ROOM:-}" ] || continue
+    symbols=$(awk 'NR % 4 == 2 { n += length($0) } END { print n }' reads)
     for step in cut lists merge; do
         echo "| $workload | $step | $(best "$step" | sed 's/ / | /g') |" >> steps
     done
     awk -v text="$workload" -v symbols="$symbols" '{ printf "| %s | bytes of the files of records for each symbol | %.3f | | |\n", text, $1 / symbols }' records >> steps
 done
+[ -z "${ROOM:-}" ] || exit 0
 echo
 echo "| reads | step, $slices slices, $threads threads, k $k | wall s | user s | MB |"
 echo "|---|---|---|---|---|"

@@ -1,32 +1,49 @@
 """Dumps as they are read: lines of a k-mer, a tab and its count, in the order of the k-mers."""
 import collections
+import os
 import subprocess
 
-from futoncrane import databases, dumping, packing, places
+from futoncrane import databases, dealing, dumping, packing, places
 from futoncrane.children import ended, signal_of, told
 from futoncrane.faults import Fault, reason, shown
 from futoncrane.feeding import judge_unpacker
 from futoncrane.lines import Lines, blocks
 
 
+# so many programs read a dump side by side
+MOST_READERS = 3
+
+
 class Histogram:
     """How many k-mers of a dump have each count, by kmc_db, whose answer is proved: a call has it read a dump while a program writes that, and
-    `numbers` gives the answer once this program has ended well. The dumps of slices share no k-mer, so their histograms add up."""
+    `numbers` gives the answer once this program has ended well. The dumps of slices share no k-mer, so their histograms add up, and so do those of
+    the lines that are dealt to several kmc_db where there are as many `threads`."""
     takes_parts = True
 
-    def __init__(self, children):
+    def __init__(self, children, threads=1):
         self.children, self.rows, self.fault = children, collections.Counter(), None
+        self.readers = min(MOST_READERS, threads) if dealing.can_splice() else 1
 
     def __call__(self, stream):
-        child = self.children.start([places.find("kmc_db"), "histogram", "/dev/stdin"], stdin=stream, stdout=subprocess.PIPE)
+        sources, sinks = dealing.pipes(self.readers) if self.readers > 1 else ([stream], [])
+        programs = [self.children.start([places.find("kmc_db"), "histogram", "/dev/stdin"], stdin=it, stdout=subprocess.PIPE) for it in sources]
+        if sinks:
+            for it in sources:
+                os.close(it)
+            dealing.deal(stream.fileno(), sinks)
         stream.close()
-        rows = [tuple(map(int, line.split())) for line in child.stdout]
-        status, _ = ended(child)
+        for it in programs:
+            self._take(it)
+
+    def _take(self, program):
+        """Adds the histogram that a program tells."""
+        rows = [tuple(map(int, line.split())) for line in program.stdout]
+        status, _ = ended(program)
         if status:
-            self.fault = "kmc_db %s" % signal_of(status) if status < 0 else told(child)
+            self.fault = "kmc_db %s" % signal_of(status) if status < 0 else told(program)
             if ": line " not in self.fault:  # a line that is none may be the end of a dump whose program failed, which tells its own fault
                 raise Fault(self.fault)
-        self.children.forget(child)
+        self.children.forget(program)
         self.add(dict(rows))
 
     def add(self, numbers):

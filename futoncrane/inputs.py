@@ -8,12 +8,14 @@ import subprocess
 
 from futoncrane import databases, packing
 from futoncrane.faults import Fault, reason, shown
+from futoncrane.options import MOST
 
 BLOCK = 1 << 16
 SAMPLE = 1 << 18
 # of a compressed file that cannot be sampled: bytes of text for each of its bytes
 USUAL_RATIO = 4.0
 FORMATS = {b">": "FASTA", b"@": "FASTQ"}
+MOST_OF_32_BITS = 2**32 - 1
 # a file that is none of reads, by its first bytes or those behind so many, and what it is
 FOREIGN = (
     (0, b"PK\x03\x04", "a zip archive: unpack it first"), (0, b"7z\xbc\xaf", "a 7z archive: unpack it first"), (257, b"ustar", "a tar archive: unpack it first"),
@@ -221,6 +223,14 @@ def format_of_all(inputs, wanted=None):
     if first and wanted and first.format != wanted:
         raise Fault("%s is %s, and the option says %s" % (first.shown, first.format, wanted))
     return first.format if first else wanted or "FASTQ"
+
+
+def most_count(inputs, format_name):
+    """A bound of the counts of k-mers, as far as the sizes of plain files tell: a k-mer has no more places than there are symbols, and in FASTQ
+    a symbol has a quality beside it. Below 2^32 it is taken as the most that 32 bits hold."""
+    is_known = not any(it.is_stream or it.packing for it in inputs)
+    symbols = sum(it.bytes for it in inputs) // (1 if format_name == "FASTA" else 2)
+    return MOST_OF_32_BITS if is_known and symbols <= MOST_OF_32_BITS else MOST
 
 
 def is_same_file(name, other):

@@ -24,6 +24,7 @@ def run(found, setting, children, output, reader=None):
     of it. Answers the work in slices, if it was that: what it keeps is dropped once the answer is there."""
     format_name = inputs.format_of_all(found, setting.format)
     symbols, listed = shared.size_of(setting, found, format_name)
+    setting.most = inputs.most_count(found, format_name)
     plan = shared.plan(setting, symbols, listed)
     if not any(it.is_stream for it in found):
         setting.report.bytes_read = sum(it.bytes for it in found)

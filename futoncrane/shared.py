@@ -75,7 +75,7 @@ def settings(asked, least=1, greatest=MOST, cap=MOST):
         k=given.get("k"), forward=given.get("forward", False), quiet=asked.quiet, memory=given.get("memory"), format=given.get("format"), threads=threads,
         splitters=given.get("splitters") or threads, counters=given.get("counters") or threads, signature=given.get("signature"),
         bins=given.get("bins"), slices=given.get("slices"), directory=given.get("directory"), keep=given.get("keep", False), out=given.get("out"),
-        least=given.get("least", least), greatest=given.get("greatest", greatest), cap=given.get("cap", cap),
+        least=given.get("least", least), greatest=given.get("greatest", greatest), cap=given.get("cap", cap), most=MOST,
         report=report.Report(not asked.quiet or given.get("json") is not None))
 
 
@@ -90,8 +90,13 @@ def words_of_cut(told, format_name, splitters=None):
     return found + (["-n%d" % told.bins] if told.bins else [])
 
 
+def cap_of(told):
+    """The cap that a program is given: counts take less memory where none can be as great as the one that is asked for."""
+    return min(told.cap, told.most)
+
+
 def words_of_list(told, counters=None):
-    found = ["-ci%d" % told.least, "-cx%d" % told.greatest, "-cs%d" % told.cap, "-sr%d" % (counters or told.counters)]
+    found = ["-ci%d" % told.least, "-cx%d" % told.greatest, "-cs%d" % cap_of(told), "-sr%d" % (counters or told.counters)]
     return found + (["-b"] if told.forward else [])
 
 
@@ -104,7 +109,7 @@ def size_of(told, inputs, format_name):
 def plan(told, symbols, listed):
     """How many slices, as the words say or as the memory wants. What is estimated not to fit in any number is refused."""
     room, at_once = told.memory or memory.of_machine(), min(2, told.counters)
-    found = memory.plan(symbols, listed, told.k, told.cap, told.threads, room, at_once)
+    found = memory.plan(symbols, listed, told.k, cap_of(told), told.threads, room, at_once)
     if told.slices:
         bins = memory.MOST_BINS if told.slices > memory.FEW_SLICES else memory.BINS
         found = found._replace(slices=told.slices, bins=bins)

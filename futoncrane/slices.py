@@ -201,7 +201,7 @@ class Work:
         setting, (symbols, listed) = self.setting, self.sizes
         sizes = [sum(map(os.path.getsize, self._parts(number))) for number in range(self.slices)]
         room = setting.memory or memory.of_machine()
-        return memory.at_once(sizes, symbols, listed, setting.k, setting.cap, setting.counters, room, setting.bins or memory.BINS)
+        return memory.at_once(sizes, symbols, listed, setting.k, shared.cap_of(setting), setting.counters, room, setting.bins or memory.BINS)
 
     def _path(self, name):
         return os.path.join(self.path, name)

@@ -1,11 +1,13 @@
 """Memory: how a run is judged before it begins, and how a cap is held."""
+import json
 import os
 import shutil
 import sys
+import types
 
-from room import READS, content, plainly
+from room import MOST, READS, content, plainly
 
-from futoncrane import memory
+from futoncrane import inputs, memory, shared
 
 GB = 1 << 30
 REAL = 10**9
@@ -70,6 +72,20 @@ def test_as_many_slices_are_listed_at_a_time_as_fit(room):
             assert many == 1 or wanted[many - 1] <= room_of_it * GB
     # of a stream the files of its records tell how much it was
     assert memory.at_once(alike, 0, 0, 31, 255, 8, 256 * GB) == 4 and memory.at_once(alike, 0, 0, 31, 255, 8, 30 * GB) < 4
+
+
+def test_counts_are_no_wider_than_they_can_be(room):
+    plain = types.SimpleNamespace(is_stream=False, packing=None, bytes=2**32 - 1)
+    for others, format_name, wanted in (([], "FASTA", 2**32 - 1), ([], "FASTQ", 2**32 - 1), ([plain], "FASTA", MOST), ([plain], "FASTQ", 2**32 - 1),
+                                        ([plain, plain], "FASTQ", MOST)):
+        assert inputs.most_count([plain, *others], format_name) == wanted, (len(others), format_name)
+    for other in ({"is_stream": True}, {"packing": "gzip"}):
+        assert inputs.most_count([types.SimpleNamespace(**{**vars(plain), **other})], "FASTQ") == MOST
+    for cap, most, wanted in ((255, MOST, 255), (255, 2**32 - 1, 255), (MOST, 2**32 - 1, 2**32 - 1), (MOST, MOST, MOST)):
+        assert shared.cap_of(types.SimpleNamespace(cap=cap, most=most)) == wanted
+    # the note has the cap that was asked for, and the greatest count stands as it is
+    ran = room.run("count", "-k", "3", "--cap", "none", "-o", "dump", READS)
+    assert ran.status == 0 and content(room.path("dump")) == plainly(content(READS), 3, cap=MOST) and json.loads(content(room.path("dump.json")))["cap"] is None, ran
 
 
 def test_listed_kmers_are_guessed_within_bounds(room):

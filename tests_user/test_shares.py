@@ -3,7 +3,6 @@ import json
 import os
 import random
 import subprocess
-import sys
 
 from futoncrane import cutting, parts, sending
 from room import COMMAND, LONG, MOST, READS, TOP, Told, content, plainly, program

@@ -105,7 +105,7 @@ def settled(client, setting, found, format_name, megabytes):
     made = list(parts.of_files(found, format_name == "FASTA", part))
     if len(made) > MOST_PARTS:
         raise Fault("there are %d parts, and %d are taken: give a greater --megabytes" % (len(made), MOST_PARTS))
-    plan = memory.plan(symbols, listed, setting.k, setting.cap, setting.threads, room)
+    plan = memory.plan(symbols, listed, setting.k, shared.cap_of(setting), setting.threads, room)
     if plan.slices is None and not setting.slices:
         raise Fault("the memory of a worker, %s, is estimated to be too little for each number of slices: give a higher --memory" % memory.human(room))
     slices = setting.slices or min(memory.MOST_SLICES, max(plan.slices, count))
@@ -163,6 +163,7 @@ def merge(dumps, asked, setting, directory, output, children):
 def count(client, asked, setting, found, directory, output, children):
     """Counts with the workers of a client."""
     format_name = inputs.format_of_all(found, setting.format)
+    setting.most = inputs.most_count(found, format_name)
     made, slices, disk = settled(client, setting, found, format_name, asked.megabytes)
     place = os.path.dirname(directory)
     folders.check_room(place, disk)

@@ -26,7 +26,7 @@ EXAMPLES = ["futoncrane histogram -k 21 --png histogram.png reads_1.fastq.gz rea
 
 def numbers_of(asked, setting, children):
     """The number of k-mers of each count in the reads of the files, or in dumps."""
-    found = dumps.Histogram(children)
+    found = dumps.Histogram(children, setting.threads)
     run.read(asked.files, asked.out, setting, children, found)
     setting.report.step("kmc_db")
     numbers = found.numbers()
