@@ -88,7 +88,7 @@ while [ "$round" -lt "$rounds" ]; do
     /usr/bin/time -a -o alone.times -f '%e %U %M' sh -c "$count > alone.dump"
     /usr/bin/time -a -o pack.times -f '%e %U %M' sh -c "$count | $top/kmc_db pack -k$k -ci1 -cs1000000 packed"
     /usr/bin/time -a -o histogram.times -f '%e %U %M' sh -c "$count | $top/kmc_db histogram - > rows"
-    FUTONCRANE_BIN=$top /usr/bin/time -a -o dealt.times -f '%e %U %M' "$top/futoncrane/futoncrane" histogram -q -t4 -k$k first.fq > dealt.rows
+    FUTONCRANE_BIN=$top /usr/bin/time -a -o dealt.times -f '%e %U %M' "$top/futoncrane/futoncrane" histogram -q -t4 "-k$k" first.fq > dealt.rows
     cmp rows dealt.rows
     /usr/bin/time -a -o walk.times -f '%e %U %M' sh -c "$top/kmc_db query first.dump < words > walked"
     /usr/bin/time -a -o query.times -f '%e %U %M' sh -c "$top/kmc_db query packed < words > counts"
