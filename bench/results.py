@@ -133,11 +133,22 @@ HEADLINE = {
 }
 
 
+def in_room(sections):
+    """The row of the slices within a memory, beside KMC 3 on its files."""
+    rows = [[cell.strip() for cell in row.strip("|").split("|")] for row in rows_of(sections, "room")]
+    ours, theirs = (next((cells for cells in rows if cells[1] == name), None) for name in ("futoncrane", "kmc3"))
+    if not ours:
+        return []
+    time_of_it, memory_of_it = (float(ours[cell]) / float(theirs[cell]) for cell in (2, 4))
+    return ["| the first in slices, `--memory 1G`; KMC 3 with files and 6 GB | 31 | %s | %s | %.2f | %.2f |" % (ours[2], theirs[2], time_of_it, memory_of_it)]
+
+
 def headline(sections):
     """README's table: how much of KMC 3's time and memory is taken, on large and small reads and a genome."""
     rows = [cells for name in ("size", "kmc3") for cells in of_four_threads(sections, name) if cells[0] in HEADLINE]
     lines = ["| four threads | k | seconds | KMC 3 | time, of KMC 3's | memory, of KMC 3's |", "|---|---|---|---|---|---|"]
     lines += ["| %s | %s | %s | %s | %s | %s |" % (HEADLINE[cells[0]], cells[1], cells[3], cells[6], cells[10], cells[11]) for cells in rows]
+    lines += in_room(sections)
     dates = sorted({told_of(sections, name) for name in ("size", "kmc3") if name in sections})
     return [*lines, "", "KMC 3.2.1 in the faster of its two modes, with its sorted dump; the dumps are equal byte for byte.",
             "Measured %s:" % "; ".join(dates), "[bench/RESULTS.md](bench/RESULTS.md), [docs/KMC3.md](docs/KMC3.md)."]
