@@ -150,7 +150,7 @@ def headline(sections):
     lines += ["| %s | %s | %s | %s | %s | %s |" % (HEADLINE[cells[0]], cells[1], cells[3], cells[6], cells[10], cells[11]) for cells in rows]
     lines += in_room(sections)
     dates = sorted({told_of(sections, name) for name in ("size", "kmc3") if name in sections})
-    return [*lines, "", "KMC 3.2.1 in the faster of its two modes, with its sorted dump; the dumps are equal byte for byte.",
+    return [*lines, "", "KMC 3.2.1 in the faster of its two modes but where one is named, with its sorted dump; the dumps are equal byte for byte.",
             "Measured %s:" % "; ".join(dates), "[bench/RESULTS.md](bench/RESULTS.md), [docs/KMC3.md](docs/KMC3.md)."]
 
 

@@ -6,9 +6,9 @@ import contextlib
 import os
 import subprocess
 
-from futoncrane import memory, parts, places, progress, shared
+from futoncrane import memory, parts, places, progress, ranges, shared
 from futoncrane.children import TEMPORARY, ended, held_signals
-from futoncrane.progress import read_by, written_by
+from futoncrane.progress import written_by
 from futoncrane.sending import Sender
 
 # so many programs, where the reads have so many bytes for each
@@ -54,19 +54,6 @@ class Cutter:
         return self.sender.is_whole() and status == 0
 
 
-class Reading:
-    """How far all programs are."""
-
-    def __init__(self, cutters, size):
-        self.cutters, self.size = cutters, size
-
-    def total(self):
-        return self.size
-
-    def place(self, program):
-        return sum(read_by(it.program) for it in self.cutters)
-
-
 def told_of(cutters):
     """How far the cutting is, by all programs."""
     def step(place, total, seconds, written):
@@ -86,7 +73,7 @@ def cut(found, setting, format_name, slices, prefixes, children):
             return False
         cutters = [Cutter(words, pieces, prefix, slices, setting, children) for pieces, prefix in zip(shares, prefixes)]
         beside, is_done = [it.program for it in cutters], True
-        with progress.Watch(Reading(cutters, sum(sizes)), beside[0], not setting.quiet, setting.memory, told_of(cutters), beside):
+        with progress.Watch(ranges.Progress(cutters, sum(sizes)), beside[0], not setting.quiet, setting.memory, told_of(cutters), beside):
             for it in cutters:
                 if not is_done:
                     it.program.kill()

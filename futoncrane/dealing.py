@@ -1,5 +1,6 @@
 """A dump dealt to several programs side by side while it is written: blocks of whole lines to each in turn, so that what each takes rises as the
-dump does, and each line is in one. The system moves the bytes from pipe to pipe, and none is copied here."""
+dump does, and each line is in one. That the whole rises is known of who writes it: kmc, kmc_list or kmc_merge. The system moves the bytes from pipe
+to pipe, and none is copied here."""
 import contextlib
 import os
 

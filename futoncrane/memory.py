@@ -43,7 +43,7 @@ UNEVEN = 0.25
 # of the files of records: bytes of the disk for each symbol
 DISK_OF_A_SYMBOL = 1.1
 
-# how many slices there are, what one run would take, the bins, and how many slices are listed side by side
+# how many slices there are, what one run would take, the bins, and how many slices side by side the number was chosen for
 Plan = collections.namedtuple("Plan", "slices wanted bins at_once", defaults=[BINS, 1])
 
 
@@ -129,10 +129,14 @@ def plan(symbols, listed, k, cap, threads, room, at_once=1):
     return found
 
 
+def symbols_of(size, k):
+    """How many symbols have records of so many bytes, about."""
+    return int(size / records(1, k))
+
+
 def at_once(sizes, symbols, listed, k, cap, threads, room, bins=BINS):
     """How many slices fit the room side by side, where their files have these sizes. They share the threads."""
     whole, sizes = max(1, sum(sizes)), sorted(sizes, reverse=True)
-    symbols = symbols or whole / records(1, k)  # of what came through a pipe nothing else is known
     for many in range(min(MOST_AT_ONCE, threads, len(sizes)), 1, -1):
         if sum(listing(symbols, listed, k, cap, -(-threads // many), it / whole, bins) for it in sizes[:many]) <= room:
             return many

@@ -200,6 +200,9 @@ class Work:
         """How many slices fit the memory side by side."""
         setting, (symbols, listed) = self.setting, self.sizes
         sizes = [sum(map(os.path.getsize, self._parts(number))) for number in range(self.slices)]
+        if not symbols:  # of what came through a pipe the files tell how much it was
+            symbols = memory.symbols_of(sum(sizes), setting.k)
+            listed = memory.listed_of(symbols, self.format, setting.k, setting.least)
         room = setting.memory or memory.of_machine()
         return memory.at_once(sizes, symbols, listed, setting.k, shared.cap_of(setting), setting.counters, room, setting.bins or memory.BINS)
 

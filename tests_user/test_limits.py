@@ -71,7 +71,10 @@ def test_as_many_slices_are_listed_at_a_time_as_fit(room):
             assert many == 4 or wanted[many] > room_of_it * GB, (sizes, room_of_it, many)
             assert many == 1 or wanted[many - 1] <= room_of_it * GB
     # of a stream the files of its records tell how much it was
-    assert memory.at_once(alike, 0, 0, 31, 255, 8, 256 * GB) == 4 and memory.at_once(alike, 0, 0, 31, 255, 8, 30 * GB) < 4
+    assert 80 * REAL < memory.symbols_of(sum(alike), 31) < 100 * REAL
+    symbols = memory.symbols_of(sum(alike), 31)
+    listed = memory.listed_of(symbols, "FASTQ", 31, 2)
+    assert memory.at_once(alike, symbols, listed, 31, 255, 8, 256 * GB) == 4 and memory.at_once(alike, symbols, listed, 31, 255, 8, 30 * GB) < 4
 
 
 def test_counts_are_no_wider_than_they_can_be(room):
