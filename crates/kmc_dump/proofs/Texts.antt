@@ -1,6 +1,6 @@
 -- Texts of ranges that follow one another.
 use Rattle.std.proofs.Common.{◌≡◌, ℕ, zero, suc, ◌+◌, ◌-◌, ◌/◌, ◌^◌, ◌<◌, ◌≤◌, true, false, List, [], ◌∷◌, ◌++◌, length, get_or, sym, ap, ◌∙◌, arith}
-use Rattle.std.specs.List.{AllByRecursion, flat_map}
+use Rattle.std.specs.List.{AllByRecursion}
 use Rattle.std.proofs.lemmas.Bool.Decides.{nat_tests}
 use Rattle.std.proofs.lemmas.List.{map-append}
 use Rattle.std.proofs.lemmas.Grind.{flat_map-append}
@@ -40,7 +40,6 @@ none_between w a ps = filter_none (is_within w a a) ps (go ps)
 pub no_text : (k w a : ℕ) (lists : List Listed) → range_text k w a a lists ≡ []
 no_text k w a lists = ap (λ (ps : List (ℕ × ℕ)). text_of (spelled k ps)) (none_between w a (whole lists))
 
--- the texts of a wave, one after the other
 module _ (k w : ℕ) (pos : 0 < w) (lists : List Listed) (bounds : List ℕ)
     (up : (i : ℕ) → i + 1 < length bounds → get_or bounds i 0 ≤ get_or bounds (i + 1) 0) where
   pub climb : (i n : ℕ) → i + n < length bounds → get_or bounds i 0 ≤ get_or bounds (i + n) 0
@@ -50,25 +49,6 @@ module _ (k w : ℕ) (pos : 0 < w) (lists : List Listed) (bounds : List ℕ)
       let more : get_or bounds i 0 ≤ get_or bounds (i + n) 0 = climb i n (omega arith) in
       let last : get_or bounds (i + n) 0 ≤ get_or bounds ((i + n) + 1) 0 = up (i + n) (omega arith) in
       rw e (omega (arith, more, last))
-
-  pub wave_text : {S : Type 0} (f : S → List ℕ) (ss : List S) (first : ℕ) → first + length ss < length bounds
-      → ((i : ℕ) (d : S) → i < length ss → f (get_or ss i d) ≡ range_text k w (get_or bounds (first + i) 0) (get_or bounds (first + i + 1) 0) lists)
-      → flat_map f ss ≡ range_text k w (get_or bounds first 0) (get_or bounds (first + length ss) 0) lists
-  wave_text f [] first inside are =
-      let e : first + 0 ≡ first = omega arith in
-      sym (ap (λ n. range_text k w (get_or bounds first 0) (get_or bounds n 0) lists) e ∙ no_text k w (get_or bounds first 0) lists)
-  wave_text f (s ∷ ss) first inside are =
-      let zero_more : first + 0 ≡ first = omega arith in
-      let here : f s ≡ range_text k w (get_or bounds first 0) (get_or bounds (first + 1) 0) lists =
-      are 0 s (omega arith) ∙ ap (λ n. range_text k w (get_or bounds n 0) (get_or bounds (n + 1) 0) lists) zero_more in
-      let rest = wave_text f ss (first + 1) (omega (arith, inside)) (λ i d small.
-      let e : first + suc i ≡ (first + 1) + i = omega arith in
-      are (suc i) d (omega (arith, small)) ∙ ap (λ n. range_text k w (get_or bounds n 0) (get_or bounds (n + 1) 0) lists) e) in
-      let last : (first + 1) + length ss ≡ first + suc (length ss) = omega arith in
-      (λ i. here i ++ rest i)
-      ∙ texts_join k w (get_or bounds first 0) (get_or bounds (first + 1) 0) (get_or bounds ((first + 1) + length ss) 0) lists pos
-      (up first (omega (arith, inside))) (climb (first + 1) (length ss) (omega (arith, inside)))
-      ∙ ap (λ n. range_text k w (get_or bounds first 0) (get_or bounds n 0) lists) last
 
 -- the ranges have the text of the whole
 pub all_text : (r : Ranges) (lists : List Listed) → AreRanges r lists

@@ -1,9 +1,7 @@
 -- What was written, by the answers of calls.
-use Rattle.std.proofs.Common.{◌≡◌, ℕ, ◌-◌, ◌≤◌, ◌<◌, ◌^◌, List, [], ◌∷◌, length, get_or, Option, Result, Ok, Err, refl, sym, subst, ◌∙◌, true≢false, arith}
+use Rattle.std.proofs.Common.{◌≡◌, ℕ, ◌+◌, ◌-◌, ◌≤◌, ◌<◌, ◌^◌, List, [], length, get_or, append-nil, Option, Result, Ok, Err, refl, sym, subst, ◌∙◌, true≢false, arith}
 use Rattle.std.specs.Prelude.{IsErr, IsErrAnd}
-use Rattle.std.specs.List.{flat_map}
 use Rattle.std.specs.Io.KnownBytes.{Appends}
-use Rattle.std.proofs.KnownBytes.{Appends-nil}
 use Rattle.std.proofs.lemmas.Nat.{pow_pos}
 use Rattle.kmc_device.specs.Device.{AppendsFront, RisesByOne, Watched, WritesOut}
 use Rattle.kmc_device.specs.Lemmas.Devices.{gathered_out}
@@ -15,7 +13,7 @@ use Rattle.kmc_dump.specs.Written.{IsWritten, IsDumped}
 use Rattle.kmc_dump.specs.declared.write.DumpError.{DumpError}
 use Rattle.kmc_dump.specs.declared.write.DumpError.TheVariants.{Memory, Write}
 use Rattle.kmc_dump.specs.declared.ranges.Ranges.{Ranges}
-use Rattle.kmc_dump.proofs.Pieces.{turn_out, turn_front}
+use Rattle.kmc_dump.proofs.Pieces.{rest_joins, turn_front}
 use Rattle.kmc_dump.proofs.Texts.{all_text}
 
 -- a call failed when a front was out
@@ -34,12 +32,6 @@ refused contents text old now new (Err e) is kept failed front = record {
 pub all_out : {D A E : Type 0} (contents : D → Option (List ℕ)) (text : List ℕ) (old new : Watched D) (x : A) → new.failures ≡ old.failures
     → Appends (contents old.inner) (contents new.inner) text → IsWritten {A = A} {E = E} contents text old new (Ok x)
 all_out contents text old new x kept out = record { ok = out; kept = kept; failed = tt; front = tt }
-
--- nothing was held
-pub none_out : {D S A E : Type 0} (contents : D → Option (List ℕ)) (f : S → List ℕ) (ss : List S) (old : Watched D) (x : A) → length ss ≡ 0
-    → IsWritten {A = A} {E = E} contents (flat_map f ss) old old (Ok x)
-none_out contents f [] old x none = all_out contents [] old old x refl (Appends-nil (contents old.inner))
-none_out contents f (s ∷ ss) old x none = absurd (omega (arith, none))
 
 -- the dump is out
 pub dumped : {D A E : Type 0} (contents : D → Option (List ℕ)) (text : List ℕ) (count : ℕ) (old new : Watched D) (n : ℕ) (x : A) → n ≡ count
@@ -83,13 +75,11 @@ module _ {D : Type 0} (contents : D → Option (List ℕ)) (r : Ranges) (lists :
   abbrev pub between : ℕ → ℕ → List ℕ
   between m n = range_text r.k (2 ^ r.shift) (get_or r.bounds.items m 0) (get_or r.bounds.items n 0) lists
 
-  -- what was held is out, and the next ranges are held
-  pub turn_done : {A E : Type 0} (old now new : Watched D) (first m : ℕ) (held next : List ℕ) (x : A) → first ≤ m → m < length r.bounds.items
-      → WritesOut (contents old.inner) (contents now.inner) (between 0 first) held → IsWritten {A = A} {E = E} contents held now new (Ok x)
-      → next ≡ between first m → WritesOut (contents old.inner) (contents new.inner) (between 0 m) next
-  turn_done old now new first m held next x less inside before done is =
-      turn_out r.k (2 ^ r.shift) (pow_pos r.shift) lists r.bounds.items (λ i inside. (are.bounds i inside).0)
-      first m (contents old.inner) (contents now.inner) (contents new.inner) held next less inside before done.ok is
+  -- behind the texts of the ranges before stands that of the next
+  next_range : (old now : Watched D) (i : ℕ) → i + 1 < length r.bounds.items → Appends (contents old.inner) (contents now.inner) (between 0 i)
+      → WritesOut (contents old.inner) (contents now.inner) (between 0 (i + 1)) (between i (i + 1))
+  next_range old now i inside before =
+      (between 0 i, rest_joins r.k (2 ^ r.shift) (pow_pos r.shift) lists r.bounds.items (λ i inside. (are.bounds i inside).0) i (i + 1) (omega arith) inside, before)
 
   -- of what was held a front is out
   pub turn_failed : {A B E F : Type 0} (old now new : Watched D) (first : ℕ) (held : List ℕ) (e : F) (answer : Result B E) → first < length r.bounds.items
@@ -115,3 +105,27 @@ module _ {D : Type 0} (contents : D → Option (List ℕ)) (r : Ranges) (lists :
   last_turn old now new first held (Err e) last kept before done =
       let some : 1 ≤ length r.bounds.items = are.ends in
       turn_failed old now new first held e (Err e) (omega arith) kept before done refl
+
+  -- the text of one range more is out
+  pub range_done : {A E : Type 0} (old now new : Watched D) (i : ℕ) (x : A) → i + 1 < length r.bounds.items
+      → (now.failures ≡ old.failures) × Appends (contents old.inner) (contents now.inner) (between 0 i)
+      → IsWritten {A = A} {E = E} contents (between i (i + 1)) now new (Ok x)
+      → (new.failures ≡ old.failures) × Appends (contents old.inner) (contents new.inner) (between 0 (i + 1))
+  range_done old now new i x inside before done = (
+    done.kept ∙ before.0,
+    gathered_out (contents old.inner) (contents now.inner) (contents new.inner) (between 0 (i + 1)) (between i (i + 1)) (next_range old now i inside before.1) done.ok,
+  )
+
+  -- of the text of a range a front is out
+  pub range_failed : {A E F : Type 0} (old now new : Watched D) (i : ℕ) (e : F) (answer : Result A E) → i + 1 < length r.bounds.items
+      → (now.failures ≡ old.failures) × Appends (contents old.inner) (contents now.inner) (between 0 i)
+      → IsWritten {A = A} {E = F} contents (between i (i + 1)) now new (Err e) → IsErr answer → IsWritten contents (text_of (spelled r.k (whole lists))) old new answer
+  range_failed old now new i e answer inside before failed is =
+      turn_failed old now new (i + 1) (between i (i + 1)) e answer inside before.0 (next_range old now i inside before.1) failed is
+
+  -- the texts of all ranges are out
+  pub ranges_done : {A E : Type 0} (old now new : Watched D) (n : ℕ) (answer : Result A E) → n ≡ length r.bounds.items - 1
+      → (now.failures ≡ old.failures) × Appends (contents old.inner) (contents now.inner) (between 0 n)
+      → IsWritten contents [] now new answer → IsWritten contents (text_of (spelled r.k (whole lists))) old new answer
+  ranges_done old now new n answer last before done =
+      last_turn old now new n [] answer last before.0 (between 0 n, append-nil (between 0 n), before.1) done

@@ -52,3 +52,12 @@ pub record ArePartedTo (weight widest : ℕ) (bounds : List ℕ) (to pending : �
 -- at each slot how many pairs of the lists lie there
 abbrev pub AreSizes : ℕ → List ℕ → List Listed → Type 0
 AreSizes weight sizes lists = (i : ℕ) → i < length sizes → slice_index_or sizes i 0 ≡ count_within weight i (i + 1) lists
+
+-- all pairs of the lists lie in slots below this one
+pub record FitSlots (weight slots : ℕ) (lists : List Listed) : Type 0 where
+  pub inside : All (λ p. p.0 / weight < slots) (joined (packs lists))
+
+-- so many slots have their sizes
+pub record HaveSizes (weight slots : ℕ) (sizes : List ℕ) (lists : List Listed) : Type 0 where
+  pub long : length sizes ≡ slots
+  pub each : AreSizes weight sizes lists

@@ -15,10 +15,11 @@ use kmc_device::Counted;
 use kmc_lists::{BinLists, SizedLists};
 use std::alloc::Global;
 use std::io::Write;
+use std::sync::Wait;
 use std::thread::Threads;
 
 /// Writes the dump of the lists of bins, each in the words and counts that they have.
-fn write_sized<R: Threads + Sync, D: Write>(
+fn write_sized<R: Threads + Wait + Sync, D: Write>(
     rt: &R,
     alloc: Global,
     writer: &mut Counted<D>,
@@ -57,7 +58,7 @@ fn write_sized<R: Threads + Sync, D: Write>(
 /// nothing else. The answer is the number of lines. Ranges of words are made by so many threads, and written by the calling
 /// one. All memory is had before the first write: after a refusal other than `Write` nothing was written, and after
 /// `Write` a front of the dump.
-pub fn write_bins<R: Threads + Sync, D: Write>(
+pub fn write_bins<R: Threads + Wait + Sync, D: Write>(
     rt: &R,
     alloc: Global,
     writer: &mut Counted<D>,

@@ -5,25 +5,21 @@
 
 mod bins;
 mod buffers;
+mod desk;
+mod fill;
+mod filling;
 mod keys;
+mod lane;
 pub mod laws;
+mod output;
 mod parting;
 mod plain;
 mod range;
 mod ranges;
 mod slots;
-mod turn;
-mod wave;
-mod waves;
 mod word_size;
 mod write;
 
 pub use bins::write_bins;
-pub use buffers::{Buffer, make_buffers};
 pub use plain::write_dump;
-pub use range::put_range;
-pub use ranges::Ranges;
-pub use wave::fill_wave;
-pub use waves::write_ranges;
-pub use word_size::WordSize;
 pub use write::DumpError;

@@ -1,9 +1,9 @@
 //! The choice of ranges.
-ghost use Rattle.std.specs.Prelude.{◌≡◌, ℕ, ◌+◌, ◌-◌, ◌*◌, ◌/◌, ◌^◌, ◌<◌, ◌≤◌, List, length, All, IfOk, OnOk, slice_index_or};
+ghost use Rattle.std.specs.Prelude.{◌≡◌, ℕ, ◌+◌, ◌-◌, ◌*◌, ◌^◌, ◌<◌, ◌≤◌, List, length, IfOk, OnOk, slice_index_or};
 ghost use Rattle.std.specs.List.{AllByRecursion};
 ghost use Rattle.kmc_lists.specs.Listed.{Listed};
-ghost use Rattle.kmc_lists.specs.Ordered.{Rises, CanBeMerged, joined, packs};
-ghost use Rattle.kmc_dump.specs.Ranges.{count_within, ArePartedTo, AreRanges};
+ghost use Rattle.kmc_lists.specs.Ordered.{Rises, CanBeMerged, packs};
+ghost use Rattle.kmc_dump.specs.Ranges.{count_within, ArePartedTo, AreRanges, FitSlots};
 
 use crate::ranges::Ranges;
 use crate::slots::slot_sizes;
@@ -11,6 +11,7 @@ use crate::word_size::WordSize;
 use kmc_base::PackedKmer;
 use kmc_lists::{CountWidth, KmerList};
 use std::alloc::{AllocError, Global};
+use std::thread::Threads;
 
 /// Slots that follow one another are one range while they have no more pairs than this: so many that the threads which fill
 /// buffers work for longer than they take to begin.
@@ -145,20 +146,27 @@ fn add_slot<W: PackedKmer + Drop, C: CountWidth + Drop>(
 }
 
 /// Ranges of neighbouring slots.
-fn join_slots<W: PackedKmer + Drop, C: CountWidth + Drop>(
+fn join_slots<
+    R: Threads + Sync,
+    W: PackedKmer + Drop + Send + Sync,
+    C: CountWidth + Drop + Send + Sync,
+>(
+    rt: &R,
     alloc: Global,
     lists: &[KmerList<W, C>],
     size: WordSize,
     shift: u32,
     slots: usize,
+    threads: usize,
 ) -> Result<Ranges, AllocError>
+    requires threads { 1 ≤ threads }
     requires merge { CanBeMerged size.k lists.now }
     requires shift { shift < 128 }
     requires room { slots * 2 ^ shift ≤ 2 ^ 128 }
-    requires inside { All (λ p. p.0 / 2 ^ shift < slots) (joined (packs lists.now)) }
+    requires inside { FitSlots (2 ^ shift) slots lists.now }
     ensures { IfOk result (λ r. (r.k ≡ size.k) × AreRanges r lists.now) }
 {
-    let sizes = slot_sizes(alloc, lists, shift, slots)?;
+    let sizes = slot_sizes(rt, alloc, lists, shift, slots, threads)?;
     let fine = shift.min(FINEST);
     let step = finer_slots(shift - fine);
     let mut joined = Joined {
@@ -199,17 +207,24 @@ fn leading(total: usize, size: WordSize) -> usize
 }
 
 /// Ranges of about 128 Ki pairs for lists that have so many pairs in all. The leading symbols of a word tell its slot. It takes
-/// memory for a number for each slot, 8 MiB at the most, and fails only where that is refused.
-pub fn part_words<W: PackedKmer + Drop, C: CountWidth + Drop>(
+/// memory for a number for each slot in each of so many threads, 8 MiB at the most for one, and fails only where that is refused.
+pub fn part_words<
+    R: Threads + Sync,
+    W: PackedKmer + Drop + Send + Sync,
+    C: CountWidth + Drop + Send + Sync,
+>(
+    rt: &R,
     alloc: Global,
     lists: &[KmerList<W, C>],
     size: WordSize,
     total: usize,
+    threads: usize,
 ) -> Result<Ranges, AllocError>
-    requires { CanBeMerged size.k lists.now }
+    requires merge { CanBeMerged size.k lists.now }
+    requires threads { 1 ≤ threads }
     ensures { IfOk result (λ r. (r.k ≡ size.k) × AreRanges r lists.now) }
 {
     let symbols = leading(total, size);
     let shift = 2 * (size.k - symbols) as u32;
-    join_slots(alloc, lists, size, shift, 1 << (2 * symbols))
+    join_slots(rt, alloc, lists, size, shift, 1 << (2 * symbols), threads)
 }

@@ -6,15 +6,19 @@ ghost use Rattle.kmc_lists.specs.Ordered.{CanBeMerged, joined, packs, whole};
 ghost use Rattle.kmc_dump.specs.Written.{IsDumped};
 ghost use Rattle.kmc_dump.specs.declared.write.DumpError.TheVariants.{Memory};
 
-use crate::buffers::make_buffers;
+use crate::buffers::make_buffer;
+use crate::desk::Desk;
+use crate::filling::Filling;
+use crate::lane::make_lanes;
+use crate::output::write_ranges;
 use crate::parting::part_words;
-use crate::waves::write_ranges;
 use crate::word_size::WordSize;
 use kmc_base::PackedKmer;
 use kmc_device::Counted;
 use kmc_lists::{CountWidth, KmerList, line_room};
 use std::alloc::{AllocError, Global};
 use std::io::Write;
+use std::sync::Wait;
 use std::thread::Threads;
 use thiserror::Error;
 
@@ -69,13 +73,22 @@ fn count_pairs<W: PackedKmer + Drop, C: CountWidth + Drop>(
     Ok(total)
 }
 
+/// How many lanes serve so many ranges, one for each thread beside the one that writes, and how many buffers each has. One thread alone
+/// needs none.
+fn lanes_of(threads: usize, ranges: usize) -> (usize, usize) {
+    if threads == 1 {
+        return (0, 0);
+    }
+    let lanes = threads.min(ranges);
+    (lanes, if ranges > lanes { 2 } else { 1 })
+}
+
 /// Writes the dump of lists that share no word: the lines of all their pairs in the order of the words, and nothing else.
-/// The answer is the number of lines. Ranges of words are gathered and sorted by so many threads, as many ranges at a
-/// time, while the calling thread writes those before; no list of all pairs is made. One thread does all in turn. All memory
-/// is had before the first write: after a refusal other than `Write` nothing was written, and after `Write` a front of the
-/// dump.
+/// The answer is the number of lines. Ranges of words are gathered and sorted by so many threads, while the calling thread writes those
+/// before; no list of all pairs is made. One thread does all in turn. All memory is had before the first write: after a refusal other
+/// than `Write` nothing was written, and after `Write` a front of the dump.
 pub(crate) fn write_lists<
-    R: Threads + Sync,
+    R: Threads + Wait + Sync,
     D: Write,
     W: PackedKmer + Drop + Send + Sync,
     C: CountWidth + Drop + Send + Sync,
@@ -93,14 +106,19 @@ pub(crate) fn write_lists<
         writer.old writer.new result }
 {
     let total = count_pairs(lists)?;
-    let ranges = part_words(alloc, lists, size, total)?;
-    // No more than hold all pairs once and the widest range once more.
-    let wanted = (total / ranges.widest.max(1)).saturating_add(1);
-    let rows = if threads == 1 { 1 } else { 2 };
-    let count = threads.saturating_mul(rows).min(wanted);
+    let ranges = part_words(rt, alloc, lists, size, total, threads)?;
+    let (lanes, each) = lanes_of(threads, ranges.bounds.len().saturating_sub(1));
     let line = line_room(size.k, C::digits());
-    let mut buffers = make_buffers(alloc, count, ranges.widest, line)?;
-    match write_ranges(rt, writer, lists, &ranges, &mut buffers) {
+    let mut own = make_buffer(alloc, ranges.widest, line)?;
+    let (mut fillers, mut trays) = make_lanes(alloc, lanes, each, ranges.widest, line)?;
+    let desk = Desk::new(alloc, lanes)?;
+    let filling = Filling {
+        rt,
+        lists,
+        ranges: &ranges,
+        desk: &desk,
+    };
+    match write_ranges(writer, &filling, &mut fillers, &mut trays, &mut own) {
         Ok(()) => Ok(total as u64),
         Err(_) => Err(DumpError::Write),
     }

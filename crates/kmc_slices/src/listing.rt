@@ -18,6 +18,7 @@ use kmc_options::Params;
 use kmc_stage_two::lists_of_bins;
 use std::alloc::{AllocError, Global};
 use std::io;
+use std::sync::Wait;
 use std::thread::Threads;
 use thiserror::Error;
 
@@ -74,7 +75,7 @@ impl From<DumpError> for ListError {
 /// Writes the dump of the records of a slice, within the limits and by the strands and threads of these settings, and nothing
 /// else. The answer is the number of lines. Records that came from outside are looked through first: each must be whole, with
 /// words of its bin alone.
-pub fn list_records<T: Threads + Sync, W: io::Write>(
+pub fn list_records<T: Threads + Wait + Sync, W: io::Write>(
     rt: &T,
     alloc: Global,
     records: SliceRecords,

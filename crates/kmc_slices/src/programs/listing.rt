@@ -21,6 +21,7 @@ use std::alloc::{AllocError, Global};
 use std::io::{Read, Write};
 use std::process::ExitCode;
 use std::rt::{Env, Files};
+use std::sync::Wait;
 use std::thread::Threads;
 
 const HELP: &'static str =
@@ -28,7 +29,7 @@ const HELP: &'static str =
 
 /// Writes the dump of the records of so many readers.
 fn listed<
-    T: Threads + Sync + Alloc<A = Global>,
+    T: Threads + Wait + Sync + Alloc<A = Global>,
     R: Read + Drop,
     W: Write,
     F: Fn(usize) -> Option<Counted<R>>,
@@ -60,7 +61,7 @@ fn listed<
 /// closed. The exit status is 0 where the dump was written and no device failed, and else 1; then a reader or the records are at fault
 /// or memory was refused, and nothing was written, or one write failed and a front of the dump is out.
 pub fn list_readers<
-    T: Threads + Sync + Eprint + Alloc<A = Global>,
+    T: Threads + Wait + Sync + Eprint + Alloc<A = Global>,
     R: Read + Drop,
     W: Write,
     F: Fn(usize) -> Option<Counted<R>>,
@@ -81,7 +82,7 @@ pub fn list_readers<
 }
 
 /// [`list_readers`] of the files that are asked for.
-pub fn list_files<T: Threads + Sync + Files + Eprint + Alloc<A = Global>, W: Write>(
+pub fn list_files<T: Threads + Wait + Sync + Files + Eprint + Alloc<A = Global>, W: Write>(
     rt: &T,
     request: &ListRequest,
     writer: &mut Counted<W>,
@@ -101,7 +102,7 @@ pub fn list_files<T: Threads + Sync + Files + Eprint + Alloc<A = Global>, W: Wri
 
 /// Does what the words ask for: shows help or the version, or lists the slice of the files that they name. The exit status is 2
 /// where they ask for nothing, and else that of [`list_files`].
-pub fn list_words<T: Threads + Sync + Files + Eprint + Alloc<A = Global>, W: Write>(
+pub fn list_words<T: Threads + Wait + Sync + Files + Eprint + Alloc<A = Global>, W: Write>(
     rt: &T,
     words: Vec<String>,
     writer: &mut Counted<W>,
@@ -130,7 +131,7 @@ pub fn list_words<T: Threads + Sync + Files + Eprint + Alloc<A = Global>, W: Wri
 }
 
 /// The whole program: [`list_words`] of the words that the process was given.
-pub fn list_program<T: Threads + Sync + Files + Env + Eprint + Alloc<A = Global>, W: Write>(
+pub fn list_program<T: Threads + Wait + Sync + Files + Env + Eprint + Alloc<A = Global>, W: Write>(
     rt: &T,
     writer: &mut Counted<W>,
 ) -> ExitCode

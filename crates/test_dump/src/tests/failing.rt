@@ -48,7 +48,7 @@ impl Write for Full {
 }
 
 /// Asserts that a device that takes so many bytes has them at the end, a front of the dump, and that its failure is told.
-fn assert_front<R: Abort + Threads + Sync>(
+fn assert_front<R: Abort + Threads + Wait + Sync>(
     rt: &R,
     alloc: Global,
     lists: &BinLists,

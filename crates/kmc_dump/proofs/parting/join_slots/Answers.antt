@@ -74,6 +74,6 @@ returns g c =
         bounds = whole.are;
         first = whole.first;
         last = subst (λ n. All (λ p. p.0 / w < n) (joined (packs lists))) (sym c.in_ok-close_range.ensures.last)
-            (all_before a.shift fine a.slots q c.min-fine.ensures c.finer_slots-step.ensures (joined (packs lists)) c.requires.inside);
+            (all_before a.shift fine a.slots q c.min-fine.ensures c.finer_slots-step.ensures (joined (packs lists)) c.requires.inside.inside);
       },
     )

@@ -5,16 +5,16 @@ use Rattle.kmc_dump.proofs.Histogram.{slot_fits}
 use Rattle.kmc_dump.proofs.parting.part_words.Goals as goal
 
 pub join_slots-requires-clause-shift : goal.join_slots-requires-clause-shift
-join_slots-requires-clause-shift g c = omega (arith, c.leading-symbols.ensures.some, c.args.size.within.1)
+join_slots-requires-clause-shift g c κs within = omega (arith, c.leading-symbols.ensures.some, c.args.size.within.1)
 
 pub join_slots-requires-clause-inside : goal.join_slots-requires-clause-inside
-join_slots-requires-clause-inside g c = λ i d inside.
+join_slots-requires-clause-inside g c κs within =
     let s = c.leading-symbols.result in
     let slots = one_shl (2 * s) 64 (omega (arith, c.leading-symbols.ensures.few)) in
-    omega (arith, slot_fits c.args.size.k s _ c.leading-symbols.ensures.within (c.requires.fit i d inside), slots)
+    record { inside = λ i d inside. omega (arith, slot_fits c.args.size.k s _ c.leading-symbols.ensures.within (c.requires.merge.fit i d inside), slots) }
 
 pub join_slots-requires-clause-room : goal.join_slots-requires-clause-room
-join_slots-requires-clause-room g c =
+join_slots-requires-clause-room g c κs within =
     let k = c.args.size.k in
     let s = c.leading-symbols.result in
     let slots = one_shl (2 * s) 64 (omega (arith, c.leading-symbols.ensures.few)) in

@@ -11,16 +11,21 @@ use Rattle.kmc_dump.proofs.write.write_lists.Goals as goal
 pub returns-in_err-total : goal.returns-in_err-total
 returns-in_err-total g c = none_dumped g.D.Write.contents _ _ c.args.writer.now c.from_residual.result c.from_residual.ensures.1
 
-pub part_words-requires : goal.part_words-requires
-part_words-requires g c = c.requires.merge
-
 pub returns-in_err-ranges : goal.returns-in_err-ranges
 returns-in_err-ranges g c =
     none_dumped g.D.Write.contents _ _ c.args.writer.now c.from_residual-in_err-ranges.result c.from_residual-in_err-ranges.ensures.1
 
-pub returns-in_err-buffers : goal.returns-in_err-buffers
-returns-in_err-buffers g c =
-    none_dumped g.D.Write.contents _ _ c.args.writer.now c.from_residual-in_err-buffers.result c.from_residual-in_err-buffers.ensures.1
+pub returns-in_err-own : goal.returns-in_err-own
+returns-in_err-own g c =
+    none_dumped g.D.Write.contents _ _ c.args.writer.now c.from_residual-in_err-own.result c.from_residual-in_err-own.ensures.1
+
+pub returns-in_err-fillers : goal.returns-in_err-fillers
+returns-in_err-fillers g c =
+    none_dumped g.D.Write.contents _ _ c.args.writer.now c.from_residual-in_err-fillers.result c.from_residual-in_err-fillers.ensures.1
+
+pub returns-in_err-desk : goal.returns-in_err-desk
+returns-in_err-desk g c =
+    none_dumped g.D.Write.contents _ _ c.args.writer.now c.from_residual-in_err-desk.result c.from_residual-in_err-desk.ensures.1
 
 pub write_ranges-requires-clause-ranges : goal.write_ranges-requires-clause-ranges
 write_ranges-requires-clause-ranges g c κs within = c.in_ok-ranges.ensures.1

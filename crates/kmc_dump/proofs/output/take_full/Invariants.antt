@@ -1,0 +1,14 @@
+use Rattle.std.proofs.Common.{List}
+use Rattle.rtrb.specs.Ring.{SameConsumer}
+use Rattle.kmc_lists.specs.Listed.{Listed}
+use Rattle.kmc_dump.specs.Full.{IsFull}
+use Rattle.kmc_dump.specs.Lanes.{Gets}
+use Rattle.kmc_dump.specs.declared.ranges.Ranges.{Ranges}
+use Rattle.kmc_dump.proofs.output.take_full.Given as goal
+
+-- what came so far is more than before
+abbrev pub invariant-loop : goal.invariant-loop
+invariant-loop g l = record {
+  ring : SameConsumer l.initial.tray.full l.tray.full;
+  gets : (r : Ranges) (lists : List Listed) → Gets (IsFull r lists) l.tray → Gets (IsFull r lists) l.initial.tray;
+}
