@@ -8,7 +8,7 @@ import subprocess
 from futoncrane import databases, dumping, packing, places, ranges
 from futoncrane.children import ended, open_more, signal_of
 from futoncrane.faults import Fault, Misuse, reason, shown
-from futoncrane.feeding import judge_unpacker
+from futoncrane.feeding import judge_unpacker, widened
 from futoncrane.options import MOST
 from futoncrane.programs import judge_silence
 from futoncrane.progress import Watch, merging, read_by
@@ -47,6 +47,7 @@ class Parts:
     def _add_piped(self, name, kind, start):
         """A file that is read through a pipe: `start` begins what writes to it."""
         source, sink = os.pipe()
+        widened(sink)
         child = start(sink)
         os.close(sink)
         self.pipes.append(source)

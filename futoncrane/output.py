@@ -10,7 +10,7 @@ import threading
 from futoncrane import leftovers, packing
 from futoncrane.children import TEMPORARY, held_signals, signal_of, told, too_late
 from futoncrane.faults import Fault, Misuse, Quiet, reason, shown
-from futoncrane.feeding import write_all
+from futoncrane.feeding import widened, write_all
 from futoncrane.memory import of_machine
 
 # ends of names that promise another form than the one that is written; those of FASTA are for `solid`
@@ -153,9 +153,11 @@ class Output:
     def _pack(self, command):
         """Has the command pack what is written, by way of the counter of its lines."""
         source, sink = os.pipe()
+        widened(sink)
         self.packer = self.children.start(command, stdin=source, stdout=self.file)
         os.close(source)
         source, self.descriptor = os.pipe()
+        widened(self.descriptor)
         self.counter = begun(Counter(source, sink))
 
     def __exit__(self, *fault):
