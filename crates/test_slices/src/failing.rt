@@ -134,7 +134,12 @@ fn a_read_of_a_file_that_fails_is_told(rt: HostRuntime) {
 }
 
 /// Asserts that a list of the worked file to a writer that fails is told, and that a front of the dump is written.
-fn assert_list_told<R: Abort + Threads + Sync>(rt: &R, alloc: Global, room: usize, flushes: bool) {
+fn assert_list_told<R: Abort + Threads + Wait + Sync>(
+    rt: &R,
+    alloc: Global,
+    room: usize,
+    flushes: bool,
+) {
     let dump = b"ACGT\t2\nCGTA\t2\nGTAC\t1\n";
     let params = settings(rt, 25, 512, Strands::Joined, 1);
     let records = gathered(rt, alloc, None, &FILE);

@@ -4,6 +4,7 @@ use kmc_slices::{BinFault, JudgeError, judged_bins};
 use kmc_store::Bins;
 use std::alloc::{AllocError, Global};
 use std::process::Abort;
+use std::sync::Wait;
 use std::test::Fail;
 use std::thread::Threads;
 
@@ -38,7 +39,7 @@ fn assert_words(rt: &impl Abort, bins: &Bins) {
 }
 
 /// Asserts that so many threads tell the first of these faults, or that the bins have all words where there is none.
-fn assert_judged<R: Abort + Threads + Sync>(
+fn assert_judged<R: Abort + Threads + Wait + Sync>(
     rt: &R,
     alloc: Global,
     faults: u32,

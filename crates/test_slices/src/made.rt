@@ -38,7 +38,7 @@ fn cut<R: Abort + Threads + Wait + Sync + Files + Eprint + Alloc<A = Global>>(
 }
 
 /// Asserts that a list by these words ends with this status, and what it writes.
-fn assert_lists<R: Abort + Threads + Sync + Files + Eprint + Alloc<A = Global>>(
+fn assert_lists<R: Abort + Threads + Wait + Sync + Files + Eprint + Alloc<A = Global>>(
     rt: &R,
     words: &str,
     status: u8,

@@ -56,7 +56,7 @@ fn records_of(rt: &impl Abort, alloc: Global, file: &[u8]) -> Option<SliceRecord
 }
 
 /// Asserts that the file is listed so, or that memory was refused before the first byte.
-fn assert_listed_or_refused<R: Abort + Threads + Sync>(
+fn assert_listed_or_refused<R: Abort + Threads + Wait + Sync>(
     rt: &R,
     alloc: Global,
     file: &[u8],
@@ -85,7 +85,7 @@ fn assert_no_file(rt: &impl Abort, alloc: Global, bytes: &[u8]) {
 }
 
 /// Asserts what the writers of a cut have.
-fn assert_cut_or_refused<R: Abort + Threads + Sync>(
+fn assert_cut_or_refused<R: Abort + Threads + Wait + Sync>(
     rt: &R,
     alloc: Global,
     answer: Result<(), CutError>,

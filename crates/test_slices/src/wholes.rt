@@ -47,7 +47,7 @@ pub(crate) fn gathered(
 }
 
 /// The dump of a slice of the parts.
-fn dump_of_slice<R: Abort + Threads + Sync>(
+fn dump_of_slice<R: Abort + Threads + Wait + Sync>(
     rt: &R,
     alloc: Global,
     parts: &[Vec<Vec<u8>>],

@@ -8,6 +8,7 @@ use kmc_lists::{BinLists, CountWidth, KmerList, SizedLists};
 use kmc_stage_two::list_bins;
 use std::alloc::{AllocError, Global};
 use std::process::Abort;
+use std::sync::Wait;
 use std::test::Fail;
 use std::thread::Threads;
 use test_support::Dice;
@@ -128,7 +129,7 @@ fn plain_lists(
 }
 
 /// The packed lists of the bodies.
-fn packed_lists<R: Threads + Sync>(
+fn packed_lists<R: Threads + Wait + Sync>(
     rt: &R,
     alloc: Global,
     bodies: Vec<Vec<u8>>,
@@ -143,7 +144,7 @@ fn packed_lists<R: Threads + Sync>(
 }
 
 /// Asserts that the packed lists of random bodies are their plain counts.
-fn assert_lists<R: Abort + Threads + Sync>(
+fn assert_lists<R: Abort + Threads + Wait + Sync>(
     rt: &R,
     alloc: Global,
     k: usize,
@@ -163,7 +164,7 @@ fn assert_lists<R: Abort + Threads + Sync>(
 }
 
 /// Asserts that packed lists are the plain counts with each number of threads.
-fn assert_all_lists<R: Abort + Threads + Sync>(
+fn assert_all_lists<R: Abort + Threads + Wait + Sync>(
     rt: &R,
     alloc: Global,
     k: usize,

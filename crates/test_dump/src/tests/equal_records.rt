@@ -7,6 +7,7 @@ use kmc_lists::{BinLists, SizedLists};
 use kmc_stage_two::list_bins;
 use std::alloc::{AllocError, Global};
 use std::process::Abort;
+use std::sync::Wait;
 use std::test::Fail;
 use std::thread::Threads;
 use test_support::Dice;
@@ -106,7 +107,7 @@ fn repeated_records(alloc: Global, k: usize) -> Result<Vec<u8>, AllocError> {
 }
 
 /// Asserts that the packed list of a body is its plain count.
-fn assert_plain<R: Abort + Threads + Sync>(
+fn assert_plain<R: Abort + Threads + Wait + Sync>(
     rt: &R,
     alloc: Global,
     body: Vec<u8>,
@@ -127,7 +128,7 @@ fn assert_plain<R: Abort + Threads + Sync>(
 }
 
 /// Asserts the counts of repeated records for words of many lengths.
-fn assert_all_plain<R: Abort + Threads + Sync>(
+fn assert_all_plain<R: Abort + Threads + Wait + Sync>(
     rt: &R,
     alloc: Global,
     strands: Strands,
@@ -150,7 +151,7 @@ fn equal_records_of_one_strand_count_as_often_as_they_stand(rt: HostRuntime) -> 
 }
 
 /// Asserts the count of a body of so many copies of one record of two words.
-fn assert_copies<R: Abort + Threads + Sync>(
+fn assert_copies<R: Abort + Threads + Wait + Sync>(
     rt: &R,
     alloc: Global,
     k: usize,
@@ -207,7 +208,7 @@ fn push_fronts(
 }
 
 /// Asserts the counts of records that begin alike.
-fn assert_fronts<R: Abort + Threads + Sync>(
+fn assert_fronts<R: Abort + Threads + Wait + Sync>(
     rt: &R,
     alloc: Global,
     strands: Strands,
@@ -265,7 +266,7 @@ fn plain_pairs(alloc: Global, body: &[u8], k: usize) -> Result<Vec<(Kmer, u64)>,
 }
 
 /// Asserts the counts of the words of one record that stands so many times.
-fn assert_repeated<R: Abort + Threads + Sync>(
+fn assert_repeated<R: Abort + Threads + Wait + Sync>(
     rt: &R,
     alloc: Global,
     k: usize,
@@ -310,7 +311,7 @@ fn a_full_counter_of_a_short_word_begins_anew(rt: HostRuntime) -> Result<(), Fai
 }
 
 /// Asserts the counts of a body with more words than wait to be added up.
-fn assert_many_plain<R: Abort + Threads + Sync>(
+fn assert_many_plain<R: Abort + Threads + Wait + Sync>(
     rt: &R,
     alloc: Global,
     strands: Strands,
@@ -344,7 +345,7 @@ fn single_records(alloc: Global, dice: &mut Dice, k: usize) -> Result<Vec<u8>, A
 }
 
 /// Asserts that the lists of bins in a row are their plain counts: behind one of single records equal ones are not looked for.
-fn assert_rows_plain<R: Abort + Threads + Sync>(
+fn assert_rows_plain<R: Abort + Threads + Wait + Sync>(
     rt: &R,
     alloc: Global,
     k: usize,

@@ -131,7 +131,7 @@ fn lists_of_a_read<R: Abort + Threads + Wait + Sync>(
 }
 
 /// Asserts that the lists are written to a device with such room, or that memory is refused and nothing was written.
-fn assert_written_or_silent<R: Abort + Threads + Sync>(
+fn assert_written_or_silent<R: Abort + Threads + Wait + Sync>(
     rt: &R,
     alloc: Global,
     lists: &BinLists,

@@ -7,6 +7,7 @@ use kmc_record::{BodyError, RecordFault};
 use kmc_stage_two::list_bins;
 use std::alloc::{AllocError, Global};
 use std::process::Abort;
+use std::sync::Wait;
 use std::test::Fail;
 use std::thread::Threads;
 use test_support::Dice;
@@ -57,7 +58,7 @@ pub(crate) fn between_others(
 }
 
 /// Asserts that the packed lists of a large body and its neighbours are their plain counts with each number of threads.
-fn assert_plain<R: Abort + Threads + Sync>(
+fn assert_plain<R: Abort + Threads + Wait + Sync>(
     rt: &R,
     alloc: Global,
     k: usize,
@@ -133,7 +134,7 @@ fn two_large_bodies_of_a_group(rt: HostRuntime) -> Result<(), Fail> {
 }
 
 /// Asserts that a damaged body is told so with each number of threads.
-fn assert_damaged<R: Abort + Threads + Sync>(
+fn assert_damaged<R: Abort + Threads + Wait + Sync>(
     rt: &R,
     alloc: Global,
     body: &[u8],

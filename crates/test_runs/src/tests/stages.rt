@@ -117,7 +117,7 @@ fn filled<R: Abort + Threads + Wait + Sync>(
 }
 
 /// The dump of what stage two makes of the bins, which must be of the settings' shape.
-fn counted<R: Abort + Threads + Sync>(
+fn counted<R: Abort + Threads + Wait + Sync>(
     rt: &R,
     alloc: Global,
     bins: Bins,

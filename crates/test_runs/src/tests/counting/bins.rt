@@ -9,6 +9,7 @@ use kmc_record::{BodyError, RecordFault};
 use kmc_stage_two::list_bins;
 use std::alloc::{AllocError, Global};
 use std::process::Abort;
+use std::sync::Wait;
 use std::test::Fail;
 use std::thread::Threads;
 
@@ -115,7 +116,7 @@ fn counts_no_long_word_in_an_empty_body(rt: HostRuntime) {
 }
 
 /// The lists of bodies by words of four symbols, and by so many threads.
-fn lists_of<R: Abort + Threads + Sync + Alloc<A = Global>>(
+fn lists_of<R: Abort + Threads + Wait + Sync + Alloc<A = Global>>(
     rt: &R,
     bodies: &[&[u8]],
     threads: usize,
@@ -170,7 +171,7 @@ fn counts_bins_over_any_number_of_threads(rt: HostRuntime) {
 }
 
 /// Asserts that the first damaged one of four bodies is named, by so many threads.
-fn assert_damaged_bin<R: Abort + Threads + Sync + Alloc<A = Global>>(rt: &R, threads: usize)
+fn assert_damaged_bin<R: Abort + Threads + Wait + Sync + Alloc<A = Global>>(rt: &R, threads: usize)
     requires { 1 ≤ threads }
 {
     let bodies: [&[u8]; 4] = [&[0x00, 0x1b], &[0x00, 0x1b, 0x00], &[0x05], &[0x00, 0x1b]];

@@ -11,7 +11,7 @@ fn by_threads(rt: &impl Abort, k: usize, threads: usize) -> Params {
 }
 
 /// Asserts that bins filled in an order that the dice give are counted as this dump.
-fn assert_counted<R: Abort + Threads + Sync>(
+fn assert_counted<R: Abort + Threads + Wait + Sync>(
     rt: &R,
     alloc: Global,
     dice: &mut Dice,
@@ -25,7 +25,7 @@ fn assert_counted<R: Abort + Threads + Sync>(
 }
 
 /// Asserts that any number of threads gives the dump of the direct count. The answer is its number of lines.
-fn lines_by_any_threads<R: Abort + Threads + Sync>(
+fn lines_by_any_threads<R: Abort + Threads + Wait + Sync>(
     rt: &R,
     alloc: Global,
     dice: &mut Dice,

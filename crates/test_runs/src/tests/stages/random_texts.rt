@@ -78,7 +78,7 @@ fn bins_of<R: Abort + Threads + Wait + Sync>(
 }
 
 /// Asserts that stage two makes of the bins the dump of the direct count of the reads. The answer is its number of lines.
-fn lines_as_direct<R: Abort + Threads + Sync>(
+fn lines_as_direct<R: Abort + Threads + Wait + Sync>(
     rt: &R,
     alloc: Global,
     bins: Bins,

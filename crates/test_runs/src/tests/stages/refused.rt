@@ -28,7 +28,7 @@ fn assert_written_or_refused(rt: &impl Abort, written: Result<u64, DumpError>, w
 }
 
 /// Asserts that the bins are counted and written to the room, or that memory was refused.
-fn assert_counted_or_refused<R: Abort + Threads + Sync>(
+fn assert_counted_or_refused<R: Abort + Threads + Wait + Sync>(
     rt: &R,
     alloc: Global,
     bins: Bins,

@@ -9,7 +9,7 @@ use kmc_count::Limits;
 const TWICE: &[u8] = b"GATTACAGATTACAGATTACACCGGT";
 
 /// Asserts that these reads give the dump through bins, and by the direct count too.
-fn assert_dump<R: Abort + Threads + Sync + Alloc<A = Global>>(
+fn assert_dump<R: Abort + Threads + Wait + Sync + Alloc<A = Global>>(
     rt: &R,
     reads: &[&[u8]],
     params: &Params,
@@ -58,7 +58,7 @@ fn bins_give_no_line_between_crossed_limits(rt: HostRuntime) {
 }
 
 /// Asserts that a long run of one symbol gives no line within these limits.
-fn assert_no_line<R: Abort + Threads + Sync + Alloc<A = Global>>(
+fn assert_no_line<R: Abort + Threads + Wait + Sync + Alloc<A = Global>>(
     rt: &R,
     ci: u64,
     cx: u64,
@@ -68,7 +68,7 @@ fn assert_no_line<R: Abort + Threads + Sync + Alloc<A = Global>>(
 }
 
 /// Asserts that a long run of one symbol gives one line within these limits, which shows this count.
-fn assert_shown<R: Abort + Threads + Sync + Alloc<A = Global>>(
+fn assert_shown<R: Abort + Threads + Wait + Sync + Alloc<A = Global>>(
     rt: &R,
     ci: u64,
     cx: u64,
