@@ -97,20 +97,45 @@ class Flush(threading.Thread):
 
 
 class Lines(threading.Thread):
-    """Counts the lines of a plain file that the memory still holds, from a place on; none of another file."""
+    """Counts the lines of a plain file that the memory still holds, from a place on; none of another file. What is written to one that `grows`
+    is counted as it comes, until that is over."""
+    SECONDS = 0.1
 
-    def __init__(self, path, place):
+    def __init__(self, path, place, grows=False):
         super().__init__(daemon=True)
-        self.count = self.file = None
+        self.count, self.file, self.over = None, None, threading.Event()
+        if not grows:
+            self.over.set()
         with contextlib.suppress(OSError):
             self.file = open(path, "rb", buffering=0)  # now: the file may have another name before the thread runs
             self.file.seek(place)
 
     def run(self):
+        count = 0
         with contextlib.suppress(OSError, AttributeError), self.file as file:
-            kind = os.fstat(file.fileno())
-            if stat.S_ISREG(kind.st_mode) and kind.st_size <= of_machine() // 2:
-                self.count = sum(block.count(b"\n") for block in iter(lambda: file.read(BLOCK), b""))
+            while True:
+                is_over = self.over.is_set()  # looked at before the file is read: then all is there
+                kind = os.fstat(file.fileno())
+                if not stat.S_ISREG(kind.st_mode) or kind.st_size - file.tell() > of_machine() // 2:
+                    return
+                count += sum(block.count(b"\n") for block in iter(lambda: file.read(BLOCK), b""))
+                if is_over:
+                    self.count = count
+                    return
+                self.over.wait(self.SECONDS)
+
+
+class LinesOfParts:
+    """The lines of all these files, each of which a thread counts: none where one was not counted."""
+
+    def __init__(self, threads):
+        self.threads, self.count, self.over = list(threads), None, threading.Event()
+
+    def join(self):
+        for it in self.threads:
+            it.join()
+        counts = [it.count for it in self.threads]
+        self.count = None if None in counts else sum(counts)
 
 
 def begun(thread):
@@ -161,6 +186,8 @@ class Output:
         self.counter = begun(Counter(source, sink))
 
     def __exit__(self, *fault):
+        if self.counted:
+            self.counted.over.set()
         if self.flush:
             self.flush.end()
         for descriptor in {self.descriptor, self.file} - {1, None}:
@@ -181,6 +208,11 @@ class Output:
         self.descriptor = self.file
         os.fchmod(self.file, mode)
         self.flush = begun(Flush(self.file))
+
+    def follow(self):
+        """Counts the lines of the file while it is written from its front to its end."""
+        if self.work and not self.packer:
+            self.counted = begun(Lines(self.work, 0, grows=True))
 
     def let_go(self):
         """Closes what a program writes to, once that program has it: the packer sees the end when the program ends."""
@@ -211,7 +243,9 @@ class Output:
         self.let_go()
         if self.packer:
             self.judge_packer()
-        if is_counted and not self.packer and (self.is_made or self.name is None):
+        if self.counted:
+            self.counted.over.set()
+        elif is_counted and not self.packer and (self.is_made or self.name is None):
             self.counted = begun(Lines(self.work or "/proc/self/fd/1", self.start))
         if self.work is None:
             return

@@ -19,6 +19,7 @@ def fed(command, found, setting, children, output, reader=None, text=None, step=
     feed.close_source()
     if output:
         output.let_go()
+        output.follow()
     with Watch(feed, program, not setting.quiet, setting.memory, step) as watch:
         if text:
             watch.say(text)

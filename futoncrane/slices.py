@@ -9,7 +9,9 @@ from futoncrane import cutting, folders, memory, merging, places, progress, rang
 from futoncrane.children import TEMPORARY, ended, has_ended, held_signals, told
 from futoncrane.faults import Fault, Misuse, shown
 from futoncrane.memory import human
+from futoncrane.output import Lines, LinesOfParts, begun
 from futoncrane.programs import fed, judge_memory, judge_silence, name_and_text, name_of
+from futoncrane.removing import Remover
 from futoncrane.report import say
 
 
@@ -104,6 +106,7 @@ class Work:
     def __init__(self, setting, found, format_name, sizes, plan, children):
         self.setting, self.found, self.format, self.children = setting, found, format_name, children
         self.sizes, self.slices, self.at_once, self.programs, self.kept = sizes, plan.slices, 1, [], None
+        self.remover, self.lines = Remover(), {}
         self.shares = cutting.many_for(found, sizes[0], setting)
         self.directory = folders.place_for(setting.directory, setting.out)
         if setting.keep and setting.directory is None:
@@ -140,14 +143,18 @@ class Work:
         else:
             self._merge(output, reader)
         if not self.kept:
-            folders.dropped(self.path)
+            self.remover.remove(self.path)
+        if reader:
+            self._wait()
 
     def _merge(self, output, reader):
         """Lists the slices, and merges their dumps."""
         for it in self._listings(range(self.slices) if not self.kept else [it for it in range(self.slices) if not os.path.exists(self._dump(it))]):
             self._finish(it)
         dumps = [self._dump(number) for number in range(self.slices)]
-        if reader or not ranges.merged(dumps, merging.WHOLE, self.children, self.setting, output):
+        if not reader and ranges.merged(dumps, merging.WHOLE, self.children, self.setting, output):
+            output.counted = LinesOfParts(self.lines.values()) if len(self.lines) == self.slices else None
+        else:
             merging.merge(dumps, merging.WHOLE, self.children, self.setting, lambda: self.path, output, reader)
 
     def _read_parts(self, reader):
@@ -160,9 +167,15 @@ class Work:
         self.setting.report.written = written
 
     def drop(self):
-        """Removes what is kept, once the answer is there."""
+        """Removes what is kept, once the answer is there, and waits until what was not kept is gone."""
         if self.kept:
             self.kept.clear()
+        self._wait()
+
+    def _wait(self):
+        self.remover.end()
+        if not self.kept:
+            folders.forget(self.path)
 
     def _note(self):
         """What the files of slices are of; nothing where that cannot be known again, as of a pipe."""
@@ -214,8 +227,7 @@ class Work:
         return [self._path("share-%d.%d" % (share, number)) for share in range(self.shares)]
 
     def _drop_parts(self, number):
-        for it in self._parts(number):
-            os.unlink(it)
+        self.remover.remove(*self._parts(number))
 
     def _dump(self, number):
         """The dump of a slice within these limits."""
@@ -272,3 +284,4 @@ class Work:
             TEMPORARY.discard(listing.file.name)
             if not self.kept:
                 self._drop_parts(listing.number)
+        self.lines[listing.number] = begun(Lines(self._dump(listing.number), 0))

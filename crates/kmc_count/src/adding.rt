@@ -179,6 +179,7 @@ pub(crate) fn take_and_add<W: PackedKmer + Drop>(
         → IsErrOf result (BodyError.Damaged fault offset)
         → IsFirstFault rule.k fault offset body.now }
     ensures memory { IsErrOf result BodyError.Memory → WantsMemory rule.k body.now }
+    ensures unasked { ¬ (IsErrOf result BodyError.WrongBin) }
 {
     let CountingRoom {
         items,

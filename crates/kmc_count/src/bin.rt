@@ -1,15 +1,18 @@
 //! The count of a bin: equal records once, their words with weights as items in one list, and the dump of items.
-ghost use Rattle.std.specs.Prelude.{◌≡◌, ℕ, ◌+◌, ◌*◌, ◌≤◌, [], List, map, OnOk, IfOk, IsErrOf};
+ghost use Rattle.std.specs.Prelude.{◌≡◌, ◌≢◌, ℕ, ◌+◌, ◌*◌, ◌≤◌, [], List, map, OnOk, IfOk, IsErrOf};
+ghost use Rattle.std.specs.declared.option.Option.TheVariants.{None};
 ghost use Rattle.std.specs.List.Sorted.{IsPermutation, IsSorted};
 ghost use Rattle.std.specs.Ordering.{nat_cmp};
 ghost use Rattle.kmc_base.specs.Weights.{AreItems};
 ghost use Rattle.kmc_record.specs.Faults.{IsFirstFault};
 ghost use Rattle.kmc_record.specs.declared.fault.RecordFault.{RecordFault};
+ghost use Rattle.kmc_count.specs.Asked.{IsOfBin};
 ghost use Rattle.kmc_count.specs.Bodies.{AreItemsOfBody, IsDumpOfBody, WantsMemory};
 ghost use Rattle.kmc_count.specs.Bundles.{AreBundledItems};
 
 use crate::adding::{take_and_add, takes_table};
 use crate::item_form::{ItemForm, bundle_of};
+use crate::judging::{AskedBin, asked_of, is_of_bin, keys_in_bin};
 use crate::limits::Limits;
 use crate::room::CountingRoom;
 use crate::rows::push_rows;
@@ -18,6 +21,7 @@ use crate::tallying::tally_both;
 use kmc_base::{KeyRule, MOST_WEIGHT_BITS, PackedKmer};
 use kmc_lists::PairList;
 use kmc_record::BodyError;
+use kmc_split::laws::strands_share_signature;
 use std::alloc::{AllocError, Global};
 
 /// Sorts the numbers of records, by the faster way for their width where there is memory for that.
@@ -31,11 +35,13 @@ fn sort_numbers(numbers: &mut Vec<u128>)
 }
 
 /// The words of a body as items, and as bundles where the form has them. Where equal records are looked for, they are sorted first, each as
-/// the lesser of it and its reverse complement, so that those that begin alike stand side by side and what they share is unpacked once.
+/// the lesser of it and its reverse complement, so that those that begin alike stand side by side: what they share is unpacked once, and
+/// judged once where a bin is asked for.
 fn take_and_sort<W: PackedKmer + Drop>(
     room: &mut CountingRoom<W>,
     body: &[u8],
     form: ItemForm,
+    asked: Option<AskedBin>,
 ) -> Result<(), BodyError>
     requires most { form.rule.k ≤ W.most }
     requires beside { 2 * form.rule.k + form.bits ≤ 2 * W.most }
@@ -46,8 +52,15 @@ fn take_and_sort<W: PackedKmer + Drop>(
         → IsErrOf result (BodyError.Damaged fault offset)
         → IsFirstFault form.rule.k fault offset body.now }
     ensures memory { IsErrOf result BodyError.Memory → WantsMemory form.rule.k body.now }
+    ensures judged { OnOk result (IsOfBin asked body.now) }
+    ensures wrong { IsErrOf result BodyError.WrongBin → asked ≢ None }
 {
+    strands_share_signature();
     let short = room.repeats.short_records();
+    let (of_records, of_numbers) = asked_of(asked, form.rule.k + 3 <= short);
+    if !is_of_bin(body, of_records) {
+        return Err(BodyError::WrongBin);
+    }
     room.numbers.clear();
     room.items.clear();
     room.bundles.clear();
@@ -60,6 +73,9 @@ fn take_and_sort<W: PackedKmer + Drop>(
         short,
     )?;
     sort_numbers(&mut room.numbers);
+    if !keys_in_bin(&room.numbers, form.rule.k, of_numbers) {
+        return Err(BodyError::WrongBin);
+    }
     room.repeats.learn(&room.numbers);
     push_rows(&mut room.items, &mut room.bundles, &room.numbers, form)?;
     Ok(())
@@ -70,6 +86,7 @@ fn take_items<W: PackedKmer + Drop>(
     room: &mut CountingRoom<W>,
     body: &[u8],
     form: ItemForm,
+    asked: Option<AskedBin>,
 ) -> Result<(), BodyError>
     requires most { form.rule.k ≤ W.most }
     requires beside { 2 * form.rule.k + form.bits ≤ 2 * W.most }
@@ -80,9 +97,14 @@ fn take_items<W: PackedKmer + Drop>(
         → IsErrOf result (BodyError.Damaged fault offset)
         → IsFirstFault form.rule.k fault offset body.now }
     ensures memory { IsErrOf result BodyError.Memory → WantsMemory form.rule.k body.now }
+    ensures judged { OnOk result (IsOfBin asked body.now) }
+    ensures wrong { IsErrOf result BodyError.WrongBin → asked ≢ None }
 {
     if !takes_table(form.rule.k, body.len()) {
-        return take_and_sort(room, body, form);
+        return take_and_sort(room, body, form, asked);
+    }
+    if !is_of_bin(body, asked) {
+        return Err(BodyError::WrongBin);
     }
     take_and_add(room, body, form.rule, form.bits)?;
     room.bundles.clear();
@@ -90,12 +112,13 @@ fn take_items<W: PackedKmer + Drop>(
 }
 
 /// The words of a body as items, which rise, so that those of one word are neighbours. How often a word comes is the sum of the
-/// weights of its items.
+/// weights of its items. Where a bin is asked for, all words belong to it.
 pub fn items_of_body<W: PackedKmer + Drop>(
     alloc: Global,
     body: &[u8],
     rule: KeyRule,
     bits: u32,
+    asked: Option<AskedBin>,
 ) -> Result<Vec<W>, BodyError>
     requires most { rule.k ≤ W.most }
     requires beside { 2 * rule.k + bits ≤ 2 * W.most }
@@ -107,6 +130,8 @@ pub fn items_of_body<W: PackedKmer + Drop>(
         → IsErrOf result (BodyError.Damaged fault offset)
         → IsFirstFault rule.k fault offset body.now }
     ensures memory { IsErrOf result BodyError.Memory → WantsMemory rule.k body.now }
+    ensures judged { IfOk result (λ _. IsOfBin asked body.now) }
+    ensures wrong { IsErrOf result BodyError.WrongBin → asked ≢ None }
 {
     let mut items = {
         let mut room = CountingRoom::new(alloc);
@@ -115,7 +140,7 @@ pub fn items_of_body<W: PackedKmer + Drop>(
             bits,
             bundle: 0,
         };
-        take_items(&mut room, body, form)?;
+        take_items(&mut room, body, form, asked)?;
         let CountingRoom { items, .. } = room;
         items
     };
@@ -156,13 +181,15 @@ fn dump_items<W: PackedKmer + Drop, L: PairList<W>>(
     )
 }
 
-/// Puts the dump of a body into an empty list of pairs. The room may be used again for the next body.
+/// Puts the dump of a body into an empty list of pairs. Where a bin is asked for, all words belong to it. The room may be used again for
+/// the next body.
 pub fn count_into<W: PackedKmer + Drop, L: PairList<W>>(
     room: &mut CountingRoom<W>,
     pairs: &mut L,
     body: &[u8],
     rule: KeyRule,
     limits: &Limits,
+    asked: Option<AskedBin>,
 ) -> Result<(), BodyError>
     requires most { rule.k ≤ W.most }
     requires takes { L.takes rule.k pairs.old }
@@ -175,6 +202,8 @@ pub fn count_into<W: PackedKmer + Drop, L: PairList<W>>(
         → IsErrOf result (BodyError.Damaged fault offset)
         → IsFirstFault rule.k fault offset body.now }
     ensures memory { IsErrOf result BodyError.Memory → WantsMemory rule.k body.now }
+    ensures judged { OnOk result (IsOfBin asked body.now) }
+    ensures wrong { IsErrOf result BodyError.WrongBin → asked ≢ None }
 {
     let bits = W::weight_bits(rule.k);
     let form = ItemForm {
@@ -182,7 +211,7 @@ pub fn count_into<W: PackedKmer + Drop, L: PairList<W>>(
         bits,
         bundle: bundle_of(bits),
     };
-    take_items(room, body, form)?;
+    take_items(room, body, form, asked)?;
     dump_items(room, pairs, form, limits)?;
     Ok(())
 }

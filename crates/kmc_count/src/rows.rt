@@ -118,7 +118,7 @@ fn push_between<W: PackedKmer + Drop>(
 }
 
 /// How many symbols in front two records share, where that is a word or more; and else none.
-fn shared_symbols(one: u128, other: u128, k: usize) -> usize
+pub(crate) fn shared_symbols(one: u128, other: u128, k: usize) -> usize
     requires { 1 ≤ k }
     ensures alike { take result (unpack 64 one) ≡ take result (unpack 64 other) }
     ensures first { result ≤ one % 64 }

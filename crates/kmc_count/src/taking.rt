@@ -33,7 +33,8 @@ fn push_piece(
 fn bytes_on(k: usize, short: usize) -> usize
     requires some { 1 ≤ k }
     requires short { short ≤ MOST_KEY_SYMBOLS }
-    ensures { 1 ≤ result → 4 * result + k ≤ short + 1 }
+    ensures fits { 1 ≤ result → 4 * result + k ≤ short + 1 }
+    ensures some { k + 3 ≤ short → 1 ≤ result }
 {
     if short < k {
         return 0;
@@ -85,10 +86,11 @@ fn take_record<W: PackedKmer + Drop>(
     requires long { rule.k ≤ symbols }
     requires inside { symbols ≤ 4 * length bytes.now }
     requires few { symbols < 1000 }
-    ensures { OnOk result ((ss : List (List ℕ))
+    ensures taken { OnOk result ((ss : List (List ℕ))
         → IsTaken rule.strands rule.k bits numbers.old.items (map W.number items.old.items) ss
         → IsTaken rule.strands rule.k bits numbers.new.items (map W.number items.new.items)
         (ss ++ take symbols (codes_in bytes.now) ∷ [])) }
+    ensures numbers { rule.k + 3 ≤ short → items.new ≡ items.old }
 {
     let on = bytes_on(rule.k, short);
     if symbols <= short || on > 0 {
@@ -102,8 +104,7 @@ fn take_record<W: PackedKmer + Drop>(
 }
 
 /// Takes in the records of a body, record by record: as numbers of at most `short` symbols, or where no four words fit one, the
-/// words.
-/// The items have so many bits for their weights.
+/// words. Where pieces of four words fit, all become numbers. The items have so many bits for their weights.
 pub fn take_body<W: PackedKmer + Drop>(
     numbers: &mut Vec<u128>,
     items: &mut Vec<W>,
@@ -123,6 +124,8 @@ pub fn take_body<W: PackedKmer + Drop>(
         → IsErrOf result (BodyError.Damaged fault offset)
         → IsFirstFault rule.k fault offset body.now }
     ensures memory { IsErrOf result BodyError.Memory → StopsAtRecord rule.k body.now }
+    ensures numbers { rule.k + 3 ≤ short → items.new ≡ items.old }
+    ensures unasked { ¬ (IsErrOf result BodyError.WrongBin) }
 {
     let mut offset = 0;
     while offset < body.len() {
@@ -160,6 +163,7 @@ pub fn take_words<W: PackedKmer + Drop>(
         → IsFirstFault rule.k fault at body.now }
     ensures memory { (ss : List (List ℕ)) → IsBodyOf rule.k ss (take offset body.now)
         → IsErrOf result BodyError.Memory → StopsAtRecord rule.k body.now }
+    ensures unasked { ¬ (IsErrOf result BodyError.WrongBin) }
 {
     let rest = &body[offset..];
     let symbols = match first_symbols(rest, rule.k) {

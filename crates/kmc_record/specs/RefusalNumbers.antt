@@ -12,3 +12,4 @@ number_of_record_fault record_fault.Padding = 2
 abbrev pub number_of_body_error : BodyError → ℕ
 number_of_body_error (body_error.Damaged _ _) = 1
 number_of_body_error body_error.Memory = 2
+number_of_body_error body_error.WrongBin = 3

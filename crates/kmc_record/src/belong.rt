@@ -4,9 +4,11 @@ ghost use Rattle.kmc_base.specs.Words.{windows};
 ghost use Rattle.kmc_base.specs.Record.{codes_in, size_of};
 ghost use Rattle.kmc_record.specs.Parts.{IsPart};
 ghost use Rattle.kmc_record.specs.Bodies.{Belong, IsFirstError};
+ghost use Rattle.kmc_record.specs.RecordKeys.{codes_of, IsRecordKey};
 
 use crate::part_error::PartError;
 use crate::record::first_symbols;
+use crate::record_keys::key_bytes;
 use crate::shape::Shape;
 use kmc_base::MAX_K;
 use kmc_split::{BelongingRoom, words_in_bin};
@@ -52,6 +54,41 @@ fn belongs(
         shape.n(),
         bin,
         room,
+    )
+}
+
+/// Room for the codes of one record and for what its signatures are found in, to be used again for the next record: what it has before
+/// does not matter.
+#[derive(Drop)]
+pub struct JudgingRoom {
+    codes: [u8; MOST_CODES],
+    words: BelongingRoom,
+}
+
+impl JudgingRoom {
+    /// Room that no record was judged in yet.
+    pub fn new() -> JudgingRoom {
+        JudgingRoom {
+            codes: [0; MOST_CODES],
+            words: BelongingRoom::new(),
+        }
+    }
+}
+
+/// Whether all words of the record of a number belong to the bin.
+pub fn key_belongs(key: u128, bin: usize, shape: Shape, room: &mut JudgingRoom) -> bool
+    requires { IsRecordKey shape.k key }
+    ensures { IsTrue result ↔ Belong bin shape (windows shape.k (codes_of key)) }
+{
+    let symbols = (key % 64) as usize;
+    let bytes = key_bytes(key);
+    belongs(
+        &bytes[..(symbols + 3) / 4],
+        symbols,
+        bin,
+        shape,
+        &mut room.codes,
+        &mut room.words,
     )
 }
 

@@ -38,6 +38,9 @@ pub enum BodyError {
     /// A growth was refused.
     #[error("out of memory")]
     Memory,
+    /// A bin was asked for, and the body is not that of the bin. [`count_words`](crate::belong::count_words) tells where, and why.
+    #[error("not the records of the bin that is asked for")]
+    WrongBin,
 }
 
 impl BodyError {
@@ -50,6 +53,7 @@ impl BodyError {
         match self {
             BodyError::Damaged(_, _) => 1,
             BodyError::Memory => 2,
+            BodyError::WrongBin => 3,
         }
     }
 }

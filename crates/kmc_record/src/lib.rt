@@ -17,7 +17,7 @@ mod record;
 mod record_keys;
 mod shape;
 
-pub use belong::count_words;
+pub use belong::{JudgingRoom, count_words, key_belongs};
 pub use fault::{BodyError, RecordFault};
 pub use part::Part;
 pub use part_error::PartError;

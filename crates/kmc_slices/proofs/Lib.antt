@@ -3,9 +3,9 @@ mod Dumps
 mod Files
 mod FilesRead
 mod KnownFiles
+mod Left
 mod Opened
 mod Rounds
-mod Sides
 mod Statuses
 mod Sums
 mod Told

@@ -1,12 +1,14 @@
 -- Readers that were opened by their numbers.
-use Rattle.std.proofs.Common.{◌≡◌, ℕ, ◌-◌, List, [], ◌∷◌, ◌++◌, length, get_or, Option, Some, None, inl, inr, refl, sym, subst, arith, length-append}
+use Rattle.std.proofs.Common.{◌≡◌, ℕ, ◌-◌, ◌<◌, ◌≤◌, ◌⊎◌, List, [], ◌∷◌, ◌++◌, length, get_or, Option, Some, None, inl, inr, refl, sym, subst, arith, length-append}
 use Rattle.std.proofs.lemmas.List.{get_or_append_left, get_or-append_right}
 use Rattle.kmc_device.specs.Device.{Watched}
 use Rattle.kmc_options.specs.declared.run_params.Params.{Params}
 use Rattle.kmc_slices.specs.ListProgram.{AreOpened, IsBehind, IsListed, IsListFault, IsOfFiles, IsOfFirst, IsOfNext, Openings, of_files}
 use Rattle.kmc_slices.specs.Gathered.{Records}
 use Rattle.kmc_slices.specs.declared.programs.list_fault.ListFault.{ListFault}
-use Rattle.kmc_slices.proofs.Sides.{in_front_or_behind}
+
+in_front_or_behind : (i n : ℕ) → (i < n) ⊎ (n ≤ i)
+in_front_or_behind i n = grind arith
 
 -- one more reader
 pub opened_more : (openings : Openings) (readings : List (Option (List ℕ) × Option (List ℕ))) (old new : Option (List ℕ)) (i : ℕ) → length readings ≡ i

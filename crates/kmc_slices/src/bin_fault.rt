@@ -1,9 +1,7 @@
 //! Why bodies from outside are no bins.
 ghost use Rattle.std.specs.Prelude.{◌≡◌};
-ghost use Rattle.kmc_slices.specs.declared.bin_fault.JudgeError.TheVariants.{Memory};
 
 use kmc_record::PartError;
-use std::alloc::AllocError;
 use thiserror::Error;
 
 /// The first bin whose body is not records of that bin, and why: the body's first fault, never want of memory.
@@ -36,13 +34,5 @@ impl JudgeError {
             JudgeError::Foreign(_) => 1,
             JudgeError::Memory => 2,
         }
-    }
-}
-
-impl From<AllocError> for JudgeError {
-    ghost from_gives = { λ _ e. e ≡ Memory };
-
-    fn from(_: AllocError) -> JudgeError {
-        JudgeError::Memory
     }
 }

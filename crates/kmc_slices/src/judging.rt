@@ -1,29 +1,32 @@
-//! Bodies from outside, judged bin by bin over threads: each thread takes a row of neighbouring bins.
-ghost use Rattle.std.specs.Prelude.{◌≡◌, ◌≤◌, ℕ, List, length, map, IfOk, OnOk, IfErr, IsErrOf, Vec};
-ghost use Rattle.std.specs.Global.{Global};
-ghost use Rattle.std.specs.Thread.{IsSync};
-ghost use Rattle.kmc_record.specs.Shapes.{Sizes};
-ghost use Rattle.kmc_store.specs.Bins.{AreBins};
-ghost use Rattle.kmc_slices.specs.Outside.{AreSound, IsBinFault, IsFaultIn, IsJudgedRow, IsRowError};
+//! Bodies from outside, counted and judged bin by bin.
+ghost use Rattle.std.specs.Prelude.{◌≡◌, ◌<◌, ◌≤◌, ℕ, List, length, map, OnOk, IfOk, IfErr, IsErrOf};
+ghost use Rattle.kmc_lists.specs.Listed.{spelled};
+ghost use Rattle.kmc_lists.specs.Lists.{lists_of};
+ghost use Rattle.kmc_lists.specs.Ordered.{CanBeMerged, whole};
+ghost use Rattle.kmc_record.specs.Bodies.{AreRecordsOfBin};
+ghost use Rattle.kmc_store.specs.Bins.{body_at, AreBins};
+ghost use Rattle.kmc_stage_two.specs.Stages.{IsDumpOfBins};
+ghost use Rattle.kmc_stage_two.specs.Widths.{AreNarrow};
+ghost use Rattle.kmc_slices.specs.Outside.{IsBinFault};
 ghost use Rattle.kmc_slices.specs.declared.bin_fault.BinFault.{BinFault};
 
 use crate::bin_fault::{BinFault, JudgeError};
-use crate::sharing::share;
+use kmc_base::Strands;
+use kmc_count::Limits;
+use kmc_lists::BinLists;
 use kmc_record::{Shape, count_words};
-use kmc_store::Bins;
+use kmc_stage_two::lists_of_bodies;
 use std::alloc::Global;
-use std::thread::{Threads, join_mut};
+use std::thread::Threads;
 
-/// Whether the bodies of the bins of a row, from bin `from` on and below `to`, are records of their bins; else the first fault. It
-/// wants no memory.
-fn judge_row(shape: Shape, bodies: &[Vec<u8>], from: usize, to: usize) -> Result<(), BinFault>
-    requires wide { length bodies.now ≡ shape.n }
-    requires order { from ≤ to }
-    requires inside { to ≤ shape.n }
-    ensures ok { OnOk result (AreSound shape (map (λ b. b.items) bodies.now) from to) }
-    ensures fault { IfErr result (IsFaultIn shape (map (λ b. b.items) bodies.now) from to) }
+/// Whether the body of each bin is records of the bin; else the first fault. It wants no memory.
+fn judge_bodies(shape: Shape, bodies: &[Vec<u8>]) -> Result<(), BinFault>
+    requires { length bodies.now ≡ shape.n }
+    ensures ok { OnOk result ((i : ℕ) → i < shape.n
+        → AreRecordsOfBin i shape (body_at (map (λ b. b.items) bodies.now) i)) }
+    ensures fault { IfErr result (IsBinFault shape (map (λ b. b.items) bodies.now)) }
 {
-    for bin in from..to {
+    for bin in 0..bodies.len() {
         let _words = match count_words(&bodies[bin], bin, shape) {
             Ok(words) => words,
             Err(why) => return Err(BinFault { bin, why }),
@@ -32,128 +35,36 @@ fn judge_row(shape: Shape, bodies: &[Vec<u8>], from: usize, to: usize) -> Result
     Ok(())
 }
 
-/// How many words the bodies of the bins of a row have, from bin `from` on and below `to`. Where memory for the numbers is refused,
-/// the bodies are judged all the same.
-fn count_row(
-    alloc: Global,
-    shape: Shape,
-    bodies: &[Vec<u8>],
-    from: usize,
-    to: usize,
-) -> Result<Vec<u64>, JudgeError>
-    requires wide { length bodies.now ≡ shape.n }
-    requires order { from ≤ to }
-    requires inside { to ≤ shape.n }
-    ensures { IsJudgedRow shape bodies.now from to result }
-{
-    let Ok(mut words) = Vec::with_capacity(alloc, to - from) else {
-        return match judge_row(shape, bodies, from, to) {
-            Ok(()) => Err(JudgeError::Memory),
-            Err(fault) => Err(JudgeError::Foreign(fault)),
-        };
-    };
-    for bin in from..to {
-        let count = match count_words(&bodies[bin], bin, shape) {
-            Ok(count) => count,
-            Err(why) => return Err(JudgeError::Foreign(BinFault { bin, why })),
-        };
-        words.push_reserved(count);
-    }
-    Ok(words)
-}
-
-/// The error of two rows of which the first, in front, has this one: where that is want of memory, a fault of the second.
-fn first_error(one: JudgeError, two: Result<Vec<u64>, JudgeError>) -> JudgeError
-    ensures { (shape : Sizes) (bodies : List (Vec ℕ Global)) (from at to : ℕ) → at ≤ to
-        → IsRowError shape (map (λ b. b.items) bodies) from at one → IsJudgedRow shape bodies at to two
-        → IsRowError shape (map (λ b. b.items) bodies) from to result }
-{
-    match one {
-        JudgeError::Foreign(fault) => JudgeError::Foreign(fault),
-        JudgeError::Memory => match two {
-            Ok(_) => JudgeError::Memory,
-            Err(later) => later,
-        },
-    }
-}
-
-/// What is answered of two rows, the second behind the first: a fault of the first before one of the second, and want of memory only
-/// where neither has one.
-fn both_rows(
-    one: Result<Vec<u64>, JudgeError>,
-    two: Result<Vec<u64>, JudgeError>,
-) -> Result<Vec<u64>, JudgeError>
-    ensures { (shape : Sizes) (bodies : List (Vec ℕ Global)) (from at to : ℕ) → at ≤ to
-        → IsJudgedRow shape bodies from at one → IsJudgedRow shape bodies at to two
-        → IsJudgedRow shape bodies from to result }
-{
-    let mut words = match one {
-        Ok(front) => front,
-        Err(error) => return Err(first_error(error, two)),
-    };
-    let mut more = two?;
-    words.append(&mut more)?;
-    Ok(words)
-}
-
-/// How many words the bodies of the bins of a row have, from bin `from` on and below `to`, by at most so many threads. The row
-/// is parted by the bytes of its bodies, and one side is judged in another thread with its part of the threads, again and
-/// again. Where a body is at fault, the fault is that of the first such body, whichever thread met it. Where no thread can be
-/// made, the calling thread judges.
-#[cycle(rows)]
-fn count_bins<R: Threads + Sync>(
-    rt: &R,
-    alloc: Global,
-    shape: Shape,
-    bodies: &[Vec<u8>],
-    from: usize,
-    to: usize,
-    threads: usize,
-) -> Result<Vec<u64>, JudgeError>
-    requires wide { length bodies.now ≡ shape.n }
-    requires order { from ≤ to }
-    requires inside { to ≤ shape.n }
-    requires threads { 1 ≤ threads }
-    ensures { IsJudgedRow shape bodies.now from to result }
-{
-    if threads == 1 {
-        return count_row(alloc, shape, bodies, from, to);
-    }
-    let few = threads / 2;
-    let others = threads - few;
-    let at = from + share(&bodies[from..to], few, threads);
-    let mut front = || -> Result<Vec<u64>, JudgeError>
-        requires { IsSync R.row × (length bodies.now ≡ shape.n) × (from ≤ at) × (at ≤ shape.n) × (1 ≤ few) }
-        ensures { IsJudgedRow shape bodies.entry.now from at result }
-    { count_bins(rt, alloc, shape, bodies, from, at, few) };
-    let mut back = || -> Result<Vec<u64>, JudgeError>
-        requires { IsSync R.row × (length bodies.now ≡ shape.n) × (at ≤ to) × (to ≤ shape.n) × (1 ≤ others) }
-        ensures { IsJudgedRow shape bodies.entry.now at to result }
-    { count_bins(rt, alloc, shape, bodies, at, to, others) };
-    let (one, two) = join_mut(rt, &mut front, &mut back);
-    both_rows(one, two)
-}
-
-/// Bins of a shape with these bodies, where each is whole records whose words belong to its bin; else the first fault, and want of
-/// memory only where there is none. They are judged by at most so many threads.
-pub fn judged_bins<R: Threads + Sync>(
+/// The lists of the bins of a shape with these bodies, where each is whole records whose words belong to its bin; else the first fault,
+/// and want of memory only where there is none. Bodies are judged as they are counted. Where that fails, whatever the cause, those
+/// that are left are judged again one after the other, which tells the fault and its place.
+pub fn judged_lists<R: Threads + Sync>(
     rt: &R,
     alloc: Global,
     shape: Shape,
     bodies: Vec<Vec<u8>>,
+    strands: Strands,
+    limits: &Limits,
     threads: usize,
-) -> Result<Bins, JudgeError>
+) -> Result<BinLists, JudgeError>
     requires bodies { length bodies.items ≡ shape.n }
     requires threads { 1 ≤ threads }
-    ensures shape { IfOk result (λ b. b.shape ≡ shape) }
-    ensures bodies { IfOk result (λ b. b.bodies ≡ map (λ v. v.items) bodies.items) }
+    ensures bins { IfOk result (λ _. (words : List ℕ) × AreBins shape (map (λ b. b.items) bodies.items) words) }
+    ensures width { IfOk result (AreNarrow shape.k limits.now.cs) }
+    ensures merge { IfOk result (λ lists. CanBeMerged shape.k (lists_of lists)) }
+    ensures all { IfOk result (λ lists. IsDumpOfBins strands shape.k limits.now (map (λ b. b.items) bodies.items)
+        (spelled shape.k (whole (lists_of lists)))) }
     ensures first { (fault : BinFault) → IsErrOf result (JudgeError.Foreign fault)
-        → IsBinFault shape (map (λ v. v.items) bodies.items) fault }
+        → IsBinFault shape (map (λ b. b.items) bodies.items) fault }
     ensures judged { IsErrOf result JudgeError.Memory
-        → (words : List ℕ) × AreBins shape (map (λ v. v.items) bodies.items) words }
+        → (words : List ℕ) × AreBins shape (map (λ b. b.items) bodies.items) words }
 {
-    match count_bins(rt, alloc, shape, &bodies, 0, shape.n(), threads) {
-        Ok(words) => Ok(Bins::of_bodies(shape, bodies, words)),
-        Err(error) => Err(error),
+    let mut bodies = bodies;
+    if let Ok(lists) = lists_of_bodies(rt, alloc, shape, &mut bodies, strands, limits, threads) {
+        return Ok(lists);
+    }
+    match judge_bodies(shape, &bodies) {
+        Ok(()) => Err(JudgeError::Memory),
+        Err(fault) => Err(JudgeError::Foreign(fault)),
     }
 }

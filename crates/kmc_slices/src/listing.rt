@@ -11,11 +11,10 @@ ghost use Rattle.kmc_slices.specs.declared.listing.ListError.TheVariants.{Memory
 
 use crate::bin_fault::{BinFault, JudgeError};
 use crate::gathering::SliceRecords;
-use crate::judging::judged_bins;
+use crate::judging::judged_lists;
 use kmc_device::Counted;
 use kmc_dump::{DumpError, write_bins};
 use kmc_options::Params;
-use kmc_stage_two::lists_of_bins;
 use std::alloc::{AllocError, Global};
 use std::io;
 use std::sync::Wait;
@@ -73,7 +72,7 @@ impl From<DumpError> for ListError {
 }
 
 /// Writes the dump of the records of a slice, within the limits and by the strands and threads of these settings, and nothing
-/// else. The answer is the number of lines. Records that came from outside are looked through first: each must be whole, with
+/// else. The answer is the number of lines. Records that came from outside are judged as they are counted: each must be whole, with
 /// words of its bin alone.
 pub fn list_records<T: Threads + Wait + Sync, W: io::Write>(
     rt: &T,
@@ -98,19 +97,19 @@ pub fn list_records<T: Threads + Wait + Sync, W: io::Write>(
     ensures silent { IfErr result (λ e. e ≢ Write → writer.new ≡ writer.old) }
 {
     let (slicing, bodies) = records.into_parts();
-    let bins = match judged_bins(rt, alloc, slicing.shape, bodies, params.counters) {
-        Ok(bins) => bins,
-        Err(JudgeError::Foreign(fault)) => return Err(ListError::Foreign(fault)),
-        Err(JudgeError::Memory) => return Err(ListError::Memory),
-    };
-    let lists = lists_of_bins(
+    let lists = match judged_lists(
         rt,
         alloc,
-        bins,
+        slicing.shape,
+        bodies,
         params.strands,
         &params.limits,
         params.counters,
-    )?;
+    ) {
+        Ok(lists) => lists,
+        Err(JudgeError::Foreign(fault)) => return Err(ListError::Foreign(fault)),
+        Err(JudgeError::Memory) => return Err(ListError::Memory),
+    };
     let lines = write_bins(
         rt,
         alloc,

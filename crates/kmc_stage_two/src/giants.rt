@@ -3,11 +3,11 @@ ghost use Rattle.std.specs.Prelude.{◌≤◌, map, IfOk};
 ghost use Rattle.std.specs.List.{All};
 ghost use Rattle.kmc_stage_two.specs.Bodies.{IsListAt};
 
+use crate::count_rule::CountRule;
 use crate::largest_first::LargestFirst;
 use crate::placed::Placed;
 use crate::shared::list_by_threads;
-use kmc_base::{KeyRule, PackedKmer};
-use kmc_count::Limits;
+use kmc_base::PackedKmer;
 use kmc_lists::CountWidth;
 use kmc_record::BodyError;
 use std::alloc::Global;
@@ -41,14 +41,13 @@ pub(crate) fn take_giants<
     alloc: Global,
     order: &LargestFirst,
     bodies: &[Vec<u8>],
-    rule: KeyRule,
-    limits: &Limits,
+    counting: &CountRule,
     threads: usize,
 ) -> Result<Vec<Placed<W, C>>, BodyError>
-    requires most { rule.k ≤ W.most }
-    requires wide { limits.now.cs ≤ C.greatest }
+    requires most { counting.now.rule.k ≤ W.most }
+    requires wide { counting.now.limits.cs ≤ C.greatest }
     requires threads { 1 ≤ threads }
-    ensures { IfOk result (λ lists. All (λ p. IsListAt rule.strands rule.k limits.now
+    ensures { IfOk result (λ lists. All (λ p. IsListAt counting.now.rule.strands counting.now.rule.k counting.now.limits counting.now.asked
         (map (λ b. b.items) bodies.now) p.place p.list) lists.items) }
 {
     let giants = count_giants(bodies, threads);
@@ -57,7 +56,7 @@ pub(crate) fn take_giants<
         let Some(place) = order.take(bodies.len()) else {
             break;
         };
-        let list = list_by_threads(rt, alloc, &bodies[place], rule, limits, threads)?;
+        let list = list_by_threads(rt, alloc, &bodies[place], place, counting, threads)?;
         lists.push_reserved(Placed { place, list });
     }
     Ok(lists)

@@ -1,18 +1,20 @@
 //! A group of bodies, counted by several threads: giants together, and of the others each takes the largest one that none has
 //! taken.
-ghost use Rattle.std.specs.Prelude.{◌≤◌, ℕ, map, IfOk, IsErrOf};
+ghost use Rattle.std.specs.Prelude.{◌≢◌, ◌≤◌, ℕ, map, IfOk, IsErrOf};
 ghost use Rattle.std.specs.List.{All};
 ghost use Rattle.kmc_record.specs.declared.fault.RecordFault.{RecordFault};
+ghost use Rattle.std.specs.declared.option.Option.TheVariants.{None};
+ghost use Rattle.kmc_count.specs.Asked.{AreOfBins};
 ghost use Rattle.kmc_count.specs.Bodies.{IsFirstDamaged};
 ghost use Rattle.kmc_stage_two.specs.Bodies.{AreListsOfBodies, BodiesWantMemory, IsListAt};
 
+use crate::count_rule::CountRule;
 use crate::giants::take_giants;
 use crate::largest_first::LargestFirst;
 use crate::placed::{Placed, in_order};
 use crate::row::list_row;
 use crate::taking::take_by_threads;
-use kmc_base::{KeyRule, PackedKmer};
-use kmc_count::Limits;
+use kmc_base::PackedKmer;
 use kmc_lists::{CountWidth, KmerList};
 use kmc_record::BodyError;
 use std::alloc::Global;
@@ -23,19 +25,18 @@ fn take_all<R: Threads + Sync, W: PackedKmer + Drop + Send + Sync, C: CountWidth
     rt: &R,
     alloc: Global,
     bodies: &[Vec<u8>],
-    rule: KeyRule,
-    limits: Limits,
+    counting: &CountRule,
     threads: usize,
 ) -> Result<Vec<Placed<W, C>>, BodyError>
-    requires most { rule.k ≤ W.most }
-    requires wide { limits.cs ≤ C.greatest }
+    requires most { counting.now.rule.k ≤ W.most }
+    requires wide { counting.now.limits.cs ≤ C.greatest }
     requires threads { 1 ≤ threads }
-    ensures { IfOk result (λ lists. All (λ p. IsListAt rule.strands rule.k limits
+    ensures { IfOk result (λ lists. All (λ p. IsListAt counting.now.rule.strands counting.now.rule.k counting.now.limits counting.now.asked
         (map (λ b. b.items) bodies.now) p.place p.list) lists.items) }
 {
     let order = LargestFirst::new(alloc, bodies)?;
-    let mut lists = take_giants(rt, alloc, &order, bodies, rule, &limits, threads)?;
-    let mut others = take_by_threads(rt, alloc, &order, bodies, rule, limits, threads)?;
+    let mut lists = take_giants(rt, alloc, &order, bodies, counting, threads)?;
+    let mut others = take_by_threads(rt, alloc, &order, bodies, counting, threads)?;
     lists.append(&mut others)?;
     Ok(lists)
 }
@@ -51,27 +52,28 @@ pub(crate) fn list_group<
     rt: &R,
     alloc: Global,
     bodies: &[Vec<u8>],
-    rule: KeyRule,
-    limits: Limits,
+    counting: &CountRule,
     threads: usize,
 ) -> Result<Vec<KmerList<W, C>>, BodyError>
-    requires most { rule.k ≤ W.most }
-    requires wide { limits.cs ≤ C.greatest }
+    requires most { counting.now.rule.k ≤ W.most }
+    requires wide { counting.now.limits.cs ≤ C.greatest }
     requires threads { 1 ≤ threads }
-    ensures ok { IfOk result (λ lists. AreListsOfBodies rule.strands rule.k limits
+    ensures ok { IfOk result (λ lists. AreListsOfBodies counting.now.rule.strands counting.now.rule.k counting.now.limits
         (map (λ b. b.items) bodies.now) lists.items) }
     ensures damaged { (fault : RecordFault) (offset : ℕ)
         → IsErrOf result (BodyError.Damaged fault offset)
-        → IsFirstDamaged rule.k fault offset (map (λ b. b.items) bodies.now) }
+        → IsFirstDamaged counting.now.rule.k fault offset (map (λ b. b.items) bodies.now) }
     ensures memory { IsErrOf result BodyError.Memory
-        → BodiesWantMemory rule.k (map (λ b. b.items) bodies.now) }
+        → BodiesWantMemory counting.now.rule.k (map (λ b. b.items) bodies.now) }
+    ensures judged { IfOk result (λ _. AreOfBins counting.now.asked (map (λ b. b.items) bodies.now)) }
+    ensures wrong { IsErrOf result BodyError.WrongBin → counting.now.asked ≢ None }
 {
     if threads > 1 {
-        if let Ok(placed) = take_all(rt, alloc, bodies, rule, limits, threads) {
+        if let Ok(placed) = take_all(rt, alloc, bodies, counting, threads) {
             if let Some(lists) = in_order(alloc, placed, bodies.len()) {
                 return Ok(lists);
             }
         }
     }
-    list_row(alloc, bodies, rule, &limits)
+    list_row(alloc, bodies, counting)
 }

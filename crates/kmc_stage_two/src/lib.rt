@@ -6,6 +6,7 @@
 
 mod bins;
 mod body;
+mod count_rule;
 mod giants;
 mod group;
 mod largest_first;
@@ -20,9 +21,10 @@ mod shared;
 mod taking;
 
 pub use bins::list_bodies;
+pub use count_rule::CountRule;
 pub use largest_first::LargestFirst;
-pub use listing::lists_of_bins;
-pub use lists::list_bins;
+pub use listing::{lists_of_bins, lists_of_bodies};
+pub use lists::{list_asked, list_bins};
 pub use placed::{Placed, in_order};
 pub use row::list_row;
 pub use shared::list_by_threads;

@@ -1,7 +1,9 @@
 //! Lists that know the places of their bodies, from one thread or several, until all of them are there.
-ghost use Rattle.std.specs.Prelude.{◌≡◌, ℕ, List, length, nat_eq, IfOk, IfSome};
+ghost use Rattle.std.specs.Prelude.{◌≡◌, ℕ, List, Option, length, nat_eq, IfOk, IfSome};
 ghost use Rattle.std.specs.List.{All, position};
 ghost use Rattle.kmc_base.specs.declared.strands.Strands.{Strands};
+ghost use Rattle.kmc_count.specs.Asked.{AreOfBins};
+ghost use Rattle.kmc_count.specs.declared.judging.AskedBin.{AskedBin};
 ghost use Rattle.kmc_count.specs.declared.limits.Limits.{Limits};
 ghost use Rattle.kmc_stage_two.specs.Bodies.{AreListsOfBodies, IsListAt};
 
@@ -25,9 +27,9 @@ pub(crate) fn all_made<W: PackedKmer + Drop, C: CountWidth + Drop>(
     alloc: Global,
     rows: Vec<Result<Vec<Placed<W, C>>, BodyError>>,
 ) -> Result<Vec<Placed<W, C>>, BodyError>
-    ensures { (strands : Strands) (k : ℕ) (l : Limits) (bodies : List (List ℕ))
-        → All (λ r. IfOk r (λ lists. All (λ p. IsListAt strands k l bodies p.place p.list) lists.items)) rows.items
-        → IfOk result (λ lists. All (λ p. IsListAt strands k l bodies p.place p.list) lists.items) }
+    ensures { (strands : Strands) (k : ℕ) (l : Limits) (asked : Option AskedBin) (bodies : List (List ℕ))
+        → All (λ r. IfOk r (λ lists. All (λ p. IsListAt strands k l asked bodies p.place p.list) lists.items)) rows.items
+        → IfOk result (λ lists. All (λ p. IsListAt strands k l asked bodies p.place p.list) lists.items) }
 {
     let mut lists = Vec::new(alloc);
     for row in rows {
@@ -50,10 +52,10 @@ pub fn in_order<W: PackedKmer + Drop, C: CountWidth + Drop>(
     placed: Vec<Placed<W, C>>,
     count: usize,
 ) -> Option<Vec<KmerList<W, C>>>
-    ensures { (strands : Strands) (k : ℕ) (l : Limits) (bodies : List (List ℕ))
+    ensures { (strands : Strands) (k : ℕ) (l : Limits) (asked : Option AskedBin) (bodies : List (List ℕ))
         → length bodies ≡ count
-        → All (λ p. IsListAt strands k l bodies p.place p.list) placed.items
-        → IfSome result (λ lists. AreListsOfBodies strands k l bodies lists.items) }
+        → All (λ p. IsListAt strands k l asked bodies p.place p.list) placed.items
+        → IfSome result (λ lists. AreListsOfBodies strands k l bodies lists.items × AreOfBins asked bodies) }
 {
     let mut left = placed;
     let Ok(mut lists) = Vec::with_capacity(alloc, count) else {

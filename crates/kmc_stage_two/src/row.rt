@@ -1,12 +1,15 @@
 //! Bodies that are counted one after the other.
-ghost use Rattle.std.specs.Prelude.{◌≤◌, ℕ, map, IfOk, IsErrOf};
+ghost use Rattle.std.specs.Prelude.{◌≢◌, ◌≤◌, ℕ, map, IfOk, IsErrOf};
 ghost use Rattle.kmc_record.specs.declared.fault.RecordFault.{RecordFault};
+ghost use Rattle.std.specs.declared.option.Option.TheVariants.{None};
+ghost use Rattle.kmc_count.specs.Asked.{AreOfBins};
 ghost use Rattle.kmc_count.specs.Bodies.{IsFirstDamaged};
 ghost use Rattle.kmc_stage_two.specs.Bodies.{AreListsOfBodies, BodiesWantMemory};
 
 use crate::body::list_body;
-use kmc_base::{KeyRule, PackedKmer};
-use kmc_count::{CountingRoom, Limits};
+use crate::count_rule::CountRule;
+use kmc_base::PackedKmer;
+use kmc_count::CountingRoom;
 use kmc_lists::{CountWidth, KmerList};
 use kmc_record::BodyError;
 use std::alloc::Global;
@@ -16,23 +19,24 @@ use std::alloc::Global;
 pub fn list_row<W: PackedKmer + Drop, C: CountWidth + Drop>(
     alloc: Global,
     bodies: &[Vec<u8>],
-    rule: KeyRule,
-    limits: &Limits,
+    counting: &CountRule,
 ) -> Result<Vec<KmerList<W, C>>, BodyError>
-    requires most { rule.k ≤ W.most }
-    requires wide { limits.now.cs ≤ C.greatest }
-    ensures ok { IfOk result (λ lists. AreListsOfBodies rule.strands rule.k limits.now
+    requires most { counting.now.rule.k ≤ W.most }
+    requires wide { counting.now.limits.cs ≤ C.greatest }
+    ensures ok { IfOk result (λ lists. AreListsOfBodies counting.now.rule.strands counting.now.rule.k counting.now.limits
         (map (λ b. b.items) bodies.now) lists.items) }
     ensures damaged { (fault : RecordFault) (offset : ℕ)
         → IsErrOf result (BodyError.Damaged fault offset)
-        → IsFirstDamaged rule.k fault offset (map (λ b. b.items) bodies.now) }
+        → IsFirstDamaged counting.now.rule.k fault offset (map (λ b. b.items) bodies.now) }
     ensures memory { IsErrOf result BodyError.Memory
-        → BodiesWantMemory rule.k (map (λ b. b.items) bodies.now) }
+        → BodiesWantMemory counting.now.rule.k (map (λ b. b.items) bodies.now) }
+    ensures judged { IfOk result (λ _. AreOfBins counting.now.asked (map (λ b. b.items) bodies.now)) }
+    ensures wrong { IsErrOf result BodyError.WrongBin → counting.now.asked ≢ None }
 {
     let mut room: CountingRoom<W> = CountingRoom::new(alloc);
     let mut lists = Vec::new(alloc);
-    for body in bodies {
-        let list = list_body(&mut room, alloc, body, rule, limits)?;
+    for place in 0..bodies.len() {
+        let list = list_body(&mut room, alloc, &bodies[place], place, counting)?;
         if lists.push(list).is_err() {
             return Err(BodyError::Memory);
         }

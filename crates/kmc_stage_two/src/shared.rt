@@ -1,16 +1,19 @@
 //! A body that is counted by several threads together: each takes records that follow one another.
-ghost use Rattle.std.specs.Prelude.{ℕ, ◌+◌, ◌*◌, ◌≤◌, List, ◌++◌, length, map, IfOk};
+ghost use Rattle.std.specs.Prelude.{ℕ, ◌+◌, ◌*◌, ◌≤◌, Option, List, ◌++◌, length, map, IfOk};
 ghost use Rattle.std.specs.Thread.{IsSync};
 ghost use Rattle.kmc_base.specs.declared.strands.Strands.{Strands};
+ghost use Rattle.kmc_count.specs.declared.judging.AskedBin.{AskedBin};
 ghost use Rattle.kmc_base.specs.declared.packed_kmer.TheConstants.{MOST_WEIGHT_BITS};
+ghost use Rattle.kmc_count.specs.Asked.{asked_behind, IsOfBin};
 ghost use Rattle.kmc_count.specs.Bodies.{IsDumpOfBody};
 ghost use Rattle.kmc_lists.specs.Listed.{IsListOf, pairs_of};
 ghost use Rattle.kmc_stage_two.specs.Shares.{AreListsOfItems};
 
+use crate::count_rule::CountRule;
 use crate::merging::list_share;
 use crate::share::Share;
 use kmc_base::{KeyRule, MOST_WEIGHT_BITS, PackedKmer};
-use kmc_count::{Limits, items_of_body};
+use kmc_count::{AskedBin, bin_behind, items_of_body};
 use kmc_lists::{CountWidth, KmerList};
 use kmc_record::BodyError;
 use std::alloc::Global;
@@ -35,11 +38,11 @@ fn both_pieces<W: PackedKmer + Drop>(
     first: Result<Vec<Vec<W>>, BodyError>,
     second: Result<Vec<Vec<W>>, BodyError>,
 ) -> Result<Vec<Vec<W>>, BodyError>
-    ensures { (strands : Strands) (k f : ℕ) (low high : List ℕ)
-        → IfOk first (λ lists. AreListsOfItems strands k f low (map (λ v. map W.number v.items) lists.items))
-        → IfOk second (λ lists. AreListsOfItems strands k f high (map (λ v. map W.number v.items) lists.items))
+    ensures { (strands : Strands) (k f : ℕ) (asked : Option AskedBin) (low high : List ℕ)
+        → IfOk first (λ lists. AreListsOfItems strands k f low (map (λ v. map W.number v.items) lists.items) × IsOfBin asked low)
+        → IfOk second (λ lists. AreListsOfItems strands k f high (map (λ v. map W.number v.items) lists.items) × IsOfBin asked high)
         → IfOk result (λ lists. AreListsOfItems strands k f (low ++ high)
-        (map (λ v. map W.number v.items) lists.items)) }
+        (map (λ v. map W.number v.items) lists.items) × IsOfBin asked (low ++ high)) }
 {
     let mut lists = first?;
     let mut more = second?;
@@ -57,6 +60,7 @@ fn take_shared<R: Threads + Sync, W: PackedKmer + Drop + Send>(
     body: &[u8],
     rule: KeyRule,
     bits: u32,
+    asked: &Option<AskedBin>,
     threads: usize,
 ) -> Result<Vec<Vec<W>>, BodyError>
     requires most { rule.k ≤ W.most }
@@ -64,10 +68,10 @@ fn take_shared<R: Threads + Sync, W: PackedKmer + Drop + Send>(
     requires bits { bits ≤ MOST_WEIGHT_BITS }
     requires threads { 1 ≤ threads }
     ensures { IfOk result (λ lists. AreListsOfItems rule.strands rule.k bits body.now
-        (map (λ v. map W.number v.items) lists.items)) }
+        (map (λ v. map W.number v.items) lists.items) × IsOfBin asked.now body.now) }
 {
     if threads == 1 {
-        let items = items_of_body(alloc, body, rule, bits)?;
+        let items = items_of_body(alloc, body, rule, bits, *asked)?;
         let mut lists = Vec::new(alloc);
         return match lists.push(items) {
             Ok(()) => Ok(lists),
@@ -82,19 +86,20 @@ fn take_shared<R: Threads + Sync, W: PackedKmer + Drop + Send>(
         requires { IsSync R.row × (rule.k ≤ W.most)
             × (2 * rule.k + bits ≤ 2 * W.most) × (bits ≤ MOST_WEIGHT_BITS) × (1 ≤ few) }
         ensures { IfOk result (λ lists. AreListsOfItems rule.strands rule.k bits low.entry.now
-            (map (λ v. map W.number v.items) lists.items)) }
-    { take_shared(rt, alloc, low, rule, bits, few) };
+            (map (λ v. map W.number v.items) lists.items) × IsOfBin asked.entry.now low.entry.now) }
+    { take_shared(rt, alloc, low, rule, bits, asked, few) };
     let back = move || -> Result<Vec<Vec<W>>, BodyError>
         requires { IsSync R.row × (rule.k ≤ W.most)
             × (2 * rule.k + bits ≤ 2 * W.most) × (bits ≤ MOST_WEIGHT_BITS) × (1 ≤ others) }
         ensures { IfOk result (λ lists. AreListsOfItems rule.strands rule.k bits high.entry.now
-            (map (λ v. map W.number v.items) lists.items)) }
-    { take_shared(rt, alloc, high, rule, bits, others) };
+            (map (λ v. map W.number v.items) lists.items) × IsOfBin asked.entry.now high.entry.now) }
+    { take_shared(rt, alloc, high, rule, bits, asked, others) };
     let (first, second) = thread::join(rt, front, back);
     both_pieces(first, second)
 }
 
-/// The dump of a body in packed form, counted by so many threads together. An error tells nothing of the body: pieces that are no
+/// The dump of the body at a place in packed form, counted by so many threads together; its words belong to the bin that is asked for
+/// there. An error tells nothing of the body: pieces that are no
 /// whole records are told as damage too, so who wants the fault counts the body in one piece.
 pub fn list_by_threads<
     R: Threads + Sync,
@@ -104,25 +109,28 @@ pub fn list_by_threads<
     rt: &R,
     alloc: Global,
     body: &[u8],
-    rule: KeyRule,
-    limits: &Limits,
+    place: usize,
+    counting: &CountRule,
     threads: usize,
 ) -> Result<KmerList<W, C>, BodyError>
-    requires most { rule.k ≤ W.most }
-    requires wide { limits.now.cs ≤ C.greatest }
+    requires most { counting.now.rule.k ≤ W.most }
+    requires wide { counting.now.limits.cs ≤ C.greatest }
     requires threads { 1 ≤ threads }
-    ensures list { IfOk result (λ c. IsListOf rule.k c) }
-    ensures ok { IfOk result (λ c. IsDumpOfBody rule.strands rule.k limits.now body.now
+    ensures list { IfOk result (λ c. IsListOf counting.now.rule.k c) }
+    ensures ok { IfOk result (λ c. IsDumpOfBody counting.now.rule.strands counting.now.rule.k counting.now.limits body.now
         (pairs_of c)) }
+    ensures judged { IfOk result (λ _. IsOfBin (asked_behind place counting.now.asked) body.now) }
 {
+    let rule = counting.rule;
+    let asked = bin_behind(counting.asked, place);
     let bits = W::weight_bits(rule.k);
-    let lists: Vec<Vec<W>> = take_shared(rt, alloc, body, rule, bits, threads)?;
+    let lists: Vec<Vec<W>> = take_shared(rt, alloc, body, rule, bits, &asked, threads)?;
     let all = Share {
         first: 0,
         last: u128::MAX,
         parts: threads,
     };
-    let mut pairs = list_share(rt, alloc, &lists, rule, bits, *limits, all)?;
+    let mut pairs = list_share(rt, alloc, &lists, rule, bits, counting.limits, all)?;
     pairs.shrink();
     Ok(pairs)
 }

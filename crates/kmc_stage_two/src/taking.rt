@@ -4,10 +4,11 @@ ghost use Rattle.std.specs.List.{All};
 ghost use Rattle.kmc_stage_two.specs.Bodies.{IsListAt};
 
 use crate::body::list_body;
+use crate::count_rule::CountRule;
 use crate::largest_first::LargestFirst;
 use crate::placed::{Placed, all_made};
-use kmc_base::{KeyRule, PackedKmer};
-use kmc_count::{CountingRoom, Limits};
+use kmc_base::PackedKmer;
+use kmc_count::CountingRoom;
 use kmc_lists::CountWidth;
 use kmc_record::BodyError;
 use std::alloc::Global;
@@ -19,12 +20,11 @@ fn take_bodies<W: PackedKmer + Drop, C: CountWidth + Drop>(
     alloc: Global,
     order: &LargestFirst,
     bodies: &[Vec<u8>],
-    rule: KeyRule,
-    limits: &Limits,
+    counting: &CountRule,
 ) -> Result<Vec<Placed<W, C>>, BodyError>
-    requires most { rule.k ≤ W.most }
-    requires wide { limits.now.cs ≤ C.greatest }
-    ensures { IfOk result (λ lists. All (λ p. IsListAt rule.strands rule.k limits.now
+    requires most { counting.now.rule.k ≤ W.most }
+    requires wide { counting.now.limits.cs ≤ C.greatest }
+    ensures { IfOk result (λ lists. All (λ p. IsListAt counting.now.rule.strands counting.now.rule.k counting.now.limits counting.now.asked
         (map (λ b. b.items) bodies.now) p.place p.list) lists.items) }
 {
     let mut room: CountingRoom<W> = CountingRoom::new(alloc);
@@ -33,7 +33,7 @@ fn take_bodies<W: PackedKmer + Drop, C: CountWidth + Drop>(
         let Some(place) = order.take(bodies.len()) else {
             break;
         };
-        let list = list_body(&mut room, alloc, &bodies[place], rule, limits)?;
+        let list = list_body(&mut room, alloc, &bodies[place], place, counting)?;
         lists.push_reserved(Placed { place, list });
     }
     Ok(lists)
@@ -47,21 +47,20 @@ pub fn take_by_threads<R: Threads + Sync, W: PackedKmer + Drop + Send, C: CountW
     alloc: Global,
     order: &LargestFirst,
     bodies: &[Vec<u8>],
-    rule: KeyRule,
-    limits: Limits,
+    counting: &CountRule,
     threads: usize,
 ) -> Result<Vec<Placed<W, C>>, BodyError>
-    requires most { rule.k ≤ W.most }
-    requires wide { limits.cs ≤ C.greatest }
+    requires most { counting.now.rule.k ≤ W.most }
+    requires wide { counting.now.limits.cs ≤ C.greatest }
     requires threads { 1 ≤ threads }
-    ensures { IfOk result (λ lists. All (λ p. IsListAt rule.strands rule.k limits
+    ensures { IfOk result (λ lists. All (λ p. IsListAt counting.now.rule.strands counting.now.rule.k counting.now.limits counting.now.asked
         (map (λ b. b.items) bodies.now) p.place p.list) lists.items) }
 {
     let taker = move |_: usize| -> Result<Vec<Placed<W, C>>, BodyError>
-        requires { (rule.k ≤ W.most) × (limits.cs ≤ C.greatest) }
-        ensures { IfOk result (λ lists. All (λ p. IsListAt rule.strands rule.k limits
+        requires { (counting.now.rule.k ≤ W.most) × (counting.now.limits.cs ≤ C.greatest) }
+        ensures { IfOk result (λ lists. All (λ p. IsListAt counting.entry.now.rule.strands counting.entry.now.rule.k counting.entry.now.limits counting.entry.now.asked
             (map (λ b. b.items) bodies.entry.now) p.place p.list) lists.items) }
-    { take_bodies(alloc, order, bodies, rule, &limits) };
+    { take_bodies(alloc, order, bodies, counting) };
     let rows = thread::map_indices(rt, alloc, threads, &taker)?;
     all_made(alloc, rows)
 }

@@ -1,7 +1,9 @@
-//! Bodies from outside, judged by several threads.
+//! Bodies from outside, counted and judged by several threads.
+use kmc_base::Strands;
+use kmc_count::Limits;
+use kmc_lists::{BinLists, SizedLists};
 use kmc_record::{PartError, Shape};
-use kmc_slices::{BinFault, JudgeError, judged_bins};
-use kmc_store::Bins;
+use kmc_slices::{BinFault, JudgeError, judged_lists};
 use std::alloc::{AllocError, Global};
 use std::process::Abort;
 use std::sync::Wait;
@@ -31,11 +33,28 @@ fn bodies_of(alloc: Global, faults: u32) -> Result<Vec<Vec<u8>>, AllocError> {
 }
 
 /// Asserts that each bin has its words.
-fn assert_words(rt: &impl Abort, bins: &Bins) {
-    for (bin, want) in [0, 0, 1, 2, 0, 0, 1].iter().enumerate() {
-        assert!(rt; bin < bins.shape().n());
-        assert_eq!(rt; bins.words(bin), *want);
+fn assert_words(rt: &impl Abort, lists: &BinLists) -> Result<(), Fail> {
+    let BinLists::Narrow(SizedLists::U8(lists)) = lists else {
+        return Err(Fail::from("lists of narrow words"));
+    };
+    for (bin, want) in [0, 0, 1, 1, 0, 0, 1].iter().enumerate() {
+        let list = lists.get(bin).ok_or("a list of each bin")?;
+        assert_eq!(rt; list.len(), *want);
     }
+    Ok(())
+}
+
+/// What is answered of these bodies of 7 bins, by so many threads.
+fn judged<R: Abort + Threads + Wait + Sync>(
+    rt: &R,
+    alloc: Global,
+    bodies: Vec<Vec<u8>>,
+    threads: usize,
+) -> Result<BinLists, JudgeError> {
+    let shape = Shape::new(4, 5, 7).expect(rt, "a shape");
+    let limits = Limits::new(1, 1000, 255).expect(rt, "limits");
+    assert!(rt; bodies.len() == shape.n() && threads > 0);
+    judged_lists(rt, alloc, shape, bodies, Strands::Joined, &limits, threads)
 }
 
 /// Asserts that so many threads tell the first of these faults, or that the bins have all words where there is none.
@@ -45,13 +64,10 @@ fn assert_judged<R: Abort + Threads + Wait + Sync>(
     faults: u32,
     threads: usize,
 ) -> Result<(), Fail> {
-    let shape = Shape::new(4, 5, 7).expect(rt, "a shape");
-    let bodies = bodies_of(alloc, faults)?;
-    assert!(rt; bodies.len() == shape.n() && threads > 0);
-    match judged_bins(rt, alloc, shape, bodies, threads) {
-        Ok(bins) => {
+    match judged(rt, alloc, bodies_of(alloc, faults)?, threads) {
+        Ok(lists) => {
             assert_eq!(rt; faults, 0);
-            assert_words(rt, &bins);
+            assert_words(rt, &lists)?;
         }
         Err(error) => {
             let bin = faults.trailing_zeros() as usize;
@@ -76,12 +92,10 @@ fn the_first_fault_is_told_whichever_thread_meets_it(rt: HostRuntime) -> Result<
 #[test]
 fn a_refused_growth_hides_no_fault(rt: HostRuntime) {
     let alloc = rt.alloc();
-    let shape = Shape::new(4, 5, 7).expect(&rt, "a shape");
     let Ok(bodies) = bodies_of(alloc, 1 << 3) else {
         return;
     };
-    assert!(rt; bodies.len() == shape.n());
-    let answer = judged_bins(&rt, alloc, shape, bodies, 3);
+    let answer = judged(&rt, alloc, bodies, 3);
     let why = PartError::WrongBin(0);
     let fault = BinFault { bin: 3, why };
     assert!(rt; answer.err() == Some(JudgeError::Foreign(fault)));

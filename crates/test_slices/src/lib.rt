@@ -13,6 +13,8 @@ mod failing;
 #[cfg(test)]
 mod files;
 #[cfg(test)]
+mod foreign;
+#[cfg(test)]
 mod judged;
 #[cfg(test)]
 mod made;

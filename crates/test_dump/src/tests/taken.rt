@@ -5,7 +5,7 @@ use crate::tests::large_bodies::{LIMITS, SHARED, between_others, thrown_body};
 use kmc_base::{KeyRule, Kmer, Strands};
 use kmc_count::count_bin;
 use kmc_lists::KmerList;
-use kmc_stage_two::{LargestFirst, Placed, in_order, list_by_threads, take_by_threads};
+use kmc_stage_two::{CountRule, LargestFirst, Placed, in_order, list_by_threads, take_by_threads};
 use std::alloc::{AllocError, Global};
 use std::test::Fail;
 use std::thread;
@@ -79,10 +79,14 @@ fn threads_get_each_place_once_sizes_falling(rt: HostRuntime) -> Result<(), Fail
     Ok(())
 }
 
-/// The words of the large body have so many symbols.
-const RULE: KeyRule = KeyRule {
-    k: 21,
-    strands: Strands::Joined,
+/// How the large body is counted: no bin is asked for.
+const RULE: CountRule = CountRule {
+    rule: KeyRule {
+        k: 21,
+        strands: Strands::Joined,
+    },
+    limits: LIMITS,
+    asked: None,
 };
 
 #[test]
@@ -92,7 +96,7 @@ fn threads_together_count_a_large_body(rt: HostRuntime) -> Result<(), Fail> {
     let plain = count_bin(alloc, &body, 21, Strands::Joined, &LIMITS);
     let plain = plain.ok().ok_or("records")?;
     for threads in [2, 4, 7] {
-        let list = list_by_threads(&rt, alloc, &body, RULE, &LIMITS, threads);
+        let list = list_by_threads(&rt, alloc, &body, 0, &RULE, threads);
         let list: KmerList<u64, u64> = list.ok().ok_or("records")?;
         assert!(rt; has_pairs(&list, &plain), "{threads} threads");
     }
@@ -111,7 +115,7 @@ fn threads_take_a_large_body_and_its_neighbours(rt: HostRuntime) -> Result<(), F
     }
     for threads in [1, 2, 4, 7] {
         let order = LargestFirst::new(alloc, &bodies)?;
-        let placed = take_by_threads(&rt, alloc, &order, &bodies, RULE, LIMITS, threads);
+        let placed = take_by_threads(&rt, alloc, &order, &bodies, &RULE, threads);
         let placed: Vec<Placed<u64, u64>> = placed.ok().ok_or("records")?;
         let lists = in_order(alloc, placed, bodies.len()).ok_or("each place once")?;
         assert!(rt; are_same(&lists, &plain), "{threads} threads");

@@ -35,6 +35,7 @@ fn tell_no_count(rt: &impl Print, error: BodyError) -> io::Result<()> {
             println!(rt; "count: {} at {offset}", name_of(fault))
         }
         BodyError::Memory => rt.println("count: out of memory"),
+        BodyError::WrongBin => rt.println("count: another bin"),
     }
 }
 

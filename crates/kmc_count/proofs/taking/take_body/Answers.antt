@@ -1,4 +1,4 @@
-use Rattle.std.proofs.Common.{ℕ, ◌+◌, ◌++◌, List, [], ◌∷◌, length, map, refl, subst, sym, take_all, arith}
+use Rattle.std.proofs.Common.{ℕ, ◌+◌, ◌++◌, List, [], ◌∷◌, length, map, refl, subst, sym, take_all, arith, ◌∙◌}
 use Rattle.std.proofs.lemmas.Result.{IfOk-from_err}
 use Rattle.kmc_base.specs.Record.{size_of, IsBodyOf}
 use Rattle.kmc_record.specs.RecordKeys.{IsTaken}
@@ -21,6 +21,7 @@ loop-offset-init g c =
         subst (λ (ns : List ℕ). IsTaken rule.strands rule.k c.args.bits ns (map num c.args.items.now.items) []) (sym c.requires.no_numbers)
             (subst (λ ns. IsTaken rule.strands rule.k c.args.bits [] (map num ns) []) (sym c.requires.no_items) (none_taken rule.strands rule.k c.args.bits)),
       );
+      alone = λ _. refl;
     }
 
 pub returns-in_err-take_record-clause-memory : goal.returns-in_err-take_record-clause-memory
@@ -43,8 +44,9 @@ loop-offset-preserved g c =
         next_body rule.k n c.loop-offset.offset c.args.body.now (λ i. omega (arith, c.type_inv.body i)) found.count found.inside found.rest _ h.0 h.1
             (λ _. c.loop-offset.offset + (1 + size_of n)),
         subst (λ (w : List ℕ). IsTaken rule.strands rule.k c.args.bits c.take_record.new.numbers.items
-            (map g.W.PackedKmer.number c.take_record.new.items.items) (h.0 ++ w ∷ [])) (codes_there n rest) (c.in_ok-take_record.ensures h.0 h.2),
+            (map g.W.PackedKmer.number c.take_record.new.items.items) (h.0 ++ w ∷ [])) (codes_there n rest) (c.in_ok-take_record.ensures.taken h.0 h.2),
       );
+      alone = λ room. c.in_ok-take_record.ensures.numbers room ∙ c.loop-offset.invariant.alone room;
     }
 
 pub slice_bounds-rest-count : goal.slice_bounds-rest-count

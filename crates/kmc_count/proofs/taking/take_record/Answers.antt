@@ -6,15 +6,15 @@ use Rattle.kmc_record.specs.Lemmas.Taken.{pieces_taken, words_taken}
 use Rattle.kmc_count.proofs.Pieces.{first_of_bytes, front_is_record}
 use Rattle.kmc_count.proofs.taking.take_record.Goals as goal
 
-pub returns-in_ok-push_pieces : goal.returns-in_ok-push_pieces
-returns-in_ok-push_pieces g c = λ ss taken.
+pub returns-in_ok-push_pieces-clause-taken : goal.returns-in_ok-push_pieces-clause-taken
+returns-in_ok-push_pieces-clause-taken g c = λ ss taken.
     let num = g.W.PackedKmer.number in
     let rule = c.args.rule in
     pieces_taken rule.strands rule.k c.args.bits c.args.numbers.now.items _ (map num c.args.items.now.items) ss
     (take c.args.symbols (codes_in c.args.bytes.now)) c.in_ok-push_pieces.ensures taken
 
-pub returns-in_ok-push_record : goal.returns-in_ok-push_record
-returns-in_ok-push_record g c = λ ss taken.
+pub returns-in_ok-push_record-clause-taken : goal.returns-in_ok-push_record-clause-taken
+returns-in_ok-push_record-clause-taken g c = λ ss taken.
     let num = g.W.PackedKmer.number in
     let rule = c.args.rule in
     let bs = c.args.bytes.now in

@@ -17,17 +17,17 @@ one_more {X} {E} P row rest rows found lists more first is pushed all listed =
     )
 
 pub loop-row-init : goal.loop-row-init
-loop-row-init g c = λ strands k m bodies are. (
-  subst (All (λ r. IfOk r (λ lists. All (λ p. IsListAt strands k m bodies p.place p.list) lists.items))) (sym c.into_iter-row-iterator.ensures.into_iter_gives.0)
+loop-row-init g c = λ strands k m asked bodies are. (
+  subst (All (λ r. IfOk r (λ lists. All (λ p. IsListAt strands k m asked bodies p.place p.list) lists.items))) (sym c.into_iter-row-iterator.ensures.into_iter_gives.0)
       are,
-  subst (All (λ p. IsListAt strands k m bodies p.place p.list)) (sym c.new-lists.ensures.items) (All-nil (λ p. IsListAt strands k m bodies p.place p.list)),
+  subst (All (λ p. IsListAt strands k m asked bodies p.place p.list)) (sym c.new-lists.ensures.items) (All-nil (λ p. IsListAt strands k m asked bodies p.place p.list)),
 )
 
 pub loop-row-preserved : goal.loop-row-preserved
-loop-row-preserved g c = λ strands k m bodies are.
-    let h = c.loop-row.invariant strands k m bodies are in
-    one_more (λ p. IsListAt strands k m bodies p.place p.list) c.in-Some.row (into_iter_items c.next.new.self) (into_iter_items c.loop-row.row-iterator)
+loop-row-preserved g c = λ strands k m asked bodies are.
+    let h = c.loop-row.invariant strands k m asked bodies are in
+    one_more (λ p. IsListAt strands k m asked bodies p.place p.list) c.in-Some.row (into_iter_items c.next.new.self) (into_iter_items c.loop-row.row-iterator)
     c.in_ok-row.field-0 c.loop-row.lists.items c.append.new.self.items c.in-Some.ensures.steps.0 c.in_ok-row.was c.in_ok-append.ensures.items h.0 h.1
 
 pub returns : goal.returns
-returns g c = λ strands k l bodies are. (c.loop-row.invariant strands k l bodies are).1
+returns g c = λ strands k l asked bodies are. (c.loop-row.invariant strands k l asked bodies are).1

@@ -1,6 +1,7 @@
 use Rattle.std.proofs.Common.{◌≡◌, ◌≤◌, ◌++◌, IfOk, Vec, Global, List, [], ◌∷◌, ℕ, map, ap, sym, subst, ◌∙◌, arith}
 use Rattle.std.proofs.lemmas.List.{take-append-drop}
 use Rattle.std.proofs.lemmas.Result.{IfOk-from_err}
+use Rattle.kmc_count.specs.Asked.{IsOfBin}
 use Rattle.kmc_stage_two.specs.Shares.{AreListsOfItems}
 use Rattle.kmc_stage_two.proofs.ShareDumps.{one_list}
 use Rattle.kmc_stage_two.proofs.shared.+sharers.Goals as goal
@@ -52,9 +53,11 @@ returns-in-Ok g t c =
     let a = c.args in
     let f : Vec g.row.W.Denot Global → List ℕ = λ v. map g.W.PackedKmer.number v.items in
     let v = c.in_ok-items.items in
-    let lists : c.push.new.self.items ≡ v ∷ [] = c.in-Ok.ensures.items ∙ ap (λ vs. vs ++ (v ∷ [])) c.new-lists.ensures.items in
-    subst (λ vs. AreListsOfItems a.rule.strands a.rule.k a.bits a.body.now (map f vs)) (sym lists)
-    (one_list a.rule.strands a.rule.k a.bits a.body.now (f v) c.in_ok-items.ensures.sorted c.in_ok-items.ensures.ok)
+    let lists : c.push.new.self.items ≡ v ∷ [] = c.in-Ok.ensures.items ∙ ap (λ vs. vs ++ (v ∷ [])) c.new-lists.ensures.items in (
+      subst (λ vs. AreListsOfItems a.rule.strands a.rule.k a.bits a.body.now (map f vs)) (sym lists)
+          (one_list a.rule.strands a.rule.k a.bits a.body.now (f v) c.in_ok-items.ensures.sorted c.in_ok-items.ensures.ok),
+      c.in_ok-items.ensures.judged,
+    )
 
 pub overflow_sub-others : goal.overflow_sub-others
 overflow_sub-others g t c = omega arith
@@ -83,5 +86,5 @@ returns g t c =
     let high = c.split_at.result.1.now in
     let whole : low ++ high ≡ a.body.now =
     (λ i. c.split_at.ensures.front i ++ c.split_at.ensures.back i) ∙ take-append-drop c.record_behind-middle.result a.body.now in
-    subst (λ body. IfOk c.both_pieces.result (λ lists. AreListsOfItems s k a.bits body (map f lists.items))) whole
-    (c.both_pieces.ensures s k a.bits low high c.join-first.ensures.first c.join-first.ensures.second)
+    subst (λ (body : List ℕ). IfOk c.both_pieces.result (λ lists. AreListsOfItems s k a.bits body (map f lists.items) × IsOfBin a.asked.now body)) whole
+    (c.both_pieces.ensures s k a.bits a.asked.now low high c.join-first.ensures.first c.join-first.ensures.second)
