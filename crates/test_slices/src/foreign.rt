@@ -1,5 +1,7 @@
 //! A record of another bin among records of the bin: behind equal ones, among long ones, among words that a table counts, and where
 //! records are counted word by word.
+ghost use Rattle.std.specs.Prelude.{◌≤◌};
+
 use kmc_base::Strands;
 use kmc_count::Limits;
 use kmc_record::{PartError, Shape, count_words};
