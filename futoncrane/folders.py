@@ -45,12 +45,6 @@ def dropped(path):
         FOLDERS.discard(path)
 
 
-def forget(path):
-    """Notes that a folder is gone."""
-    with held_signals():
-        FOLDERS.discard(path)
-
-
 def check_room(place, wanted, advice="name another folder by --directory"):
     """Refuses what is estimated not to fit the disk."""
     free = shutil.disk_usage(place).free

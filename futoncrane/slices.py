@@ -175,7 +175,7 @@ class Work:
     def _wait(self):
         self.remover.end()
         if not self.kept:
-            folders.forget(self.path)
+            folders.dropped(self.path)
 
     def _note(self):
         """What the files of slices are of; nothing where that cannot be known again, as of a pipe."""
