@@ -104,7 +104,8 @@ def tables():
 
 def usage_of(name):
     """What a usage line says behind the program's name."""
-    return re.search(r'"usage: ' + name + r' ([^"]*)"', options_text("program.rt")).group(1)
+    text = re.search(r'"usage: ' + name + r' ([^"]*)"', options_text("program.rt")).group(1)
+    return re.sub(r"\\\n *", "", text)
 
 
 def sources():

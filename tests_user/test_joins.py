@@ -7,7 +7,7 @@ from test_databases import quietly
 from test_programs import MOST, ended
 
 USAGE = (b"usage: kmc_db union|intersect|subtract|counters-subtract [-oc<choice>] [-ci<n>] [-cx<n>] [-cs<n>] a.dump b.dump, "
-         b"or kmc_db table [-cs<n>] a.dump b.dump, or kmc_db histogram a.dump, or kmc_db query [-b] a.dump < words\n")
+         b"or kmc_db table [-cs<n>] a.dump b.dump, or kmc_db histogram a.dump, or kmc_db query [-b] a.dump|<name> < words\n")
 CHOICES = {"min": min, "max": max, "sum": lambda a, b: a + b, "diff": lambda a, b: max(a - b, 0), "left": lambda a, b: a, "right": lambda a, b: b}
 OWN = {"union": "sum", "intersect": "min", "counters-subtract": "diff", "subtract": None}
 

@@ -1,9 +1,9 @@
 -- Words that belong to a bin: those of equal records, and of records that begin alike, are judged once.
-use Rattle.std.proofs.Common.{◌≡◌, ◌+◌, ◌-◌, ◌%◌, ◌<◌, ◌≤◌, ℕ, Bool, true, false, cond, if◌then◌else◌, nat_eq, Option, Some, None, List, [], ◌∷◌, length, map, take, drop, get_or, refl, sym, ap, subst, ◌∙◌, arith}
+use Rattle.std.proofs.Common.{◌≡◌, zero, suc, ◌+◌, ◌-◌, ◌%◌, ◌<◌, ◌≤◌, ℕ, Bool, true, false, cond, if◌then◌else◌, nat_eq, Option, Some, None, List, [], ◌∷◌, length, map, take, drop, get_or, refl, sym, ap, subst, ◌∙◌, arith}
 use Rattle.std.specs.List.{AllByRecursion, sum_by, range_with_len}
 use Rattle.std.specs.List.Sorted.{IsPermutation}
 use Rattle.std.proofs.lemmas.Bool.Decides.{nat_tests}
-use Rattle.std.proofs.lemmas.List.{length-take-le, take-take, drop_more, drop-take}
+use Rattle.std.proofs.lemmas.List.{length-take-le, length-append, take-take, drop_more, drop-take, get_or_append_left, get_or-append_right}
 use Rattle.std.proofs.lemmas.List.Elements.{All-append, All-from_recursion, recursion_from_All}
 use Rattle.std.proofs.lemmas.List.FromFn.{get_or-map-range_with_len, length-map-range_with_len}
 use Rattle.std.proofs.lemmas.List.Sums.{sum_by-append, sum_by-cons}
@@ -19,6 +19,7 @@ use Rattle.kmc_base.specs.Lemmas.Keys.{AreWords, IsWord, keys_are_words}
 use Rattle.kmc_base.specs.Lemmas.NumberBytes.{codes_of_bytes}
 use Rattle.kmc_base.specs.Lemmas.Packing.{length_unpack}
 use Rattle.kmc_base.specs.Lemmas.Packs.{AreCodes}
+use Rattle.kmc_base.specs.Lemmas.Unique.{one_list}
 use Rattle.kmc_split.specs.Laws.{StrandsShareSignature}
 use Rattle.kmc_split.specs.Signature.{bin_of, bin_of_signature}
 use Rattle.kmc_record.specs.Bodies.{AreRecordsOfBin, Belong}
@@ -29,7 +30,7 @@ use Rattle.kmc_record.specs.Shapes.{Sizes}
 use Rattle.kmc_record.specs.Lemmas.KeyBytes.{are_codes, codes_of_number}
 use Rattle.kmc_record.specs.Lemmas.Taken.{moved_keys}
 use Rattle.kmc_count.specs.declared.judging.AskedBin.{AskedBin}
-use Rattle.kmc_count.specs.Asked.{AreKeysOfBin, IsOfBin}
+use Rattle.kmc_count.specs.Asked.{AreKeysOfBin, FitsWords, IsForeign, IsOfBin}
 
 -- ---- records that begin alike
 
@@ -83,6 +84,20 @@ module _ (bin : ℕ) (shape : Sizes) where
       subst (λ (t : List ℕ). Belong bin shape (all_windows shape.k (map codes_of t))) (sym parts)
       (All-append (λ w. bin_of shape.m shape.n w ≡ bin) (windows shape.k (codes_of (get_or numbers (left - 1) 0)))
       (all_windows shape.k (map codes_of (drop left numbers))) here rest)
+
+  -- one record of many
+  pub one_belongs : (numbers : List ℕ) (i : ℕ) → i < length numbers → Belong bin shape (all_windows shape.k (map codes_of numbers))
+      → Belong bin shape (windows shape.k (codes_of (get_or numbers i 0)))
+  one_belongs [] i less h = absurd (omega (arith, less))
+  one_belongs (n ∷ ns) zero less h = λ i d inside.
+      ap (bin_of shape.m shape.n) (sym (get_or_append_left (windows shape.k (codes_of n)) (all_windows shape.k (map codes_of ns)) d i inside))
+      ∙ h i d (omega (arith, inside, length-append (windows shape.k (codes_of n)) (all_windows shape.k (map codes_of ns))))
+  one_belongs (n ∷ ns) (suc i) less h = one_belongs ns i (omega (arith, less)) (λ j d inside.
+      let front = windows shape.k (codes_of n) in
+      let back = all_windows shape.k (map codes_of ns) in
+      ap (bin_of shape.m shape.n) (sym (get_or-append_right front back (length front) (length front + j) d refl (omega arith)
+      ∙ ap (λ m. get_or back m d) (let m : length front + j - length front ≡ j = omega arith in m)))
+      ∙ h (length front + j) d (omega (arith, inside, length-append front back)))
 
 -- ---- the words of a body, by those of the numbers of its records
 
@@ -155,37 +170,59 @@ module _ (share : StrandsShareSignature) (strands : Strands) (bin : ℕ) (shape 
   spelled_codes [] h = tt
   spelled_codes (s ∷ ss) h = (h.0.codes, spelled_codes ss h.1)
 
-  -- all records were taken in as numbers, which were moved, and their words belong to the bin
-  pub body_belongs : (f : ℕ) (body numbers sorted now : List ℕ) (ss : List (List ℕ)) → now ≡ [] → IsBodyOf shape.k ss body
-      → IsTaken strands shape.k f numbers now ss → IsPermutation numbers sorted → Belong bin shape (all_windows shape.k (map codes_of sorted))
-      → AreRecordsOfBin bin shape body
-  body_belongs f body numbers sorted now ss none records taken moved belong = record {
-    super_kmers = ss;
-    records = records;
-    belong = All-from_recursion (λ w. bin_of shape.m shape.n w ≡ bin) (all_windows shape.k ss) (are_in (all_windows shape.k ss) (
-        let nothing : worth out (items shape.k f now) ≡ 0 = ap (λ t. worth out (items shape.k f t)) none in
-        let of_numbers = all_in (all_windows shape.k (map codes_of sorted))
-        (recursion_from_All (λ w. bin_of shape.m shape.n w ≡ bin) (all_windows shape.k (map codes_of sorted)) belong) in
-        omega (
-          arith,
-          nothing,
-          of_numbers,
-          taken.each out,
-          moved_keys strands shape.k out numbers sorted moved,
-          records_out (map codes_of sorted) (numbers_are_codes sorted),
-          records_out ss (spelled_codes ss records.each),
-        )));
-  }
+  -- the records of a body were taken in as numbers, which were moved, and as items; where there are no items, the words of the body belong to
+  -- the bin where those of the numbers do, and the words of the numbers do where those of the body do
+  module _ (f : ℕ) (body numbers sorted now : List ℕ) (ss : List (List ℕ)) (records : IsBodyOf shape.k ss body)
+      (taken : IsTaken strands shape.k f numbers now ss) (moved : IsPermutation numbers sorted) where
+    abbrev IsIn : List ℕ → Type 0
+    IsIn w = bin_of shape.m shape.n w ≡ bin
+
+    abbrev of_sorted : List (List ℕ)
+    of_sorted = all_windows shape.k (map codes_of sorted)
+
+    all_out : sum_by out of_sorted + worth out (items shape.k f now) ≡ sum_by out (all_windows shape.k ss)
+    all_out = omega (
+      arith,
+      taken.each out,
+      moved_keys strands shape.k out numbers sorted moved,
+      records_out (map codes_of sorted) (numbers_are_codes sorted),
+      records_out ss (spelled_codes ss records.each),
+    )
+
+    pub body_belongs : now ≡ [] → Belong bin shape of_sorted → AreRecordsOfBin bin shape body
+    body_belongs none belong = record {
+      super_kmers = ss;
+      records = records;
+      belong = All-from_recursion IsIn (all_windows shape.k ss) (are_in (all_windows shape.k ss) (
+          let nothing : worth out (items shape.k f now) ≡ 0 = ap (λ t. worth out (items shape.k f t)) none in
+          omega (arith, nothing, all_in of_sorted (recursion_from_All IsIn of_sorted belong), all_out)));
+    }
+
+    pub numbers_belong : AreRecordsOfBin bin shape body → Belong bin shape of_sorted
+    numbers_belong of =
+        let same : of.super_kmers ≡ ss = one_list shape.k of.super_kmers ss body of.records records in
+        let belong : Belong bin shape (all_windows shape.k ss) = subst (λ (t : List (List ℕ)). Belong bin shape (all_windows shape.k t)) same of.belong in
+        All-from_recursion IsIn of_sorted (are_in of_sorted
+        (omega (arith, all_in (all_windows shape.k ss) (recursion_from_All IsIn (all_windows shape.k ss) belong), all_out)))
 
 -- the same, whatever is asked
-pub judged_rows : StrandsShareSignature → (strands : Strands) (k f : ℕ) (asked : Option AskedBin) (body numbers sorted now : List ℕ)
-    (ss : List (List ℕ))
-    → now ≡ [] → IsBodyOf k ss body → IsTaken strands k f numbers now ss → IsPermutation numbers sorted → AreKeysOfBin k asked sorted
-    → IsOfBin asked body
-judged_rows share strands k f None body numbers sorted now ss none records taken moved h = tt
-judged_rows share strands k f (Some a) body numbers sorted now ss none records taken moved (same, within, inside, belong) = (
-  inside,
-  body_belongs share strands a.bin a.shape within f body numbers sorted now ss none (subst (λ n. IsBodyOf n ss body) (sym same) records)
-      (subst (λ n. IsTaken strands n f numbers now ss) (sym same) taken) moved
-      (subst (λ n. Belong a.bin a.shape (all_windows n (map codes_of sorted))) (sym same) belong),
-)
+module _ (share : StrandsShareSignature) (strands : Strands) (k f : ℕ) (body numbers sorted now : List ℕ) (ss : List (List ℕ))
+    (records : IsBodyOf k ss body) (taken : IsTaken strands k f numbers now ss) (moved : IsPermutation numbers sorted) where
+  pub judged_rows : (asked : Option AskedBin) → FitsWords asked → now ≡ [] → AreKeysOfBin k asked sorted → IsOfBin asked body
+  judged_rows None within none h = tt
+  judged_rows (Some a) within none (same, inside, belong) = (
+    inside,
+    body_belongs share strands a.bin a.shape within f body numbers sorted now ss (subst (λ n. IsBodyOf n ss body) (sym same) records)
+        (subst (λ n. IsTaken strands n f numbers now ss) (sym same) taken) moved none
+        (subst (λ n. Belong a.bin a.shape (all_windows n (map codes_of sorted))) (sym same) belong),
+  )
+
+  pub foreign_rows : (asked : Option AskedBin) → FitsWords asked → ¬ (AreKeysOfBin k asked sorted) → IsForeign k asked body
+  foreign_rows None within differ same of = differ tt
+  foreign_rows (Some a) within differ same of = differ (
+    same,
+    of.0,
+    subst (λ n. Belong a.bin a.shape (all_windows n (map codes_of sorted))) same
+        (numbers_belong share strands a.bin a.shape within f body numbers sorted now ss (subst (λ n. IsBodyOf n ss body) (sym same) records)
+        (subst (λ n. IsTaken strands n f numbers now ss) (sym same) taken) moved of.1),
+  )

@@ -19,7 +19,25 @@ asked_behind places (Some a) = Some (record a { bin = a.bin + places })
 abbrev pub AreOfBins : Option AskedBin → List (List ℕ) → Type 0
 AreOfBins asked bodies = (i : ℕ) → i < length bodies → IsOfBin (asked_behind i asked) (get_or bodies i [])
 
+-- words of so many symbols are asked for, where any are
+abbrev pub AsksFor : ℕ → Option AskedBin → Type 0
+AsksFor k None = Unit {0}
+AsksFor k (Some a) = a.shape.k ≡ k
+
+-- the body is not of the bin that is asked for; this says nothing where words of another length are asked for
+abbrev pub IsForeign : ℕ → Option AskedBin → List ℕ → Type 0
+IsForeign k asked body = AsksFor k asked → ¬ (IsOfBin asked body)
+
+-- one of the bodies is not of its bin, in the same way
+abbrev pub AreForeign : ℕ → Option AskedBin → List (List ℕ) → Type 0
+AreForeign k asked bodies = AsksFor k asked → ¬ (AreOfBins asked bodies)
+
+-- signatures are no longer than the words that are asked for
+abbrev pub FitsWords : Option AskedBin → Type 0
+FitsWords None = Unit {0}
+FitsWords (Some a) = a.shape.m ≤ a.shape.k
+
 -- the words of the records of these numbers belong to the bin
 abbrev pub AreKeysOfBin : ℕ → Option AskedBin → List ℕ → Type 0
 AreKeysOfBin k None keys = Unit {0}
-AreKeysOfBin k (Some a) keys = (a.shape.k ≡ k) × (a.shape.m ≤ a.shape.k) × (a.bin < a.shape.n) × Belong a.bin a.shape (all_windows k (map codes_of keys))
+AreKeysOfBin k (Some a) keys = (a.shape.k ≡ k) × (a.bin < a.shape.n) × Belong a.bin a.shape (all_windows k (map codes_of keys))

@@ -1,12 +1,11 @@
 //! The count of a bin: equal records once, their words with weights as items in one list, and the dump of items.
-ghost use Rattle.std.specs.Prelude.{◌≡◌, ◌≢◌, ℕ, ◌+◌, ◌*◌, ◌≤◌, [], List, map, OnOk, IfOk, IsErrOf};
-ghost use Rattle.std.specs.declared.option.Option.TheVariants.{None};
+ghost use Rattle.std.specs.Prelude.{◌≡◌, ℕ, ◌+◌, ◌*◌, ◌≤◌, [], List, map, OnOk, IfOk, IsErrOf};
 ghost use Rattle.std.specs.List.Sorted.{IsPermutation, IsSorted};
 ghost use Rattle.std.specs.Ordering.{nat_cmp};
 ghost use Rattle.kmc_base.specs.Weights.{AreItems};
 ghost use Rattle.kmc_record.specs.Faults.{IsFirstFault};
 ghost use Rattle.kmc_record.specs.declared.fault.RecordFault.{RecordFault};
-ghost use Rattle.kmc_count.specs.Asked.{IsOfBin};
+ghost use Rattle.kmc_count.specs.Asked.{IsForeign, IsOfBin};
 ghost use Rattle.kmc_count.specs.Bodies.{AreItemsOfBody, IsDumpOfBody, WantsMemory};
 ghost use Rattle.kmc_count.specs.Bundles.{AreBundledItems};
 
@@ -53,7 +52,7 @@ fn take_and_sort<W: PackedKmer + Drop>(
         → IsFirstFault form.rule.k fault offset body.now }
     ensures memory { IsErrOf result BodyError.Memory → WantsMemory form.rule.k body.now }
     ensures judged { OnOk result (IsOfBin asked body.now) }
-    ensures wrong { IsErrOf result BodyError.WrongBin → asked ≢ None }
+    ensures wrong { IsErrOf result BodyError.WrongBin → IsForeign form.rule.k asked body.now }
 {
     strands_share_signature();
     let short = room.repeats.short_records();
@@ -98,7 +97,7 @@ fn take_items<W: PackedKmer + Drop>(
         → IsFirstFault form.rule.k fault offset body.now }
     ensures memory { IsErrOf result BodyError.Memory → WantsMemory form.rule.k body.now }
     ensures judged { OnOk result (IsOfBin asked body.now) }
-    ensures wrong { IsErrOf result BodyError.WrongBin → asked ≢ None }
+    ensures wrong { IsErrOf result BodyError.WrongBin → IsForeign form.rule.k asked body.now }
 {
     if !takes_table(form.rule.k, body.len()) {
         return take_and_sort(room, body, form, asked);
@@ -131,7 +130,7 @@ pub fn items_of_body<W: PackedKmer + Drop>(
         → IsFirstFault rule.k fault offset body.now }
     ensures memory { IsErrOf result BodyError.Memory → WantsMemory rule.k body.now }
     ensures judged { IfOk result (λ _. IsOfBin asked body.now) }
-    ensures wrong { IsErrOf result BodyError.WrongBin → asked ≢ None }
+    ensures wrong { IsErrOf result BodyError.WrongBin → IsForeign rule.k asked body.now }
 {
     let mut items = {
         let mut room = CountingRoom::new(alloc);
@@ -203,7 +202,7 @@ pub fn count_into<W: PackedKmer + Drop, L: PairList<W>>(
         → IsFirstFault rule.k fault offset body.now }
     ensures memory { IsErrOf result BodyError.Memory → WantsMemory rule.k body.now }
     ensures judged { OnOk result (IsOfBin asked body.now) }
-    ensures wrong { IsErrOf result BodyError.WrongBin → asked ≢ None }
+    ensures wrong { IsErrOf result BodyError.WrongBin → IsForeign rule.k asked body.now }
 {
     let bits = W::weight_bits(rule.k);
     let form = ItemForm {

@@ -1,12 +1,13 @@
 //! Whether the words of a body belong to the bin that is asked for. Where equal records are brought together, they are judged once.
-ghost use Rattle.std.specs.Prelude.{◌≡◌, ◌⊎◌, ℕ, ◌+◌, List, map, All, IsTrue, Option, true};
+ghost use Rattle.std.specs.Prelude.{◌≡◌, ◌⊎◌, ◌↔◌, ℕ, ◌+◌, List, map, All, IsTrue, Option, true};
 ghost use Rattle.std.specs.declared.option.Option.TheVariants.{None};
 ghost use Rattle.kmc_record.specs.Bodies.{Belong};
 ghost use Rattle.kmc_record.specs.Parts.{all_windows};
 ghost use Rattle.kmc_record.specs.RecordKeys.{codes_of, IsRecordKey};
-ghost use Rattle.kmc_count.specs.Asked.{asked_behind, AreKeysOfBin, IsOfBin};
+ghost use Rattle.kmc_count.specs.Asked.{asked_behind, AreKeysOfBin, AsksFor, FitsWords, IsOfBin};
 
 use crate::rows::shared_symbols;
+use kmc_record::laws::records_of_bin_have_no_error;
 use kmc_record::{JudgingRoom, Shape, count_words, key_belongs};
 
 /// A bin, to which the words of a body are to belong.
@@ -22,7 +23,9 @@ pub struct AskedBin {
 pub fn bin_behind(asked: Option<AskedBin>, places: usize) -> Option<AskedBin>
     ensures behind { (i : ℕ) (body : List ℕ) → IsOfBin (asked_behind i result) body
         → IsOfBin (asked_behind (places + i) asked) body }
-    ensures none { asked ≡ None → result ≡ None }
+    ensures before { (i : ℕ) (body : List ℕ) → IsOfBin (asked_behind (places + i) asked) body
+        → IsOfBin (asked_behind i result) body }
+    ensures words { (k : ℕ) → AsksFor k asked → AsksFor k result }
 {
     let first = asked?;
     Some(AskedBin {
@@ -33,9 +36,9 @@ pub fn bin_behind(asked: Option<AskedBin>, places: usize) -> Option<AskedBin>
 
 /// Whether a body is records of the bin that is asked for: each is judged by itself.
 pub(crate) fn is_of_bin(body: &[u8], asked: Option<AskedBin>) -> bool
-    ensures of_bin { IsTrue result → IsOfBin asked body.now }
-    ensures none { asked ≡ None → IsTrue result }
+    ensures { IsTrue result ↔ IsOfBin asked body.now }
 {
+    records_of_bin_have_no_error();
     let Some(it) = asked else {
         return true;
     };
@@ -61,7 +64,7 @@ pub(crate) fn asked_of(
 /// one alone is looked at; where they are sorted, these are all that begin alike.
 fn all_belong(keys: &[u128], bin: usize, shape: Shape) -> bool
     requires long { All (IsRecordKey shape.k) keys.now }
-    ensures { IsTrue result → Belong bin shape (all_windows shape.k (map codes_of keys.now)) }
+    ensures { IsTrue result ↔ Belong bin shape (all_windows shape.k (map codes_of keys.now)) }
 {
     let mut room = JudgingRoom::new();
     let mut behind = 0;
@@ -81,8 +84,8 @@ fn all_belong(keys: &[u128], bin: usize, shape: Shape) -> bool
 /// Whether the words of the records of these numbers, of k symbols each, belong to the bin that is asked for.
 pub(crate) fn keys_in_bin(keys: &[u128], k: usize, asked: Option<AskedBin>) -> bool
     requires long { All (IsRecordKey k) keys.now }
-    ensures of_bin { IsTrue result → AreKeysOfBin k asked keys.now }
-    ensures none { asked ≡ None → IsTrue result }
+    ensures of_bin { IsTrue result ↔ AreKeysOfBin k asked keys.now }
+    ensures fits { FitsWords asked }
 {
     let Some(it) = asked else {
         return true;

@@ -9,4 +9,5 @@ use Rattle.kmc_dump.specs.declared.ranges.Ranges.{Ranges}
 pub record IsFull {W : Type 0} (r : Ranges) (lists : List Listed) (b : Buffer W) : Type 0 where
   pub inside : b.range + 1 < length r.bounds.items
   pub within : b.filled ≤ length b.text.items
-  pub text : take b.filled b.text.items ≡ range_text r.k (2 ^ r.shift) (slice_index_or r.bounds.items b.range 0) (slice_index_or r.bounds.items (b.range + 1) 0) lists
+  pub text : take b.filled b.text.items ≡ range_text r.k (2 ^ r.shift) (slice_index_or r.bounds.items b.range 0)
+      (slice_index_or r.bounds.items (b.range + 1) 0) lists

@@ -8,7 +8,8 @@ use Rattle.kmc_options.specs.declared.run_params.Params.{Params}
 use Rattle.kmc_options.specs.declared.setting.Setting.TheVariants.{K, P, N, Ci, Cx, Cs, Sp, Sr}
 
 abbrev pub KeepsNumbers : Params → Params → Type 0
-KeepsNumbers a b = (b.k ≡ a.k) × (b.asked_signature_length ≡ a.asked_signature_length) × (b.bins ≡ a.bins) × (b.splitters ≡ a.splitters) × (b.counters ≡ a.counters)
+KeepsNumbers a b = (b.k ≡ a.k) × (b.asked_signature_length ≡ a.asked_signature_length) × (b.bins ≡ a.bins)
+    × (b.splitters ≡ a.splitters) × (b.counters ≡ a.counters)
 
 abbrev pub KeepsQueue : Params → Params → Type 0
 KeepsQueue a b =

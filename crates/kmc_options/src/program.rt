@@ -47,7 +47,8 @@ impl Program {
             Program::KmcList =>
                 "usage: kmc_list [-ci<n>] [-cx<n>] [-cs<n>] [-sr<n>] [-b] <file> ..",
             Program::KmcDb => {
-                "usage: kmc_db union|intersect|subtract|counters-subtract [-oc<choice>] [-ci<n>] [-cx<n>] [-cs<n>] a.dump b.dump, or kmc_db table [-cs<n>] a.dump b.dump, or kmc_db histogram a.dump, or kmc_db query [-b] a.dump < words"
+                "usage: kmc_db union|intersect|subtract|counters-subtract [-oc<choice>] [-ci<n>] [-cx<n>] [-cs<n>] a.dump b.dump, \
+                or kmc_db table [-cs<n>] a.dump b.dump, or kmc_db histogram a.dump, or kmc_db query [-b] a.dump|<name> < words"
             }
         }
     }

@@ -77,8 +77,8 @@ impl Params {
     ghost use Rattle.kmc_options.specs.Ranges.{fitting_length};
     ghost use Rattle.kmc_options.specs.Shape.{shape_of};
 
-    /// The settings of the command line, where they are in range. The strands are joined, signatures have as many symbols as asked for, or those of a
-    /// whole word, and the queue has its usual size.
+    /// The settings of the command line, where they are in range. The strands are joined, signatures have as many symbols as asked for, or
+    /// those of a whole word, and the queue has its usual size.
     pub fn new(
         format: Format,
         k: usize,

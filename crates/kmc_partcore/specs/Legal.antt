@@ -51,7 +51,8 @@ module _ {T : Type 0} (q : QueueShape) (live : LiveQueue T) where
 
   -- the answers that fit a take by reader r: the first outstanding item of some writer that has one
   abbrev pub FitsTake : ℕ → Result (Taken T) TakeError → Type 0
-  FitsTake r (Ok (Got g)) = (r < q.readers) × (g.writer < q.writers) × (g.number ≡ (live g.writer).left_count) × (slice_get (live g.writer).outstanding_items 0 ≡ Some g.item)
+  FitsTake r (Ok (Got g)) = (r < q.readers) × (g.writer < q.writers) × (g.number ≡ (live g.writer).left_count)
+      × (slice_get (live g.writer).outstanding_items 0 ≡ Some g.item)
   FitsTake r (Ok Empty) = (r < q.readers) × IsDry × ¬ AllCompleted
   FitsTake r (Ok (Finished totals)) = (r < q.readers) × IsDry × AllCompleted × AreTotals totals
   FitsTake r (Err NoSuchReader) = q.readers ≤ r

@@ -31,11 +31,23 @@ module _ {T : Type 0} where
 
   -- the flags, the two lengths, and the items that are outstanding
   abbrev pub live_of : QueueState T → LiveQueue T
-  live_of s w = record { registered = (s w).registered; completed = (s w).completed; accepted_count = length (s w).accepted_items; left_count = length (s w).left_items; outstanding_items = drop (length (s w).left_items) (s w).accepted_items }
+  live_of s w = record {
+    registered = (s w).registered;
+    completed = (s w).completed;
+    accepted_count = length (s w).accepted_items;
+    left_count = length (s w).left_items;
+    outstanding_items = drop (length (s w).left_items) (s w).accepted_items;
+  }
 
   -- the live part of one writer, when an entry registers or completes it, adds these items, and lets these leave
   abbrev pub advanced : Bool → Bool → List T → List (Leaving T) → LiveWriter T → LiveWriter T
-  advanced registering completing added leaving l = record { registered = registering || l.registered; completed = completing || l.completed; accepted_count = l.accepted_count + length added; left_count = l.left_count + length leaving; outstanding_items = drop (length leaving) (l.outstanding_items ++ added) }
+  advanced registering completing added leaving l = record {
+    registered = registering || l.registered;
+    completed = completing || l.completed;
+    accepted_count = l.accepted_count + length added;
+    left_count = l.left_count + length leaving;
+    outstanding_items = drop (length leaving) (l.outstanding_items ++ added);
+  }
 
   -- the live part after an entry
   abbrev pub live_after : Entry T → LiveQueue T → LiveQueue T

@@ -20,7 +20,12 @@ impl<T> Model for DoneSeat<T> {
 
     ghost Value = { WriterState T };
 
-    ghost view = { λ s. record { table = s.seat.table_id; number = s.number; per_writer = per_writer_of s.seat.me.0; sent = sent_of s.seat.me.0 } };
+    ghost view = { λ s. record {
+      table = s.seat.table_id;
+      number = s.number;
+      per_writer = per_writer_of s.seat.me.0;
+      sent = sent_of s.seat.me.0;
+    } };
 
     ghost invariant = { λ s. AtEnd s.seat.me s.number };
 }

@@ -33,7 +33,14 @@ impl<T> Model for ReaderSeat<T> {
 
     ghost Value = { ReaderState T };
 
-    ghost view = { λ s. record { table = s.seat.table_id; number = s.number; per_writer = s.per_writer; writers = s.writers; got = got_of s.seat.me.0; totals = s.totals } };
+    ghost view = { λ s. record {
+      table = s.seat.table_id;
+      number = s.number;
+      per_writer = s.per_writer;
+      writers = s.writers;
+      got = got_of s.seat.me.0;
+      totals = s.totals;
+    } };
 
     ghost invariant = { λ s. Between s.seat.me s.number s.per_writer s.next s.writers s.totals };
 }

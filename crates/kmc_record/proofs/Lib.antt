@@ -1,6 +1,7 @@
 mod Belonging
 mod Bytewise
 mod Chunks
+mod Errorless
 mod Faultless
 mod Filling
 mod Laying

@@ -27,7 +27,12 @@ impl Model for SliceRecords {
 
     ghost Value = { Records };
 
-    ghost view = { λ a. record { shape = a.slicing.shape; slices = a.slicing.slices; slice = a.slicing.slice; bodies = map (λ v. v.items) a.bodies.items } };
+    ghost view = { λ a. record {
+      shape = a.slicing.shape;
+      slices = a.slicing.slices;
+      slice = a.slicing.slice;
+      bodies = map (λ v. v.items) a.bodies.items;
+    } };
 
     ghost invariant = { λ a. AreRecords a.slicing.shape a.slicing.slices a.slicing.slice (map (λ v. v.items) a.bodies.items) };
 }

@@ -1,8 +1,7 @@
 //! The counts of all bins in packed form: group after group of neighbouring bins is counted over threads, and its records are freed.
-ghost use Rattle.std.specs.Prelude.{◌≡◌, ◌≢◌, [], ℕ, ◌≤◌, length, replicate, map, IfOk, IsErrOf};
-ghost use Rattle.std.specs.declared.option.Option.TheVariants.{None};
+ghost use Rattle.std.specs.Prelude.{◌≡◌, [], ℕ, ◌≤◌, length, replicate, map, IfOk, IsErrOf};
 ghost use Rattle.kmc_record.specs.declared.fault.RecordFault.{RecordFault};
-ghost use Rattle.kmc_count.specs.Asked.{AreOfBins};
+ghost use Rattle.kmc_count.specs.Asked.{AreForeign, AreOfBins};
 ghost use Rattle.kmc_count.specs.Bodies.{IsFirstDamaged};
 ghost use Rattle.kmc_stage_two.specs.Bodies.{AreLeft, AreListsOfBodies, BodiesWantMemory};
 
@@ -53,7 +52,8 @@ pub fn list_bodies<
     ensures memory { IsErrOf result BodyError.Memory
         → BodiesWantMemory counting.now.rule.k (map (λ b. b.items) bodies.old) }
     ensures judged { IfOk result (λ _. AreOfBins counting.now.asked (map (λ b. b.items) bodies.old)) }
-    ensures wrong { IsErrOf result BodyError.WrongBin → counting.now.asked ≢ None }
+    ensures wrong { IsErrOf result BodyError.WrongBin
+        → AreForeign counting.now.rule.k counting.now.asked (map (λ b. b.items) bodies.old) }
     ensures left { AreLeft counting.now.asked (map (λ b. b.items) bodies.old) (map (λ b. b.items) bodies.new) }
 {
     if bodies.len() <= GROUP {

@@ -1,7 +1,6 @@
 //! The count of a body: its words and their counts in packed form.
-ghost use Rattle.std.specs.Prelude.{◌≢◌, ℕ, ◌<◌, ◌≤◌, IfOk, IsErrOf};
-ghost use Rattle.std.specs.declared.option.Option.TheVariants.{None};
-ghost use Rattle.kmc_count.specs.Asked.{asked_behind, IsOfBin};
+ghost use Rattle.std.specs.Prelude.{ℕ, ◌<◌, ◌≤◌, IfOk, IsErrOf};
+ghost use Rattle.kmc_count.specs.Asked.{asked_behind, IsForeign, IsOfBin};
 ghost use Rattle.kmc_record.specs.Faults.{IsFirstFault};
 ghost use Rattle.kmc_record.specs.declared.fault.RecordFault.{RecordFault};
 ghost use Rattle.kmc_count.specs.Bodies.{IsDumpOfBody, WantsMemory};
@@ -14,8 +13,8 @@ use kmc_lists::{CountWidth, KmerList};
 use kmc_record::BodyError;
 use std::alloc::Global;
 
-/// The dump of the body at a place in packed form; its words belong to the bin that is asked for there. The room may be used again for the next body. The
-/// list keeps no more memory than its pairs need.
+/// The dump of the body at a place in packed form; its words belong to the bin that is asked for there. The room may be used again for
+/// the next body. The list keeps no more memory than its pairs need.
 pub(crate) fn list_body<W: PackedKmer + Drop, C: CountWidth + Drop>(
     room: &mut CountingRoom<W>,
     alloc: Global,
@@ -33,7 +32,8 @@ pub(crate) fn list_body<W: PackedKmer + Drop, C: CountWidth + Drop>(
         → IsFirstFault counting.now.rule.k fault offset body.now }
     ensures memory { IsErrOf result BodyError.Memory → WantsMemory counting.now.rule.k body.now }
     ensures judged { IfOk result (λ _. IsOfBin (asked_behind place counting.now.asked) body.now) }
-    ensures wrong { IsErrOf result BodyError.WrongBin → counting.now.asked ≢ None }
+    ensures wrong { IsErrOf result BodyError.WrongBin
+        → IsForeign counting.now.rule.k (asked_behind place counting.now.asked) body.now }
 {
     let asked = bin_behind(counting.asked, place);
     let mut pairs = KmerList::new(alloc, counting.rule.k);

@@ -1,10 +1,9 @@
 //! A group of bodies, counted by several threads: giants together, and of the others each takes the largest one that none has
 //! taken.
-ghost use Rattle.std.specs.Prelude.{◌≢◌, ◌≤◌, ℕ, map, IfOk, IsErrOf};
+ghost use Rattle.std.specs.Prelude.{◌≤◌, ℕ, map, IfOk, IsErrOf};
 ghost use Rattle.std.specs.List.{All};
 ghost use Rattle.kmc_record.specs.declared.fault.RecordFault.{RecordFault};
-ghost use Rattle.std.specs.declared.option.Option.TheVariants.{None};
-ghost use Rattle.kmc_count.specs.Asked.{AreOfBins};
+ghost use Rattle.kmc_count.specs.Asked.{AreForeign, AreOfBins};
 ghost use Rattle.kmc_count.specs.Bodies.{IsFirstDamaged};
 ghost use Rattle.kmc_stage_two.specs.Bodies.{AreListsOfBodies, BodiesWantMemory, IsListAt};
 
@@ -66,7 +65,8 @@ pub(crate) fn list_group<
     ensures memory { IsErrOf result BodyError.Memory
         → BodiesWantMemory counting.now.rule.k (map (λ b. b.items) bodies.now) }
     ensures judged { IfOk result (λ _. AreOfBins counting.now.asked (map (λ b. b.items) bodies.now)) }
-    ensures wrong { IsErrOf result BodyError.WrongBin → counting.now.asked ≢ None }
+    ensures wrong { IsErrOf result BodyError.WrongBin
+        → AreForeign counting.now.rule.k counting.now.asked (map (λ b. b.items) bodies.now) }
 {
     if threads > 1 {
         if let Ok(placed) = take_all(rt, alloc, bodies, counting, threads) {

@@ -1,5 +1,5 @@
 //! Stage two: each bin is counted by itself, and their lists make one dump.
-ghost use Rattle.std.specs.Prelude.{◌≡◌, ◌≤◌, ℕ, List, Some, length, map, IfOk};
+ghost use Rattle.std.specs.Prelude.{◌≡◌, ◌≤◌, ℕ, List, Some, length, map, IfOk, IsErrOf};
 ghost use Rattle.kmc_store.specs.Bins.{AreBins};
 ghost use Rattle.kmc_stage_two.specs.Bodies.{AreLeft, AreListsOfBodies};
 ghost use Rattle.kmc_stage_two.specs.Widths.{AreNarrow};
@@ -54,8 +54,8 @@ pub fn lists_of_bins<R: Threads + Sync>(
 }
 
 /// The same of bodies that come from outside, one for each bin: they are judged as they are counted, and each is whole records whose words
-/// belong to its bin, else there is an error. An error tells nothing of the bodies; those that are left are as they were, and the others
-/// were of their bins.
+/// belong to its bin, else there is an error: `WrongBin` only where one of them is not of its bin. Bodies that are left are as they were,
+/// and the others were of their bins.
 pub fn lists_of_bodies<R: Threads + Sync>(
     rt: &R,
     alloc: Global,
@@ -73,6 +73,8 @@ pub fn lists_of_bodies<R: Threads + Sync>(
     ensures merge { IfOk result (λ lists. CanBeMerged shape.k (lists_of lists)) }
     ensures all { IfOk result (λ lists. IsDumpOfBins strands shape.k limits.now (map (λ b. b.items) bodies.old)
         (spelled shape.k (whole (lists_of lists)))) }
+    ensures wrong { IsErrOf result BodyError.WrongBin
+        → (words : List ℕ) → ¬ (AreBins shape (map (λ b. b.items) bodies.old) words) }
     ensures left { AreLeft (Some (record { shape = shape; bin = 0 })) (map (λ b. b.items) bodies.old)
         (map (λ b. b.items) bodies.new) }
 {

@@ -1,8 +1,7 @@
 //! The lists of all bins, with words and counts as narrow as k and the limits allow.
-ghost use Rattle.std.specs.Prelude.{◌≡◌, ◌≢◌, ℕ, ◌≤◌, map, IfOk, IsErrOf};
-ghost use Rattle.std.specs.declared.option.Option.TheVariants.{None};
+ghost use Rattle.std.specs.Prelude.{◌≡◌, ℕ, ◌≤◌, map, IfOk, IsErrOf};
 ghost use Rattle.kmc_record.specs.declared.fault.RecordFault.{RecordFault};
-ghost use Rattle.kmc_count.specs.Asked.{AreOfBins};
+ghost use Rattle.kmc_count.specs.Asked.{AreForeign, AreOfBins};
 ghost use Rattle.kmc_count.specs.Bodies.{IsFirstDamaged};
 ghost use Rattle.kmc_stage_two.specs.Bodies.{AreLeft, AreListsOfBodies, BodiesWantMemory};
 ghost use Rattle.kmc_stage_two.specs.Widths.{AreNarrow, HaveNarrowCounts};
@@ -39,7 +38,8 @@ fn list_sized<R: Threads + Sync, W: PackedKmer + Drop + Send + Sync>(
     ensures memory { IsErrOf result BodyError.Memory
         → BodiesWantMemory counting.now.rule.k (map (λ b. b.items) bodies.old) }
     ensures judged { IfOk result (λ _. AreOfBins counting.now.asked (map (λ b. b.items) bodies.old)) }
-    ensures wrong { IsErrOf result BodyError.WrongBin → counting.now.asked ≢ None }
+    ensures wrong { IsErrOf result BodyError.WrongBin
+        → AreForeign counting.now.rule.k counting.now.asked (map (λ b. b.items) bodies.old) }
     ensures left { AreLeft counting.now.asked (map (λ b. b.items) bodies.old) (map (λ b. b.items) bodies.new) }
 {
     let cs = counting.limits.cs;
@@ -73,7 +73,8 @@ pub fn list_asked<R: Threads + Sync>(
     ensures memory { IsErrOf result BodyError.Memory
         → BodiesWantMemory counting.now.rule.k (map (λ b. b.items) bodies.old) }
     ensures judged { IfOk result (λ _. AreOfBins counting.now.asked (map (λ b. b.items) bodies.old)) }
-    ensures wrong { IsErrOf result BodyError.WrongBin → counting.now.asked ≢ None }
+    ensures wrong { IsErrOf result BodyError.WrongBin
+        → AreForeign counting.now.rule.k counting.now.asked (map (λ b. b.items) bodies.old) }
     ensures left { AreLeft counting.now.asked (map (λ b. b.items) bodies.old) (map (λ b. b.items) bodies.new) }
 {
     Ok(if counting.rule.k <= NARROW_K {

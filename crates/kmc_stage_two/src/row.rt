@@ -1,8 +1,7 @@
 //! Bodies that are counted one after the other.
-ghost use Rattle.std.specs.Prelude.{◌≢◌, ◌≤◌, ℕ, map, IfOk, IsErrOf};
+ghost use Rattle.std.specs.Prelude.{◌≤◌, ℕ, map, IfOk, IsErrOf};
 ghost use Rattle.kmc_record.specs.declared.fault.RecordFault.{RecordFault};
-ghost use Rattle.std.specs.declared.option.Option.TheVariants.{None};
-ghost use Rattle.kmc_count.specs.Asked.{AreOfBins};
+ghost use Rattle.kmc_count.specs.Asked.{AreForeign, AreOfBins};
 ghost use Rattle.kmc_count.specs.Bodies.{IsFirstDamaged};
 ghost use Rattle.kmc_stage_two.specs.Bodies.{AreListsOfBodies, BodiesWantMemory};
 
@@ -31,7 +30,8 @@ pub fn list_row<W: PackedKmer + Drop, C: CountWidth + Drop>(
     ensures memory { IsErrOf result BodyError.Memory
         → BodiesWantMemory counting.now.rule.k (map (λ b. b.items) bodies.now) }
     ensures judged { IfOk result (λ _. AreOfBins counting.now.asked (map (λ b. b.items) bodies.now)) }
-    ensures wrong { IsErrOf result BodyError.WrongBin → counting.now.asked ≢ None }
+    ensures wrong { IsErrOf result BodyError.WrongBin
+        → AreForeign counting.now.rule.k counting.now.asked (map (λ b. b.items) bodies.now) }
 {
     let mut room: CountingRoom<W> = CountingRoom::new(alloc);
     let mut lists = Vec::new(alloc);

@@ -58,8 +58,8 @@ pub fn take_by_threads<R: Threads + Sync, W: PackedKmer + Drop + Send, C: CountW
 {
     let taker = move |_: usize| -> Result<Vec<Placed<W, C>>, BodyError>
         requires { (counting.now.rule.k ≤ W.most) × (counting.now.limits.cs ≤ C.greatest) }
-        ensures { IfOk result (λ lists. All (λ p. IsListAt counting.entry.now.rule.strands counting.entry.now.rule.k counting.entry.now.limits counting.entry.now.asked
-            (map (λ b. b.items) bodies.entry.now) p.place p.list) lists.items) }
+        ensures { IfOk result (λ lists. All (λ p. IsListAt counting.entry.now.rule.strands counting.entry.now.rule.k
+            counting.entry.now.limits counting.entry.now.asked (map (λ b. b.items) bodies.entry.now) p.place p.list) lists.items) }
     { take_bodies(alloc, order, bodies, counting) };
     let rows = thread::map_indices(rt, alloc, threads, &taker)?;
     all_made(alloc, rows)

@@ -24,8 +24,18 @@ use std::io::{Read, Write};
 use std::process::ExitCode;
 use std::rt::{Env, Files};
 
-const HELP: &'static str =
-    "kmc_merge: the dump of the sum of dumps\n\nusage: kmc_merge [-ci<n>] [-cx<n>] [-cs<n>] a.dump b.dump ..\n\n  -ci<n>     words whose sum is less are not listed; 2 where it is not given\n  -cx<n>     words whose sum is greater are not listed; 10^9\n  -cs<n>     greater sums are shown as this; 255\n  a.dump ..  the files of 1 to 1000 sorted dumps\n\nDumps of parts of the reads are made with all counts, and dumps of slices are merged with all counts, by\n  -ci1 -cx9223372036854775808 -cs9223372036854775808\n";
+const HELP: &'static str = "kmc_merge: the dump of the sum of dumps
+
+usage: kmc_merge [-ci<n>] [-cx<n>] [-cs<n>] a.dump b.dump ..
+
+  -ci<n>     words whose sum is less are not listed; 2 where it is not given
+  -cx<n>     words whose sum is greater are not listed; 10^9
+  -cs<n>     greater sums are shown as this; 255
+  a.dump ..  the files of 1 to 1000 sorted dumps
+
+Dumps of parts of the reads are made with all counts, and dumps of slices are merged with all counts, by
+  -ci1 -cx9223372036854775808 -cs9223372036854775808
+";
 
 /// A reader for each file, or why there are none: the first file that cannot be opened, or want of memory.
 fn opened<T: Files + Alloc<A = Global>>(

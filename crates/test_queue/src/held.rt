@@ -264,7 +264,8 @@ fn a_held_writer_does_not_stop_another(rt: HostRuntime) -> Result<(), Fail> {
     Ok(())
 }
 
-/// While reader 0 is held: reader 1 gets the next part, the writer finds its slot not yet free and completes, and reader 1 is told that the queue is finished.
+/// While reader 0 is held: reader 1 gets the next part, the writer finds its slot not yet free and completes,
+/// and reader 1 is told that the queue is finished.
 fn finish_beside(
     lanes: &Lanes<u8>,
     mut writer: WriterSeat<u8>,

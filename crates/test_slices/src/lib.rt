@@ -1,7 +1,7 @@
 //! Tests of slices and of sums, by public calls alone: the bytes of a worked file, each changed byte of it, each front, devices that
 //! fail, refused memory, the command lines of the programs and the files that they make and list, and random reads whose slices, merged,
-//! are one run; dumps at fault in each field, and bytes read behind others. Nothing stands on this crate. Random splits of random reads are tried by
-//! bench/merge.py.
+//! are one run; dumps at fault in each field, and bytes read behind others. Nothing stands on this crate. Random splits of
+//! random reads are tried by bench/merge.py.
 #![tactic(auto)]
 
 #[cfg(test)]

@@ -1,6 +1,6 @@
 //! Sixteen writers and eight readers, each in a thread of its own, pass a hundred parts of each writer, part n of chunk n, through a queue
-//! whose lanes have one slot. It tells whether each part came once, in the order of its writer, and whether the totals are right. bench/hostile_threads.sh
-//! runs it again and again beside other work.
+//! whose lanes have one slot. It tells whether each part came once, in the order of its writer, and whether the totals
+//! are right. bench/hostile_threads.sh runs it again and again beside other work.
 
 mod many;
 mod seen;

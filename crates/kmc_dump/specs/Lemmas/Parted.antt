@@ -7,7 +7,8 @@ use Rattle.kmc_lists.specs.Listed.{Listed}
 use Rattle.kmc_lists.specs.Ordered.{is_within, within, joined, packs}
 use Rattle.kmc_dump.specs.Ranges.{count_within, AreBounds, ArePartedTo}
 
-pub more : (w from to : ℕ) (p : ℕ × ℕ) (ps : List (ℕ × ℕ)) → length (within w from to (p ∷ ps)) ≡ cond (is_within w from to p) 1 0 + length (within w from to ps)
+pub more : (w from to : ℕ) (p : ℕ × ℕ) (ps : List (ℕ × ℕ)) → length (within w from to (p ∷ ps))
+    ≡ cond (is_within w from to p) 1 0 + length (within w from to ps)
 more w from to p ps = go (is_within w from to p)
   where
     go : (t : Bool) → length (cond t (p ∷ within w from to ps) (within w from to ps)) ≡ cond t 1 0 + length (within w from to ps)

@@ -26,7 +26,21 @@ use std::sync::Wait;
 use std::thread::Threads;
 
 const HELP: &'static str =
-    "kmc_cut: reads on standard input, cut into the records of slices that kmc_list lists one by one\n\nusage: kmc_cut [-fa|-fq|-fm] [-k<len>] [-p<len>] [-n<bins>] [-sp<n>] -slices<S> [--force] <prefix>\n\n  -fq -fa -fm  FASTQ, FASTA, FASTA whose sequences take several lines; FASTQ where none is given\n  -k<len>      the length of words, 1 to 64; 25\n  -p<len>      the most symbols of a signature, 5 to 11; 9\n  -n<bins>     bins, 1 to 2000; 512\n  -sp<n>       threads that cut, 1 to 16; 2\n  -slices<S>   slices, 1 to 1000 and at most the bins\n  --force      files that are there are written over\n  <prefix>     the files are <prefix>.0, <prefix>.1 and so on\n\nReads may be cut in parts, each with a prefix of its own. Then for each slice kmc_list lists the files of all parts.\n";
+    "kmc_cut: reads on standard input, cut into the records of slices that kmc_list lists one by one
+
+usage: kmc_cut [-fa|-fq|-fm] [-k<len>] [-p<len>] [-n<bins>] [-sp<n>] -slices<S> [--force] <prefix>
+
+  -fq -fa -fm  FASTQ, FASTA, FASTA whose sequences take several lines; FASTQ where none is given
+  -k<len>      the length of words, 1 to 64; 25
+  -p<len>      the most symbols of a signature, 5 to 11; 9
+  -n<bins>     bins, 1 to 2000; 512
+  -sp<n>       threads that cut, 1 to 16; 2
+  -slices<S>   slices, 1 to 1000 and at most the bins
+  --force      files that are there are written over
+  <prefix>     the files are <prefix>.0, <prefix>.1 and so on
+
+Reads may be cut in parts, each with a prefix of its own. Then for each slice kmc_list lists the files of all parts.
+";
 
 /// Cuts what the reader gives to the writers, one for each slice.
 fn cut_through<T: Threads + Wait + Sync + Alloc<A = Global>, R: Read, W: Write>(

@@ -24,8 +24,20 @@ use std::rt::{Env, Files};
 use std::sync::Wait;
 use std::thread::Threads;
 
-const HELP: &'static str =
-    "kmc_list: the dump of one slice of reads that kmc_cut has cut\n\nusage: kmc_list [-ci<n>] [-cx<n>] [-cs<n>] [-sr<n>] [-b] <file> ..\n\n  -ci<n>     words that occur less often are not listed; 2 where it is not given\n  -cx<n>     words that occur more often are not listed; 10^9\n  -cs<n>     greater counts are shown as this; 255\n  -sr<n>     threads that count, 1 to 16; 2\n  -b         words are counted as read, not together with their reverse complements\n  <file>     the files of one slice, of all parts of the reads\n\nThe dumps of all slices are merged by\n  kmc_merge -ci1 -cx9223372036854775808 -cs9223372036854775808 <dump> ..\n";
+const HELP: &'static str = "kmc_list: the dump of one slice of reads that kmc_cut has cut
+
+usage: kmc_list [-ci<n>] [-cx<n>] [-cs<n>] [-sr<n>] [-b] <file> ..
+
+  -ci<n>     words that occur less often are not listed; 2 where it is not given
+  -cx<n>     words that occur more often are not listed; 10^9
+  -cs<n>     greater counts are shown as this; 255
+  -sr<n>     threads that count, 1 to 16; 2
+  -b         words are counted as read, not together with their reverse complements
+  <file>     the files of one slice, of all parts of the reads
+
+The dumps of all slices are merged by
+  kmc_merge -ci1 -cx9223372036854775808 -cs9223372036854775808 <dump> ..
+";
 
 /// Writes the dump of the records of so many readers.
 fn listed<

@@ -150,11 +150,13 @@ module _ (a top : ℕ) (below : a < top) (f : ℕ → List ℕ) where
       go (canonical (f b)) vs here rest (is_allowed (canonical (f b)))
     where
       go : (v : List ℕ) (vs : List (List ℕ)) → pack v < a
-          → cond (nat_eq (least a (map pack (filter is_allowed vs))) a) top (least a (map pack (filter is_allowed vs))) ≡ least top (map pack (filter is_allowed vs))
+          → cond (nat_eq (least a (map pack (filter is_allowed vs))) a) top (least a (map pack (filter is_allowed vs)))
+          ≡ least top (map pack (filter is_allowed vs))
           → (c : Bool) → cond (nat_eq (least a (map pack (cond c (v ∷ filter is_allowed vs) (filter is_allowed vs)))) a) top
           (least a (map pack (cond c (v ∷ filter is_allowed vs) (filter is_allowed vs))))
           ≡ least top (map pack (cond c (v ∷ filter is_allowed vs) (filter is_allowed vs)))
-      go v vs small rest true = unmark_min a top (pack v) (least a (map pack (filter is_allowed vs))) _ small below (least_le a (map pack (filter is_allowed vs))) rest
+      go v vs small rest true =
+          unmark_min a top (pack v) (least a (map pack (filter is_allowed vs))) _ small below (least_le a (map pack (filter is_allowed vs))) rest
       go v vs small rest false = rest
 
 pub unmarked_is : (m : ℕ) (w : List ℕ) → 1 ≤ m → m ≤ length w → AreCodes w → unmarked m (least_form (4 ^ m - 1) m w) ≡ signature_of m w

@@ -1,7 +1,7 @@
 -- Bodies that are of the bins that are asked for.
-use Rattle.std.proofs.Common.{◌≡◌, ℕ, ◌+◌, ◌-◌, ◌<◌, ◌≤◌, ◌⊎◌, inl, inr, Option, Some, None, List, [], ◌++◌, length, get_or, replicate, refl, sym, subst, ◌∙◌, arith, add-zero}
+use Rattle.std.proofs.Common.{◌≡◌, ℕ, ◌+◌, ◌-◌, ◌<◌, ◌≤◌, ◌⊎◌, inl, inr, Option, Some, None, List, [], ◌++◌, length, get_or, replicate, refl, sym, ap, subst, ◌∙◌, arith, add-zero}
 use Rattle.std.proofs.lemmas.List.{length-append, length-replicate, get_or_append_left, get_or-append_right, get_or-replicate}
-use Rattle.kmc_count.specs.Asked.{asked_behind, AreOfBins, IsOfBin}
+use Rattle.kmc_count.specs.Asked.{asked_behind, AreOfBins, AsksFor, IsOfBin}
 use Rattle.kmc_count.specs.declared.judging.AskedBin.{AskedBin}
 use Rattle.kmc_stage_two.specs.Bodies.{AreLeft}
 
@@ -10,12 +10,33 @@ pub behind_none : (asked : Option AskedBin) (body : List ℕ) → IsOfBin asked 
 behind_none None body h = tt
 behind_none (Some a) body h = subst (λ n. IsOfBin (Some (record a { bin = n })) body) (sym (add-zero a.bin)) h
 
+-- words of as many symbols are asked for at each place
+pub asks_behind : (k places : ℕ) (asked : Option AskedBin) → AsksFor k asked → AsksFor k (asked_behind places asked)
+asks_behind k places None h = tt
+asks_behind k places (Some a) h = h
+
 -- so many places behind
 pub behind_there : (asked found : Option AskedBin) (places : ℕ) (body : List ℕ)
     → ((i : ℕ) (b : List ℕ) → IsOfBin (asked_behind i found) b → IsOfBin (asked_behind (places + i) asked) b) → IsOfBin found body
     → IsOfBin (asked_behind places asked) body
 behind_there asked found places body behind h =
     subst (λ n. IsOfBin (asked_behind n asked) body) (add-zero places) (behind 0 body (behind_none found body h))
+
+-- and those that are asked for there are asked for at the first
+pub asks_back : (k places : ℕ) (asked : Option AskedBin) → AsksFor k (asked_behind places asked) → AsksFor k asked
+asks_back k places None h = tt
+asks_back k places (Some a) h = h
+
+-- the place itself, and so many places behind, the other way round
+none_behind : (asked : Option AskedBin) (body : List ℕ) → IsOfBin (asked_behind 0 asked) body → IsOfBin asked body
+none_behind None body h = tt
+none_behind (Some a) body h = subst (λ n. IsOfBin (Some (record a { bin = n })) body) (add-zero a.bin) h
+
+pub behind_here : (asked found : Option AskedBin) (places : ℕ) (body : List ℕ)
+    → ((i : ℕ) (b : List ℕ) → IsOfBin (asked_behind (places + i) asked) b → IsOfBin (asked_behind i found) b)
+    → IsOfBin (asked_behind places asked) body → IsOfBin found body
+behind_here asked found places body before h =
+    none_behind found body (before 0 body (subst (λ n. IsOfBin (asked_behind n asked) body) (sym (add-zero places)) h))
 
 -- the bodies before a place
 abbrev pub AreOfBinsTo : ℕ → Option AskedBin → List (List ℕ) → Type 0
@@ -30,6 +51,21 @@ next_of_bin n asked bodies h here i less = elim (let two : (i < n) ⊎ (i ≡ n)
 
 in_front_or_behind : (i n : ℕ) → (i < n) ⊎ (n ≤ i)
 in_front_or_behind i n = grind arith
+
+-- of bodies side by side that are of their bins, those of each row are
+module _ (asked next : Option AskedBin) (us vs : List (List ℕ)) where
+  pub front_of_bins : AreOfBins asked (us ++ vs) → AreOfBins asked us
+  front_of_bins both i inside =
+      subst (IsOfBin (asked_behind i asked)) (get_or_append_left us vs [] i inside) (both i (omega (arith, inside, length-append us vs)))
+
+  pub back_of_bins : ((i : ℕ) (body : List ℕ) → IsOfBin (asked_behind (length us + i) asked) body → IsOfBin (asked_behind i next) body)
+      → AreOfBins asked (us ++ vs) → AreOfBins next vs
+  back_of_bins before both i inside =
+      let place : length us + i - length us ≡ i = omega arith in
+      let there : get_or (us ++ vs) (length us + i) [] ≡ get_or vs i [] =
+      get_or-append_right us vs (length us) (length us + i) [] refl (omega arith) ∙ ap (λ n. get_or vs n []) place in
+      before i (get_or vs i []) (subst (IsOfBin (asked_behind (length us + i) asked)) there
+      (both (length us + i) (omega (arith, inside, length-append us vs))))
 
 module _ (asked next : Option AskedBin) (us vs : List (List ℕ))
     (behind : (i : ℕ) (body : List ℕ) → IsOfBin (asked_behind i next) body → IsOfBin (asked_behind (length us + i) asked) body) where

@@ -5,6 +5,7 @@ use Rattle.std.specs.Prelude.{slice_index}
 use Rattle.kmc_record.specs.Bodies.{AreRecordsOfBin}
 use Rattle.kmc_record.specs.Parts.{IsPart, all_windows, capped}
 use Rattle.kmc_record.specs.Shapes.{Sizes}
+use Rattle.kmc_record.specs.Lemmas.PartRecords.{records_of_part}
 use Rattle.kmc_store.specs.Bins.{AreBins, body_at}
 use Rattle.kmc_count.specs.Asked.{AreOfBins}
 
@@ -50,6 +51,16 @@ bins_of_asked shape bodies wide of =
     ) in
     let all = chosen (λ i w. IsPart i shape (body_at bodies i) w) shape.n one in
     (all.0, record { wide = wide; counted = all.1; each = all.2 })
+
+-- and bins are bodies of their bins
+pub asked_of_bins : (shape : Sizes) (bodies : List (List ℕ)) (words : List ℕ) → AreBins shape bodies words
+    → AreOfBins (Some (record { shape = shape; bin = 0 })) bodies
+asked_of_bins shape bodies words are i inside =
+    let less : i < shape.n = omega (arith, inside, are.wide) in
+    let here : i ≡ 0 + i = sym (zero-add i) in (
+      omega (arith, less),
+      subst (λ j. AreRecordsOfBin j shape (body_at bodies i)) here (records_of_part i shape (body_at bodies i) _ (are.each i less)),
+    )
 
 -- two facts about one value make a third
 pub both_ok : {T E : Type 0} (r : Result T E) (P Q R : T → Type 0) → ((x : T) → P x → Q x → R x) → IfOk r P → IfOk r Q → IfOk r R

@@ -34,7 +34,8 @@ left_more xs ys i v left k d l = get_or-set_other xs i k v d (omega arith) ∙ l
 
 pub room_more : (own more : List Bytes) (i : ℕ) (v w : Bytes) (size : ℕ) → i < length own → i < length more → w ≡ get_or more i w → size
     ≡ length w.items → HasRoomForBodies v size
-    → ((k : ℕ) (a b : Bytes) → k < i → HasRoomForBodies (get_or own k a) (length (get_or more k b).items)) → (k : ℕ) (a b : Bytes) → k < i + 1 → HasRoomForBodies
+    → ((k : ℕ) (a b : Bytes) → k < i → HasRoomForBodies (get_or own k a) (length (get_or more k b).items))
+    → (k : ℕ) (a b : Bytes) → k < i + 1 → HasRoomForBodies
     (get_or (set own i v) k a) (length (get_or more k b).items)
 room_more own more i v w size inside inside_more is long here below k a b l =
     each_more (λ j x. HasRoomForBodies x (length (get_or more j b).items)) own i v a inside (λ j lj. below j a b lj)

@@ -1,8 +1,8 @@
-use Rattle.std.proofs.Common.{rules, ◌≡◌, ◌-◌, ◌%◌, IsTrue, slice_index_or, arith}
+use Rattle.std.proofs.Common.{rules, ◌≡◌, ◌-◌, ◌%◌, ◌<◌, length, IsTrue, slice_index_or, arith}
 use Rattle.kmc_base.specs.Words.{windows}
 use Rattle.kmc_record.specs.Bodies.{Belong}
 use Rattle.kmc_record.specs.RecordKeys.{codes_of}
-use Rattle.kmc_count.proofs.Judged.{belong_as_other, more_belong}
+use Rattle.kmc_count.proofs.Judged.{belong_as_other, more_belong, one_belongs}
 use Rattle.kmc_count.proofs.judging.all_belong.Goals.{else-shared-key-via-then-shared-key+else-not-key_belongs, else-shared-key-via-else-shared-key}
 use Rattle.kmc_count.proofs.judging.all_belong.Goals as goal
 
@@ -27,3 +27,16 @@ loop-left-preserved c =
       last = here;
       rest = more_belong a.bin a.shape a.keys.now left (omega (arith, c.loop-left-test.true)) so_far.inside here so_far.rest;
     }
+
+-- a row that does not belong is one of all
+pub returns-then-not-key_belongs : goal.returns-then-not-key_belongs
+returns-then-not-key_belongs c =
+    let a = c.args in
+    let left = c.loop-left.left in
+    let less : left - 1 < length a.keys.now = omega (arith, c.loop-left-test.true, c.loop-left.invariant.inside) in
+    (
+      λ never. search (rules, never),
+      λ all.
+          let yes : IsTrue c.key_belongs.result = c.key_belongs.ensures.1 (one_belongs a.bin a.shape a.keys.now (left - 1) less all) in
+          search (rules, yes, c.if-not-key_belongs.true, c.if-not-key_belongs.ensures),
+    )

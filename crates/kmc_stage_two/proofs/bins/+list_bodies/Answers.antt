@@ -8,7 +8,7 @@ use Rattle.kmc_count.specs.declared.judging.AskedBin.{AskedBin}
 use Rattle.kmc_stage_two.specs.Lemmas.ManyBodies.{texts, counted_want, first_damaged, first_wants, second_damaged, second_wants}
 use Rattle.kmc_lists.specs.Listed.{pairs_of}
 use Rattle.kmc_stage_two.specs.Bodies.{AreLeft, AreListsOfBodies, BodiesWantMemory}
-use Rattle.kmc_stage_two.specs.Lemmas.Judged.{both_left, both_of_bins, front_left}
+use Rattle.kmc_stage_two.specs.Lemmas.Judged.{back_of_bins, both_left, both_of_bins, front_left, front_of_bins}
 use Rattle.kmc_stage_two.specs.Lemmas.ListedBodies.{both_listed}
 use Rattle.kmc_stage_two.proofs.bins.+list_bodies.Goals as goal
 
@@ -31,6 +31,12 @@ moved : (asked next : Option AskedBin) (low : List (Vec ℕ Global)) (at : ℕ) 
 moved asked next low at long behind i body h =
     subst (λ n. IsOfBin (asked_behind (n + i) asked) body) (sym (length-map low (λ (b : Vec ℕ Global). b.items) ∙ long)) (behind i body h)
 
+moved_back : (asked next : Option AskedBin) (low : List (Vec ℕ Global)) (at : ℕ) → length low ≡ at
+    → ((i : ℕ) (body : List ℕ) → IsOfBin (asked_behind (at + i) asked) body → IsOfBin (asked_behind i next) body)
+    → (i : ℕ) (body : List ℕ) → IsOfBin (asked_behind (length (texts low) + i) asked) body → IsOfBin (asked_behind i next) body
+moved_back asked next low at long before i body h =
+    before i body (subst (λ n. IsOfBin (asked_behind (n + i) asked) body) (length-map low (λ (b : Vec ℕ Global). b.items) ∙ long) h)
+
 pub returns-in_err-lists-2-clause-damaged : goal.returns-in_err-lists-2-clause-damaged
 returns-in_err-lists-2-clause-damaged g t c = λ fault offset h.
     let a = c.args in let r = a.counting.now in let split = c.split_at_mut-low in let low = split.result.0.now in let high = split.result.1.now in
@@ -46,6 +52,14 @@ returns-in_err-lists-2-clause-memory g t c = λ h.
     (first_wants r.rule.strands r.rule.k r.limits (texts low) (texts high)
     (c.list_bodies.ensures.memory
     (passed_on c.list_bodies.result c.from_residual-in_err-lists-2.result _ _ c.in_err-lists-2.was c.from_residual-in_err-lists-2.ensures.1 h)))
+
+pub returns-in_err-lists-2-clause-wrong : goal.returns-in_err-lists-2-clause-wrong
+returns-in_err-lists-2-clause-wrong g t c = λ h same of.
+    let a = c.args in let r = a.counting.now in let split = c.split_at_mut-low in let low = split.result.0.now in let high = split.result.1.now in
+    c.list_bodies.ensures.wrong
+    (passed_on c.list_bodies.result c.from_residual-in_err-lists-2.result _ _ c.in_err-lists-2.was c.from_residual-in_err-lists-2.ensures.1 h) same
+    (front_of_bins r.asked r.asked (texts low) (texts high)
+    (subst (AreOfBins r.asked) (sym (both a.bodies.now low high _ split.ensures.front split.ensures.back)) of))
 
 pub returns-in_err-lists-2-clause-left : goal.returns-in_err-lists-2-clause-left
 returns-in_err-lists-2-clause-left g t c =
@@ -69,6 +83,16 @@ returns-in_err-more-clause-memory g t c = λ h.
     (second_wants r.rule.strands r.rule.k r.limits (texts low) (texts high) (map pairs_of c.in_ok-lists-2.lists.items) c.in_ok-lists-2.ensures.ok.dumps
     (c.list_bodies-2.ensures.memory
     (passed_on c.list_bodies-2.result c.from_residual-in_err-more.result _ _ c.in_err-more.was c.from_residual-in_err-more.ensures.1 h)))
+
+pub returns-in_err-more-clause-wrong : goal.returns-in_err-more-clause-wrong
+returns-in_err-more-clause-wrong g t c = λ h same of.
+    let a = c.args in let r = a.counting.now in let split = c.split_at_mut-low in let low = split.result.0.now in let high = split.result.1.now in
+    let next = c.bin_behind.result in
+    c.list_bodies-2.ensures.wrong
+    (passed_on c.list_bodies-2.result c.from_residual-in_err-more.result _ _ c.in_err-more.was c.from_residual-in_err-more.ensures.1 h)
+    (c.bin_behind.ensures.words r.rule.k same)
+    (back_of_bins r.asked next (texts low) (texts high) (moved_back r.asked next low _ split.ensures.front_len c.bin_behind.ensures.before)
+    (subst (AreOfBins r.asked) (sym (both a.bodies.now low high _ split.ensures.front split.ensures.back)) of))
 
 pub returns-in_err-more-clause-left : goal.returns-in_err-more-clause-left
 returns-in_err-more-clause-left g t c =

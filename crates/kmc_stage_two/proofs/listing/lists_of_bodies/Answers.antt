@@ -1,4 +1,4 @@
-use Rattle.std.proofs.Common.{◌≡◌, ℕ, List, length, ◌∙◌, refl, Vec, Global}
+use Rattle.std.proofs.Common.{◌≡◌, ℕ, List, length, ◌∙◌, refl, sym, Vec, Global}
 use Rattle.std.proofs.lemmas.List.{length-map}
 use Rattle.std.proofs.lemmas.Result.{IfOk-weaker}
 use Rattle.kmc_lists.specs.Listed.{spelled}
@@ -6,7 +6,7 @@ use Rattle.kmc_lists.specs.Lists.{lists_of}
 use Rattle.kmc_lists.specs.Ordered.{CanBeMerged, whole}
 use Rattle.kmc_store.specs.Bins.{AreBins}
 use Rattle.kmc_stage_two.specs.Lemmas.ManyBodies.{texts}
-use Rattle.kmc_stage_two.specs.Lemmas.Outside.{bins_of_asked, both_ok}
+use Rattle.kmc_stage_two.specs.Lemmas.Outside.{asked_of_bins, bins_of_asked, both_ok}
 use Rattle.kmc_stage_two.specs.Stages.{IsDumpOfBins}
 use Rattle.kmc_stage_two.proofs.BinsDump.{listed}
 use Rattle.kmc_stage_two.proofs.listing.lists_of_bodies.Goals as goal
@@ -17,6 +17,11 @@ returns-clause-bins g c =
     let bodies = texts a.bodies.now in
     let wide : length bodies ≡ a.shape.n = length-map a.bodies.now (λ (b : Vec ℕ Global). b.items) ∙ c.requires.bodies in
     IfOk-weaker c.list_asked.result _ (λ _. (words : List ℕ) × AreBins a.shape bodies words) (λ _ of. bins_of_asked a.shape bodies wide of) c.list_asked.ensures.judged
+
+pub returns-clause-wrong : goal.returns-clause-wrong
+returns-clause-wrong g c = λ is words are.
+    let a = c.args in
+    c.list_asked.ensures.wrong is (sym c.k.ensures.is) (asked_of_bins a.shape (texts a.bodies.now) words are)
 
 pub returns-clause-merge : goal.returns-clause-merge
 returns-clause-merge g c =

@@ -15,7 +15,7 @@ use Rattle.kmc_count.specs.Lemmas.PassedOn.{passed_on}
 use Rattle.kmc_lists.specs.Listed.{Listed, pairs_of, IsListOf}
 use Rattle.kmc_stage_two.specs.Bodies.{AreListsOfBodies, BodiesWantMemory}
 use Rattle.kmc_stage_two.specs.Lemmas.ManyBodies.{texts}
-use Rattle.kmc_stage_two.specs.Lemmas.Judged.{next_of_bin}
+use Rattle.kmc_stage_two.specs.Lemmas.Judged.{asks_behind, next_of_bin}
 use Rattle.kmc_stage_two.specs.Lemmas.ListedBodies.{one_listed, next_damaged, next_wants}
 use Rattle.kmc_stage_two.proofs.row.list_row.Goals as goal
 
@@ -103,6 +103,18 @@ returns-in_err-list-clause-memory g c = λ h.
     wants_here c.args.counting.now.rule.strands c.args.counting.now.rule.k c.args.counting.now.limits c.args.bodies.now c.loop-place.place c.index-bodies-place.result c.deref.result.now
     c.loop-place.lists.items c.loop-place-test.true c.index-bodies-place.is c.deref.ensures.value c.loop-place.invariant.0
     (c.list_body.ensures.memory (passed_on c.list_body.result c.from_residual.result _ _ c.in_err-list.was c.from_residual.ensures.1 h))
+
+pub returns-in_err-list-clause-wrong : goal.returns-in_err-list-clause-wrong
+returns-in_err-list-clause-wrong g c = λ h same of.
+    let a = c.args in
+    let place = c.loop-place.place in
+    let here : c.deref.result.now ≡ get_or (texts a.bodies.now) place [] =
+    c.deref.ensures.value ∙ ap (λ (v : Vec ℕ Global). v.items) c.index-bodies-place.is
+    ∙ sym (get_or-map (λ (v : Vec ℕ Global). v.items) a.bodies.now place c.index-bodies-place.result [] c.loop-place-test.true) in
+    c.list_body.ensures.wrong (passed_on c.list_body.result c.from_residual.result _ _ c.in_err-list.was c.from_residual.ensures.1 h)
+    (asks_behind a.counting.now.rule.k place a.counting.now.asked same)
+    (subst (IsOfBin (asked_behind place a.counting.now.asked)) (sym here)
+    (of place (omega (arith, c.loop-place-test.true, length-map a.bodies.now (λ (v : Vec ℕ Global). v.items)))))
 
 pub returns-clause-ok : goal.returns-clause-ok
 returns-clause-ok g c =

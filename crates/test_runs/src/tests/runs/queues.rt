@@ -8,7 +8,8 @@ use kmc_count::Limits;
 use kmc_partqueue::Gate;
 use kmc_tool::run_with_gate;
 
-/// How many splitters and storers there are, how many parts one splitter may have in the queue, and how many reads a round has for a splitter.
+/// How many splitters and storers there are, how many parts one splitter may have in the queue, and how many
+/// reads a round has for a splitter.
 #[derive(Clone, Copy)]
 struct Sizes(usize, usize, usize, usize);
 
