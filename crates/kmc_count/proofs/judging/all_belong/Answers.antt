@@ -33,8 +33,7 @@ pub returns-then-not-key_belongs : goal.returns-then-not-key_belongs
 returns-then-not-key_belongs c =
     let a = c.args in
     let left = c.loop-left.left in
-    let less : left - 1 < length a.keys.now = omega (arith, c.loop-left-test.true, c.loop-left.invariant.inside) in
-    (
+    let less : left - 1 < length a.keys.now = omega (arith, c.loop-left-test.true, c.loop-left.invariant.inside) in (
       λ never. search (rules, never),
       λ all.
           let yes : IsTrue c.key_belongs.result = c.key_belongs.ensures.1 (one_belongs a.bin a.shape a.keys.now (left - 1) less all) in
