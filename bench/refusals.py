@@ -53,7 +53,7 @@ def without_comments(text):
 def sources():
     """The files of the crates, without comments, and with the usage line of a program in the place of its call."""
     with open(os.path.join(TOP, "crates", "kmc_options", "src", "program.rt"), encoding="utf-8") as file:
-        usages = dict(re.findall(r'Program::(\w+) =>\s*\{?\s*("usage: [^"]*")', file.read()))
+        usages = dict(re.findall(r'Program::(\w+) =>\s*\{?\s*("usage: [^"]*")', re.sub(r"\\\n\s*", "", file.read())))
     for path in sorted(glob.glob(os.path.join(TOP, "crates", "*", "src", "**", "*.rt"), recursive=True)):
         with open(path, encoding="utf-8") as file:
             text = re.sub(r"Program::(\w+)\.usage\(\)", lambda m: usages[m.group(1)], without_comments(file.read()))
