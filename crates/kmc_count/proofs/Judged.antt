@@ -3,7 +3,7 @@ use Rattle.std.proofs.Common.{◌≡◌, zero, suc, ◌+◌, ◌-◌, ◌%◌, �
 use Rattle.std.specs.List.{AllByRecursion, sum_by, range_with_len}
 use Rattle.std.specs.List.Sorted.{IsPermutation}
 use Rattle.std.proofs.lemmas.Bool.Decides.{nat_tests}
-use Rattle.std.proofs.lemmas.List.{length-take-le, length-append, take-take, drop_more, drop-take, get_or_append_left, get_or-append_right}
+use Rattle.std.proofs.lemmas.List.{length-take-le, take-take, drop_more, drop-take}
 use Rattle.std.proofs.lemmas.List.Elements.{All-append, All-from_recursion, recursion_from_All}
 use Rattle.std.proofs.lemmas.List.FromFn.{get_or-map-range_with_len, length-map-range_with_len}
 use Rattle.std.proofs.lemmas.List.Sums.{sum_by-append, sum_by-cons}
@@ -29,6 +29,7 @@ use Rattle.kmc_record.specs.RecordWords.{record_keys}
 use Rattle.kmc_record.specs.Shapes.{Sizes}
 use Rattle.kmc_record.specs.Lemmas.KeyBytes.{are_codes, codes_of_number}
 use Rattle.kmc_record.specs.Lemmas.Taken.{moved_keys}
+use Rattle.kmc_record.specs.Lemmas.WordsOfBin.{front_belongs, back_belongs}
 use Rattle.kmc_count.specs.declared.judging.AskedBin.{AskedBin}
 use Rattle.kmc_count.specs.Asked.{AreKeysOfBin, FitsWords, IsForeign, IsOfBin}
 
@@ -89,15 +90,9 @@ module _ (bin : ℕ) (shape : Sizes) where
   pub one_belongs : (numbers : List ℕ) (i : ℕ) → i < length numbers → Belong bin shape (all_windows shape.k (map codes_of numbers))
       → Belong bin shape (windows shape.k (codes_of (get_or numbers i 0)))
   one_belongs [] i less h = absurd (omega (arith, less))
-  one_belongs (n ∷ ns) zero less h = λ i d inside.
-      ap (bin_of shape.m shape.n) (sym (get_or_append_left (windows shape.k (codes_of n)) (all_windows shape.k (map codes_of ns)) d i inside))
-      ∙ h i d (omega (arith, inside, length-append (windows shape.k (codes_of n)) (all_windows shape.k (map codes_of ns))))
-  one_belongs (n ∷ ns) (suc i) less h = one_belongs ns i (omega (arith, less)) (λ j d inside.
-      let front = windows shape.k (codes_of n) in
-      let back = all_windows shape.k (map codes_of ns) in
-      ap (bin_of shape.m shape.n) (sym (get_or-append_right front back (length front) (length front + j) d refl (omega arith)
-      ∙ ap (λ m. get_or back m d) (let m : length front + j - length front ≡ j = omega arith in m)))
-      ∙ h (length front + j) d (omega (arith, inside, length-append front back)))
+  one_belongs (n ∷ ns) zero less h = front_belongs bin shape (windows shape.k (codes_of n)) (all_windows shape.k (map codes_of ns)) h
+  one_belongs (n ∷ ns) (suc i) less h = one_belongs ns i (omega (arith, less))
+      (back_belongs bin shape (windows shape.k (codes_of n)) (all_windows shape.k (map codes_of ns)) h)
 
 -- ---- the words of a body, by those of the numbers of its records
 

@@ -6,9 +6,10 @@ ghost use Rattle.kmc_record.specs.declared.fault.RecordFault.{RecordFault};
 ghost use Rattle.kmc_count.specs.Bodies.{AreItemsOfBody, WantsMemory};
 ghost use Rattle.kmc_count.specs.Tables.{table_worth, ComeToAsMuch, IsTable, TakesIn};
 
+use crate::item_form::ItemForm;
 use crate::room::CountingRoom;
 use crate::taking::take_words;
-use kmc_base::{KeyRule, MOST_WEIGHT_BITS, PackedKmer, Weight};
+use kmc_base::{PackedKmer, Weight};
 use kmc_record::BodyError;
 use std::alloc::AllocError;
 
@@ -30,18 +31,15 @@ fn add_item<W: PackedKmer + Drop>(
     table: &mut [u32],
     over: &mut Vec<W>,
     item: W,
-    k: usize,
-    bits: u32,
+    form: ItemForm<W>,
 ) -> Result<(), AllocError>
-    requires some { 1 ≤ k }
-    requires most { k ≤ MOST_TABLE_SYMBOLS }
-    requires beside { 2 * k + bits ≤ 2 * W.most }
-    requires bits { bits ≤ MOST_WEIGHT_BITS }
-    requires table { IsTable k bits table.old }
-    requires fits { W.number item / 2 ^ bits < 4 ^ k }
-    ensures { OnOk result (TakesIn k bits table.old (map W.number over.old.items) table.new
+    requires short { form.rule.k ≤ MOST_TABLE_SYMBOLS }
+    requires table { IsTable form.rule.k form.bits table.old }
+    requires fits { W.number item / 2 ^ form.bits < 4 ^ form.rule.k }
+    ensures { OnOk result (TakesIn form.rule.k form.bits table.old (map W.number over.old.items) table.new
         (map W.number over.new.items) (W.number item ∷ [])) }
 {
+    let bits = form.bits;
     let word = item.without_weight(bits);
     let times = item.times(bits) as u32;
     let place = word.to_u128() as usize;
@@ -64,20 +62,16 @@ fn add_items<W: PackedKmer + Drop>(
     table: &mut [u32],
     over: &mut Vec<W>,
     added: &[W],
-    k: usize,
-    bits: u32,
+    form: ItemForm<W>,
 ) -> Result<(), AllocError>
-    requires some { 1 ≤ k }
-    requires most { k ≤ MOST_TABLE_SYMBOLS }
-    requires beside { 2 * k + bits ≤ 2 * W.most }
-    requires bits { bits ≤ MOST_WEIGHT_BITS }
-    requires table { IsTable k bits table.old }
-    requires fit { AreItems k bits (map W.number added.now) }
-    ensures { OnOk result (TakesIn k bits table.old (map W.number over.old.items) table.new
+    requires short { form.rule.k ≤ MOST_TABLE_SYMBOLS }
+    requires table { IsTable form.rule.k form.bits table.old }
+    requires fit { AreItems form.rule.k form.bits (map W.number added.now) }
+    ensures { OnOk result (TakesIn form.rule.k form.bits table.old (map W.number over.old.items) table.new
         (map W.number over.new.items) (map W.number added.now)) }
 {
     for item in added {
-        add_item(table, over, *item, k, bits)?;
+        add_item(table, over, *item, form)?;
     }
     Ok(())
 }
@@ -86,26 +80,22 @@ fn add_items<W: PackedKmer + Drop>(
 fn push_counters<W: PackedKmer + Drop>(
     out: &mut Vec<W>,
     table: &[u32],
-    k: usize,
-    bits: u32,
+    form: ItemForm<W>,
 ) -> Result<(), AllocError>
-    requires some { 1 ≤ k }
-    requires most { k ≤ MOST_TABLE_SYMBOLS }
-    requires beside { 2 * k + bits ≤ 2 * W.most }
-    requires bits { bits ≤ MOST_WEIGHT_BITS }
-    requires table { IsTable k bits table.now }
+    requires short { form.rule.k ≤ MOST_TABLE_SYMBOLS }
+    requires table { IsTable form.rule.k form.bits table.now }
     ensures each { OnOk result ((g : List ℕ → ℕ)
-        → worth g (items k bits (map W.number out.new.items))
-        ≡ worth g (items k bits (map W.number out.old.items)) + table_worth g k 0 table.now) }
-    ensures fit { OnOk result (AreItems k bits (map W.number out.old.items)
-        → AreItems k bits (map W.number out.new.items)) }
+        → worth g (items form.rule.k form.bits (map W.number out.new.items))
+        ≡ worth g (items form.rule.k form.bits (map W.number out.old.items)) + table_worth g form.rule.k 0 table.now) }
+    ensures fit { OnOk result (AreItems form.rule.k form.bits (map W.number out.old.items)
+        → AreItems form.rule.k form.bits (map W.number out.new.items)) }
 {
     for place in 0..table.len() {
         let count = table[place];
         if count > 0 {
             let word = W::of_packed(place as u32);
             out.push(word.weighted(Weight {
-                bits,
+                bits: form.bits,
                 times: u64::from(count),
             }))?;
         }
@@ -129,23 +119,19 @@ pub(crate) fn add_up<W: PackedKmer + Drop>(
     items: &mut Vec<W>,
     table: &mut Vec<u32>,
     over: &mut Vec<W>,
-    k: usize,
-    bits: u32,
+    form: ItemForm<W>,
 ) -> Result<(), AllocError>
-    requires some { 1 ≤ k }
-    requires most { k ≤ MOST_TABLE_SYMBOLS }
-    requires beside { 2 * k + bits ≤ 2 * W.most }
-    requires bits { bits ≤ MOST_WEIGHT_BITS }
-    requires fit { AreItems k bits (map W.number items.old.items) }
-    ensures { OnOk result (ComeToAsMuch k bits (map W.number items.old.items)
+    requires short { form.rule.k ≤ MOST_TABLE_SYMBOLS }
+    requires fit { AreItems form.rule.k form.bits (map W.number items.old.items) }
+    ensures { OnOk result (ComeToAsMuch form.rule.k form.bits (map W.number items.old.items)
         (map W.number items.new.items)) }
 {
-    make_table(table, k)?;
+    make_table(table, form.rule.k)?;
     over.clear();
-    add_items(table.as_mut_slice(), over, items, k, bits)?;
+    add_items(table.as_mut_slice(), over, items, form)?;
     items.clear();
     items.append(over)?;
-    push_counters(items, table, k, bits)
+    push_counters(items, table, form)
 }
 
 /// So many items at least wait before they are added up.
@@ -167,18 +153,15 @@ fn most_items(k: usize) -> usize
 pub(crate) fn take_and_add<W: PackedKmer + Drop>(
     room: &mut CountingRoom<W>,
     body: &[u8],
-    rule: KeyRule,
-    bits: u32,
+    form: ItemForm<W>,
 ) -> Result<(), BodyError>
-    requires most { rule.k ≤ MOST_TABLE_SYMBOLS }
-    requires beside { 2 * rule.k + bits ≤ 2 * W.most }
-    requires bits { bits ≤ MOST_WEIGHT_BITS }
-    ensures ok { OnOk result (AreItemsOfBody rule.strands rule.k bits body.now
+    requires short { form.rule.k ≤ MOST_TABLE_SYMBOLS }
+    ensures ok { OnOk result (AreItemsOfBody form.rule.strands form.rule.k form.bits body.now
         (map W.number room.new.items.items)) }
     ensures damaged { (fault : RecordFault) (offset : ℕ)
         → IsErrOf result (BodyError.Damaged fault offset)
-        → IsFirstFault rule.k fault offset body.now }
-    ensures memory { IsErrOf result BodyError.Memory → WantsMemory rule.k body.now }
+        → IsFirstFault form.rule.k fault offset body.now }
+    ensures memory { IsErrOf result BodyError.Memory → WantsMemory form.rule.k body.now }
     ensures unasked { ¬ (IsErrOf result BodyError.WrongBin) }
 {
     let CountingRoom {
@@ -187,16 +170,15 @@ pub(crate) fn take_and_add<W: PackedKmer + Drop>(
         over,
         ..
     } = room;
-    let k = rule.k;
-    let most = most_items(k);
+    let most = most_items(form.rule.k);
     items.clear();
     let mut offset = 0;
     while offset < body.len() {
-        offset = take_words(items, body, offset, rule, bits)?;
+        offset = take_words(items, body, offset, form)?;
         if items.len() >= most {
-            add_up(items, table, over, k, bits)?;
+            add_up(items, table, over, form)?;
         }
     }
-    add_up(items, table, over, k, bits)?;
+    add_up(items, table, over, form)?;
     Ok(())
 }

@@ -17,11 +17,12 @@ use crate::room::CountingRoom;
 use crate::rows::push_rows;
 use crate::taking::take_body;
 use crate::tallying::tally_both;
-use kmc_base::{KeyRule, MOST_WEIGHT_BITS, PackedKmer};
+use kmc_base::{KeyRule, PackedKmer};
 use kmc_lists::PairList;
 use kmc_record::BodyError;
 use kmc_split::laws::strands_share_signature;
 use std::alloc::{AllocError, Global};
+use std::marker::PhantomData;
 
 /// Sorts the numbers of records, by the faster way for their width where there is memory for that.
 fn sort_numbers(numbers: &mut Vec<u128>)
@@ -39,12 +40,9 @@ fn sort_numbers(numbers: &mut Vec<u128>)
 fn take_and_sort<W: PackedKmer + Drop>(
     room: &mut CountingRoom<W>,
     body: &[u8],
-    form: ItemForm,
+    form: ItemForm<W>,
     asked: Option<AskedBin>,
 ) -> Result<(), BodyError>
-    requires most { form.rule.k ≤ W.most }
-    requires beside { 2 * form.rule.k + form.bits ≤ 2 * W.most }
-    requires bits { form.bits ≤ MOST_WEIGHT_BITS }
     ensures ok { OnOk result (AreBundledItems form.rule.strands form.rule.k form.bits form.bundle body.now
         (map W.number room.new.items.items) (map W.number room.new.bundles.items)) }
     ensures damaged { (fault : RecordFault) (offset : ℕ)
@@ -63,14 +61,7 @@ fn take_and_sort<W: PackedKmer + Drop>(
     room.numbers.clear();
     room.items.clear();
     room.bundles.clear();
-    take_body(
-        &mut room.numbers,
-        &mut room.items,
-        body,
-        form.rule,
-        form.bits,
-        short,
-    )?;
+    take_body(&mut room.numbers, &mut room.items, body, form, short)?;
     sort_numbers(&mut room.numbers);
     if !keys_in_bin(&room.numbers, form.rule.k, of_numbers) {
         return Err(BodyError::WrongBin);
@@ -84,12 +75,9 @@ fn take_and_sort<W: PackedKmer + Drop>(
 fn take_items<W: PackedKmer + Drop>(
     room: &mut CountingRoom<W>,
     body: &[u8],
-    form: ItemForm,
+    form: ItemForm<W>,
     asked: Option<AskedBin>,
 ) -> Result<(), BodyError>
-    requires most { form.rule.k ≤ W.most }
-    requires beside { 2 * form.rule.k + form.bits ≤ 2 * W.most }
-    requires bits { form.bits ≤ MOST_WEIGHT_BITS }
     ensures ok { OnOk result (AreBundledItems form.rule.strands form.rule.k form.bits form.bundle body.now
         (map W.number room.new.items.items) (map W.number room.new.bundles.items)) }
     ensures damaged { (fault : RecordFault) (offset : ℕ)
@@ -105,41 +93,38 @@ fn take_items<W: PackedKmer + Drop>(
     if !is_of_bin(body, asked) {
         return Err(BodyError::WrongBin);
     }
-    take_and_add(room, body, form.rule, form.bits)?;
+    take_and_add(room, body, form)?;
     room.bundles.clear();
     Ok(())
 }
 
 /// The words of a body as items, which rise, so that those of one word are neighbours. How often a word comes is the sum of the
-/// weights of its items. Where a bin is asked for, all words belong to it.
+/// weights of its items; there are no bundles, whatever the form says of them. Where a bin is asked for, all words belong to it.
 pub fn items_of_body<W: PackedKmer + Drop>(
     alloc: Global,
     body: &[u8],
-    rule: KeyRule,
-    bits: u32,
+    form: ItemForm<W>,
     asked: Option<AskedBin>,
 ) -> Result<Vec<W>, BodyError>
-    requires most { rule.k ≤ W.most }
-    requires beside { 2 * rule.k + bits ≤ 2 * W.most }
-    requires bits { bits ≤ MOST_WEIGHT_BITS }
-    ensures ok { IfOk result (λ items. AreItemsOfBody rule.strands rule.k bits body.now
+    ensures ok { IfOk result (λ items. AreItemsOfBody form.rule.strands form.rule.k form.bits body.now
         (map W.number items.items)) }
     ensures sorted { IfOk result (λ items. IsSorted nat_cmp (map W.number items.items)) }
     ensures damaged { (fault : RecordFault) (offset : ℕ)
         → IsErrOf result (BodyError.Damaged fault offset)
-        → IsFirstFault rule.k fault offset body.now }
-    ensures memory { IsErrOf result BodyError.Memory → WantsMemory rule.k body.now }
+        → IsFirstFault form.rule.k fault offset body.now }
+    ensures memory { IsErrOf result BodyError.Memory → WantsMemory form.rule.k body.now }
     ensures judged { IfOk result (λ _. IsOfBin asked body.now) }
-    ensures wrong { IsErrOf result BodyError.WrongBin → IsForeign rule.k asked body.now }
+    ensures wrong { IsErrOf result BodyError.WrongBin → IsForeign form.rule.k asked body.now }
 {
     let mut items = {
         let mut room = CountingRoom::new(alloc);
-        let form = ItemForm {
-            rule,
-            bits,
+        let alone: ItemForm<W> = ItemForm {
+            rule: form.rule,
+            bits: form.bits,
             bundle: 0,
+            width: PhantomData,
         };
-        take_items(&mut room, body, form, asked)?;
+        take_items(&mut room, body, alone, asked)?;
         let CountingRoom { items, .. } = room;
         items
     };
@@ -151,13 +136,12 @@ pub fn items_of_body<W: PackedKmer + Drop>(
 fn dump_items<W: PackedKmer + Drop, L: PairList<W>>(
     room: &mut CountingRoom<W>,
     pairs: &mut L,
-    form: ItemForm,
+    form: ItemForm<W>,
     limits: &Limits,
 ) -> Result<(), AllocError>
     requires takes { L.takes form.rule.k pairs.old }
     requires empty { L.pairs pairs.old ≡ [] }
     requires wide { limits.now.cs ≤ L.greatest }
-    requires bits { form.bits ≤ MOST_WEIGHT_BITS }
     requires bundle { 1 ≤ form.bundle }
     requires fit { AreItems form.rule.k form.bits (map W.number room.old.items.items) }
     requires bundles_fit { AreItems form.rule.k form.bits (map W.number room.old.bundles.items) }
@@ -169,15 +153,7 @@ fn dump_items<W: PackedKmer + Drop, L: PairList<W>>(
 {
     W::sort(&mut room.items);
     W::sort(&mut room.bundles);
-    tally_both(
-        pairs,
-        &room.items,
-        &room.bundles,
-        form.rule,
-        form.bits,
-        form.bundle,
-        limits,
-    )
+    tally_both(pairs, &room.items, &room.bundles, form, limits)
 }
 
 /// Puts the dump of a body into an empty list of pairs. Where a bin is asked for, all words belong to it. The room may be used again for
@@ -205,10 +181,11 @@ pub fn count_into<W: PackedKmer + Drop, L: PairList<W>>(
     ensures wrong { IsErrOf result BodyError.WrongBin → IsForeign rule.k asked body.now }
 {
     let bits = W::weight_bits(rule.k);
-    let form = ItemForm {
+    let form: ItemForm<W> = ItemForm {
         rule,
         bits,
         bundle: bundle_of(bits),
+        width: PhantomData,
     };
     take_items(room, body, form, asked)?;
     dump_items(room, pairs, form, limits)?;

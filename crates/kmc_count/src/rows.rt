@@ -8,7 +8,7 @@ ghost use Rattle.kmc_count.specs.Bundles.{BothGain};
 ghost use Rattle.kmc_count.specs.Waiting.{AreSettled, BothGainBetween, IsWaiting};
 
 use crate::item_form::ItemForm;
-use kmc_base::{MOST_WEIGHT_BITS, PackedKmer, Weight, high_bytes_first};
+use kmc_base::{PackedKmer, Weight, high_bytes_first};
 use kmc_record::push_record;
 use std::alloc::AllocError;
 
@@ -22,11 +22,8 @@ fn push_row<W: PackedKmer + Drop>(
     bytes: &[u8],
     symbols: usize,
     count: u64,
-    form: ItemForm,
+    form: ItemForm<W>,
 ) -> Result<(), AllocError>
-    requires most { form.rule.k ≤ W.most }
-    requires beside { 2 * form.rule.k + form.bits ≤ 2 * W.most }
-    requires bits { form.bits ≤ MOST_WEIGHT_BITS }
     requires long { form.rule.k ≤ symbols }
     requires inside { symbols ≤ 4 * length bytes.now }
     requires few { length bytes.now < 1000 }
@@ -65,11 +62,8 @@ fn share_row<W: PackedKmer + Drop>(
     bytes: &[u8],
     symbols: usize,
     count: u64,
-    form: ItemForm,
+    form: ItemForm<W>,
 ) -> Result<(), AllocError>
-    requires most { form.rule.k ≤ W.most }
-    requires beside { 2 * form.rule.k + form.bits ≤ 2 * W.most }
-    requires bits { form.bits ≤ MOST_WEIGHT_BITS }
     requires long { form.rule.k ≤ symbols }
     requires inside { symbols ≤ 4 * length bytes.now }
     requires few { length bytes.now < 1000 }
@@ -98,11 +92,8 @@ fn push_between<W: PackedKmer + Drop>(
     from: usize,
     to: usize,
     count: u64,
-    form: ItemForm,
+    form: ItemForm<W>,
 ) -> Result<(), AllocError>
-    requires most { form.rule.k ≤ W.most }
-    requires beside { 2 * form.rule.k + form.bits ≤ 2 * W.most }
-    requires bits { form.bits ≤ MOST_WEIGHT_BITS }
     requires order { from < to }
     requires inside { to < 64 }
     ensures { OnOk result (BothGainBetween form.rule.strands form.rule.k form.bits form.bundle key (map W.number items.old.items)
@@ -167,11 +158,8 @@ fn settle<W: PackedKmer + Drop>(
     waiting: &mut [u64; PLACES],
     key: u128,
     shared: usize,
-    form: ItemForm,
+    form: ItemForm<W>,
 ) -> Result<(), AllocError>
-    requires most { form.rule.k ≤ W.most }
-    requires beside { 2 * form.rule.k + form.bits ≤ 2 * W.most }
-    requires bits { form.bits ≤ MOST_WEIGHT_BITS }
     requires inside { shared ≤ key % 64 }
     requires word { 1 ≤ shared → form.rule.k ≤ shared }
     requires waiting { IsWaiting form.rule.k (key % 64) waiting.old }
@@ -197,11 +185,8 @@ pub(crate) fn push_rows<W: PackedKmer + Drop>(
     items: &mut Vec<W>,
     bundles: &mut Vec<W>,
     keys: &[u128],
-    form: ItemForm,
+    form: ItemForm<W>,
 ) -> Result<(), AllocError>
-    requires most { form.rule.k ≤ W.most }
-    requires beside { 2 * form.rule.k + form.bits ≤ 2 * W.most }
-    requires bits { form.bits ≤ MOST_WEIGHT_BITS }
     requires long { All (IsRecordKey form.rule.k) keys.now }
     ensures { OnOk result (BothGain form.rule.k form.bits form.bundle (map W.number items.old.items)
         (map W.number bundles.old.items) (map W.number items.new.items) (map W.number bundles.new.items)

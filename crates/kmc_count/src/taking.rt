@@ -7,6 +7,7 @@ ghost use Rattle.kmc_record.specs.Refusals.{StopsAtRecord};
 ghost use Rattle.kmc_record.specs.declared.fault.RecordFault.{RecordFault};
 ghost use Rattle.kmc_record.specs.declared.record_keys.TheConstants.{MOST_KEY_SYMBOLS};
 
+use crate::item_form::ItemForm;
 use kmc_base::{KeyRule, PackedKmer, Weight};
 use kmc_record::{BodyError, MOST_KEY_SYMBOLS, first_symbols, push_record, record_key};
 use std::alloc::AllocError;
@@ -76,102 +77,99 @@ fn take_record<W: PackedKmer + Drop>(
     items: &mut Vec<W>,
     bytes: &[u8],
     symbols: usize,
-    rule: KeyRule,
-    bits: u32,
+    form: ItemForm<W>,
     short: usize,
 ) -> Result<(), AllocError>
-    requires most { rule.k ≤ W.most }
-    requires beside { 2 * rule.k + bits ≤ 2 * W.most }
     requires short { short ≤ MOST_KEY_SYMBOLS }
-    requires long { rule.k ≤ symbols }
+    requires long { form.rule.k ≤ symbols }
     requires inside { symbols ≤ 4 * length bytes.now }
     requires few { symbols < 1000 }
     ensures taken { OnOk result ((ss : List (List ℕ))
-        → IsTaken rule.strands rule.k bits numbers.old.items (map W.number items.old.items) ss
-        → IsTaken rule.strands rule.k bits numbers.new.items (map W.number items.new.items)
+        → IsTaken form.rule.strands form.rule.k form.bits numbers.old.items (map W.number items.old.items) ss
+        → IsTaken form.rule.strands form.rule.k form.bits numbers.new.items (map W.number items.new.items)
         (ss ++ take symbols (codes_in bytes.now) ∷ [])) }
-    ensures numbers { rule.k + 3 ≤ short → items.new ≡ items.old }
+    ensures numbers { form.rule.k + 3 ≤ short → items.new ≡ items.old }
 {
-    let on = bytes_on(rule.k, short);
+    let on = bytes_on(form.rule.k, short);
     if symbols <= short || on > 0 {
-        push_pieces(numbers, bytes, symbols, rule, short, on)?;
+        push_pieces(numbers, bytes, symbols, form.rule, short, on)?;
     } else {
         let size = (symbols + 3) / 4;
-        let weight = Weight { bits, times: 1 };
-        push_record(items, rule, &bytes[..size], symbols, weight)?;
+        let weight = Weight {
+            bits: form.bits,
+            times: 1,
+        };
+        push_record(items, form.rule, &bytes[..size], symbols, weight)?;
     }
     Ok(())
 }
 
 /// Takes in the records of a body, record by record: as numbers of at most `short` symbols, or where no four words fit one, the
 /// words. Where pieces of four words fit, all become numbers. The items have so many bits for their weights.
-pub fn take_body<W: PackedKmer + Drop>(
+pub(crate) fn take_body<W: PackedKmer + Drop>(
     numbers: &mut Vec<u128>,
     items: &mut Vec<W>,
     body: &[u8],
-    rule: KeyRule,
-    bits: u32,
+    form: ItemForm<W>,
     short: usize,
 ) -> Result<(), BodyError>
-    requires most { rule.k ≤ W.most }
-    requires beside { 2 * rule.k + bits ≤ 2 * W.most }
     requires short { short ≤ MOST_KEY_SYMBOLS }
     requires no_numbers { numbers.old.items ≡ [] }
     requires no_items { items.old.items ≡ [] }
-    ensures ok { OnOk result ((ss : List (List ℕ)) × IsBodyOf rule.k ss body.now
-        × IsTaken rule.strands rule.k bits numbers.new.items (map W.number items.new.items) ss) }
+    ensures ok { OnOk result ((ss : List (List ℕ)) × IsBodyOf form.rule.k ss body.now
+        × IsTaken form.rule.strands form.rule.k form.bits numbers.new.items (map W.number items.new.items) ss) }
     ensures damaged { (fault : RecordFault) (offset : ℕ)
         → IsErrOf result (BodyError.Damaged fault offset)
-        → IsFirstFault rule.k fault offset body.now }
-    ensures memory { IsErrOf result BodyError.Memory → StopsAtRecord rule.k body.now }
-    ensures numbers { rule.k + 3 ≤ short → items.new ≡ items.old }
+        → IsFirstFault form.rule.k fault offset body.now }
+    ensures memory { IsErrOf result BodyError.Memory → StopsAtRecord form.rule.k body.now }
+    ensures numbers { form.rule.k + 3 ≤ short → items.new ≡ items.old }
     ensures unasked { ¬ (IsErrOf result BodyError.WrongBin) }
 {
     let mut offset = 0;
     while offset < body.len() {
         let rest = &body[offset..];
-        let symbols = match first_symbols(rest, rule.k) {
+        let symbols = match first_symbols(rest, form.rule.k) {
             Ok(symbols) => symbols,
             Err(fault) => return Err(BodyError::Damaged(fault, offset)),
         };
         let size = (symbols + 3) / 4;
-        take_record(numbers, items, &rest[1..], symbols, rule, bits, short)?;
+        take_record(numbers, items, &rest[1..], symbols, form, short)?;
         offset += 1 + size;
     }
     Ok(())
 }
 
 /// Appends the words of the record at an offset of a body as items, each of weight 1. The answer is the offset behind the record.
-pub fn take_words<W: PackedKmer + Drop>(
+pub(crate) fn take_words<W: PackedKmer + Drop>(
     items: &mut Vec<W>,
     body: &[u8],
     offset: usize,
-    rule: KeyRule,
-    bits: u32,
+    form: ItemForm<W>,
 ) -> Result<usize, BodyError>
-    requires most { rule.k ≤ W.most }
-    requires beside { 2 * rule.k + bits ≤ 2 * W.most }
     requires inside { offset < length body.now }
     ensures on { IfOk result (λ next. (offset < next) × (next ≤ length body.now)) }
-    ensures ok { (ss : List (List ℕ)) → IsBodyOf rule.k ss (take offset body.now)
-        → IfOk result (λ next. (s : List ℕ) × IsBodyOf rule.k (ss ++ s ∷ []) (take next body.now)
-        × (IsTaken rule.strands rule.k bits [] (map W.number items.old.items) ss
-        → IsTaken rule.strands rule.k bits [] (map W.number items.new.items) (ss ++ s ∷ []))
-        × StopsAtRecord rule.k body.now) }
-    ensures damaged { (ss : List (List ℕ)) → IsBodyOf rule.k ss (take offset body.now)
+    ensures ok { (ss : List (List ℕ)) → IsBodyOf form.rule.k ss (take offset body.now)
+        → IfOk result (λ next. (s : List ℕ) × IsBodyOf form.rule.k (ss ++ s ∷ []) (take next body.now)
+        × (IsTaken form.rule.strands form.rule.k form.bits [] (map W.number items.old.items) ss
+        → IsTaken form.rule.strands form.rule.k form.bits [] (map W.number items.new.items) (ss ++ s ∷ []))
+        × StopsAtRecord form.rule.k body.now) }
+    ensures damaged { (ss : List (List ℕ)) → IsBodyOf form.rule.k ss (take offset body.now)
         → (fault : RecordFault) (at : ℕ) → IsErrOf result (BodyError.Damaged fault at)
-        → IsFirstFault rule.k fault at body.now }
-    ensures memory { (ss : List (List ℕ)) → IsBodyOf rule.k ss (take offset body.now)
-        → IsErrOf result BodyError.Memory → StopsAtRecord rule.k body.now }
+        → IsFirstFault form.rule.k fault at body.now }
+    ensures memory { (ss : List (List ℕ)) → IsBodyOf form.rule.k ss (take offset body.now)
+        → IsErrOf result BodyError.Memory → StopsAtRecord form.rule.k body.now }
     ensures unasked { ¬ (IsErrOf result BodyError.WrongBin) }
 {
     let rest = &body[offset..];
-    let symbols = match first_symbols(rest, rule.k) {
+    let symbols = match first_symbols(rest, form.rule.k) {
         Ok(symbols) => symbols,
         Err(fault) => return Err(BodyError::Damaged(fault, offset)),
     };
     let size = (symbols + 3) / 4;
-    let weight = Weight { bits, times: 1 };
-    push_record(items, rule, &rest[1..1 + size], symbols, weight)?;
+    let weight = Weight {
+        bits: form.bits,
+        times: 1,
+    };
+    push_record(items, form.rule, &rest[1..1 + size], symbols, weight)?;
     Ok(offset + 1 + size)
 }

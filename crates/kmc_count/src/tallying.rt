@@ -9,11 +9,13 @@ ghost use Rattle.kmc_count.specs.Bundles.{weight_of_both};
 ghost use Rattle.kmc_count.specs.Occurrences.{weight_of};
 ghost use Rattle.kmc_count.specs.Dump.{IsDump, keep_pair};
 
+use crate::item_form::ItemForm;
 use crate::limits::Limits;
 use crate::runs::{first_word, take_run};
-use kmc_base::{KeyRule, MOST_WEIGHT_BITS, PackedKmer};
+use kmc_base::{KeyRule, PackedKmer};
 use kmc_lists::PairList;
 use std::alloc::AllocError;
+use std::marker::PhantomData;
 
 /// Appends a packed word with what is shown of its count, where the limits list it.
 fn push_kept<W: PackedKmer + Drop, L: PairList<W>>(
@@ -44,26 +46,29 @@ pub(crate) fn tally_both<W: PackedKmer + Drop, L: PairList<W>>(
     pairs: &mut L,
     singles: &[W],
     bundles: &[W],
-    rule: KeyRule,
-    bits: u32,
-    bundle: u64,
+    form: ItemForm<W>,
     limits: &Limits,
 ) -> Result<(), AllocError>
-    requires takes { L.takes rule.k pairs.old }
+    requires takes { L.takes form.rule.k pairs.old }
     requires empty { L.pairs pairs.old ≡ [] }
     requires wide { limits.now.cs ≤ L.greatest }
-    requires bits { bits ≤ MOST_WEIGHT_BITS }
-    requires fit { AreItems rule.k bits (map W.number singles.now) }
-    requires bundles_fit { AreItems rule.k bits (map W.number bundles.now) }
+    requires fit { AreItems form.rule.k form.bits (map W.number singles.now) }
+    requires bundles_fit { AreItems form.rule.k form.bits (map W.number bundles.now) }
     requires sorted { IsSorted nat_cmp (map W.number singles.now) }
     requires bundles_sorted { IsSorted nat_cmp (map W.number bundles.now) }
-    requires bundle { 1 ≤ bundle }
-    ensures takes { OnOk result (L.takes rule.k pairs.new) }
+    requires bundle { 1 ≤ form.bundle }
+    ensures takes { OnOk result (L.takes form.rule.k pairs.new) }
     ensures dump { OnOk result (IsDump
-        (weight_of_both bundle (items rule.k bits (map W.number singles.now))
-        (items rule.k bits (map W.number bundles.now))) limits.now
+        (weight_of_both form.bundle (items form.rule.k form.bits (map W.number singles.now))
+        (items form.rule.k form.bits (map W.number bundles.now))) limits.now
         (L.pairs pairs.new)) }
 {
+    let ItemForm {
+        rule,
+        bits,
+        bundle,
+        ..
+    } = form;
     let mut few = singles;
     let mut many = bundles;
     while !many.is_empty() {
@@ -88,20 +93,24 @@ pub(crate) fn tally_both<W: PackedKmer + Drop, L: PairList<W>>(
 pub fn tally<W: PackedKmer + Drop, L: PairList<W>>(
     pairs: &mut L,
     words: &[W],
-    rule: KeyRule,
-    bits: u32,
+    form: ItemForm<W>,
     limits: &Limits,
 ) -> Result<(), AllocError>
-    requires takes { L.takes rule.k pairs.old }
+    requires takes { L.takes form.rule.k pairs.old }
     requires empty { L.pairs pairs.old ≡ [] }
     requires wide { limits.now.cs ≤ L.greatest }
-    requires bits { bits ≤ MOST_WEIGHT_BITS }
-    requires fit { AreItems rule.k bits (map W.number words.now) }
+    requires fit { AreItems form.rule.k form.bits (map W.number words.now) }
     requires sorted { IsSorted nat_cmp (map W.number words.now) }
-    ensures takes { OnOk result (L.takes rule.k pairs.new) }
+    ensures takes { OnOk result (L.takes form.rule.k pairs.new) }
     ensures dump { OnOk result (IsDump
-        (weight_of (items rule.k bits (map W.number words.now))) limits.now
+        (weight_of (items form.rule.k form.bits (map W.number words.now))) limits.now
         (L.pairs pairs.new)) }
 {
-    tally_both(pairs, words, &words[..0], rule, bits, 1, limits)
+    let alone: ItemForm<W> = ItemForm {
+        rule: form.rule,
+        bits: form.bits,
+        bundle: 1,
+        width: PhantomData,
+    };
+    tally_both(pairs, words, &words[..0], alone, limits)
 }

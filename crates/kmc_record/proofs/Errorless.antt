@@ -10,22 +10,12 @@ use Rattle.kmc_record.specs.Bodies.{AreRecordsOfBin, Belong, IsFirstError}
 use Rattle.kmc_record.specs.Faults.{IsFirstFault}
 use Rattle.kmc_record.specs.Parts.{all_windows}
 use Rattle.kmc_record.specs.Shapes.{Sizes}
+use Rattle.kmc_record.specs.Lemmas.WordsOfBin.{front_belongs, back_belongs}
 use Rattle.kmc_record.specs.declared.part_error.PartError.{PartError}
 use Rattle.kmc_record.specs.declared.part_error.PartError.TheVariants.{Damaged, WrongBin, Memory}
 use Rattle.kmc_record.proofs.Faultless.{no_first_fault}
 
 module _ (bin : ℕ) (shape : Sizes) where
-  -- words that belong, and more behind them
-  front_belongs : (us vs : List (List ℕ)) → Belong bin shape (us ++ vs) → Belong bin shape us
-  front_belongs us vs h = λ i d less.
-      ap (bin_of shape.m shape.n) (sym (get_or_append_left us vs d i less)) ∙ h i d (omega (arith, less, length-append us vs))
-
-  back_belongs : (us vs : List (List ℕ)) → Belong bin shape (us ++ vs) → Belong bin shape vs
-  back_belongs us vs h = λ i d less.
-      ap (bin_of shape.m shape.n) (sym (get_or-append_right us vs (length us) (length us + i) d refl (omega arith)
-      ∙ ap (λ m. get_or vs m d) (let m : length us + i - length us ≡ i = omega arith in m)))
-      ∙ h (length us + i) d (omega (arith, less, length-append us vs))
-
   -- behind records that begin such a body stands one whose words belong
   no_other : (ss ts : List (List ℕ)) (codes rest : List ℕ) → AllByRecursion (IsSpelled shape.k) ss → AllByRecursion (IsSpelled shape.k) ts
       → IsSpelled shape.k codes → flat_map (spelling shape.k) ss ≡ flat_map (spelling shape.k) ts ++ (spelling shape.k codes ++ rest)
@@ -34,11 +24,11 @@ module _ (bin : ℕ) (shape : Sizes) where
   no_other [] (t ∷ ts) codes rest h g spelled e belong = absurd (omega (arith, ap length e))
   no_other (s ∷ ss) [] codes rest h g spelled e belong =
       let one = one_spelling shape.k s codes (flat_map (spelling shape.k) ss) rest h.0 spelled e in
-      subst (λ (c : List ℕ). Belong bin shape (windows shape.k c)) one.0 (front_belongs (windows shape.k s) (all_windows shape.k ss) belong)
+      subst (λ (c : List ℕ). Belong bin shape (windows shape.k c)) one.0 (front_belongs bin shape (windows shape.k s) (all_windows shape.k ss) belong)
   no_other (s ∷ ss) (t ∷ ts) codes rest h g spelled e belong =
       let one = one_spelling shape.k s t (flat_map (spelling shape.k) ss) (flat_map (spelling shape.k) ts ++ (spelling shape.k codes ++ rest)) h.0 g.0
       (e ∙ append_assoc (spelling shape.k t) (flat_map (spelling shape.k) ts) (spelling shape.k codes ++ rest)) in
-      no_other ss ts codes rest h.1 g.1 spelled one.1 (back_belongs (windows shape.k s) (all_windows shape.k ss) belong)
+      no_other ss ts codes rest h.1 g.1 spelled one.1 (back_belongs bin shape (windows shape.k s) (all_windows shape.k ss) belong)
 
   pub no_first_error : (body : List ℕ) (why : PartError) → AreRecordsOfBin bin shape body → IsFirstError bin shape why body → ⊥
   no_first_error body (Damaged fault offset) of f =

@@ -7,4 +7,5 @@ pub mod Sums
 pub mod Taken
 pub mod Turned
 pub mod Whole
+pub mod WordsOfBin
 pub mod PartRecords

@@ -1,7 +1,9 @@
 //! Stage two: each bin is counted by itself, and their lists make one dump.
 ghost use Rattle.std.specs.Prelude.{◌≡◌, ◌≤◌, ℕ, List, Some, length, map, IfOk, IsErrOf};
 ghost use Rattle.kmc_store.specs.Bins.{AreBins};
-ghost use Rattle.kmc_stage_two.specs.Bodies.{AreLeft, AreListsOfBodies};
+ghost use Rattle.kmc_record.specs.declared.fault.RecordFault.{RecordFault};
+ghost use Rattle.kmc_count.specs.Bodies.{IsFirstDamaged};
+ghost use Rattle.kmc_stage_two.specs.Bodies.{AreLeft, AreListsOfBodies, BodiesWantMemory};
 ghost use Rattle.kmc_stage_two.specs.Widths.{AreNarrow};
 ghost use Rattle.kmc_lists.specs.Listed.{spelled};
 ghost use Rattle.kmc_lists.specs.Lists.{lists_of};
@@ -54,7 +56,8 @@ pub fn lists_of_bins<R: Threads + Sync>(
 }
 
 /// The same of bodies that come from outside, one for each bin: they are judged as they are counted, and each is whole records whose words
-/// belong to its bin, else there is an error: `WrongBin` only where one of them is not of its bin. Bodies that are left are as they were,
+/// belong to its bin, else there is an error. `Damaged` is the fault of the first body that is not whole records, `WrongBin` comes only
+/// where one of them is not of its bin, and `Memory` only where all bodies before one are whole. Bodies that are left are as they were,
 /// and the others were of their bins.
 pub fn lists_of_bodies<R: Threads + Sync>(
     rt: &R,
@@ -73,6 +76,11 @@ pub fn lists_of_bodies<R: Threads + Sync>(
     ensures merge { IfOk result (λ lists. CanBeMerged shape.k (lists_of lists)) }
     ensures all { IfOk result (λ lists. IsDumpOfBins strands shape.k limits.now (map (λ b. b.items) bodies.old)
         (spelled shape.k (whole (lists_of lists)))) }
+    ensures damaged { (fault : RecordFault) (offset : ℕ)
+        → IsErrOf result (BodyError.Damaged fault offset)
+        → IsFirstDamaged shape.k fault offset (map (λ b. b.items) bodies.old) }
+    ensures memory { IsErrOf result BodyError.Memory
+        → BodiesWantMemory shape.k (map (λ b. b.items) bodies.old) }
     ensures wrong { IsErrOf result BodyError.WrongBin
         → (words : List ℕ) → ¬ (AreBins shape (map (λ b. b.items) bodies.old) words) }
     ensures left { AreLeft (Some (record { shape = shape; bin = 0 })) (map (λ b. b.items) bodies.old)

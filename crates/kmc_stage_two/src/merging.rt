@@ -3,14 +3,13 @@ ghost use Rattle.std.specs.Prelude.{◌≡◌, ℕ, ◌+◌, ◌*◌, ◌≤◌,
 ghost use Rattle.std.specs.List.Sorted.{IsPermutation, IsSorted};
 ghost use Rattle.std.specs.Ordering.{nat_cmp};
 ghost use Rattle.std.specs.Thread.{IsSync};
-ghost use Rattle.kmc_base.specs.declared.packed_kmer.TheConstants.{MOST_WEIGHT_BITS};
 ghost use Rattle.kmc_count.specs.declared.limits.Limits.{Limits};
 ghost use Rattle.kmc_stage_two.specs.Shares.{AreSortedItems, IsDumpOfShare};
 ghost use Rattle.kmc_stage_two.specs.declared.share.Share.{Share};
 
 use crate::share::{Share, gather_items, halves};
-use kmc_base::{KeyRule, MOST_WEIGHT_BITS, PackedKmer};
-use kmc_count::{Limits, tally};
+use kmc_base::PackedKmer;
+use kmc_count::{ItemForm, Limits, tally};
 use kmc_lists::{CountWidth, KmerList};
 use std::alloc::{AllocError, Global};
 use std::thread;
@@ -34,21 +33,19 @@ fn list_part<W: PackedKmer + Drop, C: CountWidth + Drop>(
     alloc: Global,
     room: &mut Vec<W>,
     lists: &[Vec<W>],
-    rule: KeyRule,
-    bits: u32,
+    form: ItemForm<W>,
     limits: Limits,
     share: Share,
 ) -> Result<KmerList<W, C>, AllocError>
-    requires bits { bits ≤ MOST_WEIGHT_BITS }
     requires wide { limits.cs ≤ C.greatest }
-    requires lists { AreSortedItems rule.k bits (map (λ v. map W.number v.items) lists.now) }
-    ensures { IfOk result (λ c. IsDumpOfShare rule.k bits limits share.first share.last
+    requires lists { AreSortedItems form.rule.k form.bits (map (λ v. map W.number v.items) lists.now) }
+    ensures { IfOk result (λ c. IsDumpOfShare form.rule.k form.bits limits share.first share.last
         (map (λ v. map W.number v.items) lists.now) c) }
 {
-    gather_items(room, lists, bits, share)?;
+    gather_items(room, lists, form, share)?;
     merge_lists(room);
-    let mut pairs = KmerList::new(alloc, rule.k);
-    tally(&mut pairs, room, rule, bits, &limits)?;
+    let mut pairs = KmerList::new(alloc, form.rule.k);
+    tally(&mut pairs, room, form, &limits)?;
     Ok(pairs)
 }
 
@@ -58,24 +55,22 @@ fn list_in_turn<W: PackedKmer + Drop, C: CountWidth + Drop>(
     alloc: Global,
     room: &mut Vec<W>,
     lists: &[Vec<W>],
-    rule: KeyRule,
-    bits: u32,
+    form: ItemForm<W>,
     limits: Limits,
     share: Share,
 ) -> Result<KmerList<W, C>, AllocError>
-    requires bits { bits ≤ MOST_WEIGHT_BITS }
     requires wide { limits.cs ≤ C.greatest }
-    requires lists { AreSortedItems rule.k bits (map (λ v. map W.number v.items) lists.now) }
+    requires lists { AreSortedItems form.rule.k form.bits (map (λ v. map W.number v.items) lists.now) }
     requires share { share.first ≤ share.last }
-    ensures { IfOk result (λ c. IsDumpOfShare rule.k bits limits share.first share.last
+    ensures { IfOk result (λ c. IsDumpOfShare form.rule.k form.bits limits share.first share.last
         (map (λ v. map W.number v.items) lists.now) c) }
 {
     if share.parts <= 1 || share.first == share.last {
-        return list_part(alloc, room, lists, rule, bits, limits, share);
+        return list_part(alloc, room, lists, form, limits, share);
     }
-    let (low, high) = halves(lists, bits, share);
-    let pairs = list_in_turn(alloc, room, lists, rule, bits, limits, low)?;
-    let more = list_in_turn(alloc, room, lists, rule, bits, limits, high)?;
+    let (low, high) = halves(lists, form, share);
+    let pairs = list_in_turn(alloc, room, lists, form, limits, low)?;
+    let more = list_in_turn(alloc, room, lists, form, limits, high)?;
     pairs.joined(more)
 }
 
@@ -108,16 +103,14 @@ pub(crate) fn list_share<
     rt: &R,
     alloc: Global,
     lists: &[Vec<W>],
-    rule: KeyRule,
-    bits: u32,
+    form: ItemForm<W>,
     limits: Limits,
     share: Share,
 ) -> Result<KmerList<W, C>, AllocError>
-    requires bits { bits ≤ MOST_WEIGHT_BITS }
     requires wide { limits.cs ≤ C.greatest }
-    requires lists { AreSortedItems rule.k bits (map (λ v. map W.number v.items) lists.now) }
+    requires lists { AreSortedItems form.rule.k form.bits (map (λ v. map W.number v.items) lists.now) }
     requires share { share.first ≤ share.last }
-    ensures { IfOk result (λ c. IsDumpOfShare rule.k bits limits share.first share.last
+    ensures { IfOk result (λ c. IsDumpOfShare form.rule.k form.bits limits share.first share.last
         (map (λ v. map W.number v.items) lists.now) c) }
 {
     if share.parts <= 1 || share.first == share.last {
@@ -127,23 +120,23 @@ pub(crate) fn list_share<
             parts: PARTS,
         };
         let mut room = Vec::new(alloc);
-        return list_in_turn(alloc, &mut room, lists, rule, bits, limits, own);
+        return list_in_turn(alloc, &mut room, lists, form, limits, own);
     }
-    let (low, high) = halves(lists, bits, share);
+    let (low, high) = halves(lists, form, share);
     let front = move || -> Result<KmerList<W, C>, AllocError>
-        requires { IsSync R.row × (bits ≤ MOST_WEIGHT_BITS) × (limits.cs ≤ C.greatest)
-            × AreSortedItems rule.k bits (map (λ v. map W.number v.items) lists.now)
+        requires { IsSync R.row × (limits.cs ≤ C.greatest)
+            × AreSortedItems form.rule.k form.bits (map (λ v. map W.number v.items) lists.now)
             × (low.first ≤ low.last) }
-        ensures { IfOk result (λ c. IsDumpOfShare rule.k bits limits low.first low.last
+        ensures { IfOk result (λ c. IsDumpOfShare form.rule.k form.bits limits low.first low.last
             (map (λ v. map W.number v.items) lists.entry.now) c) }
-    { list_share(rt, alloc, lists, rule, bits, limits, low) };
+    { list_share(rt, alloc, lists, form, limits, low) };
     let back = move || -> Result<KmerList<W, C>, AllocError>
-        requires { IsSync R.row × (bits ≤ MOST_WEIGHT_BITS) × (limits.cs ≤ C.greatest)
-            × AreSortedItems rule.k bits (map (λ v. map W.number v.items) lists.now)
+        requires { IsSync R.row × (limits.cs ≤ C.greatest)
+            × AreSortedItems form.rule.k form.bits (map (λ v. map W.number v.items) lists.now)
             × (high.first ≤ high.last) }
-        ensures { IfOk result (λ c. IsDumpOfShare rule.k bits limits high.first high.last
+        ensures { IfOk result (λ c. IsDumpOfShare form.rule.k form.bits limits high.first high.last
             (map (λ v. map W.number v.items) lists.entry.now) c) }
-    { list_share(rt, alloc, lists, rule, bits, limits, high) };
+    { list_share(rt, alloc, lists, form, limits, high) };
     let (first, second) = thread::join(rt, front, back);
-    both_shares(first, second, rule.k)
+    both_shares(first, second, form.rule.k)
 }

@@ -3,7 +3,6 @@ ghost use Rattle.std.specs.Prelude.{ℕ, ◌+◌, ◌*◌, ◌≤◌, Option, Li
 ghost use Rattle.std.specs.Thread.{IsSync};
 ghost use Rattle.kmc_base.specs.declared.strands.Strands.{Strands};
 ghost use Rattle.kmc_count.specs.declared.judging.AskedBin.{AskedBin};
-ghost use Rattle.kmc_base.specs.declared.packed_kmer.TheConstants.{MOST_WEIGHT_BITS};
 ghost use Rattle.kmc_count.specs.Asked.{asked_behind, IsOfBin};
 ghost use Rattle.kmc_count.specs.Bodies.{IsDumpOfBody};
 ghost use Rattle.kmc_lists.specs.Listed.{IsListOf, pairs_of};
@@ -12,8 +11,8 @@ ghost use Rattle.kmc_stage_two.specs.Shares.{AreListsOfItems};
 use crate::count_rule::CountRule;
 use crate::merging::list_share;
 use crate::share::Share;
-use kmc_base::{KeyRule, MOST_WEIGHT_BITS, PackedKmer};
-use kmc_count::{AskedBin, bin_behind, items_of_body};
+use kmc_base::{KeyRule, PackedKmer};
+use kmc_count::{AskedBin, ItemForm, bin_behind, items_of_body};
 use kmc_lists::{CountWidth, KmerList};
 use kmc_record::BodyError;
 use std::alloc::Global;
@@ -58,20 +57,16 @@ fn take_shared<R: Threads + Sync, W: PackedKmer + Drop + Send>(
     rt: &R,
     alloc: Global,
     body: &[u8],
-    rule: KeyRule,
-    bits: u32,
+    form: ItemForm<W>,
     asked: &Option<AskedBin>,
     threads: usize,
 ) -> Result<Vec<Vec<W>>, BodyError>
-    requires most { rule.k ≤ W.most }
-    requires beside { 2 * rule.k + bits ≤ 2 * W.most }
-    requires bits { bits ≤ MOST_WEIGHT_BITS }
     requires threads { 1 ≤ threads }
-    ensures { IfOk result (λ lists. AreListsOfItems rule.strands rule.k bits body.now
+    ensures { IfOk result (λ lists. AreListsOfItems form.rule.strands form.rule.k form.bits body.now
         (map (λ v. map W.number v.items) lists.items) × IsOfBin asked.now body.now) }
 {
     if threads == 1 {
-        let items = items_of_body(alloc, body, rule, bits, *asked)?;
+        let items = items_of_body(alloc, body, form, *asked)?;
         let mut lists = Vec::new(alloc);
         return match lists.push(items) {
             Ok(()) => Ok(lists),
@@ -80,20 +75,18 @@ fn take_shared<R: Threads + Sync, W: PackedKmer + Drop + Send>(
     }
     let few = threads / 2;
     let others = threads - few;
-    let middle = record_behind(body, rule, body.len() / threads * few);
+    let middle = record_behind(body, form.rule, body.len() / threads * few);
     let (low, high) = body.split_at(middle);
     let front = move || -> Result<Vec<Vec<W>>, BodyError>
-        requires { IsSync R.row × (rule.k ≤ W.most)
-            × (2 * rule.k + bits ≤ 2 * W.most) × (bits ≤ MOST_WEIGHT_BITS) × (1 ≤ few) }
-        ensures { IfOk result (λ lists. AreListsOfItems rule.strands rule.k bits low.entry.now
+        requires { IsSync R.row × (1 ≤ few) }
+        ensures { IfOk result (λ lists. AreListsOfItems form.rule.strands form.rule.k form.bits low.entry.now
             (map (λ v. map W.number v.items) lists.items) × IsOfBin asked.entry.now low.entry.now) }
-    { take_shared(rt, alloc, low, rule, bits, asked, few) };
+    { take_shared(rt, alloc, low, form, asked, few) };
     let back = move || -> Result<Vec<Vec<W>>, BodyError>
-        requires { IsSync R.row × (rule.k ≤ W.most)
-            × (2 * rule.k + bits ≤ 2 * W.most) × (bits ≤ MOST_WEIGHT_BITS) × (1 ≤ others) }
-        ensures { IfOk result (λ lists. AreListsOfItems rule.strands rule.k bits high.entry.now
+        requires { IsSync R.row × (1 ≤ others) }
+        ensures { IfOk result (λ lists. AreListsOfItems form.rule.strands form.rule.k form.bits high.entry.now
             (map (λ v. map W.number v.items) lists.items) × IsOfBin asked.entry.now high.entry.now) }
-    { take_shared(rt, alloc, high, rule, bits, asked, others) };
+    { take_shared(rt, alloc, high, form, asked, others) };
     let (first, second) = thread::join(rt, front, back);
     both_pieces(first, second)
 }
@@ -121,16 +114,15 @@ pub fn list_by_threads<
         (pairs_of c)) }
     ensures judged { IfOk result (λ _. IsOfBin (asked_behind place counting.now.asked) body.now) }
 {
-    let rule = counting.rule;
+    let form = ItemForm::<W>::new(counting.rule);
     let asked = bin_behind(counting.asked, place);
-    let bits = W::weight_bits(rule.k);
-    let lists: Vec<Vec<W>> = take_shared(rt, alloc, body, rule, bits, &asked, threads)?;
+    let lists: Vec<Vec<W>> = take_shared(rt, alloc, body, form, &asked, threads)?;
     let all = Share {
         first: 0,
         last: u128::MAX,
         parts: threads,
     };
-    let mut pairs = list_share(rt, alloc, &lists, rule, bits, counting.limits, all)?;
+    let mut pairs = list_share(rt, alloc, &lists, form, counting.limits, all)?;
     pairs.shrink();
     Ok(pairs)
 }

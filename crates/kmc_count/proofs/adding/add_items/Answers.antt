@@ -6,19 +6,7 @@ use Rattle.kmc_count.proofs.Tabled.{none_taken, one_more_taken}
 use Rattle.kmc_count.proofs.adding.add_items.Goals as goal
 
 pub loop-item-init : goal.loop-item-init
-loop-item-init g c = none_taken c.args.k c.args.bits _ _ c.requires.table
-
-pub add_item-requires-clause-some : goal.add_item-requires-clause-some
-add_item-requires-clause-some g c = c.requires.some
-
-pub add_item-requires-clause-most : goal.add_item-requires-clause-most
-add_item-requires-clause-most g c = c.requires.most
-
-pub add_item-requires-clause-beside : goal.add_item-requires-clause-beside
-add_item-requires-clause-beside g c = c.requires.beside
-
-pub add_item-requires-clause-bits : goal.add_item-requires-clause-bits
-add_item-requires-clause-bits g c = c.requires.bits
+loop-item-init g c = none_taken c.args.form.rule.k c.args.form.bits _ _ c.requires.table
 
 pub add_item-requires-clause-table : goal.add_item-requires-clause-table
 add_item-requires-clause-table g c = c.loop-item.invariant.table
@@ -30,7 +18,7 @@ add_item-requires-clause-fits g c =
     let ns = map num c.args.added.now in
     let at : num c.item-item.result ≡ get_or ns i 0 =
     sym (get_or-map num c.args.added.now i c.item-item.result 0 c.loop-item-test.true ∙ ap num (sym c.item-item.is)) in
-    subst (λ n. n / 2 ^ c.args.bits < 4 ^ c.args.k) (sym at)
+    subst (λ n. n / 2 ^ c.args.form.bits < 4 ^ c.args.form.rule.k) (sym at)
     (c.requires.fit i 0 (omega (arith, c.loop-item-test.true, length-map c.args.added.now num)))
 
 pub returns-in_err-add_item : goal.returns-in_err-add_item
@@ -43,14 +31,14 @@ loop-item-preserved g c =
     let ns = map num c.args.added.now in
     let at : num c.item-item.result ≡ get_or ns i 0 =
     sym (get_or-map num c.args.added.now i c.item-item.result 0 c.loop-item-test.true ∙ ap num (sym c.item-item.is)) in
-    one_more_taken c.args.k c.args.bits _ _ c.loop-item.table (map num c.loop-item.over.items) _ _ ns i
+    one_more_taken c.args.form.rule.k c.args.form.bits _ _ c.loop-item.table (map num c.loop-item.over.items) _ _ ns i
     (omega (arith, c.loop-item-test.true, length-map c.args.added.now num)) c.loop-item.invariant
-    (subst (λ n. TakesIn c.args.k c.args.bits c.loop-item.table (map num c.loop-item.over.items) c.add_item.new.table (map num c.add_item.new.over.items) (n ∷ [])) at
+    (subst (λ n. TakesIn c.args.form.rule.k c.args.form.bits c.loop-item.table (map num c.loop-item.over.items) c.add_item.new.table (map num c.add_item.new.over.items) (n ∷ [])) at
     c.in_ok-add_item.ensures)
 
 pub returns : goal.returns
 returns g c =
     let num = g.W.PackedKmer.number in
     let ns = map num c.args.added.now in
-    subst (TakesIn c.args.k c.args.bits c.args.table.now (map num c.args.over.now.items) c.loop-item.table (map num c.loop-item.over.items))
+    subst (TakesIn c.args.form.rule.k c.args.form.bits c.args.table.now (map num c.args.over.now.items) c.loop-item.table (map num c.loop-item.over.items))
     (take_all c.loop-item.item-index ns (omega (arith, c.loop-item-test.false, length-map c.args.added.now num))) c.loop-item.invariant

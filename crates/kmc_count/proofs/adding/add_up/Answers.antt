@@ -17,10 +17,10 @@ returns-in_err-make_table g c = refused _ c.from_residual.result c.from_residual
 
 pub add_items-requires-clause-table : goal.add_items-requires-clause-table
 add_items-requires-clause-table g c =
-    subst (IsTable c.args.k c.args.bits) (sym (c.as_mut_slice.ensures.value ∙ c.in_ok-make_table.ensures)) (fresh_table c.args.k c.args.bits)
+    subst (IsTable c.args.form.rule.k c.args.form.bits) (sym (c.as_mut_slice.ensures.value ∙ c.in_ok-make_table.ensures)) (fresh_table c.args.form.rule.k c.args.form.bits)
 
 pub add_items-requires-clause-fit : goal.add_items-requires-clause-fit
-add_items-requires-clause-fit g c = subst (λ ns. AreItems c.args.k c.args.bits (map g.W.PackedKmer.number ns)) (sym c.deref.ensures.value) c.requires.fit
+add_items-requires-clause-fit g c = subst (λ ns. AreItems c.args.form.rule.k c.args.form.bits (map g.W.PackedKmer.number ns)) (sym c.deref.ensures.value) c.requires.fit
 
 pub returns-in_err-add_items : goal.returns-in_err-add_items
 returns-in_err-add_items g c = refused _ c.from_residual-in_err-add_items.result c.from_residual-in_err-add_items.ensures.0
@@ -34,14 +34,14 @@ push_counters-requires-clause-table g c =
     let cs = c.add_items.new.table in
     let same : c.deref-2.result.now ≡ cs =
     c.deref-2.ensures.value ∙ with_items_is c.make_table.new.table cs
-    (omega (arith, taken.table.wide, c.make_table.new.table.ok.0, ap length c.in_ok-make_table.ensures, length-replicate {A = ℕ} (4 ^ c.args.k) 0)) in
-    subst (IsTable c.args.k c.args.bits) (sym same) taken.table
+    (omega (arith, taken.table.wide, c.make_table.new.table.ok.0, ap length c.in_ok-make_table.ensures, length-replicate {A = ℕ} (4 ^ c.args.form.rule.k) 0)) in
+    subst (IsTable c.args.form.rule.k c.args.form.bits) (sym same) taken.table
 
 pub returns : goal.returns
 returns g c =
     let num = g.W.PackedKmer.number in
-    let k = c.args.k in
-    let f = c.args.bits in
+    let k = c.args.form.rule.k in
+    let f = c.args.form.bits in
     let all = map num c.args.items.now.items in
     let cs = c.add_items.new.table in
     let over = map num c.add_items.new.over.items in

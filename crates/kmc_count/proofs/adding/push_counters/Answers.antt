@@ -11,13 +11,13 @@ few : (k : ℕ) → k ≤ 12 → 4 ^ k ≤ 4 ^ 12
 few k most = pow-le-pow_right (omega arith) most
 
 pub overflow_cast-place : goal.overflow_cast-place
-overflow_cast-place g c = omega (arith, c.loop-place-test.true, c.requires.table.wide, few c.args.k (omega (arith, c.requires.most)))
+overflow_cast-place g c = omega (arith, c.loop-place-test.true, c.requires.table.wide, few c.args.form.rule.k (omega (arith, c.requires.short)))
 
 pub loop-place-preserved : goal.loop-place-preserved
 loop-place-preserved g c =
     let num = g.W.PackedKmer.number in
-    let k = c.args.k in
-    let f = c.args.bits in
+    let k = c.args.form.rule.k in
+    let f = c.args.form.bits in
     let cs = c.args.table.now in
     let start = map num c.args.out.now.items in
     let j = c.loop-place.place in
@@ -41,7 +41,7 @@ loop-place-preserved g c =
 
 pub returns-clause-each : goal.returns-clause-each
 returns-clause-each g c =
-    all_pushed c.args.k c.args.bits c.args.table.now (map g.W.PackedKmer.number c.args.out.now.items) (map g.W.PackedKmer.number c.loop-place.out.items) c.loop-place.place
+    all_pushed c.args.form.rule.k c.args.form.bits c.args.table.now (map g.W.PackedKmer.number c.args.out.now.items) (map g.W.PackedKmer.number c.loop-place.out.items) c.loop-place.place
     (omega (arith, c.loop-place-test.false)) c.loop-place.invariant
 
 pub returns-clause-fit : goal.returns-clause-fit

@@ -13,13 +13,13 @@ all_of k offset body ss end are = subst (IsBodyOf k ss) (take_all offset body en
 
 pub loop-offset-init : goal.loop-offset-init
 loop-offset-init g c =
-    let rule = c.args.rule in
+    let rule = c.args.form.rule in
     record {
       inside = omega arith;
       taken = (
         [],
         record { each = tt; is = refl },
-        subst (λ ns. IsTaken rule.strands rule.k c.args.bits [] (map g.W.PackedKmer.number ns) []) (sym c.clear.ensures.items) (none_taken rule.strands rule.k c.args.bits),
+        subst (λ ns. IsTaken rule.strands rule.k c.args.form.bits [] (map g.W.PackedKmer.number ns) []) (sym c.clear.ensures.items) (none_taken rule.strands rule.k c.args.form.bits),
       );
     }
 
@@ -44,10 +44,10 @@ pub loop-offset-preserved-in-Continue-branch-2 : goal.loop-offset-preserved-in-C
 loop-offset-preserved-in-Continue-branch-2 g c =
     let h = c.loop-offset.invariant.taken in
     let one = c.in_ok-offset.ensures.ok h.0 h.1 in
-    let rule = c.args.rule in
+    let rule = c.args.form.rule in
     record {
       inside = c.in_ok-offset.ensures.on.1;
-      taken = (_, one.1, much_taken rule.strands rule.k c.args.bits _ _ _ (one.2 h.2) c.in_ok-add_up.ensures);
+      taken = (_, one.1, much_taken rule.strands rule.k c.args.form.bits _ _ _ (one.2 h.2) c.in_ok-add_up.ensures);
     }
 
 pub returns-in_err-add_up-clause-memory : goal.returns-in_err-add_up-clause-memory
@@ -70,42 +70,24 @@ add_up-requires-2-clause-fit g c = c.loop-offset.invariant.taken.2.fit
 pub returns-in_err-add_up-2-clause-memory : goal.returns-in_err-add_up-2-clause-memory
 returns-in_err-add_up-2-clause-memory g c = λ is.
     let h = c.loop-offset.invariant.taken in
-    inr (h.0, all_of c.args.rule.k c.loop-offset.offset c.args.body.now h.0 (omega (arith, c.loop-offset-test.false)) h.1)
+    inr (h.0, all_of c.args.form.rule.k c.loop-offset.offset c.args.body.now h.0 (omega (arith, c.loop-offset-test.false)) h.1)
 
 pub returns-clause-ok : goal.returns-clause-ok
 returns-clause-ok g c =
     let h = c.loop-offset.invariant.taken in
-    let rule = c.args.rule in
-    items_of_all rule.strands rule.k c.args.bits c.args.body.now _ h.0
+    let rule = c.args.form.rule in
+    items_of_all rule.strands rule.k c.args.form.bits c.args.body.now _ h.0
     (all_of rule.k c.loop-offset.offset c.args.body.now h.0 (omega (arith, c.loop-offset-test.false)) h.1)
-    (much_taken rule.strands rule.k c.args.bits _ _ _ h.2 c.in_ok-add_up-2.ensures)
+    (much_taken rule.strands rule.k c.args.form.bits _ _ _ h.2 c.in_ok-add_up-2.ensures)
 
 pub most_items-most-requires : goal.most_items-most-requires
-most_items-most-requires g c = c.requires.most
+most_items-most-requires g c = c.requires.short
 
-pub take_words-requires-clause-most : goal.take_words-requires-clause-most
-take_words-requires-clause-most g c = omega (arith, c.requires.beside)
-
-pub take_words-requires-clause-beside : goal.take_words-requires-clause-beside
-take_words-requires-clause-beside g c = c.requires.beside
-
-pub take_words-requires-clause-inside : goal.take_words-requires-clause-inside
-take_words-requires-clause-inside g c = c.loop-offset-test.true
+pub take_words-requires : goal.take_words-requires
+take_words-requires g c = record { inside = c.loop-offset-test.true }
 
 pub returns-in_err-offset-clause-ok : goal.returns-in_err-offset-clause-ok
 returns-in_err-offset-clause-ok g c = refused _ c.from_residual.result c.from_residual.ensures.0
-
-pub add_up-requires-clause-some : goal.add_up-requires-clause-some
-add_up-requires-clause-some g c = c.args.rule.within.0
-
-pub add_up-requires-clause-most : goal.add_up-requires-clause-most
-add_up-requires-clause-most g c = c.requires.most
-
-pub add_up-requires-clause-beside : goal.add_up-requires-clause-beside
-add_up-requires-clause-beside g c = c.requires.beside
-
-pub add_up-requires-clause-bits : goal.add_up-requires-clause-bits
-add_up-requires-clause-bits g c = c.requires.bits
 
 pub loop-offset-smaller-in-Continue-branch-2 : goal.loop-offset-smaller-in-Continue-branch-2
 loop-offset-smaller-in-Continue-branch-2 g c = omega (arith, c.in_ok-offset.ensures.on)
@@ -119,18 +101,6 @@ returns-in_err-add_up-clause-ok g c = refused _ c.from_residual-in_err-add_up.re
 pub returns-in_err-add_up-clause-damaged : goal.returns-in_err-add_up-clause-damaged
 returns-in_err-add_up-clause-damaged g c = λ fault offset.
     no_damage _ c.from_residual-in_err-add_up.result fault offset c.from_residual-in_err-add_up.ensures.1
-
-pub add_up-requires-2-clause-some : goal.add_up-requires-2-clause-some
-add_up-requires-2-clause-some g c = c.args.rule.within.0
-
-pub add_up-requires-2-clause-most : goal.add_up-requires-2-clause-most
-add_up-requires-2-clause-most g c = c.requires.most
-
-pub add_up-requires-2-clause-beside : goal.add_up-requires-2-clause-beside
-add_up-requires-2-clause-beside g c = c.requires.beside
-
-pub add_up-requires-2-clause-bits : goal.add_up-requires-2-clause-bits
-add_up-requires-2-clause-bits g c = c.requires.bits
 
 pub returns-in_err-add_up-2-clause-ok : goal.returns-in_err-add_up-2-clause-ok
 returns-in_err-add_up-2-clause-ok g c = refused _ c.from_residual-in_err-add_up-2.result c.from_residual-in_err-add_up-2.ensures.0

@@ -7,8 +7,8 @@ use Rattle.kmc_count.proofs.adding.take_and_add.Given as goal
 abbrev pub invariant-loop-offset : goal.invariant-loop-offset
 invariant-loop-offset g l = record {
   inside : l.offset ≤ length l.body;
-  taken : (ss : List (List ℕ)) × IsBodyOf l.rule.k ss (take l.offset l.body)
-      × IsTaken l.rule.strands l.rule.k l.bits [] (map g.W.PackedKmer.number l.items.items) ss;
+  taken : (ss : List (List ℕ)) × IsBodyOf l.form.rule.k ss (take l.offset l.body)
+      × IsTaken l.form.rule.strands l.form.rule.k l.form.bits [] (map g.W.PackedKmer.number l.items.items) ss;
 }
 
 abbrev pub decreases-loop-offset : goal.decreases-loop-offset

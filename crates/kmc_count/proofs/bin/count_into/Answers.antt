@@ -1,4 +1,4 @@
-use Rattle.std.proofs.Common.{inr, arith}
+use Rattle.std.proofs.Common.{inr}
 use Rattle.kmc_count.specs.Lemmas.PassedOn.{passed_on}
 use Rattle.kmc_count.proofs.Refused.{given, no_damage, refused}
 use Rattle.kmc_count.proofs.bin.count_into.Goals as goal
@@ -7,21 +7,6 @@ pub returns-in_err-take_items-clause-damaged : goal.returns-in_err-take_items-cl
 returns-in_err-take_items-clause-damaged g c = λ fault offset is.
     c.take_items.ensures.damaged fault offset
     (passed_on c.take_items.result c.from_residual.result _ _ c.in_err-take_items.was c.from_residual.ensures.1 is)
-
-pub weight_bits-bits-requires-clause-some : goal.weight_bits-bits-requires-clause-some
-weight_bits-bits-requires-clause-some g c = c.args.rule.within.0
-
-pub weight_bits-bits-requires-clause-most : goal.weight_bits-bits-requires-clause-most
-weight_bits-bits-requires-clause-most g c = c.requires.most
-
-pub take_items-requires-clause-most : goal.take_items-requires-clause-most
-take_items-requires-clause-most g c = c.requires.most
-
-pub take_items-requires-clause-beside : goal.take_items-requires-clause-beside
-take_items-requires-clause-beside g c = omega (arith, c.weight_bits-bits.ensures, c.requires.most)
-
-pub take_items-requires-clause-bits : goal.take_items-requires-clause-bits
-take_items-requires-clause-bits g c = omega (arith, c.weight_bits-bits.ensures)
 
 pub returns-in_err-take_items-clause-takes : goal.returns-in_err-take_items-clause-takes
 returns-in_err-take_items-clause-takes g c = refused _ c.from_residual.result c.from_residual.ensures.0
@@ -41,9 +26,6 @@ dump_items-requires-clause-empty g c = c.requires.empty
 
 pub dump_items-requires-clause-wide : goal.dump_items-requires-clause-wide
 dump_items-requires-clause-wide g c = c.requires.wide
-
-pub dump_items-requires-clause-bits : goal.dump_items-requires-clause-bits
-dump_items-requires-clause-bits g c = omega (arith, c.weight_bits-bits.ensures)
 
 pub dump_items-requires-clause-fit : goal.dump_items-requires-clause-fit
 dump_items-requires-clause-fit g c = c.in_ok-take_items.ensures.ok.fit

@@ -10,6 +10,6 @@ returns-in_err-take_items-clause-damaged g c = λ fault offset is.
 
 pub returns-clause-ok : goal.returns-clause-ok
 returns-clause-ok g c =
-    let rule = c.args.rule in
-    items_moved rule.strands rule.k c.args.bits c.args.body.now _ _ c.sort.ensures.moved
-    (items_alone rule.strands rule.k c.args.bits c.args.body.now _ _ c.in_ok-take_items.ensures.ok)
+    let rule = c.args.form.rule in
+    items_moved rule.strands rule.k c.args.form.bits c.args.body.now _ _ c.sort.ensures.moved
+    (items_alone rule.strands rule.k c.args.form.bits c.args.body.now _ _ c.in_ok-take_items.ensures.ok)

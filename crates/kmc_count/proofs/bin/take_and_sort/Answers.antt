@@ -16,10 +16,11 @@ keys_in_bin-requires g c = record {
       (sorted_long c.args.form.rule.k _ _ c.sort_numbers.ensures.moved c.in_ok-take_body.ensures.ok.2.long);
 }
 
-pub push_rows-requires-clause-long : goal.push_rows-requires-clause-long
-push_rows-requires-clause-long g c =
-    subst (All (IsRecordKey c.args.form.rule.k)) (sym c.deref-3.ensures.value)
-    (sorted_long c.args.form.rule.k _ _ c.sort_numbers.ensures.moved c.in_ok-take_body.ensures.ok.2.long)
+pub push_rows-requires : goal.push_rows-requires
+push_rows-requires g c = record {
+  long = subst (All (IsRecordKey c.args.form.rule.k)) (sym c.deref-3.ensures.value)
+      (sorted_long c.args.form.rule.k _ _ c.sort_numbers.ensures.moved c.in_ok-take_body.ensures.ok.2.long);
+}
 
 pub returns-clause-ok : goal.returns-clause-ok
 returns-clause-ok g c =

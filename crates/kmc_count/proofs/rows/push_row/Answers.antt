@@ -10,7 +10,7 @@ loop-left-preserved g c =
     let k = c.args.form.rule.k in
     let f = c.args.form.bits in
     let most = 1 * 2 ^ f % 2 ^ 64 in
-    let full : most ≡ 2 ^ f = one_shl f 64 (omega (arith, c.requires.bits)) in
+    let full : most ≡ 2 ^ f = one_shl f 64 (omega (arith, c.args.form.few)) in
     let once : 1 ≤ most = omega (arith, full, pow_two_some f) in
     let fits : most ≤ 2 ^ f = omega (arith, full) in
     let more : most < c.loop-left.left = c.loop-left-test.true in
@@ -25,7 +25,7 @@ pub returns : goal.returns
 returns g c =
     let k = c.args.form.rule.k in
     let f = c.args.form.bits in
-    let full : 1 * 2 ^ f % 2 ^ 64 ≡ 2 ^ f = one_shl f 64 (omega (arith, c.requires.bits)) in
+    let full : 1 * 2 ^ f % 2 ^ 64 ≡ 2 ^ f = one_shl f 64 (omega (arith, c.args.form.few)) in
     let fits : c.loop-left.left ≤ 2 ^ f = omega (arith, full, c.loop-left-test.false) in
     gains_more k f _ _ _ _ (c.args.count - c.loop-left.left) c.loop-left.left c.args.count
     (omega (arith, c.loop-left.invariant.most)) c.loop-left.invariant.gains

@@ -12,14 +12,14 @@ use Rattle.kmc_count.proofs.taking.take_body.Goals as goal
 pub loop-offset-init : goal.loop-offset-init
 loop-offset-init g c =
     let num = g.W.PackedKmer.number in
-    let rule = c.args.rule in
+    let rule = c.args.form.rule in
     record {
       inside = omega arith;
       records = (
         [],
         record { each = tt; is = refl },
-        subst (λ (ns : List ℕ). IsTaken rule.strands rule.k c.args.bits ns (map num c.args.items.now.items) []) (sym c.requires.no_numbers)
-            (subst (λ ns. IsTaken rule.strands rule.k c.args.bits [] (map num ns) []) (sym c.requires.no_items) (none_taken rule.strands rule.k c.args.bits)),
+        subst (λ (ns : List ℕ). IsTaken rule.strands rule.k c.args.form.bits ns (map num c.args.items.now.items) []) (sym c.requires.no_numbers)
+            (subst (λ ns. IsTaken rule.strands rule.k c.args.form.bits [] (map num ns) []) (sym c.requires.no_items) (none_taken rule.strands rule.k c.args.form.bits)),
       );
       alone = λ _. refl;
     }
@@ -27,12 +27,12 @@ loop-offset-init g c =
 pub returns-in_err-take_record-clause-memory : goal.returns-in_err-take_record-clause-memory
 returns-in_err-take_record-clause-memory g c = λ is.
     let found = c.in-Ok.ensures in
-    stops_there c.args.rule.k c.in-Ok.symbols c.loop-offset.offset c.args.body.now (λ i. omega (arith, c.type_inv.body i)) found.count found.inside
+    stops_there c.args.form.rule.k c.in-Ok.symbols c.loop-offset.offset c.args.body.now (λ i. omega (arith, c.type_inv.body i)) found.count found.inside
     found.rest c.loop-offset.invariant.records.0 c.loop-offset-test.true c.loop-offset.invariant.records.1
 
 pub loop-offset-preserved : goal.loop-offset-preserved
 loop-offset-preserved g c =
-    let rule = c.args.rule in
+    let rule = c.args.form.rule in
     let n = c.in-Ok.symbols in
     let rest = rest_at c.loop-offset.offset c.args.body.now in
     let found = c.in-Ok.ensures in
@@ -43,7 +43,7 @@ loop-offset-preserved g c =
         h.0 ++ first_codes n rest ∷ [],
         next_body rule.k n c.loop-offset.offset c.args.body.now (λ i. omega (arith, c.type_inv.body i)) found.count found.inside found.rest _ h.0 h.1
             (λ _. c.loop-offset.offset + (1 + size_of n)),
-        subst (λ (w : List ℕ). IsTaken rule.strands rule.k c.args.bits c.take_record.new.numbers.items
+        subst (λ (w : List ℕ). IsTaken rule.strands rule.k c.args.form.bits c.take_record.new.numbers.items
             (map g.W.PackedKmer.number c.take_record.new.items.items) (h.0 ++ w ∷ [])) (codes_there n rest) (c.in_ok-take_record.ensures.taken h.0 h.2),
       );
       alone = λ room. c.in_ok-take_record.ensures.numbers room ∙ c.loop-offset.invariant.alone room;
@@ -56,7 +56,7 @@ pub first_symbols-requires-clause-some : goal.first_symbols-requires-clause-some
 first_symbols-requires-clause-some g c = some_left c.loop-offset.offset c.args.body.now c.loop-offset-test.true
 
 pub first_symbols-requires-clause-most : goal.first_symbols-requires-clause-most
-first_symbols-requires-clause-most g c = c.args.rule.within.1
+first_symbols-requires-clause-most g c = c.args.form.rule.within.1
 
 pub returns-in-Err-clause-ok : goal.returns-in-Err-clause-ok
 returns-in-Err-clause-ok g c = tt
@@ -64,17 +64,11 @@ returns-in-Err-clause-ok g c = tt
 pub returns-in-Err-clause-memory : goal.returns-in-Err-clause-memory
 returns-in-Err-clause-memory g c = λ is. no_memory _ _ _ _ refl is
 
-pub take_record-requires-clause-most : goal.take_record-requires-clause-most
-take_record-requires-clause-most g c = c.requires.most
-
-pub take_record-requires-clause-beside : goal.take_record-requires-clause-beside
-take_record-requires-clause-beside g c = c.requires.beside
-
 pub take_record-requires-clause-short : goal.take_record-requires-clause-short
 take_record-requires-clause-short g c = c.requires.short
 
 pub take_record-requires-clause-long : goal.take_record-requires-clause-long
-take_record-requires-clause-long g c = enough c.in-Ok.symbols c.args.rule.k _ c.in-Ok.ensures.count
+take_record-requires-clause-long g c = enough c.in-Ok.symbols c.args.form.rule.k _ c.in-Ok.ensures.count
 
 pub returns-in_err-take_record-clause-ok : goal.returns-in_err-take_record-clause-ok
 returns-in_err-take_record-clause-ok g c = IfOk-from_err _ _ c.from_residual.ensures.0
@@ -96,19 +90,19 @@ slice_bounds-rest-end g c = all_of (length c.args.body.now)
 
 pub returns-in-Err-clause-damaged : goal.returns-in-Err-clause-damaged
 returns-in-Err-clause-damaged g c = λ fault offset is.
-    found_fault c.args.rule.k c.args.body.now c.loop-offset.invariant.records.0 c.loop-offset.offset offset c.in-Err.fault fault c.loop-offset-test.true
+    found_fault c.args.form.rule.k c.args.body.now c.loop-offset.invariant.records.0 c.loop-offset.offset offset c.in-Err.fault fault c.loop-offset-test.true
     c.loop-offset.invariant.records.1 c.in-Err.ensures.fault is
 
 pub overflow_add-size : goal.overflow_add-size
 overflow_add-size g c =
-    let few = few_symbols c.args.rule.k c.in-Ok.symbols c.loop-offset.offset c.args.body.now (λ i. omega (arith, c.type_inv.body i)) c.in-Ok.ensures.count
-    c.in-Ok.ensures.inside c.in-Ok.ensures.rest c.args.rule.within.1 in
+    let few = few_symbols c.args.form.rule.k c.in-Ok.symbols c.loop-offset.offset c.args.body.now (λ i. omega (arith, c.type_inv.body i)) c.in-Ok.ensures.count
+    c.in-Ok.ensures.inside c.in-Ok.ensures.rest c.args.form.rule.within.1 in
     symbols_fit c.in-Ok.symbols few
 
 pub overflow_add-offset : goal.overflow_add-offset
 overflow_add-offset g c =
-    let few = few_symbols c.args.rule.k c.in-Ok.symbols c.loop-offset.offset c.args.body.now (λ i. omega (arith, c.type_inv.body i)) c.in-Ok.ensures.count
-    c.in-Ok.ensures.inside c.in-Ok.ensures.rest c.args.rule.within.1 in
+    let few = few_symbols c.args.form.rule.k c.in-Ok.symbols c.loop-offset.offset c.args.body.now (λ i. omega (arith, c.type_inv.body i)) c.in-Ok.ensures.count
+    c.in-Ok.ensures.inside c.in-Ok.ensures.rest c.args.form.rule.within.1 in
     size_fits c.in-Ok.symbols few
 
 pub loop-offset-smaller : goal.loop-offset-smaller
@@ -117,13 +111,13 @@ loop-offset-smaller g c = less_left c.in-Ok.symbols c.loop-offset.offset (length
 pub returns-clause-ok : goal.returns-clause-ok
 returns-clause-ok g c =
     let h = c.loop-offset.invariant.records in
-    (h.0, subst (IsBodyOf c.args.rule.k h.0) (take_all c.loop-offset.offset c.args.body.now c.loop-offset-test.false) h.1, h.2)
+    (h.0, subst (IsBodyOf c.args.form.rule.k h.0) (take_all c.loop-offset.offset c.args.body.now c.loop-offset-test.false) h.1, h.2)
 
 pub take_record-requires-clause-inside : goal.take_record-requires-clause-inside
 take_record-requires-clause-inside g c = inside_rest c.in-Ok.symbols (rest_at c.loop-offset.offset c.args.body.now) c.in-Ok.ensures.inside
 
 pub take_record-requires-clause-few : goal.take_record-requires-clause-few
 take_record-requires-clause-few g c =
-    let few = few_symbols c.args.rule.k c.in-Ok.symbols c.loop-offset.offset c.args.body.now (λ i. omega (arith, c.type_inv.body i)) c.in-Ok.ensures.count
-    c.in-Ok.ensures.inside c.in-Ok.ensures.rest c.args.rule.within.1 in
+    let few = few_symbols c.args.form.rule.k c.in-Ok.symbols c.loop-offset.offset c.args.body.now (λ i. omega (arith, c.type_inv.body i)) c.in-Ok.ensures.count
+    c.in-Ok.ensures.inside c.in-Ok.ensures.rest c.args.form.rule.within.1 in
     omega (arith, few)

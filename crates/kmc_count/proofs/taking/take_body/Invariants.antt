@@ -7,9 +7,9 @@ use Rattle.kmc_count.proofs.taking.take_body.Given as goal
 abbrev pub invariant-loop-offset : goal.invariant-loop-offset
 invariant-loop-offset g l = record {
   inside : l.offset ≤ length l.body;
-  records : (ss : List (List ℕ)) × IsBodyOf l.rule.k ss (take l.offset l.body)
-      × IsTaken l.rule.strands l.rule.k l.bits l.numbers.items (map g.W.PackedKmer.number l.items.items) ss;
-  alone : l.rule.k + 3 ≤ l.short → l.items ≡ l.initial.items;
+  records : (ss : List (List ℕ)) × IsBodyOf l.form.rule.k ss (take l.offset l.body)
+      × IsTaken l.form.rule.strands l.form.rule.k l.form.bits l.numbers.items (map g.W.PackedKmer.number l.items.items) ss;
+  alone : l.form.rule.k + 3 ≤ l.short → l.items ≡ l.initial.items;
 }
 
 abbrev pub decreases-loop-offset : goal.decreases-loop-offset

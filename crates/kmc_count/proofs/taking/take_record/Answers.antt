@@ -9,19 +9,19 @@ use Rattle.kmc_count.proofs.taking.take_record.Goals as goal
 pub returns-in_ok-push_pieces-clause-taken : goal.returns-in_ok-push_pieces-clause-taken
 returns-in_ok-push_pieces-clause-taken g c = λ ss taken.
     let num = g.W.PackedKmer.number in
-    let rule = c.args.rule in
-    pieces_taken rule.strands rule.k c.args.bits c.args.numbers.now.items _ (map num c.args.items.now.items) ss
+    let rule = c.args.form.rule in
+    pieces_taken rule.strands rule.k c.args.form.bits c.args.numbers.now.items _ (map num c.args.items.now.items) ss
     (take c.args.symbols (codes_in c.args.bytes.now)) c.in_ok-push_pieces.ensures taken
 
 pub returns-in_ok-push_record-clause-taken : goal.returns-in_ok-push_record-clause-taken
 returns-in_ok-push_record-clause-taken g c = λ ss taken.
     let num = g.W.PackedKmer.number in
-    let rule = c.args.rule in
+    let rule = c.args.form.rule in
     let bs = c.args.bytes.now in
     let n = c.args.symbols in
-    subst (λ (s : List ℕ). IsTaken rule.strands rule.k c.args.bits c.args.numbers.now.items (map num c.push_record.new.words.items) (ss ++ s ∷ []))
+    subst (λ (s : List ℕ). IsTaken rule.strands rule.k c.args.form.bits c.args.numbers.now.items (map num c.push_record.new.words.items) (ss ++ s ∷ []))
     (first_of_bytes n ((n + 3) / 4) bs (omega arith))
-    (words_taken rule.strands rule.k c.args.bits c.args.numbers.now.items (map num c.args.items.now.items) _ ss
+    (words_taken rule.strands rule.k c.args.form.bits c.args.numbers.now.items (map num c.args.items.now.items) _ ss
     (take n (codes_in (take ((n + 3) / 4) bs))) (front_is_record rule.k n (take ((n + 3) / 4) bs) c.requires.long
     (omega (arith, length-take ((n + 3) / 4) bs, c.requires.inside)))
-    c.in_ok-push_record.ensures (pow_two_some c.args.bits) taken)
+    c.in_ok-push_record.ensures (pow_two_some c.args.form.bits) taken)

@@ -13,13 +13,13 @@ use Rattle.kmc_count.proofs.taking.take_words.Goals as goal
 pub returns-in_err-push_record-clause-memory : goal.returns-in_err-push_record-clause-memory
 returns-in_err-push_record-clause-memory g c = λ ss whole is.
     let found = c.in-Ok.ensures in
-    stops_there c.args.rule.k c.in-Ok.symbols c.args.offset c.args.body.now (λ i. omega (arith, c.type_inv.body i)) found.count found.inside found.rest ss
+    stops_there c.args.form.rule.k c.in-Ok.symbols c.args.offset c.args.body.now (λ i. omega (arith, c.type_inv.body i)) found.count found.inside found.rest ss
     c.requires.inside whole
 
 pub returns-clause-ok : goal.returns-clause-ok
 returns-clause-ok g c = λ ss whole.
     let num = g.W.PackedKmer.number in
-    let rule = c.args.rule in
+    let rule = c.args.form.rule in
     let n = c.in-Ok.symbols in
     let body = c.args.body.now in
     let rest = rest_at c.args.offset body in
@@ -27,12 +27,12 @@ returns-clause-ok g c = λ ss whole.
     let old = map num c.args.items.now.items in
     let new = map num c.push_record.new.words.items in
     let spelled = spelled_there rule.k n c.args.offset body (λ i. omega (arith, c.type_inv.body i)) found.count found.inside found.rest in
-    let pushed : new ≡ old ++ map (weighted c.args.bits 1) (map pack (keys rule.strands rule.k (first_codes n rest))) =
-    subst (λ (w : List ℕ). new ≡ old ++ map (weighted c.args.bits 1) (map pack (keys rule.strands rule.k w))) (same_codes n rest) c.in_ok-push_record.ensures in (
+    let pushed : new ≡ old ++ map (weighted c.args.form.bits 1) (map pack (keys rule.strands rule.k (first_codes n rest))) =
+    subst (λ (w : List ℕ). new ≡ old ++ map (weighted c.args.form.bits 1) (map pack (keys rule.strands rule.k w))) (same_codes n rest) c.in_ok-push_record.ensures in (
       first_codes n rest,
       next_body rule.k n c.args.offset body (λ i. omega (arith, c.type_inv.body i)) found.count found.inside found.rest _ ss whole (omega arith),
-      (λ taken. words_taken rule.strands rule.k c.args.bits [] old new ss (first_codes n rest) (record { least = spelled.least; codes = spelled.codes }) pushed
-          (pow_two_some c.args.bits) taken),
+      (λ taken. words_taken rule.strands rule.k c.args.form.bits [] old new ss (first_codes n rest) (record { least = spelled.least; codes = spelled.codes }) pushed
+          (pow_two_some c.args.form.bits) taken),
       stops_there rule.k n c.args.offset body (λ i. omega (arith, c.type_inv.body i)) found.count found.inside found.rest ss c.requires.inside whole,
     )
 
@@ -40,7 +40,7 @@ pub first_symbols-requires-clause-some : goal.first_symbols-requires-clause-some
 first_symbols-requires-clause-some g c = some_left c.args.offset c.args.body.now c.requires.inside
 
 pub first_symbols-requires-clause-most : goal.first_symbols-requires-clause-most
-first_symbols-requires-clause-most g c = c.args.rule.within.1
+first_symbols-requires-clause-most g c = c.args.form.rule.within.1
 
 pub returns-in-Err-clause-on : goal.returns-in-Err-clause-on
 returns-in-Err-clause-on g c = tt
@@ -52,13 +52,13 @@ pub returns-in-Err-clause-memory : goal.returns-in-Err-clause-memory
 returns-in-Err-clause-memory g c = λ ss whole is. no_memory _ _ _ _ refl is
 
 pub push_record-requires-clause-most : goal.push_record-requires-clause-most
-push_record-requires-clause-most g c = c.requires.most
+push_record-requires-clause-most g c = c.args.form.most
 
 pub push_record-requires-clause-beside : goal.push_record-requires-clause-beside
-push_record-requires-clause-beside g c = c.requires.beside
+push_record-requires-clause-beside g c = c.args.form.beside
 
 pub push_record-requires-clause-long : goal.push_record-requires-clause-long
-push_record-requires-clause-long g c = enough c.in-Ok.symbols c.args.rule.k _ c.in-Ok.ensures.count
+push_record-requires-clause-long g c = enough c.in-Ok.symbols c.args.form.rule.k _ c.in-Ok.ensures.count
 
 pub push_record-requires-clause-inside : goal.push_record-requires-clause-inside
 push_record-requires-clause-inside g c = inside_record c.in-Ok.symbols (rest_at c.args.offset c.args.body.now) c.in-Ok.ensures.inside
@@ -89,18 +89,18 @@ slice_bounds-rest-end g c = all_of (length c.args.body.now)
 
 pub returns-in-Err-clause-damaged : goal.returns-in-Err-clause-damaged
 returns-in-Err-clause-damaged g c = λ ss whole fault at is.
-    found_fault c.args.rule.k c.args.body.now ss c.args.offset at c.in-Err.fault fault c.requires.inside whole c.in-Err.ensures.fault is
+    found_fault c.args.form.rule.k c.args.body.now ss c.args.offset at c.in-Err.fault fault c.requires.inside whole c.in-Err.ensures.fault is
 
 pub overflow_add-size : goal.overflow_add-size
 overflow_add-size g c =
-    let few = few_symbols c.args.rule.k c.in-Ok.symbols c.args.offset c.args.body.now (λ i. omega (arith, c.type_inv.body i)) c.in-Ok.ensures.count
-    c.in-Ok.ensures.inside c.in-Ok.ensures.rest c.args.rule.within.1 in
+    let few = few_symbols c.args.form.rule.k c.in-Ok.symbols c.args.offset c.args.body.now (λ i. omega (arith, c.type_inv.body i)) c.in-Ok.ensures.count
+    c.in-Ok.ensures.inside c.in-Ok.ensures.rest c.args.form.rule.within.1 in
     symbols_fit c.in-Ok.symbols few
 
 pub overflow_add-size-2 : goal.overflow_add-size-2
 overflow_add-size-2 g c =
-    let few = few_symbols c.args.rule.k c.in-Ok.symbols c.args.offset c.args.body.now (λ i. omega (arith, c.type_inv.body i)) c.in-Ok.ensures.count
-    c.in-Ok.ensures.inside c.in-Ok.ensures.rest c.args.rule.within.1 in
+    let few = few_symbols c.args.form.rule.k c.in-Ok.symbols c.args.offset c.args.body.now (λ i. omega (arith, c.type_inv.body i)) c.in-Ok.ensures.count
+    c.in-Ok.ensures.inside c.in-Ok.ensures.rest c.args.form.rule.within.1 in
     size_fits c.in-Ok.symbols few
 
 pub slice_bounds-push_record-count : goal.slice_bounds-push_record-count
@@ -114,12 +114,12 @@ slice_bounds-push_record-end g c = c.in-Ok.ensures.inside
 
 pub push_record-requires-clause-few : goal.push_record-requires-clause-few
 push_record-requires-clause-few g c =
-    let few = few_symbols c.args.rule.k c.in-Ok.symbols c.args.offset c.args.body.now (λ i. omega (arith, c.type_inv.body i)) c.in-Ok.ensures.count
-    c.in-Ok.ensures.inside c.in-Ok.ensures.rest c.args.rule.within.1 in
+    let few = few_symbols c.args.form.rule.k c.in-Ok.symbols c.args.offset c.args.body.now (λ i. omega (arith, c.type_inv.body i)) c.in-Ok.ensures.count
+    c.in-Ok.ensures.inside c.in-Ok.ensures.rest c.args.form.rule.within.1 in
     few_bytes c.in-Ok.symbols (rest_at c.args.offset c.args.body.now) few c.in-Ok.ensures.inside
 
 pub returns-clause-on : goal.returns-clause-on
 returns-clause-on g c =
     behind_it c.in-Ok.symbols c.args.offset (length c.args.body.now)
-    (next_inside c.args.rule.k c.in-Ok.symbols c.args.offset c.args.body.now (λ i. omega (arith, c.type_inv.body i)) c.in-Ok.ensures.count
+    (next_inside c.args.form.rule.k c.in-Ok.symbols c.args.offset c.args.body.now (λ i. omega (arith, c.type_inv.body i)) c.in-Ok.ensures.count
     c.in-Ok.ensures.inside c.in-Ok.ensures.rest)

@@ -12,7 +12,7 @@ alone ps x = omega arith
 
 pub returns-clause-dump : goal.returns-clause-dump
 returns-clause-dump g c =
-    let ps = items c.args.rule.k c.args.bits (map g.W.PackedKmer.number c.args.words.now) in
+    let ps = items c.args.form.rule.k c.args.form.bits (map g.W.PackedKmer.number c.args.words.now) in
     on_ok_weaker c.tally_both.result
     (λ dump. subst (λ count. IsDump count c.args.limits.now (g.L.PairList.pairs c.tally_both.new.pairs)) (λ i x. alone ps x i) dump)
     c.tally_both.ensures.dump

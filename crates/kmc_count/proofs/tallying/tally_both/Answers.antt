@@ -9,7 +9,7 @@ loop-word-init g c =
     let r = c.requires in
     record {
       takes = r.takes;
-      walked = walk_begins c.args.rule.k c.args.bits c.args.bundle c.args.limits.now (g.L.PairList.pairs c.args.pairs.now) (map num c.args.singles.now)
+      walked = walk_begins c.args.form.rule.k c.args.form.bits c.args.form.bundle c.args.limits.now (g.L.PairList.pairs c.args.pairs.now) (map num c.args.singles.now)
           (map num c.args.bundles.now) r.empty r.sorted r.bundles_sorted r.fit r.bundles_fit;
     }
 
@@ -20,7 +20,7 @@ push_kept-requires-clause-fits g c =
     let many = c.loop-word.many.now in
     let long : 1 ≤ length (map num few) + length (map num many) =
     omega (arith, length-map many num, filled (length many) (sym c.is_empty.ensures ∙ c.loop-word-test.true)) in
-    word_fits c.args.rule.k c.args.bits (map num few) (map num many) _ long c.first_word-word.ensures c.loop-word.invariant.walked.fit
+    word_fits c.args.form.rule.k c.args.form.bits (map num few) (map num many) _ long c.first_word-word.ensures c.loop-word.invariant.walked.fit
     c.loop-word.invariant.walked.bundles_fit
 
 pub loop-word-smaller : goal.loop-word-smaller
@@ -28,11 +28,11 @@ loop-word-smaller g c =
     let num = g.W.PackedKmer.number in
     let few = c.loop-word.few.now in
     let many = c.loop-word.many.now in
-    let k = c.args.rule.k in
+    let k = c.args.form.rule.k in
     let long : 1 ≤ length (map num few) + length (map num many) =
     omega (arith, length-map many num, filled (length many) (sym c.is_empty.ensures ∙ c.loop-word-test.true)) in
     let counted = c.saturating_add-count.ensures ∙ ap (λ t. min (c.take_run-once.result.0 + t) (2 ^ 64 - 1)) c.saturating_mul.ensures in
-    let step = walk_on k c.args.bits c.args.bundle c.args.limits.now _ _ _ (map num few) (map num many) _ _ _ _ _ _ c.requires.bundle long
+    let step = walk_on k c.args.form.bits c.args.form.bundle c.args.limits.now _ _ _ (map num few) (map num many) _ _ _ _ _ _ c.requires.bundle long
     c.first_word-word.ensures (c.take_run-once.ensures k) (c.take_run-bundled.ensures k) counted c.in_ok-push_kept.ensures.pairs c.loop-word.invariant.walked in
     omega (
       arith,
@@ -48,11 +48,11 @@ loop-word-preserved g c =
     let num = g.W.PackedKmer.number in
     let few = c.loop-word.few.now in
     let many = c.loop-word.many.now in
-    let k = c.args.rule.k in
+    let k = c.args.form.rule.k in
     let long : 1 ≤ length (map num few) + length (map num many) =
     omega (arith, length-map many num, filled (length many) (sym c.is_empty.ensures ∙ c.loop-word-test.true)) in
     let counted = c.saturating_add-count.ensures ∙ ap (λ t. min (c.take_run-once.result.0 + t) (2 ^ 64 - 1)) c.saturating_mul.ensures in
-    let step = walk_on k c.args.bits c.args.bundle c.args.limits.now _ _ _ (map num few) (map num many) _ _ _ _ _ _ c.requires.bundle long
+    let step = walk_on k c.args.form.bits c.args.form.bundle c.args.limits.now _ _ _ (map num few) (map num many) _ _ _ _ _ _ c.requires.bundle long
     c.first_word-word.ensures (c.take_run-once.ensures k) (c.take_run-bundled.ensures k) counted c.in_ok-push_kept.ensures.pairs c.loop-word.invariant.walked in
     record {
       takes = c.in_ok-push_kept.ensures.takes;
@@ -72,7 +72,7 @@ push_kept-requires-in-loop-few-clause-fits g c =
     let many = c.loop-word.many.now in
     let long : 1 ≤ length (map num few) + length (map num many) =
     omega (arith, length-map few num, filled (length few) (sym c.is_empty-in-loop-few.ensures ∙ c.loop-few-test.true)) in
-    word_fits c.args.rule.k c.args.bits (map num few) (map num many) _ long c.first_word-word-in-loop-few.ensures c.loop-few.invariant.walked.fit
+    word_fits c.args.form.rule.k c.args.form.bits (map num few) (map num many) _ long c.first_word-word-in-loop-few.ensures c.loop-few.invariant.walked.fit
     c.loop-few.invariant.walked.bundles_fit
 
 pub loop-few-smaller : goal.loop-few-smaller
@@ -80,15 +80,15 @@ loop-few-smaller g c =
     let num = g.W.PackedKmer.number in
     let few = c.loop-few.few.now in
     let many = c.loop-word.many.now in
-    let k = c.args.rule.k in
+    let k = c.args.form.rule.k in
     let long : 1 ≤ length (map num few) + length (map num many) =
     omega (arith, length-map few num, filled (length few) (sym c.is_empty-in-loop-few.ensures ∙ c.loop-few-test.true)) in
     let empty : length (map num many) ≡ 0 = length-map many num ∙ emptied (length many) (sym c.is_empty.ensures ∙ c.loop-word-test.false) in
     let run = c.take_run-count.ensures k in
-    let counted : c.take_run-count.result.0 ≡ min (c.take_run-count.result.0 + min (0 * c.args.bundle) (2 ^ 64 - 1)) (2 ^ 64 - 1) =
+    let counted : c.take_run-count.result.0 ≡ min (c.take_run-count.result.0 + min (0 * c.args.form.bundle) (2 ^ 64 - 1)) (2 ^ 64 - 1) =
     omega (arith, run.stops) in
-    let step = walk_on k c.args.bits c.args.bundle c.args.limits.now _ _ _ (map num few) (map num many) _ _ _ _ _ _ c.requires.bundle long
-    c.first_word-word-in-loop-few.ensures run (no_run k c.args.bits (map num many) _ empty) counted c.in_ok-push_kept-2.ensures.pairs
+    let step = walk_on k c.args.form.bits c.args.form.bundle c.args.limits.now _ _ _ (map num few) (map num many) _ _ _ _ _ _ c.requires.bundle long
+    c.first_word-word-in-loop-few.ensures run (no_run k c.args.form.bits (map num many) _ empty) counted c.in_ok-push_kept-2.ensures.pairs
     c.loop-few.invariant.walked in
     omega (arith, step.2, length-map few num, length-map c.take_run-count.result.1.now num)
 
@@ -97,15 +97,15 @@ loop-few-preserved g c =
     let num = g.W.PackedKmer.number in
     let few = c.loop-few.few.now in
     let many = c.loop-word.many.now in
-    let k = c.args.rule.k in
+    let k = c.args.form.rule.k in
     let long : 1 ≤ length (map num few) + length (map num many) =
     omega (arith, length-map few num, filled (length few) (sym c.is_empty-in-loop-few.ensures ∙ c.loop-few-test.true)) in
     let empty : length (map num many) ≡ 0 = length-map many num ∙ emptied (length many) (sym c.is_empty.ensures ∙ c.loop-word-test.false) in
     let run = c.take_run-count.ensures k in
-    let counted : c.take_run-count.result.0 ≡ min (c.take_run-count.result.0 + min (0 * c.args.bundle) (2 ^ 64 - 1)) (2 ^ 64 - 1) =
+    let counted : c.take_run-count.result.0 ≡ min (c.take_run-count.result.0 + min (0 * c.args.form.bundle) (2 ^ 64 - 1)) (2 ^ 64 - 1) =
     omega (arith, run.stops) in
-    let step = walk_on k c.args.bits c.args.bundle c.args.limits.now _ _ _ (map num few) (map num many) _ _ _ _ _ _ c.requires.bundle long
-    c.first_word-word-in-loop-few.ensures run (no_run k c.args.bits (map num many) _ empty) counted c.in_ok-push_kept-2.ensures.pairs
+    let step = walk_on k c.args.form.bits c.args.form.bundle c.args.limits.now _ _ _ (map num few) (map num many) _ _ _ _ _ _ c.requires.bundle long
+    c.first_word-word-in-loop-few.ensures run (no_run k c.args.form.bits (map num many) _ empty) counted c.in_ok-push_kept-2.ensures.pairs
     c.loop-few.invariant.walked in
     record {
       takes = c.in_ok-push_kept-2.ensures.takes;
@@ -117,7 +117,7 @@ returns-clause-dump g c =
     let num = g.W.PackedKmer.number in
     let few = c.loop-few.few.now in
     let many = c.loop-word.many.now in
-    walk_ends c.args.rule.k c.args.bits c.args.bundle c.args.limits.now _ _ (map num few) (map num many)
+    walk_ends c.args.form.rule.k c.args.form.bits c.args.form.bundle c.args.limits.now _ _ (map num few) (map num many)
     (length-map few num ∙ emptied (length few) (sym c.is_empty-in-loop-few.ensures ∙ c.loop-few-test.false))
     (length-map many num ∙ emptied (length many) (sym c.is_empty.ensures ∙ c.loop-word-test.false))
     c.loop-few.invariant.walked

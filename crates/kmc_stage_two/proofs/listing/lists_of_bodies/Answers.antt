@@ -1,10 +1,12 @@
-use Rattle.std.proofs.Common.{◌≡◌, ℕ, List, length, ◌∙◌, refl, sym, Vec, Global}
+use Rattle.std.proofs.Common.{◌≡◌, ℕ, List, length, ◌∙◌, refl, sym, subst, Vec, Global}
 use Rattle.std.proofs.lemmas.List.{length-map}
 use Rattle.std.proofs.lemmas.Result.{IfOk-weaker}
 use Rattle.kmc_lists.specs.Listed.{spelled}
 use Rattle.kmc_lists.specs.Lists.{lists_of}
 use Rattle.kmc_lists.specs.Ordered.{CanBeMerged, whole}
 use Rattle.kmc_store.specs.Bins.{AreBins}
+use Rattle.kmc_count.specs.Bodies.{IsFirstDamaged}
+use Rattle.kmc_stage_two.specs.Bodies.{BodiesWantMemory}
 use Rattle.kmc_stage_two.specs.Lemmas.ManyBodies.{texts}
 use Rattle.kmc_stage_two.specs.Lemmas.Outside.{asked_of_bins, bins_of_asked, both_ok}
 use Rattle.kmc_stage_two.specs.Stages.{IsDumpOfBins}
@@ -17,6 +19,13 @@ returns-clause-bins g c =
     let bodies = texts a.bodies.now in
     let wide : length bodies ≡ a.shape.n = length-map a.bodies.now (λ (b : Vec ℕ Global). b.items) ∙ c.requires.bodies in
     IfOk-weaker c.list_asked.result _ (λ _. (words : List ℕ) × AreBins a.shape bodies words) (λ _ of. bins_of_asked a.shape bodies wide of) c.list_asked.ensures.judged
+
+pub returns-clause-damaged : goal.returns-clause-damaged
+returns-clause-damaged g c = λ fault offset is.
+    subst (λ (k : ℕ). IsFirstDamaged k fault offset (texts c.args.bodies.now)) c.k.ensures.is (c.list_asked.ensures.damaged fault offset is)
+
+pub returns-clause-memory : goal.returns-clause-memory
+returns-clause-memory g c = λ is. subst (λ (k : ℕ). BodiesWantMemory k (texts c.args.bodies.now)) c.k.ensures.is (c.list_asked.ensures.memory is)
 
 pub returns-clause-wrong : goal.returns-clause-wrong
 returns-clause-wrong g c = λ is words are.

@@ -16,18 +16,18 @@ tally-requires-clause-fit g c =
     let num = g.W.PackedKmer.number in
     let a = c.args in
     let lists = map (λ v. map num v.items) a.lists.now in
-    let t = has_word_from (2 ^ a.bits) a.share.first a.share.last in
+    let t = has_word_from (2 ^ a.form.bits) a.share.first a.share.last in
     let moved = subst (λ ns. IsPermutation ns (map num c.merge_lists.new.items.items)) c.in_ok-gather_items.ensures c.merge_lists.ensures.moved in
-    let fit = All-permutation (λ n. n / 2 ^ a.bits < 4 ^ a.rule.k) _ _ moved
-    (All-filter t (λ n. n / 2 ^ a.bits < 4 ^ a.rule.k) (joined lists) c.requires.lists.fit) in
-    subst (λ ns. AreItems a.rule.k a.bits (map num ns)) (sym c.deref.ensures.value) fit
+    let fit = All-permutation (λ n. n / 2 ^ a.form.bits < 4 ^ a.form.rule.k) _ _ moved
+    (All-filter t (λ n. n / 2 ^ a.form.bits < 4 ^ a.form.rule.k) (joined lists) c.requires.lists.fit) in
+    subst (λ ns. AreItems a.form.rule.k a.form.bits (map num ns)) (sym c.deref.ensures.value) fit
 
 pub returns : goal.returns
 returns g c =
     let num = g.W.PackedKmer.number in
     let a = c.args in
-    let k = a.rule.k in
-    let f = a.bits in
+    let k = a.form.rule.k in
+    let f = a.form.bits in
     let lists = map (λ v. map num v.items) a.lists.now in
     let t = has_word_from (2 ^ f) a.share.first a.share.last in
     let moved = subst (λ ns. IsPermutation ns (map num c.merge_lists.new.items.items)) c.in_ok-gather_items.ensures c.merge_lists.ensures.moved in

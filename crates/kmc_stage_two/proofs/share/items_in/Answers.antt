@@ -8,9 +8,9 @@ pub returns : goal.returns
 returns g c =
     let num = g.W.PackedKmer.number in
     let xs = c.args.list.now in
-    let w = 2 ^ c.args.bits in
+    let w = 2 ^ c.args.form.bits in
     let b = c.partition_point-begin.result in
-    let pos : 0 < w = pow_pos c.args.bits in
+    let pos : 0 < w = pow_pos c.args.form.bits in
     let up = words_rise num w pos xs c.requires.sorted in
     let begin = IsPartitionPoint-from_clause (λ x. nat_lt (num x / w) c.args.share.first) xs b c.partition_point-begin.ensures.partitioned
     (IsPartitionedBy-ltb (λ x. num x / w) xs c.args.share.first up) (λ a r q k. search rules) in

@@ -11,7 +11,7 @@ use Rattle.kmc_stage_two.proofs.shared.+sharers.Goals as goal
 pub back-take_shared-requires : goal.back-take_shared-requires
 back-take_shared-requires g t c κs within =
     let r = c.requires in
-    (omega arith, (within.0, (within.1, (assumption, (r.0, (r.1, (r.2, (r.3, r.4))))))))
+    (omega arith, (within.0, (within.1, (assumption, (r.0, r.1)))))
 
 pub back-returns : goal.back-returns
 back-returns g t c = c.take_shared.ensures
@@ -24,7 +24,7 @@ fn::take_shared::back+FnOnce::call_once-back-requires g t c κs within =
 pub front-take_shared-requires : goal.front-take_shared-requires
 front-take_shared-requires g t c κs within =
     let r = c.requires in
-    (omega arith, (within.0, (within.1, (assumption, (r.0, (r.1, (r.2, (r.3, r.4))))))))
+    (omega arith, (within.0, (within.1, (assumption, (r.0, r.1)))))
 
 pub front-returns : goal.front-returns
 front-returns g t c = c.take_shared.ensures
@@ -36,15 +36,6 @@ fn::take_shared::front+FnOnce::call_once-front-requires g t c κs within =
 
 -- ---- the whole
 
-pub items_of_body-requires-clause-most : goal.items_of_body-requires-clause-most
-items_of_body-requires-clause-most g t c = c.requires.most
-
-pub items_of_body-requires-clause-beside : goal.items_of_body-requires-clause-beside
-items_of_body-requires-clause-beside g t c = c.requires.beside
-
-pub items_of_body-requires-clause-bits : goal.items_of_body-requires-clause-bits
-items_of_body-requires-clause-bits g t c = c.requires.bits
-
 pub returns-in_err-items : goal.returns-in_err-items
 returns-in_err-items g t c = IfOk-from_err _ _ c.from_residual.ensures.0
 
@@ -54,8 +45,8 @@ returns-in-Ok g t c =
     let f : Vec g.row.W.Denot Global → List ℕ = λ v. map g.W.PackedKmer.number v.items in
     let v = c.in_ok-items.items in
     let lists : c.push.new.self.items ≡ v ∷ [] = c.in-Ok.ensures.items ∙ ap (λ vs. vs ++ (v ∷ [])) c.new-lists.ensures.items in (
-      subst (λ vs. AreListsOfItems a.rule.strands a.rule.k a.bits a.body.now (map f vs)) (sym lists)
-          (one_list a.rule.strands a.rule.k a.bits a.body.now (f v) c.in_ok-items.ensures.sorted c.in_ok-items.ensures.ok),
+      subst (λ vs. AreListsOfItems a.form.rule.strands a.form.rule.k a.form.bits a.body.now (map f vs)) (sym lists)
+          (one_list a.form.rule.strands a.form.rule.k a.form.bits a.body.now (f v) c.in_ok-items.ensures.sorted c.in_ok-items.ensures.ok),
       c.in_ok-items.ensures.judged,
     )
 
@@ -70,21 +61,20 @@ split_at-requires g t c = c.record_behind-middle.ensures
 
 pub join-first-requires-after_bounds : goal.join-first-requires-after_bounds
 join-first-requires-after_bounds g t c κs within =
-    let r = c.requires in
     let more : 2 ≤ c.args.threads = omega arith in (
-      (omega arith, (λ a h. h, (λ a h. h, ((assumption, r.most, r.beside, r.bits, omega arith), (assumption, assumption))))),
-      (omega arith, (λ a h. h, (λ a h. h, ((assumption, r.most, r.beside, r.bits, omega arith), (assumption, assumption))))),
+      (omega arith, (λ a h. h, (λ a h. h, ((assumption, omega arith), (assumption, assumption))))),
+      (omega arith, (λ a h. h, (λ a h. h, ((assumption, omega arith), (assumption, assumption))))),
     )
 
 pub returns : goal.returns
 returns g t c =
     let a = c.args in
-    let s = a.rule.strands in
-    let k = a.rule.k in
+    let s = a.form.rule.strands in
+    let k = a.form.rule.k in
     let f : Vec g.row.W.Denot Global → List ℕ = λ v. map g.W.PackedKmer.number v.items in
     let low = c.split_at.result.0.now in
     let high = c.split_at.result.1.now in
     let whole : low ++ high ≡ a.body.now =
     (λ i. c.split_at.ensures.front i ++ c.split_at.ensures.back i) ∙ take-append-drop c.record_behind-middle.result a.body.now in
-    subst (λ (body : List ℕ). IfOk c.both_pieces.result (λ lists. AreListsOfItems s k a.bits body (map f lists.items) × IsOfBin a.asked.now body)) whole
-    (c.both_pieces.ensures s k a.bits a.asked.now low high c.join-first.ensures.first c.join-first.ensures.second)
+    subst (λ (body : List ℕ). IfOk c.both_pieces.result (λ lists. AreListsOfItems s k a.form.bits body (map f lists.items) × IsOfBin a.asked.now body)) whole
+    (c.both_pieces.ensures s k a.form.bits a.asked.now low high c.join-first.ensures.first c.join-first.ensures.second)
