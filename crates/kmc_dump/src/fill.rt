@@ -9,24 +9,19 @@ use crate::buffers::Buffer;
 use crate::keys::{fit_keys, put_keys};
 use crate::range::put_range;
 use crate::ranges::Ranges;
+use crate::slot_range::SlotRange;
 use crate::word_size::WordSize;
 use kmc_base::PackedKmer;
 use kmc_lists::{CountWidth, KmerList};
 
 /// Whether the pairs of a range fit keys, and there is room for those of the widest.
-fn has_room_for_keys<C: CountWidth>(
-    keys: &Vec<u64>,
-    widest: usize,
-    shift: u32,
-    from: u128,
-    to: u128,
-) -> bool
+fn has_room_for_keys<C: CountWidth>(keys: &Vec<u64>, widest: usize, range: SlotRange) -> bool
     ensures keys { IsTrue result → widest ≤ vec_capacity keys.now }
     ensures small { IsTrue result → C.bits < 64 }
-    ensures least { IsTrue result → from * 2 ^ shift < 2 ^ 128 }
-    ensures fits { IsTrue result → (to - from) * 2 ^ shift * 2 ^ C.bits ≤ 2 ^ 64 }
+    ensures least { IsTrue result → range.from * 2 ^ range.shift < 2 ^ 128 }
+    ensures fits { IsTrue result → (range.to - range.from) * 2 ^ range.shift * 2 ^ C.bits ≤ 2 ^ 64 }
 {
-    keys.capacity() >= widest && fit_keys::<C>(shift, from, to)
+    keys.capacity() >= widest && fit_keys::<C>(range)
 }
 
 /// Puts the text of a range that has at most as many pairs as the widest into a buffer, from the first byte on, and says where it
@@ -48,13 +43,17 @@ fn put_text<W: PackedKmer + Drop, C: CountWidth + Drop>(
     ensures room { HasRoomForRange ranges.now.widest (line_room ranges.now.k C.most_digits) buffer.new }
 {
     let size = WordSize { k: ranges.k };
-    let shift = ranges.shift;
+    let range = SlotRange {
+        shift: ranges.shift,
+        from,
+        to,
+    };
     let text = &mut buffer.text;
     let _ = text.resize(text.capacity(), 0);
-    if has_room_for_keys::<C>(&buffer.keys, ranges.widest, shift, from, to) {
-        put_keys(lists, size, shift, from, to, &mut buffer.keys, text)
+    if has_room_for_keys::<C>(&buffer.keys, ranges.widest, range) {
+        put_keys(lists, size, range, &mut buffer.keys, text)
     } else {
-        put_range(lists, size, shift, from, to, &mut buffer.pairs, text)
+        put_range(lists, size, range, &mut buffer.pairs, text)
     }
 }
 

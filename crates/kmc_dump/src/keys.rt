@@ -6,21 +6,23 @@ ghost use Rattle.kmc_lists.specs.Listed.{spelled};
 ghost use Rattle.kmc_lists.specs.Ordered.{Climbs, within, whole, CanBeMerged};
 ghost use Rattle.kmc_dump.specs.Ranges.{count_within};
 
+use crate::slot_range::SlotRange;
 use crate::word_size::WordSize;
 use kmc_base::{Kmer, PackedKmer};
 use kmc_lists::{CountWidth, KmerList, put_line};
 
 /// Whether a word of the range and a count, side by side, always fit 64 bits.
-pub fn fit_keys<C: CountWidth>(shift: u32, from: u128, to: u128) -> bool
+pub fn fit_keys<C: CountWidth>(range: SlotRange) -> bool
     ensures small { IsTrue result → C.bits < 64 }
-    ensures least { IsTrue result → from * 2 ^ shift < 2 ^ 128 }
-    ensures room { IsTrue result → (to - from) * 2 ^ shift * 2 ^ C.bits ≤ 2 ^ 64 }
+    ensures least { IsTrue result → range.from * 2 ^ range.shift < 2 ^ 128 }
+    ensures room { IsTrue result → (range.to - range.from) * 2 ^ range.shift * 2 ^ C.bits ≤ 2 ^ 64 }
 {
     let bits = C::bits();
-    if bits >= 64 || shift > 64 - bits {
+    if bits >= 64 || range.shift > 64 - bits {
         return false;
     }
-    to.saturating_sub(from) <= 1 << (64 - bits - shift) && from <= u128::MAX >> shift
+    range.to.saturating_sub(range.from) <= 1 << (64 - bits - range.shift)
+        && range.from <= u128::MAX >> range.shift
 }
 
 /// A word and a count as a key.
@@ -37,27 +39,23 @@ fn key_of(word: u128, count: u64, least: u128, bits: u32) -> u64
 /// Appends the keys of those pairs of a list whose slots are in a range. There is room for them, so that no push is refused.
 fn gather_keys<W: PackedKmer + Drop, C: CountWidth + Drop>(
     list: &KmerList<W, C>,
-    shift: u32,
-    from: u128,
-    to: u128,
+    range: SlotRange,
     least: u128,
     keys: &mut Vec<u64>,
 )
     requires rise { Climbs list.now.packed }
-    requires shift { shift < 128 }
-    requires range { from ≤ to }
-    requires least { least ≡ from * 2 ^ shift }
+    requires least { least ≡ range.from * 2 ^ range.shift }
     requires small { C.bits < 64 }
-    requires fits { (to - from) * 2 ^ shift * 2 ^ C.bits ≤ 2 ^ 64 }
-    requires room { vec_len keys.old + length (within (2 ^ shift) from to list.now.packed)
+    requires fits { (range.to - range.from) * 2 ^ range.shift * 2 ^ C.bits ≤ 2 ^ 64 }
+    requires room { vec_len keys.old + length (within (2 ^ range.shift) range.from range.to list.now.packed)
         ≤ vec_capacity keys.old }
     ensures pairs { key_pairs least C.bits keys.new.items
-        ≡ key_pairs least C.bits keys.old.items ++ within (2 ^ shift) from to list.now.packed }
+        ≡ key_pairs least C.bits keys.old.items ++ within (2 ^ range.shift) range.from range.to list.now.packed }
     ensures capacity { vec_capacity keys.old ≤ vec_capacity keys.new }
 {
     let bits = C::bits();
-    let begin = list.below(shift, from);
-    let end = list.below(shift, to);
+    let begin = list.below(range.shift, range.from);
+    let end = list.below(range.shift, range.to);
     for i in begin..end {
         let (word, count) = list.get(i);
         let _ = keys.push(key_of(word.to_u128(), count.to_u64(), least, bits));
@@ -93,30 +91,26 @@ fn put_key_lines<C: CountWidth + Drop>(
 pub fn put_keys<W: PackedKmer + Drop, C: CountWidth + Drop>(
     lists: &[KmerList<W, C>],
     size: WordSize,
-    shift: u32,
-    from: u128,
-    to: u128,
+    range: SlotRange,
     keys: &mut Vec<u64>,
     text: &mut [u8],
 ) -> usize
     requires merge { CanBeMerged size.k lists.now }
-    requires shift { shift < 128 }
-    requires range { from ≤ to }
     requires small { C.bits < 64 }
-    requires least { from * 2 ^ shift < 2 ^ 128 }
-    requires fits { (to - from) * 2 ^ shift * 2 ^ C.bits ≤ 2 ^ 64 }
-    requires keys { count_within (2 ^ shift) from to lists.now ≤ vec_capacity keys.old }
-    requires text { count_within (2 ^ shift) from to lists.now * line_room size.k C.most_digits
+    requires least { range.from * 2 ^ range.shift < 2 ^ 128 }
+    requires fits { (range.to - range.from) * 2 ^ range.shift * 2 ^ C.bits ≤ 2 ^ 64 }
+    requires keys { count_within (2 ^ range.shift) range.from range.to lists.now ≤ vec_capacity keys.old }
+    requires text { count_within (2 ^ range.shift) range.from range.to lists.now * line_room size.k C.most_digits
         ≤ length text.old }
     ensures within { result ≤ length text.new }
     ensures lines { take result text.new
-        ≡ text_of (spelled size.k (within (2 ^ shift) from to (whole lists.now))) }
+        ≡ text_of (spelled size.k (within (2 ^ range.shift) range.from range.to (whole lists.now))) }
     ensures capacity { vec_capacity keys.old ≤ vec_capacity keys.new }
 {
-    let least = from << shift;
+    let least = range.from << range.shift;
     keys.clear();
     for list in lists {
-        gather_keys(list, shift, from, to, least, keys);
+        gather_keys(list, range, least, keys);
     }
     keys.sort_unstable();
     put_key_lines::<C>(keys, size, least, text)

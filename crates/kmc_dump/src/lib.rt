@@ -16,6 +16,7 @@ mod parting;
 mod plain;
 mod range;
 mod ranges;
+mod slot_range;
 mod slots;
 mod word_size;
 mod write;

@@ -6,6 +6,7 @@ ghost use Rattle.kmc_lists.specs.Ordered.{Rises, CanBeMerged, packs};
 ghost use Rattle.kmc_dump.specs.Ranges.{count_within, ArePartedTo, AreRanges, FitSlots};
 
 use crate::ranges::Ranges;
+use crate::slot_range::SlotRange;
 use crate::slots::slot_sizes;
 use crate::word_size::WordSize;
 use kmc_base::PackedKmer;
@@ -34,19 +35,15 @@ const FINEST: u32 = 2;
 /// How many pairs of the lists lie in a range. It fails only where there are more than a number tells, which no memory could hold.
 fn count_range<W: PackedKmer + Drop, C: CountWidth + Drop>(
     lists: &[KmerList<W, C>],
-    shift: u32,
-    from: u128,
-    to: u128,
+    range: SlotRange,
 ) -> Result<usize, AllocError>
     requires rise { AllByRecursion Rises (packs lists.now) }
-    requires shift { shift < 128 }
-    requires range { from ≤ to }
-    ensures { IfOk result (λ n. n ≡ count_within (2 ^ shift) from to lists.now) }
+    ensures { IfOk result (λ n. n ≡ count_within (2 ^ range.shift) range.from range.to lists.now) }
 {
     let mut total: usize = 0;
     for list in lists {
-        let begin = list.below(shift, from);
-        let end = list.below(shift, to);
+        let begin = list.below(range.shift, range.from);
+        let end = list.below(range.shift, range.to);
         let Some(more) = total.checked_add(end - begin) else {
             return Err(AllocError);
         };
@@ -61,27 +58,33 @@ fn count_range<W: PackedKmer + Drop, C: CountWidth + Drop>(
 fn part_range<W: PackedKmer + Drop, C: CountWidth + Drop>(
     bounds: &mut Vec<u128>,
     lists: &[KmerList<W, C>],
-    shift: u32,
-    from: u128,
-    to: u128,
+    range: SlotRange,
     count: usize,
 ) -> Result<usize, AllocError>
     requires rise { AllByRecursion Rises (packs lists.now) }
-    requires shift { shift < 128 }
-    requires range { from ≤ to }
-    requires count { count ≡ count_within (2 ^ shift) from to lists.now }
-    ensures { (widest wider : ℕ) → ArePartedTo (2 ^ shift) widest bounds.old.items from 0 lists.now
+    requires count { count ≡ count_within (2 ^ range.shift) range.from range.to lists.now }
+    ensures { (widest wider : ℕ) → ArePartedTo (2 ^ range.shift) widest bounds.old.items range.from 0 lists.now
         → IfOk result (λ most. widest ≤ wider → most ≤ wider
-        → ArePartedTo (2 ^ shift) wider bounds.new.items to 0 lists.now) }
+        → ArePartedTo (2 ^ range.shift) wider bounds.new.items range.to 0 lists.now) }
 {
-    if count <= USUAL || to - from <= 1 {
-        bounds.push(to)?;
+    if count <= USUAL || range.to - range.from <= 1 {
+        bounds.push(range.to)?;
         return Ok(count);
     }
-    let middle = from + (to - from) / 2;
-    let low = count_range(lists, shift, from, middle)?;
-    let first = part_range(bounds, lists, shift, from, middle, low)?;
-    let second = part_range(bounds, lists, shift, middle, to, count - low)?;
+    let middle = range.from + (range.to - range.from) / 2;
+    let low = SlotRange {
+        shift: range.shift,
+        from: range.from,
+        to: middle,
+    };
+    let high = SlotRange {
+        shift: range.shift,
+        from: middle,
+        to: range.to,
+    };
+    let few = count_range(lists, low)?;
+    let first = part_range(bounds, lists, low, few)?;
+    let second = part_range(bounds, lists, high, count - few)?;
     Ok(first.max(second))
 }
 
@@ -120,24 +123,20 @@ fn close_range(joined: &mut Joined, to: u128) -> Result<(), AllocError>
 fn add_slot<W: PackedKmer + Drop, C: CountWidth + Drop>(
     joined: &mut Joined,
     lists: &[KmerList<W, C>],
-    shift: u32,
-    from: u128,
-    to: u128,
+    range: SlotRange,
     size: usize,
 ) -> Result<(), AllocError>
     requires rise { AllByRecursion Rises (packs lists.now) }
-    requires shift { shift < 128 }
-    requires range { from ≤ to }
-    requires size { size ≡ count_within (2 ^ shift) from to lists.now }
-    ensures { ArePartedTo (2 ^ shift) joined.old.widest joined.old.bounds.items from joined.old.pending lists.now
+    requires size { size ≡ count_within (2 ^ range.shift) range.from range.to lists.now }
+    ensures { ArePartedTo (2 ^ range.shift) joined.old.widest joined.old.bounds.items range.from joined.old.pending lists.now
         → OnOk result (ArePartedTo
-        (2 ^ shift) joined.new.widest joined.new.bounds.items to joined.new.pending lists.now) }
+        (2 ^ range.shift) joined.new.widest joined.new.bounds.items range.to joined.new.pending lists.now) }
 {
     if joined.pending > 0 && size > USUAL.saturating_sub(joined.pending) {
-        close_range(joined, from)?;
+        close_range(joined, range.from)?;
     }
     if joined.pending == 0 && size > WIDE {
-        let most = part_range(&mut joined.bounds, lists, shift, from, to, size)?;
+        let most = part_range(&mut joined.bounds, lists, range, size)?;
         joined.widest = joined.widest.max(most);
     } else {
         joined.pending += size;
@@ -177,7 +176,12 @@ fn join_slots<
     joined.bounds.push(0)?;
     for slot in 0..slots {
         let begin = slot as u128 * step;
-        add_slot(&mut joined, lists, fine, begin, begin + step, sizes[slot])?;
+        let range = SlotRange {
+            shift: fine,
+            from: begin,
+            to: begin + step,
+        };
+        add_slot(&mut joined, lists, range, sizes[slot])?;
     }
     close_range(&mut joined, slots as u128 * step)?;
     let Joined {

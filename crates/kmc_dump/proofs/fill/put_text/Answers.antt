@@ -6,12 +6,6 @@ use Rattle.kmc_dump.proofs.fill.put_text.Goals as goal
 pub put_keys-requires-clause-merge : goal.put_keys-requires-clause-merge
 put_keys-requires-clause-merge g c = c.requires.ranges.merge
 
-pub put_keys-requires-clause-shift : goal.put_keys-requires-clause-shift
-put_keys-requires-clause-shift g c = c.requires.ranges.shift
-
-pub put_keys-requires-clause-range : goal.put_keys-requires-clause-range
-put_keys-requires-clause-range g c = c.requires.range
-
 pub put_keys-requires-clause-small : goal.put_keys-requires-clause-small
 put_keys-requires-clause-small g c = c.if-has_room_for_keys.ensures.small refl
 
@@ -27,14 +21,11 @@ put_keys-requires-clause-keys g c = omega (arith, c.requires.few, c.if-has_room_
 pub put_range-requires-clause-merge : goal.put_range-requires-clause-merge
 put_range-requires-clause-merge g c = c.requires.ranges.merge
 
-pub put_range-requires-clause-shift : goal.put_range-requires-clause-shift
-put_range-requires-clause-shift g c = c.requires.ranges.shift
-
-pub put_range-requires-clause-range : goal.put_range-requires-clause-range
-put_range-requires-clause-range g c = c.requires.range
-
 pub put_range-requires-clause-pairs : goal.put_range-requires-clause-pairs
 put_range-requires-clause-pairs g c = omega (arith, c.requires.few, c.requires.room.pairs)
+
+pub invariant_of-range : goal.invariant_of-range
+invariant_of-range g c = record { below = c.requires.ranges.shift; order = c.requires.range }
 
 pub invariant_of-size : goal.invariant_of-size
 invariant_of-size g c = record { within = (c.requires.ranges.some, c.requires.ranges.most) }

@@ -10,16 +10,16 @@ use Rattle.kmc_dump.proofs.keys.gather_keys.Goals as goal
 pub key_of-requires-clause-least : goal.key_of-requires-clause-least
 key_of-requires-clause-least g c =
     let n = g.W.PackedKmer.number c.get-word.result.0 in
-    let key = has_key (2 ^ c.args.shift) c.args.from c.args.to c.args.least g.C.CountWidth.bits n (pow_pos c.args.shift) c.requires.least c.requires.fits
-    (between (2 ^ c.args.shift) c.args.from c.args.to c.below-begin.result c.below-end.result c.args.list.now.packed c.below-begin.ensures
+    let key = has_key (2 ^ c.args.range.shift) c.args.range.from c.args.range.to c.args.least g.C.CountWidth.bits n (pow_pos c.args.range.shift) c.requires.least c.requires.fits
+    (between (2 ^ c.args.range.shift) c.args.range.from c.args.range.to c.below-begin.result c.below-end.result c.args.list.now.packed c.below-begin.ensures
     c.below-end.ensures c.loop-i.i (n, g.C.CountWidth.count c.get-word.result.1) (omega (arith, c.loop-i.auto.i)) c.loop-i-test.true c.get-word.ensures) in
     subst (λ m. c.args.least ≤ m) (sym c.to_u128.ensures) key.0
 
 pub key_of-requires-clause-room : goal.key_of-requires-clause-room
 key_of-requires-clause-room g c =
     let n = g.W.PackedKmer.number c.get-word.result.0 in
-    let key = has_key (2 ^ c.args.shift) c.args.from c.args.to c.args.least g.C.CountWidth.bits n (pow_pos c.args.shift) c.requires.least c.requires.fits
-    (between (2 ^ c.args.shift) c.args.from c.args.to c.below-begin.result c.below-end.result c.args.list.now.packed c.below-begin.ensures
+    let key = has_key (2 ^ c.args.range.shift) c.args.range.from c.args.range.to c.args.least g.C.CountWidth.bits n (pow_pos c.args.range.shift) c.requires.least c.requires.fits
+    (between (2 ^ c.args.range.shift) c.args.range.from c.args.range.to c.below-begin.result c.below-end.result c.args.list.now.packed c.below-begin.ensures
     c.below-end.ensures c.loop-i.i (n, g.C.CountWidth.count c.get-word.result.1) (omega (arith, c.loop-i.auto.i)) c.loop-i-test.true c.get-word.ensures) in
     subst (λ m. (m - c.args.least + 1) * 2 ^ c.bits-bits.result ≤ 2 ^ 64) (sym c.to_u128.ensures)
     (subst (λ b. (n - c.args.least + 1) * 2 ^ b ≤ 2 ^ 64) (sym c.bits-bits.ensures.is) key.1)
@@ -34,9 +34,9 @@ loop-i-preserved g c =
     let key = c.key_of.result in
     let old = map f c.args.keys.now.items in
     let now = c.loop-i.keys.items in
-    let is = cut_within (2 ^ c.args.shift) c.args.from c.args.to b e ps c.requires.range c.below-begin.ensures c.below-end.ensures in
+    let is = cut_within (2 ^ c.args.range.shift) c.args.range.from c.args.range.to b e ps c.args.range.order c.below-begin.ensures c.below-end.ensures in
     let high = c.below-end.ensures.inside in
-    let count : length (within (2 ^ c.args.shift) c.args.from c.args.to ps) ≡ e - b = ap length is.1 ∙ length-take-le (e - b) (drop b ps)
+    let count : length (within (2 ^ c.args.range.shift) c.args.range.from c.args.range.to ps) ≡ e - b = ap length is.1 ∙ length-take-le (e - b) (drop b ps)
     (omega (arith, high, length-drop b ps)) in
     let some : i - b < length (drop b ps) = omega (arith, c.loop-i-test.true, c.loop-i.auto.i, high, length-drop b ps) in
     let so_far : length (take (i - b) (drop b ps)) ≡ i - b = length-take-le (i - b) (drop b ps) (omega (arith, some)) in
@@ -72,7 +72,7 @@ returns-clause-pairs g c =
     let ps = c.args.list.now.packed in
     let b = c.below-begin.result in
     let e = c.below-end.result in
-    let is = cut_within (2 ^ c.args.shift) c.args.from c.args.to b e ps c.requires.range c.below-begin.ensures c.below-end.ensures in
+    let is = cut_within (2 ^ c.args.range.shift) c.args.range.from c.args.range.to b e ps c.args.range.order c.below-begin.ensures c.below-end.ensures in
     let end : c.loop-i.i ≡ e = omega (arith, c.loop-i-test.false, c.loop-i.auto.i-end, is.0) in
     let old = key_pairs c.args.least g.C.CountWidth.bits c.args.keys.now.items in
     c.loop-i.invariant.pairs ∙ ap (λ (l : List (ℕ × ℕ)). old ++ l) (ap (λ n. take (n - b) (drop b ps)) end ∙ sym is.1)

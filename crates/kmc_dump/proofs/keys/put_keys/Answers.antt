@@ -18,10 +18,10 @@ gather_keys-requires-clause-rise g c =
 
 pub gather_keys-requires-clause-room : goal.gather_keys-requires-clause-room
 gather_keys-requires-clause-room g c =
-    let least = c.args.from * 2 ^ c.args.shift % 2 ^ 128 in
+    let least = c.args.range.from * 2 ^ c.args.range.shift % 2 ^ 128 in
     let f : ℕ → ℕ × ℕ = key_pair least g.C.CountWidth.bits in
     let left = room_left
-    (is_within (2 ^ c.args.shift) c.args.from c.args.to) c.args.lists.now c.loop-list.list-index c.list-item.result c.loop-list-test.true c.list-item.is in
+    (is_within (2 ^ c.args.range.shift) c.args.range.from c.args.range.to) c.args.lists.now c.loop-list.list-index c.list-item.result c.loop-list-test.true c.list-item.is in
     omega (
       arith,
       left,
@@ -35,9 +35,9 @@ gather_keys-requires-clause-room g c =
 
 pub put_key_lines-requires-clause-fit : goal.put_key_lines-requires-clause-fit
 put_key_lines-requires-clause-fit g c =
-    let least = c.args.from * 2 ^ c.args.shift % 2 ^ 128 in
+    let least = c.args.range.from * 2 ^ c.args.range.shift % 2 ^ 128 in
     let f : ℕ → ℕ × ℕ = key_pair least g.C.CountWidth.bits in
-    let t = is_within (2 ^ c.args.shift) c.args.from c.args.to in
+    let t = is_within (2 ^ c.args.range.shift) c.args.range.from c.args.range.to in
     let made = c.loop-list.keys in
     let all = joined (packs c.args.lists.now) in
     let P : ℕ × ℕ → Type 0 = λ p. p.0 < 4 ^ c.args.size.k in
@@ -48,9 +48,9 @@ put_key_lines-requires-clause-fit g c =
 
 pub returns-clause-lines : goal.returns-clause-lines
 returns-clause-lines g c =
-    let least = c.args.from * 2 ^ c.args.shift % 2 ^ 128 in
+    let least = c.args.range.from * 2 ^ c.args.range.shift % 2 ^ 128 in
     let f : ℕ → ℕ × ℕ = key_pair least g.C.CountWidth.bits in
-    let t = is_within (2 ^ c.args.shift) c.args.from c.args.to in
+    let t = is_within (2 ^ c.args.range.shift) c.args.range.from c.args.range.to in
     let made = c.loop-list.keys in
     let sorted = c.sort_unstable.new.self.items in
     let moved = gathered_moved f t c.args.lists.now c.loop-list.list-index _ made.items sorted c.loop-list-test.false c.loop-list.invariant.pairs refl
@@ -65,8 +65,8 @@ gather_keys-requires-clause-least g c = mod-eq_of_lt c.requires.least
 
 pub loop-list-preserved : goal.loop-list-preserved
 loop-list-preserved g c =
-    let least = c.args.from * 2 ^ c.args.shift % 2 ^ 128 in
-    let t = is_within (2 ^ c.args.shift) c.args.from c.args.to in
+    let least = c.args.range.from * 2 ^ c.args.range.shift % 2 ^ 128 in
+    let t = is_within (2 ^ c.args.range.shift) c.args.range.from c.args.range.to in
     record {
       capacity = le_trans c.loop-list.invariant.capacity c.gather_keys.ensures.capacity;
       pairs = c.gather_keys.ensures.pairs
@@ -76,8 +76,8 @@ loop-list-preserved g c =
 
 pub put_key_lines-requires-clause-room : goal.put_key_lines-requires-clause-room
 put_key_lines-requires-clause-room g c =
-    let f : ℕ → ℕ × ℕ = key_pair (c.args.from * 2 ^ c.args.shift % 2 ^ 128) g.C.CountWidth.bits in
-    let t = is_within (2 ^ c.args.shift) c.args.from c.args.to in
+    let f : ℕ → ℕ × ℕ = key_pair (c.args.range.from * 2 ^ c.args.range.shift % 2 ^ 128) g.C.CountWidth.bits in
+    let t = is_within (2 ^ c.args.range.shift) c.args.range.from c.args.range.to in
     let made = c.loop-list.keys.items in
     let long = ap length c.deref.ensures.value
     ∙ length_permutation made c.sort_unstable.new.self.items c.sort_unstable.ensures.permutation

@@ -7,5 +7,5 @@ use Rattle.kmc_dump.proofs.keys.put_keys.Given as goal
 abbrev pub invariant-loop-list : goal.invariant-loop-list
 invariant-loop-list g l = record {
   capacity : vec_capacity l.initial.keys ≤ vec_capacity l.keys;
-  pairs : key_pairs l.least g.C.CountWidth.bits l.keys.items ≡ within (2 ^ l.shift) l.from l.to (joined (packs (take l.list-index l.lists)));
+  pairs : key_pairs l.least g.C.CountWidth.bits l.keys.items ≡ within (2 ^ l.range.shift) l.range.from l.range.to (joined (packs (take l.list-index l.lists)));
 }

@@ -16,13 +16,13 @@ below-end-requires-clause-rise g c = climbs_there c.args.lists.now c.requires.ri
 
 pub overflow_sub-end : goal.overflow_sub-end
 overflow_sub-end g c =
-    (cut_length (2 ^ c.args.shift) c.args.from c.args.to _ _ c.list-item.result.packed c.requires.range c.below-begin.ensures c.below-end.ensures).0
+    (cut_length (2 ^ c.args.range.shift) c.args.range.from c.args.range.to _ _ c.list-item.result.packed c.args.range.order c.below-begin.ensures c.below-end.ensures).0
 
 pub loop-list-preserved : goal.loop-list-preserved
 loop-list-preserved g c =
-    let w = 2 ^ c.args.shift in
-    let long = cut_length w c.args.from c.args.to _ _ c.list-item.result.packed c.requires.range c.below-begin.ensures c.below-end.ensures in
-    let more = list_more (is_within w c.args.from c.args.to) c.args.lists.now c.loop-list.list-index c.list-item.result c.loop-list-test.true c.list-item.is in
+    let w = 2 ^ c.args.range.shift in
+    let long = cut_length w c.args.range.from c.args.range.to _ _ c.list-item.result.packed c.args.range.order c.below-begin.ensures c.below-end.ensures in
+    let more = list_more (is_within w c.args.range.from c.args.range.to) c.args.lists.now c.loop-list.list-index c.list-item.result c.loop-list-test.true c.list-item.is in
     omega (arith, long.1, more, c.loop-list.invariant, c.in-Some.ensures.1)
 
 pub returns : goal.returns

@@ -29,8 +29,8 @@ overflow_mul-begin g c = omega (
       c.finer_slots-step.ensures c.loop-slot.slot c.loop-slot-test.true c.ranges.slots.fits c.requires.room,
 )
 
-pub overflow_add-begin : goal.overflow_add-begin
-overflow_add-begin g c = omega (
+pub overflow_add-range : goal.overflow_add-range
+overflow_add-range g c = omega (
   arith,
   slot_fits c.args.shift c.min-fine.result c.args.slots c.finer_slots-step.result c.min-fine.ensures
       c.finer_slots-step.ensures c.loop-slot.slot c.loop-slot-test.true c.ranges.slots.fits c.requires.room,
