@@ -1,6 +1,8 @@
 """What a worker of `futoncrane cluster` does. These functions are sent to it by value, so they use nothing of this package: a worker's machine
 has the programs, and need not have the command."""
 import contextlib
+import errno
+import fcntl
 import os
 import resource
 import shutil
@@ -9,6 +11,7 @@ import subprocess
 import uuid
 
 BLOCK = 1 << 20
+F_SETPIPE_SZ = 1031
 MOST_OPEN = 4096
 
 
@@ -38,16 +41,30 @@ def environment():
     return dict({"MALLOC_MMAP_THRESHOLD_": "65536"}, **os.environ)
 
 
+def passed(sink, file, place, most):
+    """Has the system move some bytes of a file into a pipe, from this place on, or where it does not, copies them. Answers how many."""
+    try:
+        return os.sendfile(sink, file, place, most)
+    except OSError as fault:
+        if fault.errno not in (errno.EINVAL, errno.ENOSYS):
+            raise
+    rest = memoryview(os.pread(file, most, place))
+    moved = len(rest)
+    while rest:
+        rest = rest[os.write(sink, rest):]
+    return moved
+
+
 def feed(child, path, start, end):
-    """Writes the bytes of the file from start to end to the program's standard input, and closes that."""
-    with open(path, "rb") as file, contextlib.suppress(BrokenPipeError), child.stdin as sink:
-        file.seek(start)
+    """Gives the bytes of the file from start to end to the program's standard input, and closes that."""
+    with open(path, "rb", buffering=0) as file, contextlib.suppress(BrokenPipeError), child.stdin as sink:
+        with contextlib.suppress(OSError):  # it is only the slower where a wider pipe is refused
+            fcntl.fcntl(sink, F_SETPIPE_SZ, BLOCK)
         while start < end:
-            block = file.read(min(BLOCK, end - start))
-            if not block:
+            moved = passed(sink.fileno(), file.fileno(), start, min(BLOCK, end - start))
+            if not moved:
                 raise RuntimeError("%s: it became shorter" % path)
-            sink.write(block)
-            start += len(block)
+            start += moved
 
 
 def unpack(child, command, path):
@@ -83,17 +100,19 @@ def run_cut(part, command):
 
 
 def cut_part(number, part, path, options, slices, directory):
-    """Cuts a part into a file in the folder of each slice, unless an earlier try did. A file has its name once all are whole."""
+    """Cuts a part into a file in the folder of each slice, unless an earlier try did. A file has its name once all are whole. Answers how many
+    bytes each has."""
     done = os.path.join(directory, "cut", str(number))
+    files = [os.path.join(directory, "slice-%d" % it, str(number)) for it in range(slices)]
     if not os.path.exists(done):
         work = os.path.join(directory, "work", uuid.uuid4().hex)
         open_more()
         run_cut(part, [program("kmc_cut", path), *options, "-slices%d" % slices, work])
-        for it in range(slices):
-            os.replace("%s.%d" % (work, it), os.path.join(directory, "slice-%d" % it, str(number)))
+        for it, path_of_slice in enumerate(files):
+            os.replace("%s.%d" % (work, it), path_of_slice)
         with open(done, "wb"):
             pass
-    return number
+    return [os.path.getsize(it) for it in files]
 
 
 def list_slice(number, parts, path, options, directory):

@@ -134,6 +134,12 @@ def client_of(asked, directory):
             raise Fault("%s: no scheduler answers there" % asked.scheduler) from None
 
 
+def largest_first(cut):
+    """The slices, that of the most bytes of records first, so that no worker lists a large one alone at the end; `cut` has their bytes by part."""
+    sizes = [sum(it) for it in zip(*cut)]
+    return sorted(range(len(sizes)), key=lambda it: -sizes[it])
+
+
 def listed_dumps(client, made, slices, setting, format_name, directory):
     """Has the workers cut and list, and gives the paths of the slices' dumps."""
     from distributed import KilledWorker
@@ -142,9 +148,9 @@ def listed_dumps(client, made, slices, setting, format_name, directory):
     cutter, lister = places.find("kmc_cut"), places.find("kmc_list")
     cutting, listing = shared.words_of_cut(setting, format_name), shared.words_of_list(setting)
     try:
-        client.gather([client.submit(workers.cut_part, it, part, cutter, cutting, slices, directory, pure=False) for it, part in enumerate(made)])
+        cut = client.gather([client.submit(workers.cut_part, it, part, cutter, cutting, slices, directory, pure=False) for it, part in enumerate(made)])
         setting.report.step("kmc_cut")
-        client.gather([client.submit(workers.list_slice, it, len(made), lister, listing, directory, pure=False) for it in range(slices)])
+        client.gather([client.submit(workers.list_slice, it, len(made), lister, listing, directory, pure=False) for it in largest_first(cut)])
         setting.report.step("kmc_list")
     except KilledWorker:
         raise Fault("some work was given up after several workers died over it: they may have had too little memory: give more --slices") from None
