@@ -20,7 +20,7 @@ THREADS = os.environ.get("THREADS", "1 4")  # the numbers of threads
 LARGE = os.environ.get("LARGE", "plant fly").split()  # the large texts, or a fifth of each: LARGE="plant_fifth fly_fifth"
 
 # variables of the scripts that are told with their figures, where they are set
-TOLD = ("SHORT_READS", "LONG_READS", "CUT_TIMES", "SLICES", "K", "KMC_GB", "FOLDER")
+TOLD = ("SHORT_READS", "LONG_READS", "CUT_TIMES", "SLICES", "K", "KMC_GB", "FOLDER", "ROUNDS")
 
 # name, heading, command, whether the last line alone is kept
 SECTIONS = [
@@ -80,7 +80,7 @@ def version():
 def section(name, heading, words, last):
     """The text of one section."""
     before, start = load(), time.time()
-    given = ["%s='%s'" % (each, os.environ[each]) for each in TOLD if name == "slices" and each in os.environ]
+    given = ["%s='%s'" % (each, os.environ[each]) for each in TOLD if name in ("slices", "room") and each in os.environ]
     lines = run(words)
     body = lines[-1:] if last else lines
     told = "%s, version %s, %s; load %s before and %s after; %d s" % (
