@@ -20,13 +20,9 @@ some_left offset body less = omega (arith, rest_long offset body, less)
 pub enough : (n k b : ℕ) → n ≡ b + k → k ≤ n
 enough n k b is = omega (arith, is)
 
-record_long : (n : ℕ) (rest : List ℕ) → 1 + size_of n ≤ length rest → length (take (1 + size_of n - 1) (drop 1 rest)) ≡ size_of n
-record_long n rest inside =
-    let same : 1 + size_of n - 1 ≡ size_of n = omega arith in
-    length-take-le (1 + size_of n - 1) (drop 1 rest) (omega (arith, inside, length-drop 1 rest)) ∙ same
-
-pub inside_record : (n : ℕ) (rest : List ℕ) → 1 + size_of n ≤ length rest → n ≤ 4 * length (take (1 + size_of n - 1) (drop 1 rest))
-inside_record n rest inside = omega (arith, record_long n rest inside)
+-- its bytes have all its symbols
+pub all_symbols : (n : ℕ) (codes : List ℕ) → length codes ≡ size_of n → n ≤ 4 * length codes
+all_symbols n codes size = omega (arith, size)
 
 -- it stands in the bytes behind its first one
 pub inside_rest : (n : ℕ) (rest : List ℕ) → 1 + size_of n ≤ length rest → n ≤ 4 * length (take (length rest - 1) (drop 1 rest))
@@ -43,30 +39,22 @@ few_symbols k n offset body each count inside clean most =
     let spelled = spelled_there k n offset body each count inside clean in
     omega (arith, spelled.most, length_first n (rest_at offset body) inside, most)
 
-pub symbols_fit : (n : ℕ) → n < 320 → Fits w64 (n + 3)
-symbols_fit n few = omega (arith, few)
-
-pub size_fits : (n : ℕ) → n < 320 → Fits w64 (1 + size_of n)
-size_fits n few = omega (arith, few)
-
-pub some_size : (n : ℕ) → 1 ≤ 1 + size_of n
-some_size n = omega arith
+pub size_fits : (n bytes : ℕ) → n < 320 → bytes ≡ size_of n → Fits w64 (1 + bytes)
+size_fits n bytes few size = omega (arith, few, size)
 
 pub all_of : (n : ℕ) → n ≤ n
 all_of n = omega arith
 
-pub less_is_most : (n m : ℕ) → n < m → n ≤ m
-less_is_most n m less = omega (arith, less)
+pub few_bytes : (n : ℕ) (codes : List ℕ) → n < 320 → length codes ≡ size_of n → length codes < 1000
+few_bytes n codes few size = omega (arith, size, few)
 
-pub few_bytes : (n : ℕ) (rest : List ℕ) → n < 320 → 1 + size_of n ≤ length rest → length (take (1 + size_of n - 1) (drop 1 rest)) < 1000
-few_bytes n rest few inside = omega (arith, record_long n rest inside, few)
-
-pub less_left : (n offset all : ℕ) → offset < all → all - (offset + (1 + size_of n)) < all - offset
-less_left n offset all less = omega (arith, less)
+pub less_left : (bytes offset all : ℕ) → offset < all → all - (offset + (1 + bytes)) < all - offset
+less_left bytes offset all less = omega (arith, less)
 
 -- the place behind the record
-pub behind_it : (n offset all : ℕ) → offset + (1 + size_of n) ≤ all → (offset < offset + 1 + size_of n) × (offset + 1 + size_of n ≤ all)
-behind_it n offset all inside = (omega arith, omega (arith, inside))
+pub behind_it : (n bytes offset all : ℕ) → bytes ≡ size_of n → offset + (1 + size_of n) ≤ all
+    → (offset < offset + 1 + bytes) × (offset + 1 + bytes ≤ all)
+behind_it n bytes offset all size inside = (omega arith, omega (arith, size, inside))
 
 -- the fault that was found at a place, and is told
 pub found_fault : {T : Type 0} (k : ℕ) (body : List ℕ) (ss : List (List ℕ)) (offset at : ℕ) (made fault : RecordFault) → offset < length body

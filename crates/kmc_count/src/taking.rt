@@ -9,7 +9,7 @@ ghost use Rattle.kmc_record.specs.declared.record_keys.TheConstants.{MOST_KEY_SY
 
 use crate::item_form::ItemForm;
 use kmc_base::{KeyRule, PackedKmer, Weight};
-use kmc_record::{BodyError, MOST_KEY_SYMBOLS, first_symbols, push_record, record_key};
+use kmc_record::{BodyError, MOST_KEY_SYMBOLS, code_bytes, first_record, push_record, record_key};
 use std::alloc::AllocError;
 
 /// Puts the number of the first symbols of the bytes behind the numbers.
@@ -94,12 +94,12 @@ fn take_record<W: PackedKmer + Drop>(
     if symbols <= short || on > 0 {
         push_pieces(numbers, bytes, symbols, form.rule, short, on)?;
     } else {
-        let size = (symbols + 3) / 4;
         let weight = Weight {
             bits: form.bits,
             times: 1,
         };
-        push_record(items, form.rule, &bytes[..size], symbols, weight)?;
+        let codes = &bytes[..code_bytes(symbols)];
+        push_record(items, form.rule, codes, symbols, weight)?;
     }
     Ok(())
 }
@@ -128,13 +128,12 @@ pub(crate) fn take_body<W: PackedKmer + Drop>(
     let mut offset = 0;
     while offset < body.len() {
         let rest = &body[offset..];
-        let symbols = match first_symbols(rest, form.rule.k) {
-            Ok(symbols) => symbols,
+        let (symbols, codes) = match first_record(rest, form.rule.k) {
+            Ok(found) => found,
             Err(fault) => return Err(BodyError::Damaged(fault, offset)),
         };
-        let size = (symbols + 3) / 4;
         take_record(numbers, items, &rest[1..], symbols, form, short)?;
-        offset += 1 + size;
+        offset += 1 + codes.len();
     }
     Ok(())
 }
@@ -160,16 +159,14 @@ pub(crate) fn take_words<W: PackedKmer + Drop>(
         → IsErrOf result BodyError.Memory → StopsAtRecord form.rule.k body.now }
     ensures unasked { ¬ (IsErrOf result BodyError.WrongBin) }
 {
-    let rest = &body[offset..];
-    let symbols = match first_symbols(rest, form.rule.k) {
-        Ok(symbols) => symbols,
+    let (symbols, codes) = match first_record(&body[offset..], form.rule.k) {
+        Ok(found) => found,
         Err(fault) => return Err(BodyError::Damaged(fault, offset)),
     };
-    let size = (symbols + 3) / 4;
     let weight = Weight {
         bits: form.bits,
         times: 1,
     };
-    push_record(items, form.rule, &rest[1..1 + size], symbols, weight)?;
-    Ok(offset + 1 + size)
+    push_record(items, form.rule, codes, symbols, weight)?;
+    Ok(offset + 1 + codes.len())
 }

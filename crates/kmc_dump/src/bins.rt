@@ -28,7 +28,6 @@ fn write_sized<R: Threads + Wait + Sync, D: Write>(
     threads: usize,
 ) -> Result<u64, DumpError>
     requires merge { CanBeMerged size.k (lists_of lists.now) }
-    requires threads { 1 ≤ threads }
     ensures { IsDumped D.contents (text_of (spelled size.k (whole (lists_of lists.now))))
         (length (whole (lists_of lists.now))) writer.old writer.new result }
 {
@@ -69,7 +68,6 @@ pub fn write_bins<R: Threads + Wait + Sync, D: Write>(
     requires some { 1 ≤ k }
     requires most { k ≤ MAX_K }
     requires merge { CanBeMerged k (lists_of lists.now) }
-    requires threads { 1 ≤ threads }
     ensures ok { OnOk result (Appends (D.contents writer.old.inner) (D.contents writer.new.inner)
         (text_of (spelled k (whole (lists_of lists.now))))) }
     ensures lines { IfOk result (λ lines. lines ≡ length (whole (lists_of lists.now))) }

@@ -158,7 +158,6 @@ fn join_slots<
     slots: usize,
     threads: usize,
 ) -> Result<Ranges, AllocError>
-    requires threads { 1 ≤ threads }
     requires merge { CanBeMerged size.k lists.now }
     requires shift { shift < 128 }
     requires room { slots * 2 ^ shift ≤ 2 ^ 128 }
@@ -225,7 +224,6 @@ pub fn part_words<
     threads: usize,
 ) -> Result<Ranges, AllocError>
     requires merge { CanBeMerged size.k lists.now }
-    requires threads { 1 ≤ threads }
     ensures { IfOk result (λ r. (r.k ≡ size.k) × AreRanges r lists.now) }
 {
     let symbols = leading(total, size);

@@ -113,21 +113,20 @@ pub fn slot_sizes<
 ) -> Result<Vec<usize>, AllocError>
     requires shift { shift < 128 }
     requires inside { FitSlots (2 ^ shift) slots lists.now }
-    requires threads { 1 ≤ threads }
     ensures { IfOk result (λ sizes. HaveSizes (2 ^ shift) slots sizes.items lists.now) }
 {
-    if threads == 1 {
+    if threads <= 1 {
         return sizes_of(alloc, lists, shift, slots);
     }
     let few = threads / 2;
     let others = threads - few;
     let (low, high) = halves(lists, shift, slots);
     let mut front = || -> Result<Vec<usize>, AllocError>
-        requires { IsSync R.row × IsSync W.row × IsSync C.row × (shift < 128) × FitSlots (2 ^ shift) slots low.now × (1 ≤ few) }
+        requires { IsSync R.row × IsSync W.row × IsSync C.row × (shift < 128) × FitSlots (2 ^ shift) slots low.now }
         ensures { IfOk result (λ sizes. HaveSizes (2 ^ shift) slots sizes.items low.entry.now) }
     { slot_sizes(rt, alloc, low, shift, slots, few) };
     let mut back = || -> Result<Vec<usize>, AllocError>
-        requires { IsSync R.row × IsSync W.row × IsSync C.row × (shift < 128) × FitSlots (2 ^ shift) slots high.now × (1 ≤ others) }
+        requires { IsSync R.row × IsSync W.row × IsSync C.row × (shift < 128) × FitSlots (2 ^ shift) slots high.now }
         ensures { IfOk result (λ sizes. HaveSizes (2 ^ shift) slots sizes.items high.entry.now) }
     { slot_sizes(rt, alloc, high, shift, slots, others) };
     let (one, two) = join_mut(rt, &mut front, &mut back);

@@ -76,7 +76,7 @@ fn count_pairs<W: PackedKmer + Drop, C: CountWidth + Drop>(
 /// How many lanes serve so many ranges, one for each thread beside the one that writes, and how many buffers each has. One thread alone
 /// needs none.
 fn lanes_of(threads: usize, ranges: usize) -> (usize, usize) {
-    if threads == 1 {
+    if threads <= 1 {
         return (0, 0);
     }
     let lanes = threads.min(ranges);
@@ -101,7 +101,6 @@ pub(crate) fn write_lists<
     threads: usize,
 ) -> Result<u64, DumpError>
     requires merge { CanBeMerged size.k lists.now }
-    requires threads { 1 ≤ threads }
     ensures { IsDumped D.contents (text_of (spelled size.k (whole lists.now))) (length (whole lists.now))
         writer.old writer.new result }
 {

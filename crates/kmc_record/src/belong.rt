@@ -7,7 +7,7 @@ ghost use Rattle.kmc_record.specs.Bodies.{Belong, IsFirstError};
 ghost use Rattle.kmc_record.specs.RecordKeys.{codes_of, IsRecordKey};
 
 use crate::part_error::PartError;
-use crate::record::first_symbols;
+use crate::record::{code_bytes, first_record};
 use crate::record_keys::key_bytes;
 use crate::shape::Shape;
 use kmc_base::MAX_K;
@@ -83,7 +83,7 @@ pub fn key_belongs(key: u128, bin: usize, shape: Shape, room: &mut JudgingRoom) 
     let symbols = (key % 64) as usize;
     let bytes = key_bytes(key);
     belongs(
-        &bytes[..(symbols + 3) / 4],
+        &bytes[..code_bytes(symbols)],
         symbols,
         bin,
         shape,
@@ -105,24 +105,15 @@ pub fn count_words(body: &[u8], bin: usize, shape: Shape) -> Result<u64, PartErr
     let mut offset = 0;
     let mut words: u64 = 0;
     while offset < body.len() {
-        let rest = &body[offset..];
-        let symbols = match first_symbols(rest, k) {
-            Ok(symbols) => symbols,
+        let (symbols, bytes) = match first_record(&body[offset..], k) {
+            Ok(found) => found,
             Err(fault) => return Err(PartError::Damaged(fault, offset)),
         };
-        let size = (symbols + 3) / 4;
-        if !belongs(
-            &rest[1..1 + size],
-            symbols,
-            bin,
-            shape,
-            &mut codes,
-            &mut room,
-        ) {
+        if !belongs(bytes, symbols, bin, shape, &mut codes, &mut room) {
             return Err(PartError::WrongBin(offset));
         }
         words = words.saturating_add((symbols + 1 - k) as u64);
-        offset += 1 + size;
+        offset += 1 + bytes.len();
     }
     Ok(words)
 }

@@ -23,6 +23,6 @@ pub use part::Part;
 pub use part_error::PartError;
 pub use parts::parts_of_reads;
 pub use plain::{Chunk, RecordError, decode, encode, parts_of, push_body, push_record_of};
-pub use record::{code_at, first_symbols, push_record};
+pub use record::{code_at, code_bytes, first_record, push_record};
 pub use record_keys::{MOST_KEY_SYMBOLS, key_bytes, record_key};
 pub use shape::{LEAST_P, MOST_BINS, Shape};

@@ -36,25 +36,36 @@ fn rest_is_zero(bytes: &[u8], start: usize) -> bool
     bytes[bytes.len() - 1] % (1 << (2 * (4 * bytes.len() - start))) == 0
 }
 
-/// How many symbols the first record of some bytes has, for words of k symbols; else why the bytes do not begin with a whole record.
-pub fn first_symbols(bytes: &[u8], k: usize) -> Result<usize, RecordFault>
+/// How many bytes the codes of so many symbols fill.
+pub fn code_bytes(symbols: usize) -> usize
+    ensures { result ≡ size_of symbols }
+{
+    symbols.div_ceil(4)
+}
+
+/// The first record of some bytes, for words of k symbols: how many symbols it has, and the bytes of their codes, which begin behind the
+/// first byte; the next record begins behind them. Else why the bytes do not begin with a whole record.
+pub fn first_record<'a>(bytes: &'a [u8], k: usize) -> Result<(usize, &'a [u8]), RecordFault>
     requires some { 0 < length bytes.now }
     requires most { k ≤ MAX_K }
-    ensures count { IfOk result (λ n. n ≡ slice_index bytes.now 0 + k) }
-    ensures inside { IfOk result (λ n. 1 + size_of n ≤ length bytes.now) }
-    ensures rest { IfOk result (λ n. All (λ c. c ≡ 0)
-        (drop n (codes_in (take (size_of n) (drop 1 bytes.now))))) }
+    ensures count { IfOk result (λ r. r.0 ≡ slice_index bytes.now 0 + k) }
+    ensures inside { IfOk result (λ r. 1 + size_of r.0 ≤ length bytes.now) }
+    ensures codes { IfOk result (λ r. r.1.now ≡ take (size_of r.0) (drop 1 bytes.now)) }
+    ensures size { IfOk result (λ r. length r.1.now ≡ size_of r.0) }
+    ensures rest { IfOk result (λ r. All (λ c. c ≡ 0)
+        (drop r.0 (codes_in (take (size_of r.0) (drop 1 bytes.now))))) }
     ensures fault { IfErr result (λ e. HasFault k e bytes.now) }
 {
     let symbols = usize::from(bytes[0]) + k;
-    let size = (symbols + 3) / 4;
+    let size = code_bytes(symbols);
     if bytes.len() <= size {
         return Err(RecordFault::Short);
     }
-    if !rest_is_zero(&bytes[1..1 + size], symbols) {
+    let codes = &bytes[1..1 + size];
+    if !rest_is_zero(codes, symbols) {
         return Err(RecordFault::Padding);
     }
-    Ok(symbols)
+    Ok((symbols, codes))
 }
 
 /// A window over the codes and its reverse complement, both with the four codes of a byte more.

@@ -48,7 +48,6 @@ pub fn judged_lists<R: Threads + Sync>(
     threads: usize,
 ) -> Result<BinLists, JudgeError>
     requires bodies { length bodies.items ≡ shape.n }
-    requires threads { 1 ≤ threads }
     ensures bins { IfOk result (λ _. (words : List ℕ) × AreBins shape (map (λ b. b.items) bodies.items) words) }
     ensures width { IfOk result (AreNarrow shape.k limits.now.cs) }
     ensures merge { IfOk result (λ lists. CanBeMerged shape.k (lists_of lists)) }

@@ -43,7 +43,6 @@ pub fn list_bodies<
 ) -> Result<Vec<KmerList<W, C>>, BodyError>
     requires most { counting.now.rule.k ≤ W.most }
     requires wide { counting.now.limits.cs ≤ C.greatest }
-    requires threads { 1 ≤ threads }
     ensures ok { IfOk result (λ lists. AreListsOfBodies counting.now.rule.strands counting.now.rule.k counting.now.limits
         (map (λ b. b.items) bodies.old) lists.items) }
     ensures damaged { (fault : RecordFault) (offset : ℕ)

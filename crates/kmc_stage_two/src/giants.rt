@@ -46,7 +46,6 @@ pub(crate) fn take_giants<
 ) -> Result<Vec<Placed<W, C>>, BodyError>
     requires most { counting.now.rule.k ≤ W.most }
     requires wide { counting.now.limits.cs ≤ C.greatest }
-    requires threads { 1 ≤ threads }
     ensures { IfOk result (λ lists. All (λ p. IsListAt counting.now.rule.strands counting.now.rule.k counting.now.limits counting.now.asked
         (map (λ b. b.items) bodies.now) p.place p.list) lists.items) }
 {

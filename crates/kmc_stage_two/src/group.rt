@@ -29,7 +29,6 @@ fn take_all<R: Threads + Sync, W: PackedKmer + Drop + Send + Sync, C: CountWidth
 ) -> Result<Vec<Placed<W, C>>, BodyError>
     requires most { counting.now.rule.k ≤ W.most }
     requires wide { counting.now.limits.cs ≤ C.greatest }
-    requires threads { 1 ≤ threads }
     ensures { IfOk result (λ lists. All (λ p. IsListAt counting.now.rule.strands counting.now.rule.k counting.now.limits counting.now.asked
         (map (λ b. b.items) bodies.now) p.place p.list) lists.items) }
 {
@@ -56,7 +55,6 @@ pub(crate) fn list_group<
 ) -> Result<Vec<KmerList<W, C>>, BodyError>
     requires most { counting.now.rule.k ≤ W.most }
     requires wide { counting.now.limits.cs ≤ C.greatest }
-    requires threads { 1 ≤ threads }
     ensures ok { IfOk result (λ lists. AreListsOfBodies counting.now.rule.strands counting.now.rule.k counting.now.limits
         (map (λ b. b.items) bodies.now) lists.items) }
     ensures damaged { (fault : RecordFault) (offset : ℕ)

@@ -34,7 +34,6 @@ pub fn lists_of_bins<R: Threads + Sync>(
     limits: &Limits,
     threads: usize,
 ) -> Result<BinLists, AllocError>
-    requires threads { 1 ≤ threads }
     ensures each { IfOk result (λ lists. AreListsOfBodies strands bins.shape.k limits.now bins.bodies (lists_of lists)) }
     ensures width { IfOk result (AreNarrow bins.shape.k limits.now.cs) }
     ensures merge { IfOk result (λ lists. CanBeMerged bins.shape.k (lists_of lists)) }
@@ -68,7 +67,6 @@ pub fn lists_of_bodies<R: Threads + Sync>(
     limits: &Limits,
     threads: usize,
 ) -> Result<BinLists, BodyError>
-    requires threads { 1 ≤ threads }
     requires bodies { length bodies.old ≡ shape.n }
     ensures bins { IfOk result (λ _. (words : List ℕ) × AreBins shape (map (λ b. b.items) bodies.old) words) }
     ensures each { IfOk result (λ lists. AreListsOfBodies strands shape.k limits.now (map (λ b. b.items) bodies.old) (lists_of lists)) }

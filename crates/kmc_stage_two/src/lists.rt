@@ -28,7 +28,6 @@ fn list_sized<R: Threads + Sync, W: PackedKmer + Drop + Send + Sync>(
     threads: usize,
 ) -> Result<SizedLists<W>, BodyError>
     requires most { counting.now.rule.k ≤ W.most }
-    requires threads { 1 ≤ threads }
     ensures ok { IfOk result (λ lists. AreListsOfBodies counting.now.rule.strands counting.now.rule.k counting.now.limits
         (map (λ b. b.items) bodies.old) (sized_lists lists)) }
     ensures width { IfOk result (HaveNarrowCounts counting.now.limits.cs) }
@@ -52,8 +51,8 @@ fn list_sized<R: Threads + Sync, W: PackedKmer + Drop + Send + Sync>(
     })
 }
 
-/// The list of each body, in the order of the bodies, by at most so many threads. A pair takes 9 bytes up to k = 32
-/// and 17 above where cs is below 256, 4 more bytes in place of 1 where it is below 2^32, and 8 else. The records of some
+/// The list of each body, in the order of the bodies, by at most so many threads: 0 and 1 are the calling thread alone. A pair takes 9
+/// bytes up to k = 32 and 17 above where cs is below 256, 4 more bytes in place of 1 where it is below 2^32, and 8 else. The records of some
 /// neighbouring bodies are freed once these are counted. Where a bin is asked for, each body is of its bin. Where a body is damaged,
 /// the fault is that of the first such body. Where it fails, bodies whose records are there still are as they were.
 pub fn list_asked<R: Threads + Sync>(
@@ -63,7 +62,6 @@ pub fn list_asked<R: Threads + Sync>(
     counting: &CountRule,
     threads: usize,
 ) -> Result<BinLists, BodyError>
-    requires threads { 1 ≤ threads }
     ensures ok { IfOk result (λ lists. AreListsOfBodies counting.now.rule.strands counting.now.rule.k counting.now.limits
         (map (λ b. b.items) bodies.old) (lists_of lists)) }
     ensures width { IfOk result (AreNarrow counting.now.rule.k counting.now.limits.cs) }
@@ -96,7 +94,6 @@ pub fn list_bins<R: Threads + Sync>(
 ) -> Result<BinLists, BodyError>
     requires some { 1 ≤ k }
     requires most { k ≤ MAX_K }
-    requires threads { 1 ≤ threads }
     ensures ok { IfOk result (λ lists. AreListsOfBodies strands k limits.now
         (map (λ b. b.items) bodies.items) (lists_of lists)) }
     ensures width { IfOk result (AreNarrow k limits.now.cs) }

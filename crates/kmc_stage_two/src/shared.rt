@@ -14,22 +14,24 @@ use crate::share::Share;
 use kmc_base::{KeyRule, PackedKmer};
 use kmc_count::{AskedBin, ItemForm, bin_behind, items_of_body};
 use kmc_lists::{CountWidth, KmerList};
-use kmc_record::BodyError;
+use kmc_record::{BodyError, first_record};
 use std::alloc::Global;
 use std::thread;
 use std::thread::Threads;
 
-/// Where the first record begins that has so many bytes before it; the end of the body where there is none. Of a body that is
-/// damaged it is any place.
+/// Where the first record begins that has so many bytes before it; the end of the body where there is none, or where the body is
+/// damaged before it.
 fn record_behind(body: &[u8], rule: KeyRule, bytes: usize) -> usize
     ensures { result ≤ length body.now }
 {
-    let least = bytes.min(body.len());
     let mut offset = 0;
-    while offset < least {
-        offset += 1 + (usize::from(body[offset]) + rule.k + 3) / 4;
+    while offset < bytes.min(body.len()) {
+        match first_record(&body[offset..], rule.k) {
+            Ok((_, codes)) => offset += 1 + codes.len(),
+            Err(_) => return body.len(),
+        }
     }
-    offset.min(body.len())
+    offset
 }
 
 /// The items of two pieces of a body, those of the second behind those of the first, or the first error.
@@ -61,11 +63,10 @@ fn take_shared<R: Threads + Sync, W: PackedKmer + Drop + Send>(
     asked: &Option<AskedBin>,
     threads: usize,
 ) -> Result<Vec<Vec<W>>, BodyError>
-    requires threads { 1 ≤ threads }
     ensures { IfOk result (λ lists. AreListsOfItems form.rule.strands form.rule.k form.bits body.now
         (map (λ v. map W.number v.items) lists.items) × IsOfBin asked.now body.now) }
 {
-    if threads == 1 {
+    if threads <= 1 {
         let items = items_of_body(alloc, body, form, *asked)?;
         let mut lists = Vec::new(alloc);
         return match lists.push(items) {
@@ -78,12 +79,12 @@ fn take_shared<R: Threads + Sync, W: PackedKmer + Drop + Send>(
     let middle = record_behind(body, form.rule, body.len() / threads * few);
     let (low, high) = body.split_at(middle);
     let front = move || -> Result<Vec<Vec<W>>, BodyError>
-        requires { IsSync R.row × (1 ≤ few) }
+        requires { IsSync R.row }
         ensures { IfOk result (λ lists. AreListsOfItems form.rule.strands form.rule.k form.bits low.entry.now
             (map (λ v. map W.number v.items) lists.items) × IsOfBin asked.entry.now low.entry.now) }
     { take_shared(rt, alloc, low, form, asked, few) };
     let back = move || -> Result<Vec<Vec<W>>, BodyError>
-        requires { IsSync R.row × (1 ≤ others) }
+        requires { IsSync R.row }
         ensures { IfOk result (λ lists. AreListsOfItems form.rule.strands form.rule.k form.bits high.entry.now
             (map (λ v. map W.number v.items) lists.items) × IsOfBin asked.entry.now high.entry.now) }
     { take_shared(rt, alloc, high, form, asked, others) };
@@ -108,7 +109,6 @@ pub fn list_by_threads<
 ) -> Result<KmerList<W, C>, BodyError>
     requires most { counting.now.rule.k ≤ W.most }
     requires wide { counting.now.limits.cs ≤ C.greatest }
-    requires threads { 1 ≤ threads }
     ensures list { IfOk result (λ c. IsListOf counting.now.rule.k c) }
     ensures ok { IfOk result (λ c. IsDumpOfBody counting.now.rule.strands counting.now.rule.k counting.now.limits body.now
         (pairs_of c)) }

@@ -39,7 +39,7 @@ fn take_bodies<W: PackedKmer + Drop, C: CountWidth + Drop>(
     Ok(lists)
 }
 
-/// The lists of the bodies that at most so many threads take, each with its place, in any order. Where no thread can be made, the
+/// The lists of the bodies that at most so many threads take, each with its place, in any order; 0 threads take none. Where no thread can be made, the
 /// calling thread takes them all. An error is that of one of the threads, and no promise is made of which: who wants the fault of the
 /// first body counts anew, by [`list_row`](crate::row::list_row).
 pub fn take_by_threads<R: Threads + Sync, W: PackedKmer + Drop + Send, C: CountWidth + Drop + Send>(
@@ -52,7 +52,6 @@ pub fn take_by_threads<R: Threads + Sync, W: PackedKmer + Drop + Send, C: CountW
 ) -> Result<Vec<Placed<W, C>>, BodyError>
     requires most { counting.now.rule.k ≤ W.most }
     requires wide { counting.now.limits.cs ≤ C.greatest }
-    requires threads { 1 ≤ threads }
     ensures { IfOk result (λ lists. All (λ p. IsListAt counting.now.rule.strands counting.now.rule.k counting.now.limits counting.now.asked
         (map (λ b. b.items) bodies.now) p.place p.list) lists.items) }
 {

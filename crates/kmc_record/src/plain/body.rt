@@ -8,7 +8,7 @@ ghost use Rattle.kmc_record.specs.Refusals.{StopsAtRecord};
 ghost use Rattle.kmc_record.specs.declared.fault.RecordFault.{RecordFault};
 
 use crate::fault::BodyError;
-use crate::record::{first_symbols, push_record};
+use crate::record::{first_record, push_record};
 use kmc_base::{KeyRule, MAX_K, PackedKmer, Strands, Weight};
 
 /// A word that is counted once, with no bits for that.
@@ -34,15 +34,13 @@ pub fn push_body<W: PackedKmer + Drop>(
 {
     let mut offset = 0;
     while offset < body.len() {
-        let rest = &body[offset..];
-        let symbols = match first_symbols(rest, k) {
-            Ok(symbols) => symbols,
+        let (symbols, bytes) = match first_record(&body[offset..], k) {
+            Ok(found) => found,
             Err(fault) => return Err(BodyError::Damaged(fault, offset)),
         };
-        let size = (symbols + 3) / 4;
         let rule = KeyRule { k, strands };
-        push_record(words, rule, &rest[1..1 + size], symbols, ONCE)?;
-        offset += 1 + size;
+        push_record(words, rule, bytes, symbols, ONCE)?;
+        offset += 1 + bytes.len();
     }
     Ok(())
 }

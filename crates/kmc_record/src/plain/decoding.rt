@@ -4,7 +4,7 @@ ghost use Rattle.kmc_base.specs.Record.{spelling, IsSpelled, codes_in};
 ghost use Rattle.kmc_record.specs.DecodingRefusals.{IsRefusedRecord};
 
 use crate::fault::RecordFault;
-use crate::record::{code_at, first_symbols};
+use crate::record::{code_at, first_record};
 use kmc_base::MAX_K;
 use kmc_split::SuperKmer;
 use std::alloc::{AllocError, Global};
@@ -83,11 +83,10 @@ pub fn decode<'a>(
     if bytes.is_empty() {
         return Err(RecordError::Damaged(RecordFault::Short));
     }
-    let symbols = first_symbols(bytes, k)?;
-    let size = (symbols + 3) / 4;
-    let codes = unpacked(alloc, &bytes[1..1 + size], symbols)?;
+    let (symbols, packed) = first_record(bytes, k)?;
+    let codes = unpacked(alloc, packed, symbols)?;
     match SuperKmer::new(codes, k) {
-        Some(s) => Ok((s, &bytes[1 + size..])),
+        Some(s) => Ok((s, &bytes[1 + packed.len()..])),
         None => unreachable!(),
     }
 }

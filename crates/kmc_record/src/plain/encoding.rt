@@ -2,6 +2,7 @@
 ghost use Rattle.std.specs.Prelude.{◌≡◌, ◌≤◌, ◌++◌, OnOk, OnErr};
 ghost use Rattle.kmc_base.specs.Record.{spelling, IsSpelled};
 
+use crate::record::code_bytes;
 use kmc_base::{MAX_K, push_packed};
 use kmc_split::SuperKmer;
 use std::alloc::AllocError;
@@ -22,7 +23,7 @@ pub fn push_record_of(codes: &[u8], k: usize, out: &mut Vec<u8>) -> Result<(), A
     ensures ok { OnOk result (out.new.items ≡ out.old.items ++ spelling k codes.now) }
     ensures err { OnErr result (out.new.items ≡ out.old.items) }
 {
-    out.reserve(1 + (codes.len() + 3) / 4)?;
+    out.reserve(1 + code_bytes(codes.len()))?;
     out.push_reserved((codes.len() - k) as u8);
     push_packed(codes, out);
     Ok(())

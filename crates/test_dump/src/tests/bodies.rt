@@ -137,7 +137,7 @@ fn packed_lists<R: Threads + Wait + Sync>(
     limits: &Limits,
     threads: usize,
 ) -> Result<BinLists, Fail>
-    requires { (1 ≤ k) × (k ≤ 64) × (1 ≤ threads) }
+    requires { (1 ≤ k) × (k ≤ 64) }
 {
     let lists = list_bins(rt, alloc, bodies, k, Strands::Joined, limits, threads);
     Ok(lists.ok().ok_or("records")?)

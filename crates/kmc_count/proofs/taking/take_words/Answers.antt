@@ -1,26 +1,27 @@
-use Rattle.std.proofs.Common.{◌≡◌, ℕ, ◌++◌, List, [], length, map, refl, subst, arith}
+use Rattle.std.proofs.Common.{◌≡◌, ℕ, ◌++◌, List, [], length, take, map, ap, refl, subst, arith}
 use Rattle.std.proofs.lemmas.Result.{IfOk-from_err}
 use Rattle.kmc_base.specs.Packed.{pack}
 use Rattle.kmc_base.specs.Strands.{keys}
 use Rattle.kmc_base.specs.Weights.{weighted}
 use Rattle.kmc_base.specs.Lemmas.Weights.{pow_two_some}
+use Rattle.kmc_base.specs.Record.{codes_in}
 use Rattle.kmc_record.specs.Lemmas.Taken.{words_taken}
-use Rattle.kmc_base.specs.Lemmas.Whole.{first_codes, next_body, next_inside, rest_at, same_codes, spelled_there}
+use Rattle.kmc_base.specs.Lemmas.Whole.{first_codes, next_body, next_inside, rest_at, spelled_there}
 use Rattle.kmc_record.specs.Lemmas.Whole.{stops_there}
-use Rattle.kmc_count.proofs.Rests.{some_left, enough, inside_record, few_symbols, symbols_fit, size_fits, some_size, all_of, less_is_most, few_bytes, behind_it, found_fault, no_error, no_memory, no_damage}
+use Rattle.kmc_count.proofs.Rests.{some_left, enough, all_symbols, few_symbols, few_bytes, behind_it, found_fault, no_error, no_memory, no_damage}
 use Rattle.kmc_count.proofs.taking.take_words.Goals as goal
 
 pub returns-in_err-push_record-clause-memory : goal.returns-in_err-push_record-clause-memory
 returns-in_err-push_record-clause-memory g c = λ ss whole is.
     let found = c.in-Ok.ensures in
-    stops_there c.args.form.rule.k c.in-Ok.symbols c.args.offset c.args.body.now (λ i. omega (arith, c.type_inv.body i)) found.count found.inside found.rest ss
+    stops_there c.args.form.rule.k c.in-Ok.found.0 c.args.offset c.args.body.now (λ i. omega (arith, c.type_inv.body i)) found.count found.inside found.rest ss
     c.requires.inside whole
 
 pub returns-clause-ok : goal.returns-clause-ok
 returns-clause-ok g c = λ ss whole.
     let num = g.W.PackedKmer.number in
     let rule = c.args.form.rule in
-    let n = c.in-Ok.symbols in
+    let n = c.in-Ok.found.0 in
     let body = c.args.body.now in
     let rest = rest_at c.args.offset body in
     let found = c.in-Ok.ensures in
@@ -28,7 +29,7 @@ returns-clause-ok g c = λ ss whole.
     let new = map num c.push_record.new.words.items in
     let spelled = spelled_there rule.k n c.args.offset body (λ i. omega (arith, c.type_inv.body i)) found.count found.inside found.rest in
     let pushed : new ≡ old ++ map (weighted c.args.form.bits 1) (map pack (keys rule.strands rule.k (first_codes n rest))) =
-    subst (λ (w : List ℕ). new ≡ old ++ map (weighted c.args.form.bits 1) (map pack (keys rule.strands rule.k w))) (same_codes n rest) c.in_ok-push_record.ensures in (
+    subst (λ (w : List ℕ). new ≡ old ++ map (weighted c.args.form.bits 1) (map pack (keys rule.strands rule.k w))) (ap (λ (w : List ℕ). take n (codes_in w)) found.codes) c.in_ok-push_record.ensures in (
       first_codes n rest,
       next_body rule.k n c.args.offset body (λ i. omega (arith, c.type_inv.body i)) found.count found.inside found.rest _ ss whole (omega arith),
       (λ taken. words_taken rule.strands rule.k c.args.form.bits [] old new ss (first_codes n rest) (record { least = spelled.least; codes = spelled.codes }) pushed
@@ -36,11 +37,11 @@ returns-clause-ok g c = λ ss whole.
       stops_there rule.k n c.args.offset body (λ i. omega (arith, c.type_inv.body i)) found.count found.inside found.rest ss c.requires.inside whole,
     )
 
-pub first_symbols-requires-clause-some : goal.first_symbols-requires-clause-some
-first_symbols-requires-clause-some g c = some_left c.args.offset c.args.body.now c.requires.inside
+pub first_record-requires-clause-some : goal.first_record-requires-clause-some
+first_record-requires-clause-some g c = some_left c.args.offset c.args.body.now c.requires.inside
 
-pub first_symbols-requires-clause-most : goal.first_symbols-requires-clause-most
-first_symbols-requires-clause-most g c = c.args.form.rule.within.1
+pub first_record-requires-clause-most : goal.first_record-requires-clause-most
+first_record-requires-clause-most g c = c.args.form.rule.within.1
 
 pub returns-in-Err-clause-on : goal.returns-in-Err-clause-on
 returns-in-Err-clause-on g c = tt
@@ -58,10 +59,10 @@ pub push_record-requires-clause-beside : goal.push_record-requires-clause-beside
 push_record-requires-clause-beside g c = c.args.form.beside
 
 pub push_record-requires-clause-long : goal.push_record-requires-clause-long
-push_record-requires-clause-long g c = enough c.in-Ok.symbols c.args.form.rule.k _ c.in-Ok.ensures.count
+push_record-requires-clause-long g c = enough c.in-Ok.found.0 c.args.form.rule.k _ c.in-Ok.ensures.count
 
 pub push_record-requires-clause-inside : goal.push_record-requires-clause-inside
-push_record-requires-clause-inside g c = inside_record c.in-Ok.symbols (rest_at c.args.offset c.args.body.now) c.in-Ok.ensures.inside
+push_record-requires-clause-inside g c = all_symbols c.in-Ok.found.0 _ c.in-Ok.ensures.size
 
 pub returns-in_err-push_record-clause-on : goal.returns-in_err-push_record-clause-on
 returns-in_err-push_record-clause-on g c = IfOk-from_err _ _ c.from_residual.ensures.0
@@ -78,48 +79,18 @@ returns-clause-memory g c = λ ss whole is. no_error _ _ _ is
 pub returns-in_err-push_record-clause-damaged : goal.returns-in_err-push_record-clause-damaged
 returns-in_err-push_record-clause-damaged g c = λ ss whole fault at is. no_damage _ _ _ _ c.from_residual.ensures.1 is
 
-pub slice_bounds-rest-count : goal.slice_bounds-rest-count
-slice_bounds-rest-count g c = less_is_most c.args.offset (length c.args.body.now) c.requires.inside
-
-pub slice_bounds-rest-start : goal.slice_bounds-rest-start
-slice_bounds-rest-start g c = less_is_most c.args.offset (length c.args.body.now) c.requires.inside
-
-pub slice_bounds-rest-end : goal.slice_bounds-rest-end
-slice_bounds-rest-end g c = all_of (length c.args.body.now)
-
 pub returns-in-Err-clause-damaged : goal.returns-in-Err-clause-damaged
 returns-in-Err-clause-damaged g c = λ ss whole fault at is.
     found_fault c.args.form.rule.k c.args.body.now ss c.args.offset at c.in-Err.fault fault c.requires.inside whole c.in-Err.ensures.fault is
 
-pub overflow_add-size : goal.overflow_add-size
-overflow_add-size g c =
-    let few = few_symbols c.args.form.rule.k c.in-Ok.symbols c.args.offset c.args.body.now (λ i. omega (arith, c.type_inv.body i)) c.in-Ok.ensures.count
-    c.in-Ok.ensures.inside c.in-Ok.ensures.rest c.args.form.rule.within.1 in
-    symbols_fit c.in-Ok.symbols few
-
-pub overflow_add-size-2 : goal.overflow_add-size-2
-overflow_add-size-2 g c =
-    let few = few_symbols c.args.form.rule.k c.in-Ok.symbols c.args.offset c.args.body.now (λ i. omega (arith, c.type_inv.body i)) c.in-Ok.ensures.count
-    c.in-Ok.ensures.inside c.in-Ok.ensures.rest c.args.form.rule.within.1 in
-    size_fits c.in-Ok.symbols few
-
-pub slice_bounds-push_record-count : goal.slice_bounds-push_record-count
-slice_bounds-push_record-count g c = some_size c.in-Ok.symbols
-
-pub slice_bounds-push_record-start : goal.slice_bounds-push_record-start
-slice_bounds-push_record-start g c = some_size c.in-Ok.symbols
-
-pub slice_bounds-push_record-end : goal.slice_bounds-push_record-end
-slice_bounds-push_record-end g c = c.in-Ok.ensures.inside
-
 pub push_record-requires-clause-few : goal.push_record-requires-clause-few
 push_record-requires-clause-few g c =
-    let few = few_symbols c.args.form.rule.k c.in-Ok.symbols c.args.offset c.args.body.now (λ i. omega (arith, c.type_inv.body i)) c.in-Ok.ensures.count
+    let few = few_symbols c.args.form.rule.k c.in-Ok.found.0 c.args.offset c.args.body.now (λ i. omega (arith, c.type_inv.body i)) c.in-Ok.ensures.count
     c.in-Ok.ensures.inside c.in-Ok.ensures.rest c.args.form.rule.within.1 in
-    few_bytes c.in-Ok.symbols (rest_at c.args.offset c.args.body.now) few c.in-Ok.ensures.inside
+    few_bytes c.in-Ok.found.0 _ few c.in-Ok.ensures.size
 
 pub returns-clause-on : goal.returns-clause-on
 returns-clause-on g c =
-    behind_it c.in-Ok.symbols c.args.offset (length c.args.body.now)
-    (next_inside c.args.form.rule.k c.in-Ok.symbols c.args.offset c.args.body.now (λ i. omega (arith, c.type_inv.body i)) c.in-Ok.ensures.count
+    behind_it c.in-Ok.found.0 _ c.args.offset (length c.args.body.now) c.in-Ok.ensures.size
+    (next_inside c.args.form.rule.k c.in-Ok.found.0 c.args.offset c.args.body.now (λ i. omega (arith, c.type_inv.body i)) c.in-Ok.ensures.count
     c.in-Ok.ensures.inside c.in-Ok.ensures.rest)

@@ -1,4 +1,4 @@
-use Rattle.std.proofs.Common.{List, length, sym, ap, subst, ◌∙◌}
+use Rattle.std.proofs.Common.{rules, List, length, sym, ap, subst, ◌∙◌}
 use Rattle.kmc_lists.specs.Line.{text_of}
 use Rattle.kmc_lists.specs.Listed.{Listed, spelled}
 use Rattle.kmc_lists.specs.Lists.{lists_of}
@@ -7,53 +7,35 @@ use Rattle.kmc_lists.specs.declared.bin_lists.BinLists.TheVariants.{Narrow, Wide
 use Rattle.kmc_dump.specs.Written.{IsDumped}
 use Rattle.kmc_dump.proofs.bins.write_sized.Goals as goal
 
-pub write_lists-requires-clause-merge : goal.write_lists-requires-clause-merge
-write_lists-requires-clause-merge g c κs within =
+pub write_lists-requires : goal.write_lists-requires
+write_lists-requires g c =
     let same = ap lists_of (c.in-Narrow-U8.is ∙ ap Narrow (rw c.in-Narrow-U8.is at c.in-Narrow-U8.field-0-is)) ∙ sym c.deref.ensures.value in
-    subst (CanBeMerged c.args.size.k) same c.requires.merge
+    (search rules, (search rules, (search rules, (search rules, (search rules, subst (CanBeMerged c.args.size.k) same c.requires.merge)))))
 
-pub write_lists-requires-clause-threads : goal.write_lists-requires-clause-threads
-write_lists-requires-clause-threads g c κs within = c.requires.threads
-
-pub write_lists-requires-in-Narrow-U32-clause-merge : goal.write_lists-requires-in-Narrow-U32-clause-merge
-write_lists-requires-in-Narrow-U32-clause-merge g c κs within =
+pub write_lists-requires-in-Narrow-U32 : goal.write_lists-requires-in-Narrow-U32
+write_lists-requires-in-Narrow-U32 g c =
     let same = ap lists_of (c.in-Narrow-U32.is ∙ ap Narrow (rw c.in-Narrow-U32.is at c.in-Narrow-U32.field-0-is)) ∙ sym c.deref-in-Narrow-U32.ensures.value in
-    subst (CanBeMerged c.args.size.k) same c.requires.merge
+    (search rules, (search rules, (search rules, (search rules, (search rules, subst (CanBeMerged c.args.size.k) same c.requires.merge)))))
 
-pub write_lists-requires-in-Narrow-U32-clause-threads : goal.write_lists-requires-in-Narrow-U32-clause-threads
-write_lists-requires-in-Narrow-U32-clause-threads g c κs within = c.requires.threads
-
-pub write_lists-requires-in-Narrow-U64-clause-merge : goal.write_lists-requires-in-Narrow-U64-clause-merge
-write_lists-requires-in-Narrow-U64-clause-merge g c κs within =
+pub write_lists-requires-in-Narrow-U64 : goal.write_lists-requires-in-Narrow-U64
+write_lists-requires-in-Narrow-U64 g c =
     let same = ap lists_of (c.in-Narrow-U64.is ∙ ap Narrow (rw c.in-Narrow-U64.is at c.in-Narrow-U64.field-0-is)) ∙ sym c.deref-in-Narrow-U64.ensures.value in
-    subst (CanBeMerged c.args.size.k) same c.requires.merge
+    (search rules, (search rules, (search rules, (search rules, (search rules, subst (CanBeMerged c.args.size.k) same c.requires.merge)))))
 
-pub write_lists-requires-in-Narrow-U64-clause-threads : goal.write_lists-requires-in-Narrow-U64-clause-threads
-write_lists-requires-in-Narrow-U64-clause-threads g c κs within = c.requires.threads
-
-pub write_lists-requires-in-Wide-U8-clause-merge : goal.write_lists-requires-in-Wide-U8-clause-merge
-write_lists-requires-in-Wide-U8-clause-merge g c κs within =
+pub write_lists-requires-in-Wide-U8 : goal.write_lists-requires-in-Wide-U8
+write_lists-requires-in-Wide-U8 g c =
     let same = ap lists_of (c.in-Wide-U8.is ∙ ap Wide (rw c.in-Wide-U8.is at c.in-Wide-U8.field-0-is)) ∙ sym c.deref-in-Wide-U8.ensures.value in
-    subst (CanBeMerged c.args.size.k) same c.requires.merge
+    (search rules, (search rules, (search rules, (search rules, (search rules, subst (CanBeMerged c.args.size.k) same c.requires.merge)))))
 
-pub write_lists-requires-in-Wide-U8-clause-threads : goal.write_lists-requires-in-Wide-U8-clause-threads
-write_lists-requires-in-Wide-U8-clause-threads g c κs within = c.requires.threads
-
-pub write_lists-requires-in-Wide-U32-clause-merge : goal.write_lists-requires-in-Wide-U32-clause-merge
-write_lists-requires-in-Wide-U32-clause-merge g c κs within =
+pub write_lists-requires-in-Wide-U32 : goal.write_lists-requires-in-Wide-U32
+write_lists-requires-in-Wide-U32 g c =
     let same = ap lists_of (c.in-Wide-U32.is ∙ ap Wide (rw c.in-Wide-U32.is at c.in-Wide-U32.field-0-is)) ∙ sym c.deref-in-Wide-U32.ensures.value in
-    subst (CanBeMerged c.args.size.k) same c.requires.merge
+    (search rules, (search rules, (search rules, (search rules, (search rules, subst (CanBeMerged c.args.size.k) same c.requires.merge)))))
 
-pub write_lists-requires-in-Wide-U32-clause-threads : goal.write_lists-requires-in-Wide-U32-clause-threads
-write_lists-requires-in-Wide-U32-clause-threads g c κs within = c.requires.threads
-
-pub write_lists-requires-in-Wide-U64-clause-merge : goal.write_lists-requires-in-Wide-U64-clause-merge
-write_lists-requires-in-Wide-U64-clause-merge g c κs within =
+pub write_lists-requires-in-Wide-U64 : goal.write_lists-requires-in-Wide-U64
+write_lists-requires-in-Wide-U64 g c =
     let same = ap lists_of (c.in-Wide-U64.is ∙ ap Wide (rw c.in-Wide-U64.is at c.in-Wide-U64.field-0-is)) ∙ sym c.deref-in-Wide-U64.ensures.value in
-    subst (CanBeMerged c.args.size.k) same c.requires.merge
-
-pub write_lists-requires-in-Wide-U64-clause-threads : goal.write_lists-requires-in-Wide-U64-clause-threads
-write_lists-requires-in-Wide-U64-clause-threads g c κs within = c.requires.threads
+    (search rules, (search rules, (search rules, (search rules, (search rules, subst (CanBeMerged c.args.size.k) same c.requires.merge)))))
 
 pub returns-in-Narrow-U8 : goal.returns-in-Narrow-U8
 returns-in-Narrow-U8 g c =

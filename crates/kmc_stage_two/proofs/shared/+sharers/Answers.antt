@@ -11,7 +11,7 @@ use Rattle.kmc_stage_two.proofs.shared.+sharers.Goals as goal
 pub back-take_shared-requires : goal.back-take_shared-requires
 back-take_shared-requires g t c κs within =
     let r = c.requires in
-    (omega arith, (within.0, (within.1, (assumption, (r.0, r.1)))))
+    (omega arith, (within.0, (within.1, (assumption, r))))
 
 pub back-returns : goal.back-returns
 back-returns g t c = c.take_shared.ensures
@@ -24,7 +24,7 @@ fn::take_shared::back+FnOnce::call_once-back-requires g t c κs within =
 pub front-take_shared-requires : goal.front-take_shared-requires
 front-take_shared-requires g t c κs within =
     let r = c.requires in
-    (omega arith, (within.0, (within.1, (assumption, (r.0, r.1)))))
+    (omega arith, (within.0, (within.1, (assumption, r))))
 
 pub front-returns : goal.front-returns
 front-returns g t c = c.take_shared.ensures
@@ -54,7 +54,7 @@ pub overflow_sub-others : goal.overflow_sub-others
 overflow_sub-others g t c = omega arith
 
 pub nonzero_div-body : goal.nonzero_div-body
-nonzero_div-body g t c = c.requires.threads
+nonzero_div-body g t c = omega arith
 
 pub split_at-requires : goal.split_at-requires
 split_at-requires g t c = c.record_behind-middle.ensures
@@ -62,8 +62,8 @@ split_at-requires g t c = c.record_behind-middle.ensures
 pub join-first-requires-after_bounds : goal.join-first-requires-after_bounds
 join-first-requires-after_bounds g t c κs within =
     let more : 2 ≤ c.args.threads = omega arith in (
-      (omega arith, (λ a h. h, (λ a h. h, ((assumption, omega arith), (assumption, assumption))))),
-      (omega arith, (λ a h. h, (λ a h. h, ((assumption, omega arith), (assumption, assumption))))),
+      (omega arith, (λ a h. h, (λ a h. h, (assumption, (assumption, assumption))))),
+      (omega arith, (λ a h. h, (λ a h. h, (assumption, (assumption, assumption))))),
     )
 
 pub returns : goal.returns

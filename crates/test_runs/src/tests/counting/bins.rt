@@ -120,9 +120,7 @@ fn lists_of<R: Abort + Threads + Wait + Sync + Alloc<A = Global>>(
     rt: &R,
     bodies: &[&[u8]],
     threads: usize,
-) -> Result<BinLists, BodyError>
-    requires { 1 ≤ threads }
-{
+) -> Result<BinLists, BodyError> {
     let alloc = rt.alloc();
     let bodies = vectors_of(alloc, bodies).expect(rt, "memory");
     list_bins(rt, alloc, bodies, 4, Strands::Joined, &LIMITS, threads)
@@ -171,9 +169,10 @@ fn counts_bins_over_any_number_of_threads(rt: HostRuntime) {
 }
 
 /// Asserts that the first damaged one of four bodies is named, by so many threads.
-fn assert_damaged_bin<R: Abort + Threads + Wait + Sync + Alloc<A = Global>>(rt: &R, threads: usize)
-    requires { 1 ≤ threads }
-{
+fn assert_damaged_bin<R: Abort + Threads + Wait + Sync + Alloc<A = Global>>(
+    rt: &R,
+    threads: usize,
+) {
     let bodies: [&[u8]; 4] = [&[0x00, 0x1b], &[0x00, 0x1b, 0x00], &[0x05], &[0x00, 0x1b]];
     let error = lists_of(rt, &bodies, threads).err();
     assert_eq!(rt; error, Some(BodyError::Damaged(RecordFault::Short, 2)));
