@@ -151,7 +151,7 @@ fn assert_lists<R: Abort + Threads + Wait + Sync>(
     limits: &Limits,
     threads: usize,
 ) -> Result<(), Fail> {
-    assert!(rt; 1 <= k && k <= 64 && 1 <= threads);
+    assert!(rt; 1 <= k && k <= 64);
     let bodies = thrown_bodies(alloc, &mut Dice { state: 1234567 }, k)?;
     let plain = plain_lists(alloc, &bodies, k, limits)?;
     let lists = packed_lists(rt, alloc, bodies, k, limits, threads)?;
@@ -171,7 +171,7 @@ fn assert_all_lists<R: Abort + Threads + Wait + Sync>(
     cs: u64,
 ) -> Result<(), Fail> {
     let limits = limits_up_to(cs)?;
-    for threads in [1, 2, 3, 16] {
+    for threads in [0, 1, 2, 3, 16] {
         assert_lists(rt, alloc, k, &limits, threads)?;
     }
     Ok(())

@@ -140,7 +140,7 @@ fn assert_damaged<R: Abort + Threads + Wait + Sync>(
     body: &[u8],
     want: BodyError,
 ) -> Result<(), Fail> {
-    for threads in [1, 2, 3, 4, 7] {
+    for threads in [0, 1, 2, 3, 4, 7] {
         let bodies = between_others(alloc, body, 5)?;
         let lists = list_bins(rt, alloc, bodies, 5, Strands::Joined, &LIMITS, threads);
         assert!(rt; lists.err() == Some(want), "{want:?}, {threads} threads");

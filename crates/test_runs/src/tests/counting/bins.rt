@@ -162,7 +162,7 @@ fn counts_bins_over_any_number_of_threads(rt: HostRuntime) {
         &[0x00, 0x55],
     ];
     let want: [&[(u64, u8)]; 5] = [&[(0x6c, 2)], &[], &[(0x1b, 1)], &[(0x00, 2)], &[(0x55, 1)]];
-    for threads in [1, 2, 16] {
+    for threads in [0, 1, 2, 16] {
         let lists = lists_of(&rt, &bodies, threads).expect(&rt, "counted");
         assert_lists(&rt, lists, &want);
     }
@@ -180,6 +180,7 @@ fn assert_damaged_bin<R: Abort + Threads + Wait + Sync + Alloc<A = Global>>(
 
 #[test]
 fn names_the_first_damaged_bin(rt: HostRuntime) {
+    assert_damaged_bin(&rt, 0);
     assert_damaged_bin(&rt, 1);
     assert_damaged_bin(&rt, 2);
     assert_damaged_bin(&rt, 16);
