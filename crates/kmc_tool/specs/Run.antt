@@ -51,7 +51,7 @@ pub record IsCountedInput {R : Type 0} (remaining : R → Option (List ℕ)) (pa
   pub cause : IfErr answer (IsInputError params.format most (remaining reader.inner) (remaining read.inner))
 
 -- a run from a reader to a writer, each before and after, by its answer
-pub record IsRun {R W : Type 0} (remaining : R → Option (List ℕ)) (contents : W → Option (List ℕ)) (params : Params) (reader read : Watched R)
+pub record IsRunAnswer {R W : Type 0} (remaining : R → Option (List ℕ)) (contents : W → Option (List ℕ)) (params : Params) (reader read : Watched R)
     (writer written : Watched W) (answer : Result ℕ RunError) : Type 0 where
   -- what was written is the dump of what the reader gave to its end, and the answer is its number of lines
   pub ok : IfOk answer (λ lines. (bytes text : List ℕ) × GaveAll (remaining reader.inner) (remaining read.inner) bytes

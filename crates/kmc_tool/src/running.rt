@@ -1,7 +1,7 @@
 //! A run: from the bytes of a reader to the dump on a writer.
 ghost use Rattle.std.specs.Prelude.{◌≡◌, ◌+◌, ◌^◌, ◌<◌};
 ghost use Rattle.kmc_tool.specs.Errors.{write_error};
-ghost use Rattle.kmc_tool.specs.Run.{IsRun};
+ghost use Rattle.kmc_tool.specs.Run.{IsRunAnswer};
 
 use crate::input::count_input_with;
 use kmc_device::Counted;
@@ -36,7 +36,7 @@ pub fn run<T: Threads + Wait + Sync, R: Read, W: Write>(
     params: &Params,
 ) -> Result<u64, RunError>
     requires reads { reader.old.reads + 2 ^ 32 < 2 ^ 64 }
-    ensures { IsRun R.remaining W.contents params.now reader.old reader.new writer.old writer.new result }
+    ensures { IsRunAnswer R.remaining W.contents params.now reader.old reader.new writer.old writer.new result }
 {
     run_with_gate(rt, alloc, reader, writer, params, &NoGate)
 }
@@ -51,7 +51,7 @@ pub fn run_with_gate<T: Threads + Wait + Sync, R: Read, W: Write, G: Gate + Sync
     gate: &G,
 ) -> Result<u64, RunError>
     requires reads { reader.old.reads + 2 ^ 32 < 2 ^ 64 }
-    ensures { IsRun R.remaining W.contents params.now reader.old reader.new writer.old writer.new result }
+    ensures { IsRunAnswer R.remaining W.contents params.now reader.old reader.new writer.old writer.new result }
 {
     memory_is_no_fault();
     let lists = count_input_with(rt, alloc, reader, params, gate, MOST_READS)?;
