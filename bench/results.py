@@ -22,6 +22,13 @@ LARGE = os.environ.get("LARGE", "plant fly").split()  # the large texts, or a fi
 # variables of the scripts that are told with their figures, where they are set
 TOLD = ("SHORT_READS", "LONG_READS", "CUT_TIMES", "SLICES", "K", "KMC_GB", "FOLDER", "ROUNDS")
 
+HEAD = """# Results
+
+Written by `make results` (bench/results.py). Each section tells when and on which machine it was measured: compare within one alone. MB are 2^20 bytes
+where KMC 3 stands beside, else a million.
+
+"""
+
 # name, heading, command, whether the last line alone is kept
 SECTIONS = [
     ("size", "At the size that users have, k 31", ["bench/compare.sh", "-r", ROUNDS, "-k", "31", "-t", "4", *LARGE], False),
@@ -83,8 +90,8 @@ def section(name, heading, words, last):
     given = ["%s='%s'" % (each, os.environ[each]) for each in TOLD if name in ("slices", "room") and each in os.environ]
     lines = run(words)
     body = lines[-1:] if last else lines
-    told = "%s, version %s, %s; load %s before and %s after; %d s" % (
-        time.strftime("%Y-%m-%d"), version(), "`%s`" % " ".join([*given, *("'%s'" % word if " " in word else word for word in words)]), before, load(), time.time() - start)
+    told = "%s, version %s, on %s, %s; load %s before and %s after; %d s" % (
+        time.strftime("%Y-%m-%d"), version(), machine(), "`%s`" % " ".join([*given, *("'%s'" % word if " " in word else word for word in words)]), before, load(), time.time() - start)
     return "<!-- %s: begin -->\n## %s\n\n%s\n\n%s\n<!-- %s: end -->\n" % (name, heading, told, "\n".join(body), name)
 
 
@@ -114,6 +121,12 @@ def told_of(sections, name):
     """When and with which version a section was measured."""
     found = re.search(r"^(\d{4}-\d\d-\d\d, version [\d.]+( and later)?)", sections.get(name, ""), re.M)
     return found.group(1) if found else "not measured"
+
+
+def machine_of(sections, name):
+    """The machine that a section was measured on."""
+    found = re.search(r"^\d{4}-\d\d-\d\d, version .*?, on (.*?), `", sections.get(name, ""), re.M)
+    return found.group(1) if found else "a machine that is not told"
 
 
 def of_four_threads(sections, name="kmc3"):
@@ -161,7 +174,7 @@ def table(sections):
     lines.append("")
     lines.append("KMC 3.2.1 in the faster of its two modes (in memory, with files), its sorted dump included; dumps equal byte for byte. Short reads: 1.5 million")
     lines.append("of 100, 30-fold; deep: 88-fold; hifi: 10,000 of 15,000, 2 errors in 1000; long: 5 in 100; genome: 100 million symbols, `-ci1`. Measured")
-    lines.append("%s (`make results`), on %s." % (told_of(sections, "kmc3"), machine()))
+    lines.append("%s (`make results`), on %s." % (told_of(sections, "kmc3"), machine_of(sections, "kmc3")))
     return lines
 
 
@@ -172,12 +185,11 @@ def main():
         if name in wanted:
             print("results: %s" % heading, flush=True)
             sections[name] = section(name, heading, words, last)
-            head = "# Results\n\nWritten by `make results` (bench/results.py). %s. MB are 2^20 bytes where KMC 3 stands beside, else a million.\n\n" % machine()
             with open(RESULTS, "w") as file:
-                file.write(head + "\n".join(sections[each] for each, _, _, _ in SECTIONS if each in sections))
+                file.write(HEAD + "\n".join(sections[each] for each, _, _, _ in SECTIONS if each in sections))
     put(os.path.join(TOP, "README.md"), "headline", headline(sections))
     put(os.path.join(TOP, "docs", "KMC3.md"), "table", table(sections))
-    put(os.path.join(TOP, "docs", "DESIGN.md"), "figures", ["%s, on %s." % (told_of(sections, "kmc3"), machine()), ""] + rows_of(sections, "kmc3"))
+    put(os.path.join(TOP, "docs", "DESIGN.md"), "figures", ["%s, on %s." % (told_of(sections, "kmc3"), machine_of(sections, "kmc3")), ""] + rows_of(sections, "kmc3"))
 
 
 if __name__ == "__main__":
