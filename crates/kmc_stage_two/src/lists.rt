@@ -52,8 +52,8 @@ fn list_sized<R: Threads + Sync, W: PackedKmer + Drop + Send + Sync>(
 }
 
 /// The list of each body, in the order of the bodies, by at most so many threads: 0 and 1 are the calling thread alone. A pair takes 9
-/// bytes up to k = 32 and 17 above where cs is below 256, 4 more bytes in place of 1 where it is below 2^32, and 8 else. The records of some
-/// neighbouring bodies are freed once these are counted. Where a bin is asked for, each body is of its bin. Where a body is damaged,
+/// bytes up to k = 32 and 17 above where cs is below 256, 4 more bytes in place of 1 where it is below 2^32, and 8 else. The records of
+/// some neighbouring bodies are freed once these are counted. Where a bin is asked for, each body is of its bin. Where a body is damaged,
 /// the fault is that of the first such body. Where it fails, bodies whose records are there still are as they were.
 pub fn list_asked<R: Threads + Sync>(
     rt: &R,

@@ -40,8 +40,8 @@ fn take_bodies<W: PackedKmer + Drop, C: CountWidth + Drop>(
 }
 
 /// The lists of the bodies that at most so many threads take, each with its place, in any order; 0 threads take none. Where no
-/// thread can be made, the calling thread takes them all. An error is that of one of the threads, and no promise is made of which: who wants the fault of the
-/// first body counts anew, by [`list_row`](crate::row::list_row).
+/// thread can be made, the calling thread takes them all. An error is that of one of the threads, and no promise is made of which: who
+/// wants the fault of the first body counts anew, by [`list_row`](crate::row::list_row).
 pub fn take_by_threads<R: Threads + Sync, W: PackedKmer + Drop + Send, C: CountWidth + Drop + Send>(
     rt: &R,
     alloc: Global,
