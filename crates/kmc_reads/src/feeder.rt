@@ -125,14 +125,15 @@ impl Feeder {
             → At rows spot front self.old.scan
             → IfOk result (λ reads. (reads ≡ rows) × At [] spot front self.new.scan) }
     {
-        self.scan.take(alloc)
+        self.scan.take(Reads::new(alloc))
     }
 
     /// Hands out the reads that have ended and were not taken yet and, of a FASTA read that is open, its symbols so far as
     /// a piece. The last `overlap` of these stay: the next piece of this read, or its end, begins with them. So a sequence of any
     /// length passes in little memory. Where no more symbols are open, or a carriage return came last, it is [`Feeder::take`],
-    /// and so it is for FASTQ, where the length of a read is wanted for its quality line.
-    pub fn take_open(&mut self, alloc: Global, overlap: usize) -> Result<Reads, AllocError>
+    /// and so it is for FASTQ, where the length of a read is wanted for its quality line. What comes next lies in the memory of reads
+    /// that are spent, so that two buffers do for all rounds of a text; [`Reads::new`] is none.
+    pub fn take_open(&mut self, overlap: usize, spent: Reads) -> Result<Reads, AllocError>
         ensures stands { (format : Format) (text : List ℕ) (taken : List (List ℕ))
             → Stands (Some overlap) format text taken self.old
             → IfOk result (λ reads. Stands (Some overlap) format text (taken ++ reads) self.new) }
@@ -148,7 +149,7 @@ impl Feeder {
             → IfOk result (λ reads. Hands overlap rows spot front reads self.new.scan) }
         ensures still { OnErr result (StandsStill self.old.scan self.new.scan) }
     {
-        self.scan.take_open(alloc, overlap)
+        self.scan.take_open(overlap, spent)
     }
 
     /// How many symbols of the open read [`Feeder::take_open`] can hand out.

@@ -43,6 +43,19 @@ impl Reads {
         Reads { bytes, ends }
     }
 
+    /// The memory of reads that are done with, for others: both are empty.
+    pub(crate) fn into_rooms(self) -> (Vec<u8>, Vec<usize>)
+        ensures { (result.0.items ≡ []) × (result.1.items ≡ []) }
+    {
+        let Reads {
+            mut bytes,
+            mut ends,
+        } = self;
+        bytes.clear();
+        ends.clear();
+        (bytes, ends)
+    }
+
     /// How many they are.
     pub fn len(&self) -> usize
         ensures { result ≡ length self.now }

@@ -61,12 +61,15 @@ fn emptied(place: Place) -> Place
     next
 }
 
-/// The same bytes with room for so many more and an eighth, where memory is to be had: the next round is about as long as the last.
+/// The same bytes with room for so many more, where memory is to be had: the next round is about as long as the last. Where they have no
+/// such room, they get an eighth more, so that a round that is a little longer finds it.
 fn with_room(bytes: Vec<u8>, more: usize) -> Vec<u8>
     ensures { result.items ≡ bytes.items }
 {
     let mut roomy = bytes;
-    let _ = roomy.reserve(more.saturating_add(more / 8));
+    if roomy.capacity() - roomy.len() < more {
+        let _ = roomy.reserve(more.saturating_add(more / 8));
+    }
     roomy
 }
 
@@ -230,8 +233,8 @@ impl Scan {
         }
     }
 
-    /// Hands out the reads that have ended, and keeps the open one.
-    pub fn take(&mut self, alloc: Global) -> Result<Reads, AllocError>
+    /// Hands out the reads that have ended, and keeps the open one, in the memory of reads that are spent.
+    pub fn take(&mut self, spent: Reads) -> Result<Reads, AllocError>
         requires { IsSomewhere self.old }
         ensures taken { (rows : List (List ℕ)) (spot : Spot) (front : List ℕ)
             → At rows spot front self.old
@@ -239,16 +242,19 @@ impl Scan {
         ensures moved { OnOk result (Moves self.old self.new) }
         ensures same { OnErr result (self.new ≡ self.old) }
     {
-        let open = self.bytes.split_off(self.place.start)?;
+        let (mut open, rows) = spent.into_rooms();
+        open.extend_from_slice(&self.bytes[self.place.start..])?;
+        self.bytes.truncate(self.place.start);
         let next = with_room(open, self.bytes.len());
         let bytes = mem::replace(&mut self.bytes, next);
-        let ends = mem::replace(&mut self.ends, Vec::new(alloc));
+        let ends = mem::replace(&mut self.ends, rows);
         self.place.start = 0;
         Ok(Reads::of_rows(bytes, ends))
     }
 
-    /// Hands out the reads that have ended and, as a last one, the symbols of the open read, of which the last ones stay.
-    fn cut(&mut self, alloc: Global, overlap: usize) -> Result<Reads, AllocError>
+    /// Hands out the reads that have ended and, as a last one, the symbols of the open read, of which the last ones stay, in the memory of
+    /// reads that are spent.
+    fn cut(&mut self, overlap: usize, spent: Reads) -> Result<Reads, AllocError>
         requires somewhere { IsSomewhere self.old }
         requires stage { (self.old.place.stage ≡ Body) ⊎ (self.old.place.stage ≡ Rest) }
         requires held { self.old.place.held ≡ false }
@@ -259,18 +265,19 @@ impl Scan {
         ensures handed { OnOk result (IsHandedOut overlap self.new) }
         ensures again { OnErr result (IsAgain self.old self.new) }
     {
-        let kept = Vec::from_slice(alloc, &self.bytes[self.bytes.len() - overlap..])?;
+        let (mut kept, rows) = spent.into_rooms();
+        kept.extend_from_slice(&self.bytes[self.bytes.len() - overlap..])?;
         self.ends.push(self.bytes.len())?;
         let next = with_room(kept, self.bytes.len());
         let bytes = mem::replace(&mut self.bytes, next);
-        let ends = mem::replace(&mut self.ends, Vec::new(alloc));
+        let ends = mem::replace(&mut self.ends, rows);
         self.place = emptied(self.place);
         Ok(Reads::of_rows(bytes, ends))
     }
 
     /// Hands out the reads that have ended and, where more than `overlap` symbols of a FASTA read are open and no
     /// carriage return came last, these as a piece, whose last `overlap` symbols stay open.
-    pub fn take_open(&mut self, alloc: Global, overlap: usize) -> Result<Reads, AllocError>
+    pub fn take_open(&mut self, overlap: usize, spent: Reads) -> Result<Reads, AllocError>
         requires { IsSomewhere self.old }
         ensures taken { (rows : List (List ℕ)) (spot : Spot) (front : List ℕ)
             → At rows spot front self.old
@@ -280,9 +287,9 @@ impl Scan {
     {
         let symbols = matches!(self.place.stage, LineKind::Body | LineKind::Rest);
         if !symbols || self.place.held || self.bytes.len() - self.place.start <= overlap {
-            return self.take(alloc);
+            return self.take(spent);
         }
-        self.cut(alloc, overlap)
+        self.cut(overlap, spent)
     }
 
     /// How many symbols of the open read can be handed out.

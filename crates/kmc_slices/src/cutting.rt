@@ -10,7 +10,7 @@ use crate::round::next_bins;
 use crate::writing::write_bins;
 use kmc_device::Counted;
 use kmc_partqueue::Gate;
-use kmc_reads::{Feeder, InputError};
+use kmc_reads::{Feeder, InputError, Reads};
 use kmc_stage_one::{Dealing, fill_round, last_round, round_of};
 use kmc_store::Bins;
 use kmc_store::laws::empty_bins_hold_no_reads;
@@ -106,6 +106,7 @@ pub(crate) fn cut_rounds<T: Threads + Wait + Sync, R: Read, W: Write, G: Gate + 
     let settings = &dealing.settings;
     let mut bins = Bins::new(dealing.alloc, settings.shape)?;
     let mut feeder = Feeder::new(dealing.alloc, settings.format);
+    let mut spent = Reads::new(dealing.alloc);
     let most = reader.reads() + max_reads;
     let mut more = match fill_round(
         reader,
@@ -121,7 +122,8 @@ pub(crate) fn cut_rounds<T: Threads + Wait + Sync, R: Read, W: Write, G: Gate + 
         if !more {
             return cut_last_round(rt, feeder, writers, counts, dealing);
         }
-        let (next, goes_on) = match next_bins(rt, dealing, bins, reader, &mut feeder, most) {
+        let made = next_bins(rt, dealing, bins, reader, &mut feeder, most, &mut spent);
+        let (next, goes_on) = match made {
             Ok(next) => next,
             Err(e) => return Err(told(e)),
         };

@@ -9,12 +9,13 @@ ghost use Rattle.kmc_slices.specs.Rounds.{IsRound, IsRoundError};
 
 use kmc_device::Counted;
 use kmc_partqueue::Gate;
-use kmc_reads::{Feeder, InputError};
+use kmc_reads::{Feeder, InputError, Reads};
 use kmc_stage_one::{Dealing, feed_round, take_round};
 use kmc_store::Bins;
 use kmc_store::laws::empty_bins_hold_no_reads;
 use std::alloc::{AllocError, Global};
 use std::io::Read;
+use std::mem::replace;
 use std::sync::Wait;
 use std::thread::Threads;
 
@@ -34,7 +35,8 @@ pub(crate) fn emptied(alloc: Global, bins: Bins) -> Result<Bins, AllocError>
 }
 
 /// The bins of the reads that wait in the feeder, made in threads while this thread reads and feeds the next round, and
-/// whether the text goes on. No read is made once `most` of them gave bytes. They take the memory of the bins of another round.
+/// whether the text goes on. No read is made once `most` of them gave bytes. They take the memory of the bins of another round, and the
+/// next round that of reads that are spent; then its own reads are the spent ones.
 pub(crate) fn next_bins<T: Threads + Wait + Sync, R: Read, G: Gate + Sync>(
     rt: &T,
     dealing: &Dealing<'_, G>,
@@ -42,6 +44,7 @@ pub(crate) fn next_bins<T: Threads + Wait + Sync, R: Read, G: Gate + Sync>(
     reader: &mut Counted<R>,
     feeder: &mut Feeder,
     most: u64,
+    spent: &mut Reads,
 ) -> Result<(Bins, bool), InputError>
     requires shape { last.shape ≡ dealing.now.settings.shape }
     requires reads { reader.old.reads ≤ most }
@@ -65,8 +68,10 @@ pub(crate) fn next_bins<T: Threads + Wait + Sync, R: Read, G: Gate + Sync>(
 {
     empty_bins_hold_no_reads();
     let mut bins = emptied(dealing.alloc, last)?;
-    let round = take_round(feeder, dealing.alloc, dealing.settings.shape)?;
+    let room = replace(spent, Reads::new(dealing.alloc));
+    let round = take_round(feeder, dealing.settings.shape, room)?;
     let (stored, fed) = feed_round(rt, &mut bins, &round, dealing, reader, feeder, most);
+    *spent = round;
     let more = fed?;
     stored?;
     Ok((bins, more))

@@ -21,6 +21,7 @@ use kmc_store::Bins;
 use kmc_store::laws::empty_bins_hold_no_reads;
 use std::alloc::{AllocError, Global};
 use std::io::Read;
+use std::mem::replace;
 use std::sync::Wait;
 use std::thread::{Threads, join_mut};
 
@@ -115,9 +116,9 @@ pub fn last_round<T: Threads + Wait + Sync, G: Gate + Sync>(
     Ok(bins)
 }
 
-/// The reads of a round, taken out of the feeder: of an open one all but the k - 1 symbols that its next piece begins with. After
-/// want of memory the feeder stands where it stood.
-pub fn take_round(feeder: &mut Feeder, alloc: Global, shape: Shape) -> Result<Reads, AllocError>
+/// The reads of a round, taken out of the feeder: of an open one all but the k - 1 symbols that its next piece begins with. The next round
+/// is read into the memory of a round that is spent. After want of memory the feeder stands where it stood.
+pub fn take_round(feeder: &mut Feeder, shape: Shape, spent: Reads) -> Result<Reads, AllocError>
     ensures stands { (format : Format) (text : List ℕ) (taken : List (List ℕ))
         → Stands (Some (shape.k - 1)) format text taken feeder.old
         → IfOk result (λ reads. Stands (Some (shape.k - 1)) format text (taken ++ reads) feeder.new) }
@@ -126,11 +127,12 @@ pub fn take_round(feeder: &mut Feeder, alloc: Global, shape: Shape) -> Result<Re
         → OnErr result (Stands (Some (shape.k - 1)) format text taken feeder.new) }
     ensures handed { OnOk result (IsHandedOut (shape.k - 1) feeder.new.scan) }
 {
-    feeder.take_open(alloc, shape.k() - 1)
+    feeder.take_open(shape.k() - 1, spent)
 }
 
 /// The reads that wait in the feeder are added to the bins, which are of the shape of the settings, while this thread reads and
-/// feeds the next round. The answer is whether the text goes on. A refusal is that of the reading before that of the bins.
+/// feeds the next round, into the memory of the round that is spent; then they are the spent ones. The answer is whether the text goes on.
+/// A refusal is that of the reading before that of the bins.
 fn next_round<T: Threads + Wait + Sync, R: Read, G: Gate + Sync>(
     rt: &T,
     bins: &mut Bins,
@@ -138,6 +140,7 @@ fn next_round<T: Threads + Wait + Sync, R: Read, G: Gate + Sync>(
     dealing: &Dealing<'_, G>,
     reader: &mut Counted<R>,
     most: u64,
+    spent: &mut Reads,
 ) -> Result<bool, InputError>
     requires shape { bins.old.shape ≡ dealing.now.settings.shape }
     requires reads { reader.old.reads ≤ most }
@@ -153,8 +156,10 @@ fn next_round<T: Threads + Wait + Sync, R: Read, G: Gate + Sync>(
         (reads_of_round dealing.now.settings.queue.writers dealing.now.settings.batch) dealing.now.symbols BLOCK
         (dealing.now.settings.shape.k - 1) (R.remaining reader.old.inner) (R.remaining reader.new.inner) feeder.new) }
 {
-    let round = take_round(feeder, dealing.alloc, dealing.settings.shape)?;
+    let room = replace(spent, Reads::new(dealing.alloc));
+    let round = take_round(feeder, dealing.settings.shape, room)?;
     let (stored, fed) = feed_round(rt, bins, &round, dealing, reader, feeder, most);
+    *spent = round;
     let more = fed?;
     stored?;
     Ok(more)
@@ -193,12 +198,13 @@ fn earlier_rounds<T: Threads + Wait + Sync, R: Read, G: Gate + Sync>(
 {
     let most = reader.reads() + max_reads;
     let full = round_of(&dealing.settings);
+    let mut spent = Reads::new(dealing.alloc);
     let mut more = fill_round(reader, feeder, most, full, dealing.symbols)?;
     for _ in 0..1u64 << 32 {
         if !more {
             return Ok(());
         }
-        more = next_round(rt, bins, feeder, dealing, reader, most)?;
+        more = next_round(rt, bins, feeder, dealing, reader, most, &mut spent)?;
     }
     Err(InputError::TooLong)
 }

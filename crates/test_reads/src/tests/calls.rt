@@ -28,8 +28,8 @@ pub(crate) fn take_open(
     feeder: &mut Feeder,
     overlap: usize,
 ) -> Result<Reads, AllocError> {
-    match feeder.take_open(alloc, overlap) {
-        Err(_) => feeder.take_open(alloc, overlap),
+    match feeder.take_open(overlap, Reads::new(alloc)) {
+        Err(_) => feeder.take_open(overlap, Reads::new(alloc)),
         answer => answer,
     }
 }

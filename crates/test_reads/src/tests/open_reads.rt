@@ -52,6 +52,25 @@ fn an_open_read_is_taken_in_pieces_that_overlap(rt: HostRuntime) {
 }
 
 #[test]
+fn the_next_pieces_lie_in_the_memory_of_spent_reads(rt: HostRuntime) {
+    let alloc = rt.alloc();
+    let mut feeder = Feeder::new(alloc, Format::Fasta);
+    assert_fed(&rt, &mut feeder, b">r\n", Ok(()));
+    let mut spent = Reads::new(alloc);
+    for (block, want) in [
+        ("ACGTAC", "ACGTAC"),
+        ("GT", "ACGT"),
+        ("CCCCCC", "GTCCCCCC"),
+        ("A", "CCA"),
+    ] {
+        assert_fed(&rt, &mut feeder, block.as_bytes(), Ok(()));
+        spent = feeder.take_open(2, spent).expect(&rt, "memory");
+        assert_one(&rt, &spent, want.as_bytes());
+    }
+    assert_last(&rt, feeder, b"CA");
+}
+
+#[test]
 fn an_open_fastq_read_is_kept_whole(rt: HostRuntime) {
     let alloc = rt.alloc();
     let mut feeder = Feeder::new(alloc, Format::Fastq);

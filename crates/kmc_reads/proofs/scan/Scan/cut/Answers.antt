@@ -1,4 +1,4 @@
-use Rattle.std.proofs.Common.{rules, ◌≡◌, ◌∷◌, [], ◌++◌, Vec, Global, ℕ, List, length, ◌-◌, sym, ap, subst, ◌∙◌, length-drop, arith}
+use Rattle.std.proofs.Common.{rules, ◌≡◌, ◌∷◌, [], ◌++◌, Vec, Global, ℕ, List, length, take, drop, ◌-◌, sym, ap, subst, ◌∙◌, length-drop, arith}
 use Rattle.std.specs.Io.BufRead.{strip_last}
 use Rattle.kmc_reads.specs.Rows.{rows_from, AreEnds}
 use Rattle.kmc_reads.specs.Standing.{kept}
@@ -34,9 +34,11 @@ returns-clause-taken c = λ rows spot front at.
     (record {
       held = c.requires.held;
       room = c.requires.open;
-      bytes = ap items c.replace-bytes.ensures.after ∙ c.with_room-next.ensures ∙ c.in_ok-kept.ensures.items
+      bytes = ap items c.replace-bytes.ensures.after ∙ c.with_room-next.ensures ∙ c.in_ok-extend_from_slice.ensures.items
+          ∙ ap (λ (room : List ℕ). room ++ take (length c.deref.result.now - (c.len.result - c.args.overlap))
+          (drop (c.len.result - c.args.overlap) c.deref.result.now)) c.into_rooms-kept.ensures.0
           ∙ last_of c.deref.result.now old.bytes.items c.len.result c.args.overlap c.deref.ensures.value first;
-      ends = ap items c.replace-ends.ensures.after ∙ c.new.ensures.items;
+      ends = ap items c.replace-ends.ensures.after ∙ c.into_rooms-kept.ensures.1;
       between = c.emptied-self.ensures.between;
       inside = c.emptied-self.ensures.inside;
       number = rest.0;
@@ -51,8 +53,10 @@ pub returns-clause-handed : goal.returns-clause-handed
 returns-clause-handed c =
     let old = c.args.self.now in
     let first : c.len.result ≡ length old.bytes.items = search rules in
-    let bytes = ap items c.replace-bytes.ensures.after ∙ c.with_room-next.ensures ∙ c.in_ok-kept.ensures.items
+    let bytes = ap items c.replace-bytes.ensures.after ∙ c.with_room-next.ensures ∙ c.in_ok-extend_from_slice.ensures.items
+    ∙ ap (λ (room : List ℕ). room ++ take (length c.deref.result.now - (c.len.result - c.args.overlap))
+    (drop (c.len.result - c.args.overlap) c.deref.result.now)) c.into_rooms-kept.ensures.0
     ∙ last_of c.deref.result.now old.bytes.items c.len.result c.args.overlap c.deref.ensures.value first in
     few_open c.args.overlap (record { bytes = c.replace-bytes.new.dest; ends = c.replace-ends.new.dest; place = c.emptied-self.result })
-    (ap items c.replace-ends.ensures.after ∙ c.new.ensures.items)
+    (ap items c.replace-ends.ensures.after ∙ c.into_rooms-kept.ensures.1)
     (omega (arith, ap length bytes, length-drop (length old.bytes.items - c.args.overlap) old.bytes.items, c.requires.open))
