@@ -122,8 +122,15 @@ pub(crate) fn cut_rounds<T: Threads + Wait + Sync, R: Read, W: Write, G: Gate + 
         if !more {
             return cut_last_round(rt, feeder, writers, counts, dealing);
         }
-        let made = next_bins(rt, dealing, bins, reader, &mut feeder, most, &mut spent);
-        let (next, goes_on) = match made {
+        let (next, goes_on) = match next_bins(
+            rt,
+            dealing,
+            bins,
+            reader,
+            &mut feeder,
+            most,
+            &mut spent,
+        ) {
             Ok(next) => next,
             Err(e) => return Err(told(e)),
         };
