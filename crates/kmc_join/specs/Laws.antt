@@ -1,11 +1,14 @@
 -- Laws of histograms and of unions.
 use Rattle.std.specs.Prelude.{◌≡◌, ◌+◌, ◌-◌, ◌≤◌, ◌^◌, ◌==◌, ℕ, List, [], ◌∷◌, if◌then◌else◌}
+use Rattle.std.specs.BTreeMap.{BTreeMap, IsEmpty, IsOrdered}
 use Rattle.std.specs.List.{sum_by}
+use Rattle.std.specs.Ordering.{nat_cmp}
 use Rattle.kmc_count.specs.declared.limits.Limits.{Limits}
 use Rattle.kmc_sum.specs.Listed.{AreListed, IsMerge}
 use Rattle.kmc_sum.specs.Sum.{listed_count}
-use Rattle.kmc_join.specs.Histogram.{IsHistogram}
+use Rattle.kmc_join.specs.Histogram.{IsHistogram, number_with}
 use Rattle.kmc_join.specs.Join.{IsJoin}
+use Rattle.kmc_join.specs.Rows.{HasNoZero, number_of}
 use Rattle.kmc_join.specs.declared.operation.Choice.TheVariants.{Sum}
 use Rattle.kmc_join.specs.declared.operation.Operation.TheVariants.{Union}
 use Rattle.kmc_join.specs.declared.rule.CountRange.{CountRange}
@@ -46,3 +49,12 @@ pub record AreOneSum (rule : JoinRule) (l : Limits) (first second : List ℕ) (p
 abbrev pub UnionBySumIsMerge : Type 0
 UnionBySumIsMerge = (rule : JoinRule) (l : Limits) (first second : List ℕ) (pairs : List (List ℕ × ℕ)) → IsUnionBySum rule
     → AreOneSum rule l first second pairs
+
+-- an empty map has seen no count
+abbrev pub NothingIsTallied : Type 0
+NothingIsTallied = (tally : BTreeMap ℕ ℕ) → IsEmpty tally → HasNoZero nat_cmp tally × ((n : ℕ) → number_of nat_cmp tally n ≡ 0)
+
+-- the rows of a map that tells of each count how many of the pairs have it are their histogram
+abbrev pub TallyIsHistogram : Type 0
+TallyIsHistogram = (tally : BTreeMap ℕ ℕ) (pairs : List (List ℕ × ℕ)) → IsOrdered nat_cmp tally → HasNoZero nat_cmp tally
+    → ((n : ℕ) → number_of nat_cmp tally n ≡ number_with pairs n) → IsHistogram pairs tally.entries

@@ -1,6 +1,7 @@
 //! Two dumps joined word by word: what both list, what either lists, what the first lists and the second does not; the table of their
 //! counts; the histogram of a dump; the counts that a dump has for given words; and the program. It stands on kmc_sum, which reads dumps
-//! side by side, on kmc_count for limits and on kmc_options for words. The layer above calls [`program`].
+//! side by side, on kmc_count for limits and on kmc_options for words. The layers above call [`program`], or tally counts of their own by
+//! [`see_count`] and write the rows.
 #![tactic(auto)]
 
 mod arguments;
@@ -47,6 +48,8 @@ pub use query_message::QueryMessage;
 pub use query_words::query_strands;
 pub use querying::query_readers;
 pub use request::{JoinRequest, JoinRequestError, asked_for};
+pub use rows::{put_text, rows as histogram_rows};
 pub use rule::{CountRange, EVERY_COUNT, JoinRule};
 pub use table_words::table_cap;
 pub use tables::table;
+pub use tally::{Tally, none_small, put_small, see_count};

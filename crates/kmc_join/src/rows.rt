@@ -19,8 +19,8 @@ fn row(alloc: Global, count: u64, number: u64) -> Result<String, AllocError>
     format!(in alloc; "{count}\t{number}\n")
 }
 
-/// The lines of a tally, the counts rising.
-pub(crate) fn rows(alloc: Global, tally: Tally<u64>) -> Result<String, AllocError>
+/// The lines of a tally, the counts rising: the count, a tab, how often it was seen. It fails only for want of memory.
+pub fn rows(alloc: Global, tally: Tally<u64>) -> Result<String, AllocError>
     ensures text { IfOk result (λ t. string_bytes t ≡ rows_text tally.entries) }
     ensures ordered { OnOk result (IsOrdered nat_cmp tally) }
 {
@@ -52,8 +52,8 @@ pub(crate) fn table_rows(alloc: Global, tally: Tally<(u64, u64)>) -> Result<Stri
     Ok(text)
 }
 
-/// Writes a text, and flushes the device.
-pub(crate) fn put_text<W: Write>(writer: &mut Counted<W>, text: &str) -> Result<(), WriteFault>
+/// Writes a text, and flushes the device. After a failure a front of the text is out.
+pub fn put_text<W: Write>(writer: &mut Counted<W>, text: &str) -> Result<(), WriteFault>
     ensures ok { OnOk result (Appends (W.contents writer.old.inner)
         (W.contents writer.new.inner) text.now) }
     ensures kept { OnOk result (writer.new.failures ≡ writer.old.failures) }

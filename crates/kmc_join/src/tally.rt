@@ -7,8 +7,8 @@ ghost use Rattle.kmc_join.specs.Tally.{SeesOneMore, seen};
 use std::alloc::{AllocError, Global};
 use std::collections::BTreeMap;
 
-/// How often each key was seen.
-pub(crate) type Tally<K> = BTreeMap<K, u64>;
+/// How often each key was seen. A key that was not seen is not there.
+pub type Tally<K> = BTreeMap<K, u64>;
 
 /// How often this key was seen.
 fn number_of<K: Ord>(tally: &Tally<K>, key: &K) -> u64
@@ -41,20 +41,17 @@ pub(crate) fn count_key<K: Ord + Copy>(tally: &mut Tally<K>, key: K) -> Result<(
 /// Counts below it are tallied by their places: most counts are small, and a search for each would take longer than its line.
 const SMALL: usize = 1024;
 
-/// None of the small counts is seen.
-pub(crate) fn none_small(alloc: Global) -> Result<Vec<u64>, AllocError>
+/// A place for each of the small counts, none of which is seen. A tally of counts begins with these places and an empty map.
+pub fn none_small(alloc: Global) -> Result<Vec<u64>, AllocError>
     ensures { IfOk result (λ small. (n : ℕ) → slice_index small.items n ≡ 0) }
 {
     let small = vec![in alloc; 0; SMALL]?;
     Ok(small)
 }
 
-/// A count is seen once more: by its place among the small ones, where it is one of them, and else in the map.
-pub(crate) fn see_count(
-    small: &mut Vec<u64>,
-    great: &mut Tally<u64>,
-    count: u64,
-) -> Result<(), AllocError>
+/// A count is seen once more: by its place among the small ones, where it is one of them, and else in the map. It fails only for want of
+/// memory.
+pub fn see_count(small: &mut Vec<u64>, great: &mut Tally<u64>, count: u64) -> Result<(), AllocError>
     requires sound { HasNoZero nat_cmp great.old }
     requires room { seen small.old.items great.old count + 1 < 2 ^ 64 }
     ensures { OnOk result (SeesOneMore small.old.items small.new.items great.old great.new count) }
@@ -67,8 +64,8 @@ pub(crate) fn see_count(
     count_key(great, count)
 }
 
-/// Puts how often each of the small counts was seen into the map.
-pub(crate) fn put_small(small: &[u64], tally: &mut Tally<u64>) -> Result<(), AllocError>
+/// Puts how often each of the small counts was seen into the map, which then tells of all counts. It fails only for want of memory.
+pub fn put_small(small: &[u64], tally: &mut Tally<u64>) -> Result<(), AllocError>
     requires sound { HasNoZero nat_cmp tally.old }
     requires room { (n : ℕ) → seen small.now tally.old n < 2 ^ 64 }
     ensures sound { OnOk result (HasNoZero nat_cmp tally.new) }
