@@ -1,19 +1,23 @@
-//! The program `kmc_db`: two dumps, joined or told of, on standard output; or a dump on standard input as a database in two files, or
-//! such a database as a dump, or words with their counts in it; or help. On a fault it writes one line to standard error and ends with the
-//! fault's status. The first and the last are `kmc_join`'s, the others are `kmc_database`'s.
+//! The program `kmc_db`: two dumps, joined or told of, on standard output; or how many k-mers of reads on standard input have each count;
+//! or a dump on standard input as a database in two files, or such a database as a dump, or words with their counts in it; or help. On a
+//! fault it writes one line to standard error and ends with the fault's status. The first and the last are `kmc_join`'s, the second is
+//! `kmc_spectrum`'s, the others are `kmc_database`'s.
 #![tactic(auto)]
 
 mod dumping;
 mod packing;
 mod querying;
 mod request;
+mod spectra;
 
 use crate::dumping::{asks_to_dump, dump_files};
 use crate::packing::{asks_to_pack, pack_input};
 use crate::querying::query_files;
+use crate::spectra::{asks_for_spectrum, words_behind};
 use kmc_device::Counted;
 use kmc_join::{program, program_words};
 use kmc_options::{arguments, asks_for_text};
+use kmc_spectrum::spectrum_of;
 use std::io;
 use std::process::ExitCode;
 
@@ -22,6 +26,11 @@ fn main(rt: HostRuntime) -> ExitCode {
         if asks_for_text(&words) {
             let mut writer = Counted::new(io::writer(&rt));
             return program_words(&rt, words, rt.reader(), &mut writer);
+        }
+        if asks_for_spectrum(&words) {
+            let mut reader = Counted::new(rt.stdin());
+            let mut writer = Counted::new(io::writer(&rt));
+            return spectrum_of(&rt, words_behind(words), &mut reader, &mut writer);
         }
         if asks_to_pack(&words) {
             let mut reader = Counted::new(rt.stdin());

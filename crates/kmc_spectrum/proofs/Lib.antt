@@ -1,0 +1,3 @@
+mod Faults
+mod SeenPairs
+mod Written

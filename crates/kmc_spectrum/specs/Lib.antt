@@ -1,0 +1,4 @@
+pub mod Messages
+pub mod Program
+pub mod Spectrum
+pub mod Tallied
