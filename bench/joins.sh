@@ -1,13 +1,13 @@
 #!/bin/sh
 # Compares `futoncrane` with `kmc_tools simple` of KMC 3, and with one kmc_db alone: union, intersection, and both differences of two sets of reads
-# that share half of their genome. The answers must be equal. The table of the two stands beside them, which KMC 3 has not: its numbers must add up to the k-mers of the union.
-# Then what a database and a histogram of reads take beside the dump that they are made of, and a thousand words looked up.
+# that share half of their genome, and the first two of these from databases. The answers must be equal. The table of the two stands beside them, which KMC 3 has not: its numbers must add up to the k-mers of the union.
+# Then what a database and a histogram of reads take beside a dump of them, and a thousand words looked up.
 # Prints two Markdown tables.
 #
 # usage: bench/joins.sh
 #
 # Wants `kmc` and `kmc_tools` (Debian's package kmc) and GNU time. READS (1500000), K (31) and ROUNDS (3) are variables: so many reads of 100
-# symbols are simulated for each side. Ours reads two dumps and writes one; KMC's reads two databases and writes one, and its dump is made
+# symbols are simulated for each side. Ours reads two dumps or databases and writes a dump; KMC's reads two databases and writes one, and its dump is made
 # apart, for comparison alone. Memory is that of the largest program. A row has the least wall time of either. The files lie in a folder of $TMPDIR or /tmp, which is removed at
 # the end.
 set -eu
@@ -26,6 +26,7 @@ python3 "$top/bench/simulate_reads.py" "$reads" 100 5000000 1 > first.fq
 for side in first second; do
     kmc "-k$k" -fq -ci1 -cs1000000 -t4 "$side.fq" "$side" files > log 2>&1
     "$top/kmc" "-k$k" -ci1 -cs1000000 -sp4 -sr4 < "$side.fq" > "$side.dump"
+    "$top/kmc_db" pack "-k$k" -ci1 -cs1000000 "sorted_$side" < "$side.dump"
 done
 rm second.fq
 
@@ -37,16 +38,20 @@ best() {
 echo "| operation | k-mers of both sides, millions | of the answer | futoncrane: wall s | user s | MB | kmc_db alone: wall s | user s | MB | kmc_tools: wall s | user s | MB | wall, futoncrane / kmc_tools | kmc_db / kmc_tools |"
 echo "|---|---|---|---|---|---|---|---|---|---|---|---|---|---|"
 read_in=$(cat first.dump second.dump | wc -l)
-while read -r name theirs command; do
+while read -r kind name theirs command; do
     rm -f ./*.times
+    case $kind in
+        dumps) left=first.dump right=second.dump ends= what=$name ;;
+        databases) left=sorted_first right=sorted_second ends=.kmc what="$name of databases" ;;
+    esac
     round=0
     while [ "$round" -lt "$rounds" ]; do
         # new files: some file systems have who writes over a file wait for the disk when it is closed
         rm -f ours.dump ranged.dump joined.*
         # shellcheck disable=SC2086 # words of a command
         FUTONCRANE_BIN=$top /usr/bin/time -a -o ranged.times -f '%e %U %M' "$top/futoncrane/futoncrane" $command -q -t4 --cap 4294967295 \
-            -o ranged.dump first.dump second.dump
-        /usr/bin/time -a -o ours.times -f '%e %U %M' "$top/kmc_db" "$name" -ci1 -cs4294967295 first.dump second.dump > ours.dump
+            -o ranged.dump "$left$ends" "$right$ends"
+        /usr/bin/time -a -o ours.times -f '%e %U %M' "$top/kmc_db" "$name" -ci1 -cs4294967295 "$left" "$right" > ours.dump
         /usr/bin/time -a -o theirs.times -f '%e %U %M' kmc_tools -t4 simple first second "$theirs" joined -cs4294967295 > log 2>&1
         round=$((round + 1))
     done
@@ -56,14 +61,16 @@ while read -r name theirs command; do
     if [ "$name" = union ]; then
         either=$(wc -l < ours.dump)
     fi
-    echo "$name | $read_in | $(wc -l < ours.dump) | $(best ranged) | $(best ours) | $(best theirs)" | awk -F ' [|] ' '{
+    echo "$what | $read_in | $(wc -l < ours.dump) | $(best ranged) | $(best ours) | $(best theirs)" | awk -F ' [|] ' '{
         printf "| %s | %.1f | %.1f | %s | %s | %s | %s | %s | %s | %s | %s | %s | %.2f | %.2f |\n",
             $1, $2 / 1e6, $3 / 1e6, $4, $5, $6, $7, $8, $9, $10, $11, $12, $4 / $10, $7 / $10 }'
 done <<END
-intersect intersect intersect
-union union union
-subtract kmers_subtract subtract
-counters-subtract counters_subtract subtract --counts
+dumps intersect intersect intersect
+dumps union union union
+dumps subtract kmers_subtract subtract
+dumps counters-subtract counters_subtract subtract --counts
+databases intersect intersect intersect
+databases union union union
 END
 
 rm -f ./*.times
@@ -87,7 +94,9 @@ while [ "$round" -lt "$rounds" ]; do
     rm -f alone.dump packed.*
     /usr/bin/time -a -o alone.times -f '%e %U %M' sh -c "$count > alone.dump"
     /usr/bin/time -a -o pack.times -f '%e %U %M' sh -c "$count | $top/kmc_db pack -k$k -ci1 -cs1000000 packed"
-    /usr/bin/time -a -o histogram.times -f '%e %U %M' sh -c "$count | $top/kmc_db histogram - > rows"
+    /usr/bin/time -a -o piped.times -f '%e %U %M' sh -c "$count | $top/kmc_db histogram - > rows"
+    /usr/bin/time -a -o histogram.times -f '%e %U %M' sh -c "$top/kmc_db spectrum -k$k -ci1 -cs1000000 -sp4 -sr4 < first.fq > told.rows"
+    cmp rows told.rows
     FUTONCRANE_BIN=$top /usr/bin/time -a -o dealt.times -f '%e %U %M' "$top/futoncrane/futoncrane" histogram -q -t4 "-k$k" first.fq > dealt.rows
     cmp rows dealt.rows
     /usr/bin/time -a -o walk.times -f '%e %U %M' sh -c "$top/kmc_db query first.dump < words > walked"
@@ -106,6 +115,7 @@ alone a dump of reads
 pack a database of reads
 histogram the histogram of reads
 dealt the same by futoncrane
+piped the same of the dump, through a pipe
 walk a thousand words in the dump
 query a thousand words in the database
 END

@@ -133,11 +133,11 @@ def help_of(name):
 
 
 def more_usages():
-    """What crates/kmc_db does itself, by its usage lines behind the program's name."""
+    """What kmc_db does by crates/kmc_db and crates/kmc_spectrum, by its usage lines behind the program's name."""
     found = set()
-    for path in glob.glob(os.path.join(CRATES, "kmc_db", "src", "*.rt")):
+    for path in [it for crate in ("kmc_db", "kmc_spectrum") for it in glob.glob(os.path.join(CRATES, crate, "src", "*.rt"))]:
         with open(path, encoding="utf-8") as file:
-            found |= set(re.findall(r'const USAGE: &str =\s*"usage: kmc_db ([^"]*)"', file.read()))
+            found |= set(re.findall(r'"usage: kmc_db ([^"]*)"', file.read()))
     return found
 
 
