@@ -2,13 +2,19 @@ mod Beginnings
 mod Bytes
 mod Checks
 mod Cuts
+mod DumpRests
+mod DumpSteps
 mod Entries
 mod Exits
 mod Gathering
 mod Given
+mod HandedOut
 mod HeaderParts
 mod InDatabase
 mod LastHeader
+mod LeftBytes
+mod NextParts
+mod Numerals
 mod Opened
 mod Parts
 mod Queries
@@ -16,6 +22,7 @@ mod Ranges
 mod ReadBack
 mod RowBytes
 mod RowExits
+mod RowTold
 mod Searches
 mod SoFar
 mod StepExits
