@@ -1,5 +1,5 @@
 -- What is left of the text of two files.
-use Rattle.std.proofs.Common.{◌≡◌, ℕ, List, [], ◌++◌, Option, Some, None, refl, sym, ap, subst, ◌∙◌}
+use Rattle.std.proofs.Common.{◌≡◌, ℕ, cond, Bool, false, List, [], ◌++◌, Option, Some, None, refl, sym, ap, subst, ◌∙◌}
 use Rattle.kmc_database.specs.DumpReader.{of_both}
 use Rattle.kmc_database.specs.LeftOf.{StaysKnown}
 use Rattle.kmc_database.proofs.LeftBytes.{some_same}
@@ -27,3 +27,7 @@ text_stays f f' a b a' b' step text e =
     let old = both_known f a b text e in
     let new = step old.p old.s old.prefix old.suffix in
     known_both f' a' b' (f old.p old.s) new ∙ ap Some old.is
+
+-- the line in hand, and the text behind it
+pub line_then : (line line' text : List ℕ) (ended : Bool) → line ≡ line' → ended ≡ false → line ++ cond ended [] text ≡ line' ++ text
+line_then line line' text ended is more = (λ i. is i ++ cond (more i) [] text)

@@ -26,6 +26,7 @@ pub record IsWithin (h : Header) (at : Progress) : Type 0 where
   pub rows : at.to ≤ h.rows
   pub table : at.entries ≤ 4 ^ h.layout.prefix + 1
   pub part : at.row < at.to → 2 ≤ at.entries
+  pub few : h.rows < 2 ^ 64
 
 -- the steps to come: the markers, each row, each entry and the end of the last first part, and the ends of the files
 abbrev pub steps_left : Header → Progress → ℕ
