@@ -30,6 +30,8 @@ pub struct DatabaseReader<R> {
 }
 
 impl<R: Read> DatabaseReader<R> {
+    ghost use Rattle.std.specs.Io.{ReadsAtMost};
+    ghost use Rattle.std.specs.Io.KnownBytes.{ReadConsumes};
     ghost use Rattle.kmc_database.specs.DumpReader.{of_both, rest_of};
 
     /// A reader of the dump of a database with this header. Nothing is read yet.
@@ -62,7 +64,11 @@ impl<R: Read> DatabaseReader<R> {
     }
 
     /// Fills a buffer with what is left of the text, as far as it goes, and says how much came.
-    fn give(&mut self, buf: &mut [u8]) -> io::Result<usize> {
+    fn give(&mut self, buf: &mut [u8]) -> io::Result<usize>
+        ensures bound { ReadsAtMost result buf.new }
+        ensures bytes { ReadConsumes (rest_of R.remaining self.old) (rest_of R.remaining self.new)
+            result buf.new }
+    {
         let mut given = 0;
         while given < buf.len() {
             if !self.line.is_empty() {
