@@ -2,6 +2,7 @@ mod Beginnings
 mod Bytes
 mod Checks
 mod Cuts
+mod DumpGiven
 mod DumpRests
 mod DumpSteps
 mod Entries
