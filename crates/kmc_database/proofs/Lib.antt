@@ -26,9 +26,12 @@ mod RowExits
 mod RowTold
 mod Searches
 mod SoFar
+mod SoundSteps
 mod StepExits
 mod Tables
 mod TakenBytes
+mod TextPlaces
+mod TextTells
 mod Through
 mod UnpackEnds
 mod UnpackSoFar

@@ -67,3 +67,11 @@ number_there bytes place k n m fits fits' is =
     same_from_decides (has_at bytes place (low_first k m)) (nat_eq n m) d
     ((λ e. here ∙ ap (low_first k) ((Decides-eqb n m).0 e)),
     λ e. (Decides-eqb n m).1 (low_same k n m fits fits' (sym here ∙ e)))
+
+-- a number that is told fits its bytes
+pub low_small : (k n : ℕ) → low_number (low_first k n) < 256 ^ k
+low_small zero n = omega arith
+low_small (suc k) n =
+    let power : 256 ^ suc k ≡ 256 * 256 ^ k = pow-succ' 256 k in
+    let rest : low_number (low_first k (n / 256)) < 256 ^ k = low_small k (n / 256) in
+    omega (arith, rest, power)
