@@ -15,13 +15,13 @@ use Rattle.kmc_database.specs.Numbers.{low_first}
 
 -- ---- the lowest byte first
 
-byte_is : (i n : ℕ) → byte_at i n ≡ n / 256 ^ i % 256
+pub byte_is : (i n : ℕ) → byte_at i n ≡ n / 256 ^ i % 256
 byte_is zero n =
     let all : n / 256 ^ 0 ≡ n = omega arith in
     ap (λ t. t % 256) (sym all)
 byte_is (suc i) n = refl
 
-next_quotient : (i n : ℕ) → n / 256 ^ i / 256 ≡ n / 256 ^ suc i
+pub next_quotient : (i n : ℕ) → n / 256 ^ i / 256 ≡ n / 256 ^ suc i
 next_quotient i n =
     let power : 256 ^ i * 256 ≡ 256 ^ suc i = omega (arith, pow-succ' 256 i) in
     div-div-eq-div-mul n (256 ^ i) 256 ∙ ap (λ d. n / d) power

@@ -48,7 +48,7 @@ module _ (l : Layout) (is : IsLayout l) where
       let all : 4 ^ 64 ≡ 2 ^ 128 = refl in
       omega (arith, word_fits i n b fits small, up, all)
 
-  bytes_of_rest : 256 ^ ((l.k - l.prefix) / 4) ≡ 4 ^ (l.k - l.prefix)
+  pub bytes_of_rest : 256 ^ ((l.k - l.prefix) / 4) ≡ 4 ^ (l.k - l.prefix)
   bytes_of_rest =
       let s = (l.k - l.prefix) / 4 in
       let twice : 8 * s ≡ 2 * (l.k - l.prefix) = omega (arith, is.whole) in

@@ -2,6 +2,8 @@ pub mod Answer
 pub mod Beginning
 pub mod Begun
 pub mod Checked
+pub mod DumpReader
+pub mod DumpText
 pub mod Ending
 pub mod Files
 pub mod Form
@@ -9,9 +11,11 @@ pub mod Given
 pub mod Header
 pub mod Laws
 pub mod Layout
+pub mod LeftOf
 pub mod LookedUp
 pub mod Messages
 pub mod Numbers
+pub mod Numerals
 pub mod Opened
 pub mod Part
 pub mod Queried

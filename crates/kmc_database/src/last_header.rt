@@ -1,11 +1,12 @@
 //! The header at the end of a prefix file, which is read through.
-ghost use Rattle.std.specs.Prelude.{◌≡◌, [], OnOk, OnErr, IfOk, IfErr};
+ghost use Rattle.std.specs.Prelude.{◌≡◌, [], OnOk, OnErr, IfOk, IfErr, ◌⊎◌};
 ghost use Rattle.kmc_device.specs.Device.{RisesByOne};
 ghost use Rattle.kmc_sum.specs.Source.{IsRoom, unread};
 ghost use Rattle.kmc_database.specs.Files.{prefix_long};
 ghost use Rattle.kmc_database.specs.Layout.{IsLayout};
 ghost use Rattle.kmc_database.specs.Unpacked.{EndsInHeader, IsTold};
 ghost use Rattle.kmc_database.specs.UnpackCauses.{IsRefusedFirst};
+ghost use Rattle.kmc_database.specs.declared.unpack_error.UnpackError.TheVariants.{Memory};
 
 use crate::header::HEADER;
 use crate::layout::Layout;
@@ -14,6 +15,7 @@ use crate::taking::has_next;
 use crate::unpack_error::UnpackError;
 use kmc_device::{Counted, ReadFault};
 use kmc_sum::Room;
+use std::alloc::Global;
 use std::io::Read;
 
 /// The bytes of a prefix file with this layout.
@@ -81,4 +83,23 @@ pub(crate) fn last_header<R: Read>(
         }
         Err(fault) => Err(UnpackError::Form(fault)),
     }
+}
+
+/// Reads a prefix file once to its end, where its header stands, and tells that. It takes a block of 64 KiB.
+pub fn database_header<R: Read>(
+    alloc: Global,
+    reader: &mut Counted<R>,
+) -> Result<Header, UnpackError>
+    ensures ok { IfOk result (λ h. EndsInHeader (R.remaining reader.old.inner)
+        (R.remaining reader.new.inner) h) }
+    ensures kept { OnOk result (reader.new.failures ≡ reader.old.failures) }
+    ensures cause { IfErr result (λ e. ((e ≡ Memory) × (reader.new ≡ reader.old))
+        ⊎ IsRefusedFirst (R.remaining reader.old.inner) (R.remaining reader.new.inner)
+        reader.old.failures reader.new.failures e) }
+{
+    let mut room = match Room::new(alloc) {
+        Ok(room) => room,
+        Err(_) => return Err(UnpackError::Memory),
+    };
+    last_header(reader, &mut room)
 }

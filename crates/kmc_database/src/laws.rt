@@ -1,5 +1,7 @@
-//! Laws of the definitions, each the contract of a function that does nothing.
-ghost use Rattle.kmc_database.specs.Laws.{PackedIsReadBack, UnpackedIsDump};
+//! Laws of the definitions, each the contract of a function that does nothing but call other laws.
+ghost use Rattle.kmc_database.specs.Laws.{PackedIsReadBack, TextTellsDatabase, UnpackedIsDump};
+
+use kmc_sum::laws::text_lists_one;
 
 /// The two files of a database tell its pairs.
 pub fn packed_is_read_back()
@@ -10,3 +12,10 @@ pub fn packed_is_read_back()
 pub fn unpacked_is_dump()
     ensures { UnpackedIsDump }
 {}
+
+/// Two files whose text lists pairs are a database of these pairs, and nothing else: a file that is at fault anywhere lists nothing.
+pub fn text_tells_database()
+    ensures { TextTellsDatabase }
+{
+    text_lists_one();
+}

@@ -47,7 +47,7 @@ pub fn counts_of(counter: usize, least: u32, greatest: u64) -> PackOptions {
 /// Packs the text, with a reader that gives seven bytes at a time.
 pub fn packed(
     rt: &impl Alloc<A = Global>,
-    text: &'static str,
+    text: &str,
     options: &PackOptions,
     devices: Devices,
 ) -> Result<Written, Fail> {

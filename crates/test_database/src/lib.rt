@@ -18,6 +18,8 @@ mod packs;
 #[cfg(test)]
 mod queries;
 #[cfg(test)]
+mod readings;
+#[cfg(test)]
 mod refusals;
 #[cfg(test)]
 mod searches;

@@ -1,0 +1,106 @@
+//! A database, read as its dump.
+ghost use Rattle.std.specs.Prelude.{◌≡◌};
+ghost use Rattle.kmc_database.specs.DumpText.{IsWithin, text_of_files};
+ghost use Rattle.kmc_database.specs.Layout.{IsLayout};
+
+use crate::line_buffer::LineBuffer;
+use crate::next_bytes::NextBytes;
+use crate::progress::Progress;
+use crate::reading::Header;
+use crate::unpack_error::UnpackError;
+use std::io;
+use std::io::Read;
+
+/// A reader that gives the dump of a database, a line for each row, while it reads the prefix file and the suffix file once, each from its
+/// beginning to its end. Where the files are no database with this header, byte 0 stands in place of the first row at fault and of all
+/// behind it, which is no line: whoever reads it as a dump refuses it there, and [`DatabaseReader::fault`] tells why. It holds one line
+/// and at most 73 bytes of each file, and asks for few bytes at a time: give it buffered readers.
+#[derive(Drop)]
+pub struct DatabaseReader<R> {
+    pub(crate) header: Header,
+    pub(crate) at: Progress,
+    pub(crate) ended: bool,
+    pub(crate) fault: Option<UnpackError>,
+    pub(crate) failed: Option<io::Error>,
+    pub(crate) line: LineBuffer,
+    pub(crate) prefix: NextBytes<R>,
+    pub(crate) suffix: NextBytes<R>,
+    pub ghost layout: { IsLayout header.layout },
+    pub ghost within: { IsWithin header at },
+}
+
+impl<R: Read> DatabaseReader<R> {
+    ghost use Rattle.std.specs.Io.{ReadsAtMost};
+    ghost use Rattle.std.specs.Io.KnownBytes.{ReadConsumes};
+    ghost use Rattle.kmc_database.specs.DumpReader.{of_both, rest_of};
+
+    /// A reader of the dump of a database with this header. Nothing is read yet.
+    pub fn new(header: Header, prefix: R, suffix: R) -> DatabaseReader<R>
+        requires { IsLayout header.layout }
+        ensures { rest_of R.remaining result
+            ≡ of_both (text_of_files header) (R.remaining prefix) (R.remaining suffix) }
+    {
+        DatabaseReader {
+            header,
+            at: Progress {
+                begun: false,
+                entries: 0,
+                row: 0,
+                to: 0,
+                last: 0,
+            },
+            ended: false,
+            fault: None,
+            failed: None,
+            line: LineBuffer::new(),
+            prefix: NextBytes::new(prefix),
+            suffix: NextBytes::new(suffix),
+        }
+    }
+
+    /// Why the text ended with byte 0, if it did: rows are numbered from 1, entries of the table from 0.
+    pub fn fault(&self) -> Option<UnpackError> {
+        self.fault
+    }
+
+    /// Fills a buffer with what is left of the text, as far as it goes, and says how much came.
+    fn give(&mut self, buf: &mut [u8]) -> io::Result<usize>
+        ensures bound { ReadsAtMost result buf.new }
+        ensures bytes { ReadConsumes (rest_of R.remaining self.old) (rest_of R.remaining self.new)
+            result buf.new }
+    {
+        let mut given = 0;
+        while given < buf.len() {
+            if !self.line.is_empty() {
+                given += self.line.give(&mut buf[given..]);
+            } else if self.ended {
+                return Ok(given);
+            } else {
+                match self.advance() {
+                    Ok(()) => {}
+                    Err(error) => {
+                        if given == 0 {
+                            return Err(error);
+                        }
+                        self.failed = Some(error);
+                        return Ok(given);
+                    }
+                }
+            }
+        }
+        Ok(given)
+    }
+}
+
+impl<R: Read> Read for DatabaseReader<R> {
+    ghost use Rattle.kmc_database.specs.DumpReader.{rest_of};
+
+    ghost remaining = { rest_of R.remaining };
+
+    fn read(&mut self, buf: &mut [u8]) -> io::Result<usize> {
+        match self.failed.take() {
+            Some(error) => Err(error),
+            None => self.give(buf),
+        }
+    }
+}
