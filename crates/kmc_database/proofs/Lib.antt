@@ -27,6 +27,7 @@ mod RowTold
 mod Searches
 mod SoFar
 mod SoundSteps
+mod SourceExits
 mod StepExits
 mod Tables
 mod TakenBytes

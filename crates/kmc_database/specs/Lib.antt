@@ -3,6 +3,7 @@ pub mod Beginning
 pub mod Begun
 pub mod Checked
 pub mod DumpReader
+pub mod DumpSource
 pub mod DumpText
 pub mod Ending
 pub mod Files

@@ -6,6 +6,7 @@
 
 mod byte_buffer;
 mod checking;
+mod dump_source;
 mod error;
 mod form;
 mod header;
@@ -37,6 +38,7 @@ mod search_message;
 mod searching;
 mod sought;
 mod stepping;
+mod source_joins;
 mod table;
 mod taking;
 mod telling;
@@ -45,6 +47,7 @@ mod unpack_message;
 mod unpack_telling;
 mod unpacking;
 
+pub use dump_source::DumpSource;
 pub use error::PackError;
 pub use form::{Form, PackOptions};
 pub use held::Held;
@@ -65,6 +68,7 @@ pub use search_error::SearchError;
 pub use search_message::SearchMessage;
 pub use searching::query_opened;
 pub use sought::Sought;
+pub use source_joins::{histogram_source, join_sources, table_sources};
 pub use telling::{PackNames, pack_reader};
 pub use unpack_error::UnpackError;
 pub use unpack_message::UnpackMessage;

@@ -4,13 +4,17 @@
 //! `kmc_spectrum`'s, the others are `kmc_database`'s.
 #![tactic(auto)]
 
+mod asking;
 mod dumping;
+mod joining;
+mod naming;
 mod packing;
 mod querying;
 mod request;
 mod spectra;
 
 use crate::dumping::{asks_to_dump, dump_files};
+use crate::joining::join_databases;
 use crate::packing::{asks_to_pack, pack_input};
 use crate::querying::query_files;
 use crate::spectra::{asks_for_spectrum, words_behind};
@@ -42,6 +46,10 @@ fn main(rt: HostRuntime) -> ExitCode {
         }
         let mut writer = Counted::new(io::writer(&rt));
         if let Some(status) = query_files(&rt, &words, rt.reader(), &mut writer) {
+            return status;
+        }
+        let mut writer = Counted::new(io::writer(&rt));
+        if let Some(status) = join_databases(&rt, rt.reader(), &mut writer) {
             return status;
         }
     }

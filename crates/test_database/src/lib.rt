@@ -24,6 +24,8 @@ mod refusals;
 #[cfg(test)]
 mod searches;
 #[cfg(test)]
+mod source_joins;
+#[cfg(test)]
 mod unanswered;
 #[cfg(test)]
 mod unpacks;
