@@ -15,13 +15,13 @@ MOST_READERS = 3
 
 
 class Histogram:
-    """How many k-mers of a dump have each count, by kmc_db, whose answer is proved: a call has it read a dump while a program writes that, and
-    `numbers` gives the answer once this program has ended well. The dumps of slices share no k-mer, so their histograms add up, and so do those of
-    the lines that are dealt to several kmc_db where there are as many `threads`."""
+    """How many k-mers have each count, by kmc_db, whose answer is proved. Of reads that are counted in one run it tells that itself, and `take` reads
+    it. A call has it read a dump while a program writes that. `numbers` gives the answer once these programs have ended well. The dumps of slices
+    share no k-mer, so their histograms add up, and so do those of the lines that are dealt to several kmc_db where there are as many `threads`."""
     takes_parts = True
 
     def __init__(self, children, threads=1):
-        self.children, self.rows, self.fault = children, collections.Counter(), None
+        self.children, self.rows, self.lines, self.fault = children, collections.Counter(), [], None
         self.readers = min(MOST_READERS, threads) if dealing.can_splice() else 1
 
     def __call__(self, stream):
@@ -33,18 +33,21 @@ class Histogram:
             dealing.deal(stream.fileno(), sinks)
         stream.close()
         for it in programs:
-            self._take(it)
+            self._judge(it)
 
-    def _take(self, program):
-        """Adds the histogram that a program tells."""
-        rows = [tuple(map(int, line.split())) for line in program.stdout]
+    def take(self, stream):
+        """Reads a histogram: lines of a count and a number. They are looked at once it is known how their program ended."""
+        self.lines += stream.readlines()
+
+    def _judge(self, program):
+        """Reads the histogram that a program tells, and judges how it ended."""
+        self.take(program.stdout)
         status, _ = ended(program)
         if status:
             self.fault = "kmc_db %s" % signal_of(status) if status < 0 else told(program)
             if ": line " not in self.fault:  # a line that is none may be the end of a dump whose program failed, which tells its own fault
                 raise Fault(self.fault)
         self.children.forget(program)
-        self.add(dict(rows))
 
     def add(self, numbers):
         """Adds a histogram of k-mers that were in none before."""
@@ -53,6 +56,10 @@ class Histogram:
     def numbers(self):
         if self.fault:
             raise Fault(self.fault)
+        for line in self.lines:
+            count, number = map(int, line.split())
+            self.add({count: number})
+        self.lines = []
         return dict(sorted(self.rows.items()))
 
 

@@ -35,8 +35,10 @@ def run(found, setting, children, output, reader=None):
         work.begin(plan.wanted, memory.disk(symbols), dumps)
         work.count(output, reader)
     else:
-        command = [places.find("kmc"), *shared.words(setting, format_name)]
-        fed(command, found, setting, children, output, reader, "one run of kmc, estimated to take at most %s of memory" % memory.human(plan.wanted))
+        command, taken = [places.find("kmc"), *shared.words(setting, format_name)], reader
+        if isinstance(reader, dumps.Histogram):
+            command[:1], taken = [places.find("kmc_db"), "spectrum"], reader.take
+        fed(command, found, setting, children, output, taken, "one run, estimated to take at most %s of memory" % memory.human(plan.wanted))
     setting.report.doubt = doubts.of(found, setting)
     return work
 

@@ -144,4 +144,5 @@ def test_a_program_that_is_killed_is_told(room):
     room.refuses(1, "kmc was ended by SIGKILL", words=["count", READS, "-o", "out"])
     room.stand_in("#!/bin/sh\ncat > /dev/null\nprintf 'ACGT\\t1\\n'\nkill -SEGV $$\n")
     room.refuses(1, "kmc was ended by SIGSEGV", words=["count", READS, "-o", "out"])
-    room.refuses(1, "kmc was ended by SIGSEGV", words=["histogram", READS])
+    room.stand_in("#!/bin/sh\ncat > /dev/null\nprintf '1\\t'\nkill -SEGV $$\n", "kmc_db")
+    room.refuses(1, "kmc_db was ended by SIGSEGV", words=["histogram", READS])

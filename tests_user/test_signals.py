@@ -122,8 +122,10 @@ def test_control_c_while_reads_still_come(room):
 
 
 def hanging(room):
-    """A kmc that writes some of the dump and then hangs."""
-    room.stand_in("#!/bin/sh\nprintf 'ACGT\\t2\\n'; : > begun; exec sleep 10000\n")
+    """A kmc that writes some of the dump and then hangs, and a kmc_db that does so where it counts reads."""
+    text = "#!/bin/sh\nprintf 'ACGT\\t2\\n'; : > begun; exec sleep 10000\n"
+    room.stand_in(text)
+    room.stand_in(text.replace("\n", "\nif [ \"$1\" != spectrum ]; then exec '%s' \"$@\"; fi\n" % program("kmc_db"), 1), "kmc_db")
 
 
 def test_each_signal_has_its_status(room):

@@ -55,7 +55,7 @@ def test_progress_is_shown_on_a_terminal(room):
     room.write("reads", content(READS))
     status, written, shown = on_terminal(room, "count", "reads", "-o", "dump")
     assert (status, written) == (0, b""), shown
-    for part in ("one run of kmc", "reading: ", " of 41.5 kB (", "left", "/s", "counting: all 41.5 kB read", "writing: ", "41.5 kB read, done in "):
+    for part in ("one run, estimated", "reading: ", " of 41.5 kB (", "left", "/s", "counting: all 41.5 kB read", "writing: ", "41.5 kB read, done in "):
         assert part in shown, "%s is not shown: %r" % (part, shown)
 
 
