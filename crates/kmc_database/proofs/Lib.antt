@@ -11,6 +11,7 @@ mod Gathering
 mod Given
 mod HandedOut
 mod HeaderParts
+mod HeaderSeen
 mod InDatabase
 mod LastHeader
 mod LeftBytes
@@ -30,6 +31,7 @@ mod SoundSteps
 mod StepExits
 mod Tables
 mod TakenBytes
+mod TextOfDatabase
 mod TextPlaces
 mod TextTells
 mod Through
