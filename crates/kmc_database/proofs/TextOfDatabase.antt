@@ -18,7 +18,7 @@ use Rattle.kmc_count.specs.Lemmas.PackedRuns.{cmp_packed}
 use Rattle.kmc_lists.specs.Line.{line_of, text_of}
 use Rattle.kmc_sum.specs.Listed.{IsPair}
 use Rattle.kmc_database.specs.DumpText.{behind_entry, behind_row, entry_fault, is_header, IsWithin, row_fault, row_in, start, steps_left, text_from, text_of_files}
-use Rattle.kmc_database.specs.Files.{CountsFit, prefix_marker, suffix_marker}
+use Rattle.kmc_database.specs.Files.{CountsFit, header_of, IsDatabase, limits_of, prefix_marker, strands_of, suffix_marker}
 use Rattle.kmc_database.specs.Header.{IsHeaderOf}
 use Rattle.kmc_database.specs.Laws.{AreFilesOf}
 use Rattle.kmc_database.specs.Layout.{IsLayout}
@@ -26,6 +26,7 @@ use Rattle.kmc_database.specs.Numbers.{low_first}
 use Rattle.kmc_database.specs.Numerals.{has_at, low_number}
 use Rattle.kmc_database.specs.Rows.{AreBelow, first_part, number_below, row_long, row_of, rows_of, table_of}
 use Rattle.kmc_database.specs.TakenRow.{pair_of_row}
+use Rattle.kmc_database.specs.declared.form.Form.{Form}
 use Rattle.kmc_database.specs.declared.layout.Layout.{Layout}
 use Rattle.kmc_database.specs.declared.progress.Progress.{Progress}
 use Rattle.kmc_database.specs.declared.reading.Header.{Header}
@@ -434,3 +435,29 @@ text_is h is few pairs prefix suffix f =
     text_of_begun h start prefix suffix refl (stands_in [] prefix_marker table prefix 0 p_is refl) (stands_in [] suffix_marker rows suffix 0 s_is refl)
     ∙ (λ i. text_from h begun (ap (drop 4) p_is i) (ap (drop 4) s_is i))
     ∙ all_read h is few f.header f.told (steps_left h begun) begun table rows pairs ahead refl
+
+-- files that were packed
+packed_are : (f : Form) (pairs : Pairs) (prefix suffix : List ℕ) → IsDatabase f pairs prefix suffix
+    → AreFilesOf (record { layout = f.layout; rows = length pairs }) pairs prefix suffix
+packed_are f pairs prefix suffix d = record {
+  listed = d.listed;
+  count = refl;
+  fit = d.fit;
+  header = header_of f.layout (length pairs) (limits_of f) (strands_of f);
+  told = record {
+    layout = d.layout;
+    few = d.few;
+    limits = limits_of f;
+    limits_long = refl;
+    strands = strands_of f;
+    strands_long = refl;
+    is = refl;
+  };
+  prefix = d.prefix;
+  suffix = d.suffix;
+}
+
+pub packed_text : (f : Form) (pairs : Pairs) (prefix suffix : List ℕ) → IsDatabase f pairs prefix suffix
+    → text_of_files (record { layout = f.layout; rows = length pairs }) prefix suffix ≡ text_of pairs
+packed_text f pairs prefix suffix d =
+    text_is (record { layout = f.layout; rows = length pairs }) d.layout d.few pairs prefix suffix (packed_are f pairs prefix suffix d)

@@ -42,3 +42,8 @@ TextTellsDatabase = (h : Header) (k : ℕ) (pairs : List (List ℕ × ℕ)) (pre
 abbrev pub DatabaseTellsText : Type 0
 DatabaseTellsText = (h : Header) (pairs : List (List ℕ × ℕ)) (prefix_bytes suffix_bytes : List ℕ) → IsLayout h.layout → h.rows < 2 ^ 64
     → AreFilesOf h pairs prefix_bytes suffix_bytes → text_of_files h prefix_bytes suffix_bytes ≡ text_of pairs
+
+-- so it is where the files were packed
+abbrev pub PackedTellsText : Type 0
+PackedTellsText = (f : Form) (pairs : List (List ℕ × ℕ)) (prefix_bytes suffix_bytes : List ℕ) → IsDatabase f pairs prefix_bytes suffix_bytes
+    → text_of_files (record { layout = f.layout; rows = length pairs }) prefix_bytes suffix_bytes ≡ text_of pairs
