@@ -11,6 +11,7 @@ mod Gathering
 mod Given
 mod HandedOut
 mod HeaderParts
+mod HeaderSeen
 mod InDatabase
 mod LastHeader
 mod LeftBytes
@@ -31,6 +32,7 @@ mod SourceExits
 mod StepExits
 mod Tables
 mod TakenBytes
+mod TextOfDatabase
 mod TextPlaces
 mod TextTells
 mod Through

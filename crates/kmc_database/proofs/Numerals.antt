@@ -64,9 +64,10 @@ number_there bytes place k n m fits fits' is =
     let d = at_Decides bytes place (low_first k m) in
     let long = length_low k m in
     let here : take (length (low_first k m)) (drop place bytes) ≡ low_first k n = ap (λ i. take i (drop place bytes)) long ∙ sym is in
-    same_from_decides (has_at bytes place (low_first k m)) (nat_eq n m) d
-    ((λ e. here ∙ ap (low_first k) ((Decides-eqb n m).0 e)),
-    λ e. (Decides-eqb n m).1 (low_same k n m fits fits' (sym here ∙ e)))
+    same_from_decides (has_at bytes place (low_first k m)) (nat_eq n m) d (
+      (λ e. here ∙ ap (low_first k) ((Decides-eqb n m).0 e)),
+      λ e. (Decides-eqb n m).1 (low_same k n m fits fits' (sym here ∙ e)),
+    )
 
 -- a number that is told fits its bytes
 pub low_small : (k n : ℕ) → low_number (low_first k n) < 256 ^ k

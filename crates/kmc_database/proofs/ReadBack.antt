@@ -59,10 +59,10 @@ codes_behind (suc m) (x ∷ xs) h = codes_behind m xs h.1
 module _ (l : Layout) (is : IsLayout l) where
   -- ---- a word
 
-  fits_at : (w : List ℕ) → IsWord l.k w → pack w < 4 ^ l.k
+  pub fits_at : (w : List ℕ) → IsWord l.k w → pack w < 4 ^ l.k
   fits_at w h = subst (λ m. pack w < 4 ^ m) h.0 (pack_fits w h.1)
 
-  again : (w : List ℕ) → IsWord l.k w → unpack l.k (pack w) ≡ w
+  pub again : (w : List ℕ) → IsWord l.k w → unpack l.k (pack w) ≡ w
   again w h = ap (λ m. unpack m (pack w)) (sym h.0) ∙ unpack_pack w h.1
 
   part_of : (w : List ℕ) → IsWord l.k w → first_part l w ≡ pack w / 4 ^ (l.k - l.prefix)

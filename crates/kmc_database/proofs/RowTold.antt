@@ -79,8 +79,7 @@ module _ (l : Layout) (is : IsLayout l) where
         let whole : 4 ^ l.k ≡ 4 ^ l.prefix * 4 ^ behind = ap (λ e. 4 ^ e) sum ∙ pow-add 4 l.prefix behind in
         let fits : row.packed < 4 ^ l.k =
         subst (λ m. row.packed < m) (sym whole) ((div-lt_iff_lt-mul (pow_some behind)).0 (omega (arith, high, low))) in
-        let count : low_number (take l.counter (drop size s)) ≡ row.count = ap (λ (r : Row). r.count) told in
-        (
+        let count : low_number (take l.counter (drop size s)) ≡ row.count = ap (λ (r : Row). r.count) told in (
           fits,
           part_is l is row.packed fits ∙ high,
           omega (arith, sym (ap low_number parts.1) ∙ count, low_small l.counter row.count),

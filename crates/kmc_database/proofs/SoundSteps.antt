@@ -29,8 +29,8 @@ sound_row at row e =
     let some = no_fault (nat_eq row.count 0) (ZeroCount (at.row + 1)) None rises.1 in
     let differ : row.count ≡ 0 → ⊥ = eqb-false row.count 0 some.0 in (
       λ before.
-      leb-false row.packed at.last
-      (not_second (nat_lt 0 at.row) (nat_le row.packed at.last) rises.0 (lt-ltb 0 at.row (omega (arith, before)))),
+          leb-false row.packed at.last
+          (not_second (nat_lt 0 at.row) (nat_le row.packed at.last) rises.0 (lt-ltb 0 at.row (omega (arith, before)))),
       omega (arith, differ),
     )
 

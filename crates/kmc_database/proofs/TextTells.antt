@@ -102,8 +102,7 @@ module _ (h : Header) (is : IsLayout h.layout) (few : h.rows < 2 ^ 64) (prefix s
 
   line_outcome : (pairs : List (List ℕ × ℕ)) (q : List ℕ × ℕ) (text : List ℕ) → IsOutcome (pairs ++ q ∷ []) text → IsOutcome pairs (line_of q ++ text)
   line_outcome pairs q text (inl o) =
-      inl
-      (
+      inl (
         q ∷ o.0,
         ap (λ (t : List ℕ). line_of q ++ t) o.1,
         subst (λ (t : List (List ℕ × ℕ)). AreFilesOf h t prefix suffix) (append_assoc pairs (q ∷ []) o.0) o.2,
@@ -172,12 +171,11 @@ module _ (h : Header) (is : IsLayout h.layout) (few : h.rows < 2 ^ 64) (prefix s
         go false ends b header = fault_outcome pairs
         go true ends false header = fault_outcome pairs
         go true ends true header =
-            inl
-            (
+            inl (
               [],
               refl,
               subst (λ (t : List (List ℕ × ℕ)). AreFilesOf h t prefix suffix) (sym (append-nil pairs))
-              (end_placed h is prefix suffix at p s pairs here done over ((bytes_eq-Decides s suffix_marker).0 ends) (header_told h is few p header)),
+                  (end_placed h is prefix suffix at p s pairs here done over ((bytes_eq-Decides s suffix_marker).0 ends) (header_told h is few p header)),
             )
 
     step_outcome : IsOutcome pairs (text_behind next (step h at p s))

@@ -49,7 +49,7 @@ unless (Some e) step = Fails e
 abbrev pub marker_step : Progress → List ℕ → List ℕ → Step
 marker_step at p s =
     if has_at p 0 prefix_marker then
-      if has_at s 0 suffix_marker then Goes [] (record at { begun = true }) (drop 4 p) (drop 4 s) else Fails SuffixMarker
+    if has_at s 0 suffix_marker then Goes [] (record at { begun = true }) (drop 4 p) (drop 4 s) else Fails SuffixMarker
     else Fails PrefixMarker
 
 -- the row at the front of bytes, of a word with this first part
@@ -74,7 +74,7 @@ abbrev pub row_step : Header → Progress → List ℕ → List ℕ → Step
 row_step h at p s =
     let row = row_in h.layout (at.entries - 2) s in
     if has_at s 0 (row_of h.layout (pair_of_row h.layout row)) then
-      unless (row_fault at row) (Goes (line_of (pair_of_row h.layout row)) (behind_row at row) p (drop (row_long h.layout) s))
+    unless (row_fault at row) (Goes (line_of (pair_of_row h.layout row)) (behind_row at row) p (drop (row_long h.layout) s))
     else Fails (Cut (at.row + 1))
 
 -- an entry is to be no less than the one before and no more than there are rows, and the first one is to be 0
@@ -109,17 +109,17 @@ is_header h p = nat_eq (length p) 72 && has_layout h.layout p && has_at p 24 (lo
 abbrev pub end_step : Header → List ℕ → List ℕ → Step
 end_step h p s =
     if bytes_eq s suffix_marker then
-      if is_header h p then Ends else Fails Changed
+    if is_header h p then Ends else Fails Changed
     else Fails SuffixEnd
 
 -- the next step: the markers, then the rows up to the last entry, then the next entry, and behind the table the last rows
 unfoldable pub step : Header → Progress → List ℕ → List ℕ → Step
 step h at p s =
     if at.begun then
-      if nat_lt at.row at.to then row_step h at p s
-      else if nat_lt at.entries (4 ^ h.layout.prefix) then entry_step h at p s
-      else if nat_le at.entries (4 ^ h.layout.prefix) then Goes [] (behind_entry at h.rows) p s
-      else end_step h p s
+    if nat_lt at.row at.to then row_step h at p s
+    else if nat_lt at.entries (4 ^ h.layout.prefix) then entry_step h at p s
+    else if nat_le at.entries (4 ^ h.layout.prefix) then Goes [] (behind_entry at h.rows) p s
+    else end_step h p s
     else marker_step at p s
 
 -- ---- the text

@@ -37,3 +37,13 @@ pub record AreFilesOf (h : Header) (pairs : List (List ℕ × ℕ)) (prefix_byte
 abbrev pub TextTellsDatabase : Type 0
 TextTellsDatabase = (h : Header) (k : ℕ) (pairs : List (List ℕ × ℕ)) (prefix_bytes suffix_bytes : List ℕ) → IsLayout h.layout → h.rows < 2 ^ 64
     → Lists k (text_of_files h prefix_bytes suffix_bytes) pairs → AreFilesOf h pairs prefix_bytes suffix_bytes
+
+-- and the text of the two files of a database is the dump of its pairs
+abbrev pub DatabaseTellsText : Type 0
+DatabaseTellsText = (h : Header) (pairs : List (List ℕ × ℕ)) (prefix_bytes suffix_bytes : List ℕ) → IsLayout h.layout → h.rows < 2 ^ 64
+    → AreFilesOf h pairs prefix_bytes suffix_bytes → text_of_files h prefix_bytes suffix_bytes ≡ text_of pairs
+
+-- so it is where the files were packed
+abbrev pub PackedTellsText : Type 0
+PackedTellsText = (f : Form) (pairs : List (List ℕ × ℕ)) (prefix_bytes suffix_bytes : List ℕ) → IsDatabase f pairs prefix_bytes suffix_bytes
+    → text_of_files (record { layout = f.layout; rows = length pairs }) prefix_bytes suffix_bytes ≡ text_of pairs

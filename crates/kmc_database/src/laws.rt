@@ -1,5 +1,5 @@
 //! Laws of the definitions, each the contract of a function that does nothing but call other laws.
-ghost use Rattle.kmc_database.specs.Laws.{PackedIsReadBack, TextTellsDatabase, UnpackedIsDump};
+ghost use Rattle.kmc_database.specs.Laws.{DatabaseTellsText, PackedIsReadBack, PackedTellsText, TextTellsDatabase, UnpackedIsDump};
 
 use kmc_sum::laws::text_lists_one;
 
@@ -19,3 +19,13 @@ pub fn text_tells_database()
 {
     text_lists_one();
 }
+
+/// The text of the two files of a database is the dump of its pairs.
+pub fn database_tells_text()
+    ensures { DatabaseTellsText }
+{}
+
+/// The text of the two files that a dump was packed into is that dump.
+pub fn packed_tells_text()
+    ensures { PackedTellsText }
+{}

@@ -1,7 +1,8 @@
 //! Databases of counted words in KMC 1's sorted form: two files, a prefix file with a table and a header, and a suffix file with a row for
 //! each word. It stands on kmc_sum, which reads dumps, on kmc_device for files and on kmc_options for how a program ends. The layer above
 //! makes them of a dump by [`pack`] or, with the exit status of a program, by [`pack_reader`], reads the header of a database by
-//! [`read_header`], and learns from `laws` that the two files tell their words and counts.
+//! [`read_header`], reads a database as its dump by a [`DatabaseReader`], and learns from `laws` that the two files tell their words and
+//! counts.
 #![tactic(auto)]
 
 mod byte_buffer;

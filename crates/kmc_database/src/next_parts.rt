@@ -38,9 +38,7 @@ fn is_header(bytes: &[u8], header: &Header) -> bool
     if bytes.len() != HEADER {
         return false;
     }
-    has_layout(bytes, &header.layout)
-        && has_number(bytes, 24, 8, header.rows)
-        && has_form(bytes)
+    has_layout(bytes, &header.layout) && has_number(bytes, 24, 8, header.rows) && has_form(bytes)
 }
 
 /// Whether this layout stands in the end of a prefix file.

@@ -68,7 +68,8 @@ impl<R: Read> DatabaseReader<R> {
         match row_fault(&self.at, &row) {
             Some(fault) => self.fail(fault),
             None => {
-                self.suffix.take((layout.k - layout.prefix) / 4 + layout.counter);
+                self.suffix
+                    .take((layout.k - layout.prefix) / 4 + layout.counter);
                 self.line.hold_line(row.packed, layout.k, row.count);
                 self.at.row += 1;
                 self.at.last = row.packed;

@@ -13,8 +13,8 @@ returns-then-self-clause-bytes g c =
     let remaining = g.R.Read.remaining in (
       c.loop-given.invariant.gave,
       λ none some.
-      all_given r.line (text_from r.header r.at) r.ended (left_of remaining r.prefix) (left_of remaining r.suffix)
-      (c.is_empty.ensures.empty c.if-not-is_empty.false) c.if-self.true,
+          all_given r.line (text_from r.header r.at) r.ended (left_of remaining r.prefix) (left_of remaining r.suffix)
+          (c.is_empty.ensures.empty c.if-not-is_empty.false) c.if-self.true,
     )
 
 pub returns-then-given-eq0-clause-bytes : goal.returns-then-given-eq0-clause-bytes
