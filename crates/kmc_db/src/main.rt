@@ -26,7 +26,11 @@ use std::io;
 use std::process::ExitCode;
 
 fn main(rt: HostRuntime) -> ExitCode {
-    if let Ok(Some(words)) = arguments(&rt) {
+    let Ok(given) = arguments(&rt) else {
+        let _ = rt.eprintln("kmc_db: out of memory");
+        return ExitCode::from(1);
+    };
+    if let Some(words) = given {
         if asks_for_text(&words) {
             let mut writer = Counted::new(io::writer(&rt));
             return program_words(&rt, words, rt.reader(), &mut writer);
