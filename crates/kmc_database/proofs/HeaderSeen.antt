@@ -1,14 +1,13 @@
 -- A header is seen where it stands.
-use Rattle.std.proofs.Common.{◌≡◌, ℕ, ◌^◌, ◌<◌, Bool, true, nat_eq, List, [], ◌∷◌, ◌++◌, length, take, drop, refl, sym, ap, subst, ◌∙◌, arith, append_assoc, append-nil, length-append}
+use Rattle.std.proofs.Common.{◌≡◌, ℕ, Bool, true, nat_eq, List, [], ◌++◌, length, take, drop, refl, ap, ◌∙◌, arith, append_assoc, append-nil, length-append}
 use Rattle.std.proofs.lemmas.Bool.{eq-eqb}
 use Rattle.std.proofs.lemmas.List.{drop_at, take_at}
 use Rattle.std.specs.Prelude.{◌&&◌}
 use Rattle.kmc_database.specs.DumpText.{has_form, has_layout, is_header}
-use Rattle.kmc_database.specs.Files.{header_of, prefix_marker}
+use Rattle.kmc_database.specs.Files.{prefix_marker}
 use Rattle.kmc_database.specs.Header.{IsHeaderOf}
 use Rattle.kmc_database.specs.Numbers.{low_first}
 use Rattle.kmc_database.specs.Numerals.{has_at}
-use Rattle.kmc_database.specs.declared.layout.Layout.{Layout}
 use Rattle.kmc_database.specs.declared.reading.Header.{Header}
 use Rattle.kmc_database.proofs.Numerals.{at_Decides}
 use Rattle.kmc_database.proofs.ReadBack.{length_header}

@@ -1,12 +1,11 @@
 -- What a sound row and a sound entry keep.
-use Rattle.std.proofs.Common.{◌≡◌, ℕ, ◌+◌, ◌<◌, ◌≤◌, cond, Bool, true, false, nat_eq, nat_lt, nat_le, List, [], ◌∷◌, ◌++◌, Option, Some, None, refl, sym, ap, subst, ◌∙◌, arith}
+use Rattle.std.proofs.Common.{◌≡◌, ℕ, ◌+◌, ◌<◌, ◌≤◌, cond, Bool, true, false, nat_eq, nat_lt, nat_le, Option, Some, None, refl, ap, subst, arith}
 use Rattle.std.proofs.lemmas.Bool.{eqb-false, leb-false, lt-ltb, ltb-false, eq-eqb}
 use Rattle.std.specs.Prelude.{◌&&◌, ◌||◌}
 use Rattle.kmc_database.specs.DumpText.{entry_fault, row_fault}
 use Rattle.kmc_database.specs.declared.progress.Progress.{Progress}
 use Rattle.kmc_database.specs.declared.reading.Header.{Header}
 use Rattle.kmc_database.specs.declared.row_reading.Row.{Row}
-use Rattle.kmc_database.specs.declared.unpack_error.UnpackError.{UnpackError}
 use Rattle.kmc_database.specs.declared.unpack_error.UnpackError.TheVariants.{Entry, NotRising, ZeroCount}
 
 -- where nothing is at fault the test failed

@@ -1,6 +1,6 @@
 -- The text of the two files of a database is the dump of its pairs.
-use Rattle.std.proofs.Common.{◌≡◌, ℕ, zero, suc, ◌+◌, ◌-◌, ◌*◌, ◌/◌, ◌^◌, ◌<◌, ◌≤◌, inl, inr, cond, Bool, true, false, nat_eq, nat_lt, nat_le, List, [], ◌∷◌, ◌++◌, length, take, drop, Option, Some, None, refl, sym, ap, subst, ◌∙◌, arith, append_assoc, append-nil}
-use Rattle.std.proofs.lemmas.Bool.{eqb-true, eq-eqb, le-ltb, lt-leb, lt-ltb, ltb-false, ltb-true}
+use Rattle.std.proofs.Common.{◌≡◌, ℕ, zero, suc, ◌+◌, ◌-◌, ◌^◌, ◌<◌, ◌≤◌, cond, Bool, true, false, nat_eq, nat_lt, nat_le, List, [], ◌∷◌, ◌++◌, length, take, drop, Some, None, refl, sym, ap, subst, ◌∙◌, arith, append_assoc}
+use Rattle.std.proofs.lemmas.Bool.{eqb-true, le-ltb, lt-leb, lt-ltb, ltb-false, ltb-true}
 use Rattle.std.proofs.lemmas.Bool.Decides.{nat_tests}
 use Rattle.std.proofs.lemmas.List.{drop_at, take_at}
 use Rattle.std.proofs.lemmas.List.Sums.{sum_by-cons}
@@ -8,7 +8,7 @@ use Rattle.std.proofs.lemmas.Slice.Eq.{bytes_eq-Decides}
 use Rattle.std.specs.List.{AllByRecursion, flat_map, range_with_len}
 use Rattle.std.specs.List.Sorted.{IsStrictlySortedBy}
 use Rattle.std.specs.Ordering.{nat_cmp}
-use Rattle.std.specs.Prelude.{bytes_eq, ◌&&◌, ◌||◌}
+use Rattle.std.specs.Prelude.{◌&&◌, ◌||◌}
 use Rattle.std.specs.declared.cmp.Ordering.TheVariants.{Less}
 use Rattle.kmc_base.specs.Lemmas.Keys.{IsWord}
 use Rattle.kmc_base.specs.Packed.{pack, unpack}
@@ -17,13 +17,13 @@ use Rattle.kmc_count.specs.Dump.{words_of}
 use Rattle.kmc_count.specs.Lemmas.PackedRuns.{cmp_packed}
 use Rattle.kmc_lists.specs.Line.{line_of, text_of}
 use Rattle.kmc_sum.specs.Listed.{IsPair}
-use Rattle.kmc_database.specs.DumpText.{behind_entry, behind_row, entry_fault, is_header, IsWithin, row_fault, row_in, start, steps_left, text_from, text_of_files}
+use Rattle.kmc_database.specs.DumpText.{behind_entry, behind_row, entry_fault, is_header, IsWithin, row_fault, start, steps_left, text_from, text_of_files}
 use Rattle.kmc_database.specs.Files.{CountsFit, header_of, IsDatabase, limits_of, prefix_marker, strands_of, suffix_marker}
 use Rattle.kmc_database.specs.Header.{IsHeaderOf}
 use Rattle.kmc_database.specs.Laws.{AreFilesOf}
 use Rattle.kmc_database.specs.Layout.{IsLayout}
 use Rattle.kmc_database.specs.Numbers.{low_first}
-use Rattle.kmc_database.specs.Numerals.{has_at, low_number}
+use Rattle.kmc_database.specs.Numerals.{low_number}
 use Rattle.kmc_database.specs.Rows.{AreBelow, first_part, number_below, row_long, row_of, rows_of, table_of}
 use Rattle.kmc_database.specs.TakenRow.{pair_of_row}
 use Rattle.kmc_database.specs.declared.form.Form.{Form}
@@ -31,7 +31,6 @@ use Rattle.kmc_database.specs.declared.layout.Layout.{Layout}
 use Rattle.kmc_database.specs.declared.progress.Progress.{Progress}
 use Rattle.kmc_database.specs.declared.reading.Header.{Header}
 use Rattle.kmc_database.specs.declared.row_reading.Row.{Row}
-use Rattle.kmc_database.specs.declared.unpack_error.UnpackError.{UnpackError}
 use Rattle.kmc_database.specs.declared.unpack_error.UnpackError.TheVariants.{Entry, NotRising, ZeroCount}
 use Rattle.kmc_database.proofs.Bytes.{length_low}
 use Rattle.kmc_database.proofs.DumpSteps.{text_of_begun, text_of_end, text_of_entry, text_of_last_part, text_of_row}
