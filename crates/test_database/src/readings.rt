@@ -86,11 +86,7 @@ fn is_read(
 }
 
 /// Passes where the files are read as what is unpacked of them, or end with byte 0 for the reason for which that is refused.
-fn agrees(
-    rt: &(impl Abort + Alloc<A = Global>),
-    prefix: &[u8],
-    suffix: &[u8],
-) -> Result<(), Fail> {
+fn agrees(rt: &(impl Abort + Alloc<A = Global>), prefix: &[u8], suffix: &[u8]) -> Result<(), Fail> {
     let dumped = unpacked(rt, prefix, suffix, ALL_SOUND)?;
     let header = match header_of(rt, prefix) {
         Ok(header) => header,
