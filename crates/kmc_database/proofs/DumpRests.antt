@@ -1,5 +1,5 @@
 -- What is left of the text of two files.
-use Rattle.std.proofs.Common.{◌≡◌, ℕ, cond, Bool, false, List, [], ◌++◌, Option, Some, None, refl, sym, ap, subst, ◌∙◌}
+use Rattle.std.proofs.Common.{◌≡◌, ℕ, cond, Bool, false, List, [], ◌++◌, Option, Some, None, refl, ap, ◌∙◌}
 use Rattle.kmc_database.specs.DumpReader.{of_both}
 use Rattle.kmc_database.specs.LeftOf.{StaysKnown}
 use Rattle.kmc_database.proofs.LeftBytes.{some_same}

@@ -1,5 +1,5 @@
 -- The steps in which two files are read as a text.
-use Rattle.std.proofs.Common.{◌≡◌, ℕ, zero, suc, ◌+◌, ◌-◌, ◌*◌, ◌/◌, ◌%◌, ◌^◌, ◌<◌, ◌≤◌, cond, Bool, true, false, nat_eq, nat_lt, nat_le, List, [], ◌∷◌, ◌++◌, length, take, drop, Option, Some, None, refl, sym, ap, subst, ◌∙◌, arith}
+use Rattle.std.proofs.Common.{◌≡◌, ℕ, suc, ◌+◌, ◌-◌, ◌^◌, ◌<◌, ◌≤◌, cond, Bool, true, false, List, [], ◌∷◌, ◌++◌, take, drop, Some, None, refl, ap, ◌∙◌, arith}
 use Rattle.std.proofs.lemmas.Bool.{le-ltb, lt-ltb, le-leb, lt-leb}
 use Rattle.std.specs.Prelude.{bytes_eq}
 use Rattle.kmc_lists.specs.Line.{line_of}
@@ -13,7 +13,7 @@ use Rattle.kmc_database.specs.declared.progress.Progress.{Progress}
 use Rattle.kmc_database.specs.declared.reading.Header.{Header}
 use Rattle.kmc_database.specs.declared.row_reading.Row.{Row}
 use Rattle.kmc_database.specs.declared.unpack_error.UnpackError.{UnpackError}
-use Rattle.kmc_database.specs.declared.unpack_error.UnpackError.TheVariants.{PrefixMarker, SuffixMarker, Entry, Cut, NotRising, ZeroCount, SuffixEnd, Changed}
+use Rattle.kmc_database.specs.declared.unpack_error.UnpackError.TheVariants.{PrefixMarker, SuffixMarker, Cut, SuffixEnd, Changed}
 
 -- a choice that is made
 yes : {A : Type 0} (b : Bool) (x y : A) → b ≡ true → cond b x y ≡ x

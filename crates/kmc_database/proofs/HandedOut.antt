@@ -1,8 +1,6 @@
 -- Bytes of a buffer that are held.
-use Rattle.std.proofs.Common.{◌≡◌, ℕ, ◌+◌, ◌-◌, ◌<◌, ◌≤◌, List, [], ◌∷◌, ◌++◌, length, take, drop, set, refl, sym, ap, subst, ◌∙◌, arith, length-drop}
+use Rattle.std.proofs.Common.{◌≡◌, ℕ, ◌+◌, ◌-◌, ◌≤◌, List, [], ◌∷◌, ◌++◌, length, take, drop, set, refl, sym, ap, ◌∙◌, arith, length-drop}
 use Rattle.std.proofs.lemmas.List.{length-take-le, take-append-le, take_at}
-use Rattle.std.specs.Str.{bytes_eq}
-use Rattle.kmc_database.specs.Numerals.{has_at}
 use Rattle.kmc_database.proofs.TakenBytes.{unread_cut}
 
 -- one byte is put in front
@@ -19,10 +17,6 @@ handed_out room out rest at end n few inside is =
     let long : length out ≡ n = ap length here ∙ length-take-le n (drop at room) (omega (arith, few, inside, length-drop at room)) in
     unread_cut at end n room few
     ∙ ap (λ (t : List ℕ). t ++ take (end - (at + n)) (drop (at + n) room)) (sym here ∙ sym (take_at out rest n long))
-
--- bytes stand at the front of others as they stood there
-pub at_longer : (front rest part : List ℕ) → length part ≤ length front → has_at (front ++ rest) 0 part ≡ has_at front 0 part
-at_longer front rest part few = ap (λ (t : List ℕ). bytes_eq t part) (take-append-le (length part) front rest few)
 
 -- the first n bytes of what is longer
 pub take_longer : (front rest : List ℕ) (n : ℕ) → n ≤ length front → take n (front ++ rest) ≡ take n front

@@ -25,6 +25,7 @@ mod ReadBack
 mod RowBytes
 mod RowExits
 mod RowTold
+mod RowsAhead
 mod Searches
 mod SoFar
 mod SoundSteps

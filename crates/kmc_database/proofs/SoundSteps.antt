@@ -1,12 +1,11 @@
 -- What a sound row and a sound entry keep.
-use Rattle.std.proofs.Common.{◌≡◌, ℕ, ◌+◌, ◌<◌, ◌≤◌, cond, Bool, true, false, nat_eq, nat_lt, nat_le, List, [], ◌∷◌, ◌++◌, Option, Some, None, refl, sym, ap, subst, ◌∙◌, arith}
-use Rattle.std.proofs.lemmas.Bool.{eqb-false, leb-false, lt-ltb, ltb-false, eq-eqb}
+use Rattle.std.proofs.Common.{◌≡◌, ℕ, ◌+◌, ◌<◌, ◌≤◌, cond, Bool, true, false, nat_eq, nat_lt, nat_le, Option, Some, None, refl, ap, subst, ◌∙◌, arith}
+use Rattle.std.proofs.lemmas.Bool.{eq-eqb, eqb-false, eqb-true, le-ltb, leb-false, lt-leb, lt-ltb, ltb-false, ltb-true}
 use Rattle.std.specs.Prelude.{◌&&◌, ◌||◌}
 use Rattle.kmc_database.specs.DumpText.{entry_fault, row_fault}
 use Rattle.kmc_database.specs.declared.progress.Progress.{Progress}
 use Rattle.kmc_database.specs.declared.reading.Header.{Header}
 use Rattle.kmc_database.specs.declared.row_reading.Row.{Row}
-use Rattle.kmc_database.specs.declared.unpack_error.UnpackError.{UnpackError}
 use Rattle.kmc_database.specs.declared.unpack_error.UnpackError.TheVariants.{Entry, NotRising, ZeroCount}
 
 -- where nothing is at fault the test failed
@@ -49,3 +48,32 @@ sound_entry h at entry e =
     at_most : (b : Bool) → nat_eq at.entries 0 ≡ b → entry ≤ cond (nat_eq at.entries 0) 0 h.rows → 1 ≤ at.entries → entry ≤ h.rows
     at_most true is low some = let none : entry ≤ 0 = subst (λ c. entry ≤ cond c 0 h.rows) is low in omega (arith, none)
     at_most false is low some = subst (λ c. entry ≤ cond c 0 h.rows) is low
+
+-- ---- and where these hold nothing is at fault
+
+pub no_row_fault : (at : Progress) (row : Row) → (1 ≤ at.row → at.last < row.packed) → 1 ≤ row.count → row_fault at row ≡ None
+no_row_fault at row above some = go (nat_lt 0 at.row) refl
+  where
+    counted : cond (nat_eq row.count 0) (Some (ZeroCount (at.row + 1))) None ≡ None
+    counted = go (nat_eq row.count 0) refl
+      where
+        go : (b : Bool) → nat_eq row.count 0 ≡ b → cond b (Some (ZeroCount (at.row + 1))) None ≡ None
+        go true e = absurd (omega (arith, some, eqb-true row.count 0 e))
+        go false e = refl
+
+    go : (b : Bool) → nat_lt 0 at.row ≡ b
+        → cond (b && nat_le row.packed at.last) (Some (NotRising (at.row + 1))) (cond (nat_eq row.count 0) (Some (ZeroCount (at.row + 1))) None) ≡ None
+    go true e =
+        let up : nat_le row.packed at.last ≡ false = lt-leb row.packed at.last (above (omega (arith, ltb-true 0 at.row e))) in
+        ap (λ t. cond t (Some (NotRising (at.row + 1))) (cond (nat_eq row.count 0) (Some (ZeroCount (at.row + 1))) None)) up ∙ counted
+    go false e = counted
+
+pub no_entry_fault : (h : Header) (at : Progress) (entry : ℕ) → at.row ≤ entry → (at.entries ≡ 0 → entry ≡ 0) → entry ≤ h.rows → entry_fault h at entry ≡ None
+no_entry_fault h at entry least none most = go (nat_eq at.entries 0) refl
+  where
+    go : (b : Bool) → nat_eq at.entries 0 ≡ b
+        → cond (nat_lt entry at.row || nat_lt (cond b 0 h.rows) entry) (Some (Entry at.entries)) None ≡ None
+    go true e =
+        let nothing : entry ≡ 0 = none (eqb-true at.entries 0 e) in
+        (λ i. cond (le-ltb entry at.row least i || le-ltb 0 entry (omega (arith, nothing)) i) (Some (Entry at.entries)) None)
+    go false e = (λ i. cond (le-ltb entry at.row least i || le-ltb h.rows entry most i) (Some (Entry at.entries)) None)

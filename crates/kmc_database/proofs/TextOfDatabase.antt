@@ -1,160 +1,38 @@
 -- The text of the two files of a database is the dump of its pairs.
-use Rattle.std.proofs.Common.{◌≡◌, ℕ, zero, suc, ◌+◌, ◌-◌, ◌*◌, ◌/◌, ◌^◌, ◌<◌, ◌≤◌, inl, inr, cond, Bool, true, false, nat_eq, nat_lt, nat_le, List, [], ◌∷◌, ◌++◌, length, take, drop, Option, Some, None, refl, sym, ap, subst, ◌∙◌, arith, append_assoc, append-nil}
-use Rattle.std.proofs.lemmas.Bool.{eqb-true, eq-eqb, le-ltb, lt-leb, lt-ltb, ltb-false, ltb-true}
-use Rattle.std.proofs.lemmas.Bool.Decides.{nat_tests}
+use Rattle.std.proofs.Common.{◌≡◌, ℕ, zero, suc, ◌+◌, ◌-◌, ◌^◌, ◌<◌, ◌≤◌, cond, Bool, true, false, nat_lt, List, [], ◌∷◌, ◌++◌, length, take, drop, refl, sym, ap, subst, ◌∙◌, arith, append_assoc}
+use Rattle.std.proofs.lemmas.Bool.{ltb-false, ltb-true}
 use Rattle.std.proofs.lemmas.List.{drop_at, take_at}
-use Rattle.std.proofs.lemmas.List.Sums.{sum_by-cons}
 use Rattle.std.proofs.lemmas.Slice.Eq.{bytes_eq-Decides}
 use Rattle.std.specs.List.{AllByRecursion, flat_map, range_with_len}
 use Rattle.std.specs.List.Sorted.{IsStrictlySortedBy}
-use Rattle.std.specs.Ordering.{nat_cmp}
-use Rattle.std.specs.Prelude.{bytes_eq, ◌&&◌, ◌||◌}
-use Rattle.std.specs.declared.cmp.Ordering.TheVariants.{Less}
-use Rattle.kmc_base.specs.Lemmas.Keys.{IsWord}
 use Rattle.kmc_base.specs.Packed.{pack, unpack}
 use Rattle.kmc_base.specs.Words.{kmer_cmp}
 use Rattle.kmc_count.specs.Dump.{words_of}
-use Rattle.kmc_count.specs.Lemmas.PackedRuns.{cmp_packed}
 use Rattle.kmc_lists.specs.Line.{line_of, text_of}
 use Rattle.kmc_sum.specs.Listed.{IsPair}
-use Rattle.kmc_database.specs.DumpText.{behind_entry, behind_row, entry_fault, is_header, IsWithin, row_fault, row_in, start, steps_left, text_from, text_of_files}
+use Rattle.kmc_database.specs.DumpText.{behind_entry, behind_row, is_header, IsWithin, start, steps_left, text_from, text_of_files}
 use Rattle.kmc_database.specs.Files.{CountsFit, header_of, IsDatabase, limits_of, prefix_marker, strands_of, suffix_marker}
 use Rattle.kmc_database.specs.Header.{IsHeaderOf}
 use Rattle.kmc_database.specs.Laws.{AreFilesOf}
 use Rattle.kmc_database.specs.Layout.{IsLayout}
 use Rattle.kmc_database.specs.Numbers.{low_first}
-use Rattle.kmc_database.specs.Numerals.{has_at, low_number}
-use Rattle.kmc_database.specs.Rows.{AreBelow, first_part, number_below, row_long, row_of, rows_of, table_of}
+use Rattle.kmc_database.specs.Numerals.{low_number}
+use Rattle.kmc_database.specs.Rows.{first_part, number_below, row_long, row_of, rows_of, table_of}
 use Rattle.kmc_database.specs.TakenRow.{pair_of_row}
 use Rattle.kmc_database.specs.declared.form.Form.{Form}
-use Rattle.kmc_database.specs.declared.layout.Layout.{Layout}
 use Rattle.kmc_database.specs.declared.progress.Progress.{Progress}
 use Rattle.kmc_database.specs.declared.reading.Header.{Header}
 use Rattle.kmc_database.specs.declared.row_reading.Row.{Row}
-use Rattle.kmc_database.specs.declared.unpack_error.UnpackError.{UnpackError}
-use Rattle.kmc_database.specs.declared.unpack_error.UnpackError.TheVariants.{Entry, NotRising, ZeroCount}
 use Rattle.kmc_database.proofs.Bytes.{length_low}
 use Rattle.kmc_database.proofs.DumpSteps.{text_of_begun, text_of_end, text_of_entry, text_of_last_part, text_of_row}
 use Rattle.kmc_database.proofs.HeaderSeen.{header_seen, stands_in}
 use Rattle.kmc_database.proofs.Numerals.{low_of, stands_at}
 use Rattle.kmc_database.proofs.Ranges.{spread_moved}
-use Rattle.kmc_database.proofs.ReadBack.{again, all_above, AreWordsFrom, fits_at, none_below, one, part_small}
+use Rattle.kmc_database.proofs.ReadBack.{again, all_above, AreWordsFrom, fits_at, none_below}
 use Rattle.kmc_database.proofs.RowTold.{long_row, row_there, row_told}
 use Rattle.kmc_database.proofs.Tables.{number_all}
-
-abbrev Pairs : Type 0
-Pairs = List (List ℕ × ℕ)
-
--- ---- where nothing is at fault
-
-no_row_fault : (at : Progress) (row : Row) → (1 ≤ at.row → at.last < row.packed) → 1 ≤ row.count → row_fault at row ≡ None
-no_row_fault at row above some = go (nat_lt 0 at.row) refl
-  where
-    counted : cond (nat_eq row.count 0) (Some (ZeroCount (at.row + 1))) None ≡ None
-    counted = go (nat_eq row.count 0) refl
-      where
-        go : (b : Bool) → nat_eq row.count 0 ≡ b → cond b (Some (ZeroCount (at.row + 1))) None ≡ None
-        go true e = absurd (omega (arith, some, eqb-true row.count 0 e))
-        go false e = refl
-
-    go : (b : Bool) → nat_lt 0 at.row ≡ b
-        → cond (b && nat_le row.packed at.last) (Some (NotRising (at.row + 1))) (cond (nat_eq row.count 0) (Some (ZeroCount (at.row + 1))) None) ≡ None
-    go true e =
-        let up : nat_le row.packed at.last ≡ false = lt-leb row.packed at.last (above (omega (arith, ltb-true 0 at.row e))) in
-        ap (λ t. cond t (Some (NotRising (at.row + 1))) (cond (nat_eq row.count 0) (Some (ZeroCount (at.row + 1))) None)) up ∙ counted
-    go false e = counted
-
-no_entry_fault : (h : Header) (at : Progress) (entry : ℕ) → at.row ≤ entry → (at.entries ≡ 0 → entry ≡ 0) → entry ≤ h.rows → entry_fault h at entry ≡ None
-no_entry_fault h at entry least none most = go (nat_eq at.entries 0) refl
-  where
-    go : (b : Bool) → nat_eq at.entries 0 ≡ b
-        → cond (nat_lt entry at.row || nat_lt (cond b 0 h.rows) entry) (Some (Entry at.entries)) None ≡ None
-    go true e =
-        let nothing : entry ≡ 0 = none (eqb-true at.entries 0 e) in
-        (λ i. cond (le-ltb entry at.row least i || le-ltb 0 entry (omega (arith, nothing)) i) (Some (Entry at.entries)) None)
-    go false e = (λ i. cond (le-ltb entry at.row least i || le-ltb h.rows entry most i) (Some (Entry at.entries)) None)
-
--- ---- the rows that are to come
-
-module _ (l : Layout) (is : IsLayout l) where
-  -- no more of the rows are below a first part than there are
-  most_below : (back : Pairs) (n : ℕ) → number_below l back n ≤ length back
-  most_below [] n = omega arith
-  most_below (q ∷ back) n = go (nat_lt (first_part l q.0) n) refl (most_below back n)
-    where
-      go : (b : Bool) → nat_lt (first_part l q.0) n ≡ b → number_below l back n ≤ length back → number_below l (q ∷ back) n ≤ length (q ∷ back)
-      go true e rest =
-          let own : one l is n q ≡ 1 = ap (λ b. cond b 1 0) e in
-          omega (arith, own, sum_by-cons (one l is n) q back, rest)
-      go false e rest =
-          let own : one l is n q ≡ 0 = ap (λ b. cond b 1 0) e in
-          omega (arith, own, sum_by-cons (one l is n) q back, rest)
-
-  -- where none of the rows is below a first part
-  from_none : (back : Pairs) (n : ℕ) → number_below l back n ≡ 0 → AreWordsFrom l is n back
-  from_none [] n none = tt
-  from_none (q ∷ back) n none = go (nat_lt (first_part l q.0) n) refl (from_none back n)
-    where
-      go : (b : Bool) → nat_lt (first_part l q.0) n ≡ b → (number_below l back n ≡ 0 → AreWordsFrom l is n back) → AreWordsFrom l is n (q ∷ back)
-      go true e later =
-          let own : one l is n q ≡ 1 = ap (λ b. cond b 1 0) e in
-          absurd (omega (arith, own, sum_by-cons (one l is n) q back, none))
-      go false e later =
-          let own : one l is n q ≡ 0 = ap (λ b. cond b 1 0) e in
-          (ltb-false (first_part l q.0) n e, later (omega (arith, own, sum_by-cons (one l is n) q back, none)))
-
-  from_zero : (back : Pairs) → AreWordsFrom l is 0 back
-  from_zero [] = tt
-  from_zero (q ∷ back) = (omega arith, from_zero back)
-
-  all_below : (back : Pairs) → AllByRecursion (IsPair l.k) back → AreBelow l (4 ^ l.prefix) back
-  all_below [] each = tt
-  all_below (q ∷ back) each = (part_small l is q.0 each.0.word, all_below back each.1)
-
-  -- a row that is below a first part
-  one_more : (q : List ℕ × ℕ) (back : Pairs) (n : ℕ) → first_part l q.0 < n → number_below l (q ∷ back) n ≡ number_below l back n + 1
-  one_more q back n low =
-      let own : one l is n q ≡ 1 = ap (λ b. cond b 1 0) (lt-ltb (first_part l q.0) n low) in
-      sum_by-cons (one l is n) q back ∙ omega (arith, own)
-
-  packed_up : (w v : List ℕ) → IsWord l.k w → IsWord l.k v → kmer_cmp w v ≡ Less → pack w < pack v
-  packed_up w v hw hv less =
-      let order : nat_cmp (pack w) (pack v) ≡ Less =
-      sym (cmp_packed l.k (pack w) (pack v) (fits_at l is w hw) (fits_at l is v hv)) ∙ (λ i. kmer_cmp (again l is w hw i) (again l is v hv i)) ∙ less in
-      grind (arith, nat_tests)
-
-  -- each of the words is above a packed one
-  AreAbove : ℕ → Pairs → Type 0
-  AreAbove last back = AllByRecursion (λ q. last < pack q.0) back
-
-  above_first : (q : List ℕ × ℕ) (back : Pairs) → IsWord l.k q.0 → AllByRecursion (IsPair l.k) back
-      → AllByRecursion (λ w. kmer_cmp q.0 w ≡ Less) (words_of back) → AllByRecursion (λ p. pack q.0 < pack p.0) back
-  above_first q [] word each up = tt
-  above_first q (p ∷ back) word each up = (packed_up q.0 p.0 word each.0.word up.0, above_first q back word each.1 up.1)
-
-  -- the entries that are to come, behind so many rows
-  abbrev entries_after : ℕ → Pairs → ℕ → List ℕ
-  entries_after row back t = flat_map (λ i. low_first 8 (row + number_below l back i)) (range_with_len t (4 ^ l.prefix - t))
-
-  entries_cons : (row : ℕ) (back : Pairs) (t : ℕ) → t < 4 ^ l.prefix
-      → entries_after row back t ≡ low_first 8 (row + number_below l back t) ++ entries_after row back (t + 1)
-  entries_cons row back t more =
-      let rest : 4 ^ l.prefix - t ≡ suc (4 ^ l.prefix - (t + 1)) = omega (arith, more) in
-      ap (λ n. flat_map (λ i. low_first 8 (row + number_below l back i)) (range_with_len t n)) rest
-
-  entries_done : (row : ℕ) (back : Pairs) (t : ℕ) → 4 ^ l.prefix ≤ t → entries_after row back t ≡ []
-  entries_done row back t all =
-      let none : 4 ^ l.prefix - t ≡ 0 = omega (arith, all) in
-      ap (λ n. flat_map (λ i. low_first 8 (row + number_below l back i)) (range_with_len t n)) none
-
-  entries_behind : (row : ℕ) (q : List ℕ × ℕ) (back : Pairs) (t : ℕ) → first_part l q.0 < t
-      → entries_after row (q ∷ back) t ≡ entries_after (row + 1) back t
-  entries_behind row q back t low =
-      spread_moved (λ i. low_first 8 (row + number_below l (q ∷ back) i)) (λ i. low_first 8 (row + 1 + number_below l back i)) (4 ^ l.prefix - t) t t
-      (λ j inside.
-      let e : row + number_below l (q ∷ back) (t + j) ≡ row + 1 + number_below l back (t + j) =
-      omega (arith, one_more q back (t + j) (omega (arith, low))) in
-      ap (low_first 8) e)
+use Rattle.kmc_database.proofs.RowsAhead.{Pairs, above_first, all_below, entries_after, entries_behind, entries_cons, entries_done, from_none, from_zero, most_below, one_more}
+use Rattle.kmc_database.proofs.SoundSteps.{no_entry_fault, no_row_fault}
 
 -- ---- the steps
 

@@ -1,6 +1,5 @@
 -- Where a text that is read stands in the two files of a database.
-use Rattle.std.proofs.Common.{◌≡◌, ℕ, zero, suc, ◌+◌, ◌-◌, ◌/◌, ◌^◌, ◌<◌, ◌≤◌, true, List, [], ◌∷◌, ◌++◌, length, take, drop, Option, Some, None, refl, sym, ap, subst, ◌∙◌, arith, append-nil, length-append, take-append-drop}
-use Rattle.kmc_base.specs.Packed.{unpack}
+use Rattle.std.proofs.Common.{◌≡◌, ℕ, ◌+◌, ◌-◌, ◌^◌, ◌<◌, ◌≤◌, true, List, [], ◌∷◌, ◌++◌, length, take, drop, Some, None, refl, sym, ap, subst, ◌∙◌, arith, append-nil, length-append, take-append-drop}
 use Rattle.kmc_sum.specs.Lemmas.Tallies.{rising_none}
 use Rattle.kmc_sum.specs.Pairs.{EndsIn}
 use Rattle.kmc_database.specs.DumpText.{behind_entry, behind_row, row_in, start}
@@ -13,7 +12,6 @@ use Rattle.kmc_database.specs.Numbers.{low_first}
 use Rattle.kmc_database.specs.Numerals.{has_at}
 use Rattle.kmc_database.specs.Rows.{row_long, row_of}
 use Rattle.kmc_database.specs.TakenRow.{pair_of_row}
-use Rattle.kmc_database.specs.declared.layout.Layout.{Layout}
 use Rattle.kmc_database.specs.declared.progress.Progress.{Progress}
 use Rattle.kmc_database.specs.declared.reading.Header.{Header}
 use Rattle.kmc_database.specs.declared.row_reading.Row.{Row}

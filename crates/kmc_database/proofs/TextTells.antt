@@ -1,6 +1,6 @@
 -- Two files whose text lists pairs are a database of these pairs.
-use Rattle.std.proofs.Common.{◌≡◌, ℕ, zero, suc, ◌+◌, ◌-◌, ◌*◌, ◌^◌, ◌<◌, ◌≤◌, ◌⊎◌, inl, inr, cond, Bool, true, false, nat_lt, nat_le, nat_eq, decimal, map, List, [], ◌∷◌, ◌++◌, length, take, drop, Option, Some, None, refl, sym, ap, subst, ◌∙◌, arith, append_assoc, append-nil, length-drop, take-append-drop}
-use Rattle.std.proofs.lemmas.Bool.{le-ltb, lt-ltb, ltb-false, ltb-true}
+use Rattle.std.proofs.Common.{◌≡◌, ℕ, zero, suc, ◌+◌, ◌-◌, ◌^◌, ◌<◌, ◌≤◌, ◌⊎◌, inl, inr, cond, Bool, true, false, nat_lt, nat_eq, decimal, map, List, [], ◌∷◌, ◌++◌, length, take, drop, Option, Some, None, refl, sym, ap, subst, ◌∙◌, arith, append_assoc, append-nil, length-drop, take-append-drop}
+use Rattle.std.proofs.lemmas.Bool.{ltb-false, ltb-true}
 use Rattle.std.proofs.lemmas.Bool.Decides.{Decides-eqb}
 use Rattle.std.proofs.lemmas.List.{length-take-le}
 use Rattle.std.proofs.lemmas.Slice.Eq.{bytes_eq-Decides}
@@ -9,8 +9,8 @@ use Rattle.kmc_base.specs.Lemmas.Powers.{pow_some}
 use Rattle.kmc_base.specs.Words.{letter}
 use Rattle.kmc_lists.specs.Line.{line_of, text_of}
 use Rattle.kmc_sum.specs.Laws.{TextListsOne}
-use Rattle.kmc_sum.specs.Listed.{AreListed, Lists}
-use Rattle.kmc_database.specs.DumpText.{behind_entry, behind_row, end_step, Ends, entry_fault, entry_step, Fails, Goes, has_form, has_layout, is_header, marker_step, row_fault, row_in, row_step, start, Step, step, steps_left, text_behind, text_from, text_in, text_of_files, unless}
+use Rattle.kmc_sum.specs.Listed.{Lists}
+use Rattle.kmc_database.specs.DumpText.{behind_entry, behind_row, end_step, Ends, entry_fault, entry_step, Fails, Goes, has_form, has_layout, is_header, row_fault, row_in, row_step, start, Step, step, steps_left, text_behind, text_in, text_of_files, unless}
 use Rattle.kmc_database.specs.Files.{prefix_marker, suffix_marker}
 use Rattle.kmc_database.specs.Header.{field, IsHeaderOf}
 use Rattle.kmc_database.specs.Laws.{AreFilesOf}
@@ -19,13 +19,10 @@ use Rattle.kmc_database.specs.Numbers.{low_first}
 use Rattle.kmc_database.specs.Numerals.{has_at, low_number}
 use Rattle.kmc_database.specs.Rows.{row_long, row_of}
 use Rattle.kmc_database.specs.TakenRow.{pair_of_row}
-use Rattle.kmc_database.specs.declared.layout.Layout.{Layout}
 use Rattle.kmc_database.specs.declared.progress.Progress.{Progress}
 use Rattle.kmc_database.specs.declared.reading.Header.{Header}
-use Rattle.kmc_database.specs.declared.row_reading.Row.{Row}
 use Rattle.kmc_database.specs.declared.unpack_error.UnpackError.{UnpackError}
 use Rattle.kmc_database.specs.declared.unpack_error.UnpackError.TheVariants.{Changed, Cut, PrefixMarker, SuffixEnd, SuffixMarker}
-use Rattle.kmc_database.proofs.Bytes.{length_low}
 use Rattle.kmc_database.proofs.DumpSteps.{is_end_step, is_entry_step, is_last_part, is_marker_step, is_row_step}
 use Rattle.kmc_database.proofs.HeaderParts.{header_parts}
 use Rattle.kmc_database.proofs.Numerals.{at_Decides}

@@ -1,5 +1,5 @@
 -- What a reader of the dump of a database has left.
-use Rattle.std.specs.Prelude.{ℕ, ◌+◌, List, [], ◌++◌, if◌then◌else◌, Option, Some, None}
+use Rattle.std.specs.Prelude.{ℕ, List, [], ◌++◌, if◌then◌else◌, Option, Some, None}
 use Rattle.kmc_database.specs.DumpText.{steps_left, text_from}
 use Rattle.kmc_database.specs.LeftOf.{left_of}
 use Rattle.kmc_database.specs.declared.reader.DatabaseReader.{DatabaseReader}

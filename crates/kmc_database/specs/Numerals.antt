@@ -1,5 +1,5 @@
 -- Numbers that stand in bytes, told from them.
-use Rattle.std.specs.Prelude.{ℕ, ◌+◌, ◌*◌, Bool, List, [], ◌∷◌, length, take, drop, bytes_eq, fold}
+use Rattle.std.specs.Prelude.{ℕ, ◌+◌, ◌*◌, Bool, List, [], ◌∷◌, length, take, drop, bytes_eq}
 
 -- the number of bytes, the lowest first: 46, 1 is 302
 abbrev pub low_number : List ℕ → ℕ

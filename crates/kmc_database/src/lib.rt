@@ -18,6 +18,7 @@ mod layout;
 mod line_buffer;
 mod look_up_error;
 mod looking_up;
+mod markers;
 mod message;
 mod next_bytes;
 mod next_parts;

@@ -7,18 +7,13 @@ ghost use Rattle.kmc_database.specs.Numerals.{has_at};
 
 use crate::header::HEADER;
 use crate::layout::Layout;
+use crate::markers::PREFIX_MARKER;
 use crate::next_bytes::NextBytes;
 use crate::number::number_at;
 use crate::reading::Header;
 use crate::row_reading::{Row, row_at};
 use std::io;
 use std::io::Read;
-
-/// `KMCP` as a number.
-pub(crate) const PREFIX_MARKER: u64 = 1346587979;
-
-/// `KMCS` as a number.
-pub(crate) const SUFFIX_MARKER: u64 = 1396919627;
 
 /// Whether this number stands at a place of bytes, the lowest byte first.
 fn has_number(bytes: &[u8], place: usize, size: usize, number: u64) -> bool

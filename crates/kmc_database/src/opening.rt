@@ -9,18 +9,13 @@ ghost use Rattle.kmc_database.specs.declared.form.Form.{Form};
 
 use crate::header::HEADER;
 use crate::last_header::prefix_long;
+use crate::markers::{PREFIX_MARKER, SUFFIX_MARKER};
 use crate::number::number_at;
 use crate::open_error::OpenError;
 use crate::places::Places;
 use crate::reading::{Header, read_header};
 use kmc_base::Strands;
 use kmc_device::ReadFault;
-
-/// `KMCP` as a number.
-const PREFIX_MARKER: u64 = 1346587979;
-
-/// `KMCS` as a number.
-const SUFFIX_MARKER: u64 = 1396919627;
 
 /// What the header of a database tells: how words and counts lie, how many rows there are, and whether a word and its reverse complement
 /// are counted together.

@@ -1,7 +1,7 @@
 //! The steps in which a database is read as its dump.
 ghost use Rattle.std.specs.Prelude.{◌≡◌, ◌+◌, ◌^◌, ◌<◌, ◌≤◌, [], ◌∷◌, ℕ, List, length, true, false, OnOk};
 
-use crate::next_parts::{PREFIX_MARKER, SUFFIX_MARKER};
+use crate::markers::{PREFIX_MARKER, SUFFIX_MARKER};
 use crate::progress::{entry_fault, row_fault};
 use crate::reader::DatabaseReader;
 use crate::unpack_error::UnpackError;

@@ -11,6 +11,7 @@ ghost use Rattle.kmc_database.specs.UnpackState.{AreAllUnpacked, IsBeforeRow, Is
 
 use crate::checking::{begins_with, ends_in, ends_with, next_entry};
 use crate::last_header::last_header;
+use crate::markers::{PREFIX_MARKER, SUFFIX_MARKER};
 use crate::reading::Header;
 use crate::row_reading::{Row, next_row};
 use crate::unpack_error::UnpackError;
@@ -19,12 +20,6 @@ use kmc_device::Counted;
 use kmc_sum::{OutputBuffer, Room};
 use std::alloc::Global;
 use std::io::{Read, Write};
-
-/// `KMCP` as a number.
-const PREFIX_MARKER: u64 = 1346587979;
-
-/// `KMCS` as a number.
-const SUFFIX_MARKER: u64 = 1396919627;
 
 /// A first part, as a number, and the rows of its words, numbered from 0.
 #[derive(Clone, Copy)]

@@ -31,12 +31,13 @@ type Failing = (u64, u64);
 /// Reads the files as a text, so many bytes at a time and again after each read that fails.
 fn text_of(
     rt: &impl Alloc<A = Global>,
-    header: Header,
     prefix: &[u8],
     suffix: &[u8],
     size: usize,
     failing: Failing,
 ) -> Result<Reading, Fail> {
+    let mut first = Counted::new(BlockReader::new(prefix, 7, 0));
+    let header = database_header(rt.alloc(), &mut first)?;
     let table = BlockReader::new(prefix, 11, failing.0);
     let rows = BlockReader::new(suffix, 5, failing.1);
     let mut reader = DatabaseReader::new(header, table, rows);
@@ -75,10 +76,9 @@ fn is_read(
     suffix: &[u8],
 ) -> Result<(), Fail> {
     let dumped = unpacked(rt, prefix, suffix, ALL_SOUND)?;
-    let header = header_of(rt, prefix)?;
-    assert_eq!(rt; dumped.answer, Ok(header.rows));
+    assert_eq!(rt; dumped.answer, Ok(header_of(rt, prefix)?.rows));
     for size in [1, 7, 86, 70_000] {
-        let read = text_of(rt, header, prefix, suffix, size, (0, 0))?;
+        let read = text_of(rt, prefix, suffix, size, (0, 0))?;
         assert_eq!(rt; read.text.as_slice(), dumped.text.as_slice());
         assert_eq!(rt; read.fault, None);
     }
@@ -88,14 +88,11 @@ fn is_read(
 /// Passes where the files are read as what is unpacked of them, or end with byte 0 for the reason for which that is refused.
 fn agrees(rt: &(impl Abort + Alloc<A = Global>), prefix: &[u8], suffix: &[u8]) -> Result<(), Fail> {
     let dumped = unpacked(rt, prefix, suffix, ALL_SOUND)?;
-    let header = match header_of(rt, prefix) {
-        Ok(header) => header,
-        Err(error) => {
-            assert_eq!(rt; dumped.answer, Err(error));
-            return Ok(());
-        }
-    };
-    let read = text_of(rt, header, prefix, suffix, 9, (0, 0))?;
+    if let Err(error) = header_of(rt, prefix) {
+        assert_eq!(rt; dumped.answer, Err(error));
+        return Ok(());
+    }
+    let read = text_of(rt, prefix, suffix, 9, (0, 0))?;
     match dumped.answer {
         Ok(_) => {
             assert_eq!(rt; read.text.as_slice(), dumped.text.as_slice());
@@ -162,10 +159,9 @@ fn a_changed_byte_is_told_as_it_is_when_unpacked(rt: HostRuntime) -> Result<(), 
 fn a_read_that_fails_loses_nothing(rt: HostRuntime) -> Result<(), Fail> {
     let text = "AACCG\t1\nAACGG\t2\nCAAAA\t3\n";
     let prefix = prefix_file(rt.alloc(), &TABLE, HEADER)?;
-    let header = header_of(&rt, prefix.as_slice())?;
     for read in 1..5 {
         for failing in [(read, 0), (0, read)] {
-            let again = text_of(&rt, header, prefix.as_slice(), ROWS, 20, failing)?;
+            let again = text_of(&rt, prefix.as_slice(), ROWS, 20, failing)?;
             assert_eq!(rt; again.text.as_slice(), text.as_bytes());
             assert_eq!(rt; again.failures, 1);
         }

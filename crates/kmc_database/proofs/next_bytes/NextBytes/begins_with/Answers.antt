@@ -1,4 +1,4 @@
-use Rattle.std.proofs.Common.{◌≡◌, length, sym, ap, ◌∙◌, arith}
+use Rattle.std.proofs.Common.{sym, ap, ◌∙◌, arith}
 use Rattle.kmc_database.specs.LeftOf.{held_of}
 use Rattle.kmc_database.specs.Numbers.{low_first}
 use Rattle.kmc_database.specs.Numerals.{has_at}

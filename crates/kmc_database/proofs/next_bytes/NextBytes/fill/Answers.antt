@@ -1,4 +1,4 @@
-use Rattle.std.proofs.Common.{◌≡◌, ◌-◌, length, arith}
+use Rattle.std.proofs.Common.{◌≡◌, length, arith}
 use Rattle.std.proofs.lemmas.List.{length-take-le}
 use Rattle.kmc_database.specs.LeftOf.{held_of}
 use Rattle.kmc_database.proofs.LeftBytes.{filled_more, filled_none, filled_same}

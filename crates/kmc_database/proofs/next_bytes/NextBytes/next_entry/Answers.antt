@@ -1,4 +1,4 @@
-use Rattle.std.proofs.Common.{◌≡◌, length, sym, ap, ◌∙◌, take, arith}
+use Rattle.std.proofs.Common.{ap, ◌∙◌, take}
 use Rattle.kmc_database.specs.LeftOf.{held_of}
 use Rattle.kmc_database.specs.Numerals.{low_number}
 use Rattle.kmc_database.proofs.NextParts.{entry_told, short_number}

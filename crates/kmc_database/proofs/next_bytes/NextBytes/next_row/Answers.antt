@@ -1,4 +1,4 @@
-use Rattle.std.proofs.Common.{◌≡◌, ◌-◌, ◌/◌, ◌+◌, length, sym, ap, ◌∙◌, arith, take}
+use Rattle.std.proofs.Common.{◌≡◌, length, sym, ap, ◌∙◌, arith, take}
 use Rattle.kmc_database.specs.DumpText.{row_in}
 use Rattle.kmc_database.specs.LeftOf.{held_of}
 use Rattle.kmc_database.specs.Rows.{row_long, row_of}

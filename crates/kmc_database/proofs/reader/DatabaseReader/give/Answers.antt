@@ -1,6 +1,5 @@
-use Rattle.std.proofs.Common.{◌≡◌, ◌+◌, ◌-◌, ◌≤◌, cond, List, [], ◌++◌, length, take, arith, length-drop}
+use Rattle.std.proofs.Common.{◌≡◌, ◌-◌, ◌≤◌, cond, [], length, take, arith, length-drop}
 use Rattle.kmc_device.specs.Lemmas.Lines.{length_put_mid}
-use Rattle.kmc_database.specs.DumpReader.{rest_of}
 use Rattle.kmc_database.specs.DumpText.{text_from}
 use Rattle.kmc_database.specs.LeftOf.{left_of}
 use Rattle.kmc_database.proofs.DumpGiven.{all_given, given_more, given_none, given_stays, line_given}

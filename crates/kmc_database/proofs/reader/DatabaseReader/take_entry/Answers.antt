@@ -1,4 +1,4 @@
-use Rattle.std.proofs.Common.{◌+◌, ◌≡◌, sym, ap, ◌∙◌, arith}
+use Rattle.std.proofs.Common.{sym, ap, ◌∙◌, arith}
 use Rattle.kmc_database.specs.DumpReader.{text_left}
 use Rattle.kmc_database.specs.LeftOf.{left_of}
 use Rattle.kmc_database.proofs.DumpRests.{line_then, text_stays}
