@@ -31,8 +31,8 @@ def run(found, setting, children, output, reader=None):
     work = None
     if plan.slices != 1 or setting.slices:
         work = slices.Work(setting, found, format_name, (symbols, listed), plan, children)
-        dumps = None if slices.takes_parts(reader) else memory.disk_of_dumps(listed, setting.k)
-        work.begin(plan.wanted, memory.disk(symbols), dumps)
+        beside = None if slices.takes_parts(reader) else memory.disk_of_dumps(listed, setting.k)
+        work.begin(plan.wanted, memory.disk(symbols), beside)
         work.count(output, reader)
     else:
         command, taken = [places.find("kmc"), *shared.words(setting, format_name)], reader
