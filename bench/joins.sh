@@ -41,7 +41,7 @@ read_in=$(cat first.dump second.dump | wc -l)
 while read -r kind name theirs command; do
     rm -f ./*.times
     case $kind in
-        dumps) left=first.dump right=second.dump ends= what=$name ;;
+        dumps) left=first.dump right=second.dump ends='' what=$name ;;
         databases) left=sorted_first right=sorted_second ends=.kmc what="$name of databases" ;;
     esac
     round=0

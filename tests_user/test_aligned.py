@@ -114,8 +114,10 @@ def test_what_is_not_foreseen_is_one_line(room):
 
 
 def test_a_program_that_ends_without_a_word_is_told(room):
-    room.stand_in("#!/bin/sh\ncat > /dev/null\nexit 3\n")
-    for words in (["count", READS], ["count", READS, "-o", "out"], ["histogram", READS]):
+    for name in ("kmc", "kmc_db"):
+        room.stand_in("#!/bin/sh\ncat > /dev/null\nexit 3\n", name)
+    for words in (["count", READS], ["count", READS, "-o", "out"]):
         room.refuses(1, "kmc ended with status 3 and told nothing", "doctor", words=words)
+    room.refuses(1, "kmc_db ended with status 3 and told nothing", "doctor", words=["histogram", READS])
     room.stand_in("#!/bin/sh\ncat > /dev/null\nexit 1\n")
     room.refuses(1, "kmc ended with status 1 and told nothing", words=["count", READS, "-o", "out"])

@@ -55,5 +55,5 @@ def test_a_program_that_reads_no_more_ends_the_dealing(room):
     block, dealing.BLOCK = dealing.BLOCK, 100
     room.stand_in("#!/bin/sh\nfor it in $(seq 10000); do printf 'ACGTACGTACGTACGTACGTACGTACGTA\\t1\\n'; done\n", "kmc_list")
     os.symlink(program("kmc_cut"), room.path("bin/kmc_cut"))
-    room.refuses(1, "kmc", words=["histogram", "--slices", "2", room.write("reads", b"@a\nACGT\n+\nIIII\n")])
+    room.refuses(1, "kmc", words=["histogram", "-q", "--slices", "2", room.write("reads", b"@a\nACGT\n+\nIIII\n")])
     dealing.BLOCK = block
