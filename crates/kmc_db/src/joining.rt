@@ -118,20 +118,40 @@ fn name_database<T: Files + Alloc<A = Global>>(rt: &T, files: &[String]) -> bool
     false
 }
 
-/// Reads the sources and writes what is asked for.
+/// Reads the sources and writes what is asked for; nothing is done where they are more or fewer than that takes. The exit status is 0
+/// where it was written, and else 1.
 fn written<T: Files + Eprint + Alloc<A = Global>, I: Read + Drop, W: Write>(
     rt: &T,
     asked: &SourcesRequest,
     input: I,
     writer: &mut Counted<W>,
-) -> Result<ExitCode, ExitCode> {
+) -> Option<ExitCode> {
     let files = asked.files.as_slice();
-    let found = sources(rt, files, input)?;
-    Ok(match asked.wanted {
-        Wanted::Histogram => histogram_source(rt, files, found, writer),
-        Wanted::Table(cap) => table_sources(rt, files, cap, found, writer),
-        Wanted::Join(rule, limits) => join_sources(rt, files, rule, &limits, found, writer),
-    })
+    let found = match sources(rt, files, input) {
+        Ok(found) => found,
+        Err(status) => return Some(status),
+    };
+    let count = found.len();
+    match asked.wanted {
+        Wanted::Histogram => {
+            if count != 1 {
+                return None;
+            }
+            Some(histogram_source(rt, files, found, writer))
+        }
+        Wanted::Table(cap) => {
+            if count != 2 {
+                return None;
+            }
+            Some(table_sources(rt, files, cap, found, writer))
+        }
+        Wanted::Join(rule, limits) => {
+            if count != 2 {
+                return None;
+            }
+            Some(join_sources(rt, files, rule, &limits, found, writer))
+        }
+    }
 }
 
 /// Does what the words of the process ask for, where it is a histogram, a table or a join and one of the dumps is a database; else nothing
@@ -146,8 +166,5 @@ pub fn join_databases<T: Files + Env + Eprint + Alloc<A = Global>, I: Read + Dro
     if !name_database(rt, &asked.files) {
         return None;
     }
-    Some(match written(rt, &asked, input, writer) {
-        Ok(status) => status,
-        Err(status) => status,
-    })
+    written(rt, &asked, input, writer)
 }
