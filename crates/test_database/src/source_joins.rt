@@ -30,32 +30,59 @@ const ROWS: &[u8] = b"KMCS\x16\x01\x1a\x02\0\x03KMCS";
 /// The same, but for the second row, whose word is that of the first.
 const EQUAL_ROWS: &[u8] = b"KMCS\x16\x01\x16\x02\0\x03KMCS";
 
-const OTHER: &str = "AACGG\t5\nCCCCC\t7\n";
+const OTHER: &[u8] = b"AACGG\t5\nCCCCC\t7\n";
 
-/// A dump, or a database, over memory.
-type Source<'a> = Counted<DumpSource<BlockReader<'a>, BlockReader<'a>>>;
-
-/// The database with these rows as a source.
-fn database<'a>(prefix: &'a [u8], rows: &'a [u8]) -> Source<'a> {
-    let table = BlockReader::new(prefix, 11, 0);
-    let rows = BlockReader::new(rows, 5, 0);
-    Counted::new(DumpSource::Database(DatabaseReader::new(HEADER, table, rows)))
+/// A writer over memory that takes four bytes at a time.
+fn narrow(alloc: Global) -> Counted<NarrowWriter> {
+    Counted::new(NarrowWriter::new(Vec::new(alloc), 4, 1 << 16, Full::Fails, true))
 }
 
-/// The other dump and the database, or the database alone.
-fn sources<'a>(
-    alloc: Global,
+/// How the union, or the table, of a dump and the database with these rows ends, and what is written.
+fn joined<'a>(
+    rt: &(impl Eprint + Alloc<A = Global>),
+    dump: &'a [u8],
     prefix: &'a [u8],
     rows: &'a [u8],
-    is_alone: bool,
-) -> Result<Vec<Source<'a>>, Fail> {
-    let mut found = Vec::new(alloc);
-    if !is_alone {
-        let text = BlockReader::new(OTHER.as_bytes(), 7, 0);
-        found.push(Counted::new(DumpSource::Text(text)))?;
-    }
-    found.push(database(prefix, rows))?;
-    Ok(found)
+    is_union: bool,
+) -> Result<(ExitCode, Vec<u8>), Fail> {
+    let rule = JoinRule {
+        operation: Operation::Union(Choice::Sum),
+        left: EVERY_COUNT,
+        right: EVERY_COUNT,
+    };
+    let limits = Limits::new(1, 100, 100).ok_or("limits")?;
+    let table = BlockReader::new(prefix, 11, 0);
+    let body = BlockReader::new(rows, 5, 0);
+    let text = DumpSource::Text(BlockReader::new(dump, 7, 0));
+    let database = DumpSource::Database(DatabaseReader::new(HEADER, table, body));
+    let mut given = Vec::new(rt.alloc());
+    given.push(Counted::new(text))?;
+    given.push(Counted::new(database))?;
+    let mut writer = narrow(rt.alloc());
+    let ended = if is_union {
+        join_sources(rt, &[], rule, &limits, given, &mut writer)
+    } else {
+        table_sources(rt, &[], 100, given, &mut writer)
+    };
+    Ok((ended, writer.into_inner().into_bytes()))
+}
+
+/// How the histogram of the database with these rows ends, and what is written.
+fn tallied<'a>(
+    rt: &(impl Eprint + Alloc<A = Global>),
+    prefix: &'a [u8],
+    rows: &'a [u8],
+) -> Result<(ExitCode, Vec<u8>), Fail> {
+    let table = BlockReader::new(prefix, 11, 0);
+    let body = BlockReader::new(rows, 5, 0);
+    let database: DumpSource<BlockReader, BlockReader> = DumpSource::Database(DatabaseReader::new(
+        HEADER, table, body,
+    ));
+    let mut given = Vec::new(rt.alloc());
+    given.push(Counted::new(database))?;
+    let mut writer = narrow(rt.alloc());
+    let ended = histogram_source(rt, &[], given, &mut writer);
+    Ok((ended, writer.into_inner().into_bytes()))
 }
 
 /// Passes where the union, the table and the histogram end so, with these texts.
@@ -65,25 +92,12 @@ fn ends(
     status: u8,
     texts: [&str; 3],
 ) -> Result<(), Fail> {
-    let alloc = rt.alloc();
-    let prefix = prefix_file(alloc, &TABLE, NUMBERS)?;
-    let rule = JoinRule {
-        operation: Operation::Union(Choice::Sum),
-        left: EVERY_COUNT,
-        right: EVERY_COUNT,
-    };
-    let limits = Limits::new(1, 100, 100).ok_or("limits")?;
-    for (which, text) in texts.iter().enumerate() {
-        let out = NarrowWriter::new(Vec::new(alloc), 4, 1 << 16, Full::Fails, true);
-        let mut writer = Counted::new(out);
-        let given = sources(alloc, prefix.as_slice(), rows, which == 2)?;
-        let ended = match which {
-            0 => join_sources(rt, &[], rule, &limits, given, &mut writer),
-            1 => table_sources(rt, &[], 100, given, &mut writer),
-            _ => histogram_source(rt, &[], given, &mut writer),
-        };
-        assert!(rt; ended == ExitCode::from(status));
-        let bytes = writer.into_inner().into_bytes();
+    let prefix = prefix_file(rt.alloc(), &TABLE, NUMBERS)?;
+    let union = joined(rt, OTHER, &prefix, rows, true)?;
+    let table = joined(rt, OTHER, &prefix, rows, false)?;
+    let histogram = tallied(rt, &prefix, rows)?;
+    for ((ended, bytes), text) in [union, table, histogram].iter().zip(texts) {
+        assert!(rt; *ended == ExitCode::from(status));
         assert_eq!(rt; bytes.as_slice(), text.as_bytes());
     }
     Ok(())
