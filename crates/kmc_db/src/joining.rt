@@ -1,6 +1,6 @@
 //! Joins, tables and histograms of which an operand is a database in two files.
 
-use crate::asking::{SourcesRequest, Wanted, sources_request};
+use crate::asking::{INPUT, SourcesRequest, Wanted, sources_request};
 use crate::naming::{database_named, file_of, prefix_file_named};
 use kmc_database::{
     DatabaseReader, DumpSource, UnpackError, UnpackMessage, database_header, histogram_source,
@@ -73,7 +73,7 @@ fn source<T: Files + Eprint + Alloc<A = Global>, I: Read>(
     word: &str,
     unread: &mut Option<I>,
 ) -> Result<Source<T::File, I>, ExitCode> {
-    if word == "-" || word == "/dev/stdin" {
+    if word == INPUT {
         return match unread.take() {
             Some(input) => Ok(DumpSource::Text(Operand::Input(input))),
             None => Err(unopened(rt, word)),
@@ -110,8 +110,7 @@ fn sources<T: Files + Eprint + Alloc<A = Global>, I: Read + Drop>(
 /// Whether one of the words names a database.
 fn name_database<T: Files + Alloc<A = Global>>(rt: &T, files: &[String]) -> bool {
     for word in files {
-        let is_input = word.as_str() == "-" || word.as_str() == "/dev/stdin";
-        if !is_input && prefix_file_named(rt, word.as_str()).is_some() {
+        if word.as_str() != INPUT && prefix_file_named(rt, word.as_str()).is_some() {
             return true;
         }
     }
