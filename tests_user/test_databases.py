@@ -19,6 +19,12 @@ def packed(room, name, dump, *words):
     return content(room.path(name + ".kmc_pre")), content(room.path(name + ".kmc_suf"))
 
 
+def write_database(room, name, files):
+    """Writes these bytes as the two files of a database."""
+    for end, file in zip(("kmc_pre", "kmc_suf"), files):
+        room.write("%s.%s" % (name, end), file)
+
+
 def prefix_of(k, rows, counter):
     """The length of the first part that makes the two files of so many rows the smallest."""
     fitting = [p for p in range(1, min(15, k) + 1) if (k - p) % 4 == 0]
@@ -233,9 +239,7 @@ def test_each_damaged_byte_is_told_or_read_as_it_stands(room):
             for changed in changes:
                 files = [*sound]
                 files[which] = changed
-                for name, file in zip(("kmc_pre", "kmc_suf"), files):
-                    with open(room.path("damaged." + name), "wb") as out:
-                        out.write(file)
+                write_database(room, "damaged", files)
                 status, out, err = ended(room, "kmc_db", "dump", "damaged")
                 wanted = listed(*files)
                 if wanted is None:

@@ -3,7 +3,7 @@ import os
 import random
 
 from room import content, program
-from test_databases import packed
+from test_databases import packed, write_database
 from test_joins import CHOICES, OWN, text_of
 from test_programs import ended
 
@@ -76,9 +76,7 @@ def test_each_damaged_byte_of_an_operand_is_told_as_a_dump_tells_it(room):
             for changed in (text[:i] + new + text[i + 1:] for i in range(len(text)) for new in (b"", text[i:i + 1] * 2, bytes([text[i] ^ 1]), bytes([text[i] ^ 128]))):
                 files = [*sound]
                 files[which] = changed
-                for end, file in zip(("kmc_pre", "kmc_suf"), files):
-                    with open(room.path("damaged." + end), "wb") as out:
-                        out.write(file)
+                write_database(room, "damaged", files)
                 status, out, err = ended(room, "kmc_db", "dump", "damaged")
                 found = ended(room, "kmc_db", "histogram", "damaged")
                 if status:
