@@ -21,8 +21,8 @@ module _ (r : Ranges) (lists : List Listed) (i : ℕ) (inside : i + 1 < length r
       subst (λ (n : ℕ). count_within (2 ^ r.shift) n to lists ≤ r.widest) (sym first)
       (subst (λ (n : ℕ). count_within (2 ^ r.shift) (get_or r.bounds.items i 0) n lists ≤ r.widest) (sym next) (are.bounds i inside).1)
 
-  pub range_read : (text : List ℕ) → text ≡ range_text r.k (2 ^ r.shift) from to lists
-      → text ≡ range_text r.k (2 ^ r.shift) (get_or r.bounds.items i 0) (get_or r.bounds.items (i + 1) 0) lists
-  range_read text is =
-      subst (λ (n : ℕ). text ≡ range_text r.k (2 ^ r.shift) (get_or r.bounds.items i 0) n lists) next
-      (subst (λ (n : ℕ). text ≡ range_text r.k (2 ^ r.shift) n to lists) first is)
+  pub range_read : (line : List ℕ × ℕ → List ℕ) (text : List ℕ) → text ≡ range_text line r.k (2 ^ r.shift) from to lists
+      → text ≡ range_text line r.k (2 ^ r.shift) (get_or r.bounds.items i 0) (get_or r.bounds.items (i + 1) 0) lists
+  range_read line text is =
+      subst (λ (n : ℕ). text ≡ range_text line r.k (2 ^ r.shift) (get_or r.bounds.items i 0) n lists) next
+      (subst (λ (n : ℕ). text ≡ range_text line r.k (2 ^ r.shift) n to lists) first is)

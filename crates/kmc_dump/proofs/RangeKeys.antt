@@ -1,5 +1,6 @@
 -- Pairs of a range as keys.
 use Rattle.std.proofs.Common.{◌≡◌, ℕ, ◌+◌, ◌-◌, ◌*◌, ◌/◌, ◌%◌, ◌^◌, ◌<◌, ◌≤◌, List, [], ◌∷◌, ◌++◌, bit_and, All, length, get_or, map, take, drop, ap, sym, subst, ◌∙◌, arith, le_refl, mod-eq_of_lt, le-div_iff_mul-le, length-drop, append-nil}
+use Rattle.std.specs.List.{flat_map}
 use Rattle.std.specs.List.Sorted.{IsSorted, IsNonDecreasingBy}
 use Rattle.std.specs.Ordering.{nat_cmp}
 use Rattle.std.proofs.Math.Nat.{add-mul}
@@ -8,7 +9,6 @@ use Rattle.std.proofs.lemmas.List.{get_or-drop, get_or-take, length-take-le, len
 use Rattle.std.proofs.lemmas.Grind.{flat_map-append}
 use Rattle.std.proofs.lemmas.List.Sorted.{IsNonDecreasingBy-from_sort}
 use Rattle.kmc_base.specs.Packed.{unpack}
-use Rattle.kmc_lists.specs.Line.{line_of, text_of}
 use Rattle.kmc_dump.specs.Keys.{key_pair, key_pairs}
 use Rattle.kmc_lists.specs.Listed.{spell, spelled}
 use Rattle.kmc_lists.specs.Ordered.{Climbs, IsCutOfList}
@@ -100,19 +100,19 @@ word_fits k least b ns i inside fit =
     let here : get_or (map f ns) i (f 0) ≡ f (get_or ns i 0) = get_or-map f ns i 0 (f 0) inside in
     subst (λ (q : ℕ × ℕ). q.0 < 4 ^ k) here (fit i (f 0) (omega (arith, inside, length-map ns f)))
 
--- one line more
-pub line_more : (k least b : ℕ) (ns : List ℕ) (i : ℕ) → i < length ns
-    → text_of (spelled k (key_pairs least b (take i ns))) ++ line_of (unpack k (get_or ns i 0 / 2 ^ b + least), get_or ns i 0 % 2 ^ b)
-    ≡ text_of (spelled k (key_pairs least b (take (i + 1) ns)))
-line_more k least b ns i inside =
+-- one pair more
+pub pair_more : (line : List ℕ × ℕ → List ℕ) (k least b : ℕ) (ns : List ℕ) (i : ℕ) → i < length ns
+    → flat_map line (spelled k (key_pairs least b (take i ns))) ++ line (unpack k (get_or ns i 0 / 2 ^ b + least), get_or ns i 0 % 2 ^ b)
+    ≡ flat_map line (spelled k (key_pairs least b (take (i + 1) ns)))
+pair_more line k least b ns i inside =
     let f : ℕ → ℕ × ℕ = key_pair least b in
     let n = get_or ns i 0 in
     let more : take (i + 1) ns ≡ take i ns ++ n ∷ [] = take_more ns i 0 inside in
     let pairs : key_pairs least b (take (i + 1) ns) ≡ map f (take i ns) ++ f n ∷ [] = ap (map f) more ∙ map-append f (take i ns) (n ∷ []) in
     let words : spelled k (key_pairs least b (take (i + 1) ns)) ≡ spelled k (map f (take i ns)) ++ spell k (f n) ∷ [] =
     ap (spelled k) pairs ∙ map-append (spell k) (map f (take i ns)) (f n ∷ []) in
-    sym (ap text_of words ∙ flat_map-append line_of (spelled k (map f (take i ns))) (spell k (f n) ∷ [])
-    ∙ ap (λ (t : List ℕ). text_of (spelled k (map f (take i ns))) ++ t) (append-nil (line_of (spell k (f n)))))
+    sym (ap (flat_map line) words ∙ flat_map-append line (spelled k (map f (take i ns))) (spell k (f n) ∷ [])
+    ∙ ap (λ (t : List ℕ). flat_map line (spelled k (map f (take i ns))) ++ t) (append-nil (line (spell k (f n)))))
 
 -- keys that do not fall have words that do not fall
 pub keys_climb : (least bits : ℕ) (ns : List ℕ) → IsSorted nat_cmp ns → Climbs (key_pairs least bits ns)

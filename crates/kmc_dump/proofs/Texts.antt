@@ -1,12 +1,11 @@
 -- Texts of ranges that follow one another.
 use Rattle.std.proofs.Common.{◌≡◌, ℕ, zero, suc, ◌+◌, ◌-◌, ◌/◌, ◌^◌, ◌<◌, ◌≤◌, true, false, List, [], ◌∷◌, ◌++◌, length, get_or, sym, ap, ◌∙◌, arith}
-use Rattle.std.specs.List.{AllByRecursion}
+use Rattle.std.specs.List.{flat_map, AllByRecursion}
 use Rattle.std.proofs.lemmas.Bool.Decides.{nat_tests}
 use Rattle.std.proofs.lemmas.List.{map-append}
 use Rattle.std.proofs.lemmas.Grind.{flat_map-append}
 use Rattle.std.proofs.lemmas.List.Elements.{recursion_from_All}
 use Rattle.std.proofs.lemmas.List.Sorted.{All-permutation}
-use Rattle.kmc_lists.specs.Line.{line_of, text_of}
 use Rattle.kmc_lists.specs.Listed.{Listed, spell, spelled}
 use Rattle.kmc_lists.specs.Ordered.{is_within, within, whole, joined, packs}
 use Rattle.kmc_dump.specs.Ranges.{range_text, AreRanges}
@@ -14,13 +13,14 @@ use Rattle.kmc_dump.specs.declared.ranges.Ranges.{Ranges}
 use Rattle.kmc_lists.specs.Lemmas.Order.{in_order_climbs, in_order_moves, ranges_join}
 use Rattle.kmc_lists.specs.Lemmas.Filters.{filter_every, filter_none}
 
-pub texts_join : (k w a b c : ℕ) (lists : List Listed) → 0 < w → a ≤ b → b ≤ c → range_text k w a b lists ++ range_text k w b c lists ≡ range_text k w a c lists
-texts_join k w a b c lists pos low high =
+pub texts_join : (line : List ℕ × ℕ → List ℕ) (k w a b c : ℕ) (lists : List Listed) → 0 < w → a ≤ b → b ≤ c
+    → range_text line k w a b lists ++ range_text line k w b c lists ≡ range_text line k w a c lists
+texts_join line k w a b c lists pos low high =
     let all = whole lists in
     let one = within w a b all in
     let two = within w b c all in
-    sym (flat_map-append line_of (spelled k one) (spelled k two))
-    ∙ ap text_of (sym (map-append (spell k) one two) ∙ ap (spelled k) (ranges_join w pos a b c low high all (in_order_climbs (joined (packs lists)))))
+    sym (flat_map-append line (spelled k one) (spelled k two))
+    ∙ ap (flat_map line) (sym (map-append (spell k) one two) ∙ ap (spelled k) (ranges_join w pos a b c low high all (in_order_climbs (joined (packs lists)))))
 
 -- the range of all slots is the whole
 pub all_within : (w top : ℕ) (ps : List (ℕ × ℕ)) → AllByRecursion (λ p. p.0 / w < top) ps → within w 0 top ps ≡ ps
@@ -37,8 +37,8 @@ none_between w a ps = filter_none (is_within w a a) ps (go ps)
     go [] = tt
     go (q ∷ qs) = (grind (arith, nat_tests), go qs)
 
-pub no_text : (k w a : ℕ) (lists : List Listed) → range_text k w a a lists ≡ []
-no_text k w a lists = ap (λ (ps : List (ℕ × ℕ)). text_of (spelled k ps)) (none_between w a (whole lists))
+pub no_text : (line : List ℕ × ℕ → List ℕ) (k w a : ℕ) (lists : List Listed) → range_text line k w a a lists ≡ []
+no_text line k w a lists = ap (λ (ps : List (ℕ × ℕ)). flat_map line (spelled k ps)) (none_between w a (whole lists))
 
 module _ (k w : ℕ) (pos : 0 < w) (lists : List Listed) (bounds : List ℕ)
     (up : (i : ℕ) → i + 1 < length bounds → get_or bounds i 0 ≤ get_or bounds (i + 1) 0) where
@@ -51,13 +51,14 @@ module _ (k w : ℕ) (pos : 0 < w) (lists : List Listed) (bounds : List ℕ)
       rw e (omega (arith, more, last))
 
 -- the ranges have the text of the whole
-pub all_text : (r : Ranges) (lists : List Listed) → AreRanges r lists
-    → range_text r.k (2 ^ r.shift) (get_or r.bounds.items 0 0) (get_or r.bounds.items (length r.bounds.items - 1) 0) lists ≡ text_of (spelled r.k (whole lists))
-all_text r lists are =
+pub all_text : (line : List ℕ × ℕ → List ℕ) (r : Ranges) (lists : List Listed) → AreRanges r lists
+    → range_text line r.k (2 ^ r.shift) (get_or r.bounds.items 0 0) (get_or r.bounds.items (length r.bounds.items - 1) 0) lists
+    ≡ flat_map line (spelled r.k (whole lists))
+all_text line r lists are =
     let all = joined (packs lists) in
     let w = 2 ^ r.shift in
     let top = get_or r.bounds.items (length r.bounds.items - 1) 0 in
     let P : ℕ × ℕ → Type 0 = λ p. p.0 / w < top in
-    ap (λ n. range_text r.k w n top lists) are.first
-    ∙ ap (λ (ps : List (ℕ × ℕ)). text_of (spelled r.k ps)) (all_within w top (whole lists)
+    ap (λ n. range_text line r.k w n top lists) are.first
+    ∙ ap (λ (ps : List (ℕ × ℕ)). flat_map line (spelled r.k ps)) (all_within w top (whole lists)
     (recursion_from_All P (whole lists) (All-permutation P all (whole lists) (in_order_moves all) are.last)))

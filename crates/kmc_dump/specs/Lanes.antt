@@ -47,12 +47,12 @@ module _ {W : Type 0} where
   SendMore is fs gs = (i : ℕ) (d : Filler W) → i < length fs → Sends is (slice_index_or fs i d) → Sends is (slice_index_or gs i d)
 
 -- what the fillers sent on since holds the texts of its ranges, if what they had sent on does
-pub record AreSentOn {W : Type 0} (r : Ranges) (lists : List Listed) (fs gs : List (Filler W)) : Type 0 where
+pub record AreSentOn {W : Type 0} (line : List ℕ × ℕ → List ℕ) (r : Ranges) (lists : List Listed) (fs gs : List (Filler W)) : Type 0 where
   pub same : SameFillers fs gs
-  pub more : SendMore (IsFull r lists) fs gs
+  pub more : SendMore (IsFull line r lists) fs gs
 
 -- where what came to the trays holds the texts of its ranges, this text is written
-pub record IsWrittenFrom {W D A E : Type 0} (contents : D → Option (List ℕ)) (r : Ranges) (lists : List Listed) (text : List ℕ) (ts us : List (Tray W))
-    (writer after : Watched D) (answer : Result A E) : Type 0 where
+pub record IsWrittenFrom {W D A E : Type 0} (contents : D → Option (List ℕ)) (line : List ℕ × ℕ → List ℕ) (r : Ranges) (lists : List Listed) (text : List ℕ)
+    (ts us : List (Tray W)) (writer after : Watched D) (answer : Result A E) : Type 0 where
   pub same : SameTrays ts us
-  pub written : All (Gets (IsFull r lists)) us → IsWritten contents text writer after answer
+  pub written : All (Gets (IsFull line r lists)) us → IsWritten contents text writer after answer

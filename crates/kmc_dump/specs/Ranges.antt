@@ -1,8 +1,7 @@
 -- The pairs of lists by ranges of their words.
 use Rattle.std.specs.Prelude.{◌≡◌, ℕ, ◌+◌, ◌-◌, ◌/◌, ◌^◌, ◌<◌, ◌≤◌, List, length, map, slice_index_or, decimal}
-use Rattle.std.specs.List.{All}
+use Rattle.std.specs.List.{All, flat_map}
 use Rattle.kmc_base.specs.declared.kmer.TheConstants.{MAX_K}
-use Rattle.kmc_lists.specs.Line.{text_of}
 use Rattle.kmc_lists.specs.Listed.{Listed, spelled}
 use Rattle.kmc_lists.specs.Ordered.{joined, packs, CanBeMerged, whole, within}
 use Rattle.kmc_dump.specs.declared.ranges.Ranges.{Ranges}
@@ -19,9 +18,9 @@ numbers f ps = map (λ p. (f p.0, p.1)) ps
 abbrev pub AreShort : ℕ → List (ℕ × ℕ) → Type 0
 AreShort digits ps = All (λ p. length (decimal p.1) ≤ digits) ps
 
--- the text of the words of a range
-abbrev pub range_text : ℕ → ℕ → ℕ → ℕ → List Listed → List ℕ
-range_text k weight from to lists = text_of (spelled k (within weight from to (whole lists)))
+-- the text of the words of a range, of which each has this line with its count
+abbrev pub range_text : (List ℕ × ℕ → List ℕ) → ℕ → ℕ → ℕ → ℕ → List Listed → List ℕ
+range_text line k weight from to lists = flat_map line (spelled k (within weight from to (whole lists)))
 
 -- the slots at which ranges begin and end do not fall, and no range has more pairs than this
 abbrev pub AreBounds : ℕ → ℕ → List ℕ → List Listed → Type 0

@@ -9,18 +9,20 @@ use crate::buffers::{Buffer, has_room};
 use crate::desk::Desk;
 use crate::fill::fill;
 use crate::lane::Filler;
+use crate::pair_form::PairForm;
 use crate::ranges::Ranges;
 use kmc_base::PackedKmer;
-use kmc_lists::{CountWidth, KmerList, line_room};
+use kmc_lists::{CountWidth, KmerList};
 use std::sync::Wait;
 use std::thread;
 use std::thread::Threads;
 
-/// The lists whose ranges are put into buffers, where the threads for it come from, and what they are told.
+/// The lists whose ranges are put into buffers, in which form, where the threads for it come from, and what they are told.
 #[derive(Drop)]
-pub struct Filling<'a, R, W: PackedKmer, C: CountWidth> {
+pub struct Filling<'a, R, W: PackedKmer, C: CountWidth, F: PairForm> {
     pub rt: &'a R,
     pub lists: &'a [KmerList<W, C>],
+    pub form: &'a F,
     pub ranges: &'a Ranges,
     pub desk: &'a Desk,
 }
@@ -47,25 +49,27 @@ fn next_empty<R: Wait, W: PackedKmer + Drop>(
 }
 
 /// Fills a buffer with a range and sends it on. The answer is whether that was done: there is no buffer where no more are needed.
-fn fill_next<R: Wait, W: PackedKmer + Drop, C: CountWidth + Drop>(
-    filling: &Filling<'_, R, W, C>,
+fn fill_next<R: Wait, W: PackedKmer + Drop, C: CountWidth + Drop, F: PairForm>(
+    filling: &Filling<'_, R, W, C, F>,
     range: usize,
     filler: &mut Filler<W>,
 ) -> bool
     requires ranges { AreRanges filling.now.ranges.now filling.now.lists.now }
+    requires takes { F.takes filling.now.form.now filling.now.ranges.now.k }
     requires inside { range + 1 < length filling.now.ranges.now.bounds.items }
     ensures ring { SameProducer filler.old.full filler.new.full }
-    ensures sends { Sends (IsFull filling.now.ranges.now filling.now.lists.now) filler.old
-        → Sends (IsFull filling.now.ranges.now filling.now.lists.now) filler.new }
+    ensures sends { Sends (IsFull (F.bytes filling.now.form.now) filling.now.ranges.now filling.now.lists.now) filler.old
+        → Sends (IsFull (F.bytes filling.now.form.now) filling.now.ranges.now filling.now.lists.now) filler.new }
 {
     let ranges = filling.ranges;
     let Some(mut buffer) = next_empty(filling.rt, filling.desk, filler) else {
         return false;
     };
-    if !has_room(&buffer, ranges.widest, line_room(ranges.k, C::digits())) {
+    let room = filling.form.room(ranges.k, C::digits());
+    if !has_room(&buffer, ranges.widest, room) {
         return false;
     }
-    fill(filling.lists, ranges, range, &mut buffer);
+    fill(filling.lists, filling.form, ranges, range, &mut buffer);
     match filler.full.push(buffer) {
         Ok(()) => true,
         Err(_) => false,
@@ -73,17 +77,18 @@ fn fill_next<R: Wait, W: PackedKmer + Drop, C: CountWidth + Drop>(
 }
 
 /// Fills buffers with the range `first` and each that lies so many behind the one before.
-fn fill_on<R: Wait, W: PackedKmer + Drop, C: CountWidth + Drop>(
-    filling: &Filling<'_, R, W, C>,
+fn fill_on<R: Wait, W: PackedKmer + Drop, C: CountWidth + Drop, F: PairForm>(
+    filling: &Filling<'_, R, W, C, F>,
     first: usize,
     step: usize,
     filler: &mut Filler<W>,
 )
     requires ranges { AreRanges filling.now.ranges.now filling.now.lists.now }
+    requires takes { F.takes filling.now.form.now filling.now.ranges.now.k }
     requires step { 1 ≤ step }
     ensures ring { SameProducer filler.old.full filler.new.full }
-    ensures sends { Sends (IsFull filling.now.ranges.now filling.now.lists.now) filler.old
-        → Sends (IsFull filling.now.ranges.now filling.now.lists.now) filler.new }
+    ensures sends { Sends (IsFull (F.bytes filling.now.form.now) filling.now.ranges.now filling.now.lists.now) filler.old
+        → Sends (IsFull (F.bytes filling.now.form.now) filling.now.ranges.now filling.now.lists.now) filler.new }
 {
     if !filling.desk.begin(first) {
         return;
@@ -104,10 +109,12 @@ pub fn fill_by_threads<
     R: Threads + Wait + Sync,
     W: PackedKmer + Drop + Send + Sync,
     C: CountWidth + Drop + Send + Sync,
->(filling: &Filling<'_, R, W, C>, fillers: &mut [Filler<W>])
+    F: PairForm + Sync,
+>(filling: &Filling<'_, R, W, C, F>, fillers: &mut [Filler<W>])
     requires ranges { AreRanges filling.now.ranges.now filling.now.lists.now }
+    requires takes { F.takes filling.now.form.now filling.now.ranges.now.k }
     requires some { 1 ≤ length fillers.old }
-    ensures { AreSentOn filling.now.ranges.now filling.now.lists.now fillers.old fillers.new }
+    ensures { AreSentOn (F.bytes filling.now.form.now) filling.now.ranges.now filling.now.lists.now fillers.old fillers.new }
 {
     let count = fillers.len();
     thread::for_each_mut(

@@ -1,15 +1,16 @@
 //! One range of the dump by keys: each pair in one number, so that the pairs are sorted as plain numbers.
 ghost use Rattle.std.specs.Prelude.{◌≡◌, ℕ, ◌+◌, ◌-◌, ◌*◌, ◌^◌, ◌<◌, ◌≤◌, List, [], ◌∷◌, ◌++◌, length, take, map, All, IsTrue, vec_len, vec_capacity};
-ghost use Rattle.kmc_lists.specs.Line.{line_room, text_of};
+ghost use Rattle.std.specs.List.{flat_map};
 ghost use Rattle.kmc_dump.specs.Keys.{key_pair, key_pairs};
 ghost use Rattle.kmc_lists.specs.Listed.{spelled};
 ghost use Rattle.kmc_lists.specs.Ordered.{Climbs, within, whole, CanBeMerged};
 ghost use Rattle.kmc_dump.specs.Ranges.{count_within};
 
+use crate::pair_form::PairForm;
 use crate::slot_range::SlotRange;
 use crate::word_size::WordSize;
-use kmc_base::{Kmer, PackedKmer};
-use kmc_lists::{CountWidth, KmerList, put_line};
+use kmc_base::PackedKmer;
+use kmc_lists::{CountWidth, KmerList};
 
 /// Whether a word of the range and a count, side by side, always fit 64 bits.
 pub fn fit_keys<C: CountWidth>(range: SlotRange) -> bool
@@ -62,49 +63,53 @@ fn gather_keys<W: PackedKmer + Drop, C: CountWidth + Drop>(
     }
 }
 
-/// Puts the lines of keys into a text, from its first byte on, and says where they end.
-fn put_key_lines<C: CountWidth + Drop>(
+/// Puts the pairs of keys into a text, from its first byte on, and says where they end.
+fn put_key_pairs<C: CountWidth + Drop, F: PairForm>(
     keys: &[u64],
+    form: &F,
     size: WordSize,
     least: u128,
     text: &mut [u8],
 ) -> usize
     requires small { C.bits < 64 }
+    requires takes { F.takes form.now size.k }
     requires fit { All (λ p. p.0 < 4 ^ size.k) (key_pairs least C.bits keys.now) }
-    requires room { length keys.now * line_room size.k C.most_digits ≤ length text.old }
+    requires room { length keys.now * F.most form.now size.k C.most_digits ≤ length text.old }
     ensures within { result ≤ length text.new }
     ensures lines { take result text.new
-        ≡ text_of (spelled size.k (key_pairs least C.bits keys.now)) }
+        ≡ flat_map (F.bytes form.now) (spelled size.k (key_pairs least C.bits keys.now)) }
 {
     let bits = C::bits();
     let mask = (1 << bits) - 1;
     let mut end = 0;
     for key in keys {
         let word = u128::from(*key >> bits) + least;
-        end = put_line(text, end, &Kmer::of_packed(word, size.k), *key & mask);
+        end = form.put(text, end, word, size.k, *key & mask);
     }
     end
 }
 
-/// Puts the lines of a range into a text, as [`put_range`](crate::range::put_range) does, where its pairs fit keys. The vector for
+/// Puts the pairs of a range into a text, as [`put_range`](crate::range::put_range) does, where its pairs fit keys. The vector for
 /// the keys is used again; both have room for the range before, so that nothing is allocated.
-pub fn put_keys<W: PackedKmer + Drop, C: CountWidth + Drop>(
+pub fn put_keys<W: PackedKmer + Drop, C: CountWidth + Drop, F: PairForm>(
     lists: &[KmerList<W, C>],
+    form: &F,
     size: WordSize,
     range: SlotRange,
     keys: &mut Vec<u64>,
     text: &mut [u8],
 ) -> usize
     requires merge { CanBeMerged size.k lists.now }
+    requires takes { F.takes form.now size.k }
     requires small { C.bits < 64 }
     requires least { range.from * 2 ^ range.shift < 2 ^ 128 }
     requires fits { (range.to - range.from) * 2 ^ range.shift * 2 ^ C.bits ≤ 2 ^ 64 }
     requires keys { count_within (2 ^ range.shift) range.from range.to lists.now ≤ vec_capacity keys.old }
-    requires text { count_within (2 ^ range.shift) range.from range.to lists.now * line_room size.k C.most_digits
+    requires text { count_within (2 ^ range.shift) range.from range.to lists.now * F.most form.now size.k C.most_digits
         ≤ length text.old }
     ensures within { result ≤ length text.new }
     ensures lines { take result text.new
-        ≡ text_of (spelled size.k (within (2 ^ range.shift) range.from range.to (whole lists.now))) }
+        ≡ flat_map (F.bytes form.now) (spelled size.k (within (2 ^ range.shift) range.from range.to (whole lists.now))) }
     ensures capacity { vec_capacity keys.old ≤ vec_capacity keys.new }
 {
     let least = range.from << range.shift;
@@ -113,5 +118,5 @@ pub fn put_keys<W: PackedKmer + Drop, C: CountWidth + Drop>(
         gather_keys(list, range, least, keys);
     }
     keys.sort_unstable();
-    put_key_lines::<C>(keys, size, least, text)
+    put_key_pairs::<C, F>(keys, form, size, least, text)
 }

@@ -1,7 +1,7 @@
 //! The text of all ranges on a device, range after range, each as a thread filled it, or as the calling thread fills it.
 ghost use Rattle.std.specs.Prelude.{◌≡◌, ◌+◌, ◌≤◌, ◌<◌, ◌^◌, ℕ, List, [], length, take, All, IfSome, slice_index_or};
+ghost use Rattle.std.specs.List.{flat_map};
 ghost use Rattle.rtrb.specs.Ring.{SameConsumer};
-ghost use Rattle.kmc_lists.specs.Line.{line_room, text_of};
 ghost use Rattle.kmc_lists.specs.Listed.{Listed, spelled};
 ghost use Rattle.kmc_lists.specs.Ordered.{whole};
 ghost use Rattle.kmc_dump.specs.declared.ranges.Ranges.{Ranges};
@@ -16,6 +16,7 @@ use crate::desk::Desk;
 use crate::fill::fill;
 use crate::filling::{Filling, fill_by_threads};
 use crate::lane::{Filler, Tray};
+use crate::pair_form::PairForm;
 use kmc_base::PackedKmer;
 use kmc_device::{Counted, WriteFault, write_text};
 use kmc_lists::CountWidth;
@@ -33,8 +34,10 @@ fn take_full<R: Wait, W: PackedKmer + Drop>(
 ) -> Option<Buffer<W>>
     ensures ring { SameConsumer tray.old.full tray.new.full }
     ensures range { IfSome result (λ b. b.range ≡ range) }
-    ensures gets { (r : Ranges) (lists : List Listed) → Gets (IsFull r lists) tray.new → Gets (IsFull r lists) tray.old }
-    ensures got { (r : Ranges) (lists : List Listed) → Gets (IsFull r lists) tray.new → IfSome result (IsFull r lists) }
+    ensures gets { (line : List ℕ × ℕ → List ℕ) (r : Ranges) (lists : List Listed)
+        → Gets (IsFull line r lists) tray.new → Gets (IsFull line r lists) tray.old }
+    ensures got { (line : List ℕ × ℕ → List ℕ) (r : Ranges) (lists : List Listed)
+        → Gets (IsFull line r lists) tray.new → IfSome result (IsFull line r lists) }
 {
     let mut waits = 0;
     for _ in rt.forever() {
@@ -57,42 +60,50 @@ fn take_full<R: Wait, W: PackedKmer + Drop>(
 }
 
 /// Fills the calling thread's own buffer with a range, and writes its text.
-fn write_own<R, D: Write, W: PackedKmer + Drop, C: CountWidth + Drop>(
+fn write_own<R, D: Write, W: PackedKmer + Drop, C: CountWidth + Drop, F: PairForm>(
     writer: &mut Counted<D>,
-    filling: &Filling<'_, R, W, C>,
+    filling: &Filling<'_, R, W, C, F>,
     own: &mut Buffer<W>,
     range: usize,
 ) -> Result<(), WriteFault>
     requires ranges { AreRanges filling.now.ranges.now filling.now.lists.now }
+    requires takes { F.takes filling.now.form.now filling.now.ranges.now.k }
     requires inside { range + 1 < length filling.now.ranges.now.bounds.items }
-    requires room { HasRoomForRange filling.now.ranges.now.widest (line_room filling.now.ranges.now.k C.most_digits) own.old }
-    ensures room { HasRoomForRange filling.now.ranges.now.widest (line_room filling.now.ranges.now.k C.most_digits) own.new }
-    ensures written { IsWritten D.contents (range_text filling.now.ranges.now.k (2 ^ filling.now.ranges.now.shift)
+    requires room { HasRoomForRange filling.now.ranges.now.widest
+        (F.most filling.now.form.now filling.now.ranges.now.k C.most_digits) own.old }
+    ensures room { HasRoomForRange filling.now.ranges.now.widest
+        (F.most filling.now.form.now filling.now.ranges.now.k C.most_digits) own.new }
+    ensures written { IsWritten D.contents
+        (range_text (F.bytes filling.now.form.now) filling.now.ranges.now.k (2 ^ filling.now.ranges.now.shift)
         (slice_index_or filling.now.ranges.now.bounds.items range 0)
         (slice_index_or filling.now.ranges.now.bounds.items (range + 1) 0) filling.now.lists.now)
         writer.old writer.new result }
 {
-    fill(filling.lists, filling.ranges, range, own);
+    fill(filling.lists, filling.form, filling.ranges, range, own);
     write_text(writer, &own.text[..own.filled])
 }
 
 /// Writes the text of a range as it comes to a tray, and gives the buffer back; where none comes the calling thread fills its own.
-fn write_range<R: Wait, D: Write, W: PackedKmer + Drop, C: CountWidth + Drop>(
+fn write_range<R: Wait, D: Write, W: PackedKmer + Drop, C: CountWidth + Drop, F: PairForm>(
     writer: &mut Counted<D>,
-    filling: &Filling<'_, R, W, C>,
+    filling: &Filling<'_, R, W, C, F>,
     tray: &mut Tray<W>,
     own: &mut Buffer<W>,
     lane: usize,
     range: usize,
 ) -> Result<(), WriteFault>
     requires ranges { AreRanges filling.now.ranges.now filling.now.lists.now }
+    requires takes { F.takes filling.now.form.now filling.now.ranges.now.k }
     requires inside { range + 1 < length filling.now.ranges.now.bounds.items }
-    requires room { HasRoomForRange filling.now.ranges.now.widest (line_room filling.now.ranges.now.k C.most_digits) own.old }
-    ensures room { HasRoomForRange filling.now.ranges.now.widest (line_room filling.now.ranges.now.k C.most_digits) own.new }
+    requires room { HasRoomForRange filling.now.ranges.now.widest
+        (F.most filling.now.form.now filling.now.ranges.now.k C.most_digits) own.old }
+    ensures room { HasRoomForRange filling.now.ranges.now.widest
+        (F.most filling.now.form.now filling.now.ranges.now.k C.most_digits) own.new }
     ensures ring { SameConsumer tray.old.full tray.new.full }
-    ensures gets { (r : Ranges) (lists : List Listed) → Gets (IsFull r lists) tray.new → Gets (IsFull r lists) tray.old }
-    ensures written { Gets (IsFull filling.now.ranges.now filling.now.lists.now) tray.new
-        → IsWritten D.contents (range_text filling.now.ranges.now.k (2 ^ filling.now.ranges.now.shift)
+    ensures gets { (line : List ℕ × ℕ → List ℕ) (r : Ranges) (lists : List Listed)
+        → Gets (IsFull line r lists) tray.new → Gets (IsFull line r lists) tray.old }
+    ensures written { Gets (IsFull (F.bytes filling.now.form.now) filling.now.ranges.now filling.now.lists.now) tray.new
+        → IsWritten D.contents (range_text (F.bytes filling.now.form.now) filling.now.ranges.now.k (2 ^ filling.now.ranges.now.shift)
         (slice_index_or filling.now.ranges.now.bounds.items range 0)
         (slice_index_or filling.now.ranges.now.bounds.items (range + 1) 0) filling.now.lists.now)
         writer.old writer.new result }
@@ -107,20 +118,24 @@ fn write_range<R: Wait, D: Write, W: PackedKmer + Drop, C: CountWidth + Drop>(
 }
 
 /// Writes the text of a range, from the tray whose turn it is, or where there is none from the calling thread's own buffer.
-fn write_next<R: Wait, D: Write, W: PackedKmer + Drop, C: CountWidth + Drop>(
+fn write_next<R: Wait, D: Write, W: PackedKmer + Drop, C: CountWidth + Drop, F: PairForm>(
     writer: &mut Counted<D>,
-    filling: &Filling<'_, R, W, C>,
+    filling: &Filling<'_, R, W, C, F>,
     trays: &mut [Tray<W>],
     own: &mut Buffer<W>,
     range: usize,
 ) -> Result<(), WriteFault>
     requires ranges { AreRanges filling.now.ranges.now filling.now.lists.now }
+    requires takes { F.takes filling.now.form.now filling.now.ranges.now.k }
     requires inside { range + 1 < length filling.now.ranges.now.bounds.items }
-    requires room { HasRoomForRange filling.now.ranges.now.widest (line_room filling.now.ranges.now.k C.most_digits) own.old }
-    ensures room { HasRoomForRange filling.now.ranges.now.widest (line_room filling.now.ranges.now.k C.most_digits) own.new }
-    ensures gets { (r : Ranges) (lists : List Listed) → All (Gets (IsFull r lists)) trays.new → All (Gets (IsFull r lists)) trays.old }
-    ensures written { IsWrittenFrom D.contents filling.now.ranges.now filling.now.lists.now
-        (range_text filling.now.ranges.now.k (2 ^ filling.now.ranges.now.shift)
+    requires room { HasRoomForRange filling.now.ranges.now.widest
+        (F.most filling.now.form.now filling.now.ranges.now.k C.most_digits) own.old }
+    ensures room { HasRoomForRange filling.now.ranges.now.widest
+        (F.most filling.now.form.now filling.now.ranges.now.k C.most_digits) own.new }
+    ensures gets { (line : List ℕ × ℕ → List ℕ) (r : Ranges) (lists : List Listed)
+        → All (Gets (IsFull line r lists)) trays.new → All (Gets (IsFull line r lists)) trays.old }
+    ensures written { IsWrittenFrom D.contents (F.bytes filling.now.form.now) filling.now.ranges.now filling.now.lists.now
+        (range_text (F.bytes filling.now.form.now) filling.now.ranges.now.k (2 ^ filling.now.ranges.now.shift)
         (slice_index_or filling.now.ranges.now.bounds.items range 0)
         (slice_index_or filling.now.ranges.now.bounds.items (range + 1) 0) filling.now.lists.now)
         trays.old trays.new writer.old writer.new result }
@@ -143,16 +158,18 @@ fn finish<D: Write>(writer: &mut Counted<D>) -> Result<(), WriteFault>
 }
 
 /// Writes the text of all ranges, and flushes.
-fn write_all<R: Wait, D: Write, W: PackedKmer + Drop, C: CountWidth + Drop>(
+fn write_all<R: Wait, D: Write, W: PackedKmer + Drop, C: CountWidth + Drop, F: PairForm>(
     writer: &mut Counted<D>,
-    filling: &Filling<'_, R, W, C>,
+    filling: &Filling<'_, R, W, C, F>,
     trays: &mut [Tray<W>],
     own: &mut Buffer<W>,
 ) -> Result<(), WriteFault>
     requires ranges { AreRanges filling.now.ranges.now filling.now.lists.now }
-    requires room { HasRoomForRange filling.now.ranges.now.widest (line_room filling.now.ranges.now.k C.most_digits) own.old }
-    ensures { IsWrittenFrom D.contents filling.now.ranges.now filling.now.lists.now
-        (text_of (spelled filling.now.ranges.now.k (whole filling.now.lists.now))) trays.old trays.new
+    requires takes { F.takes filling.now.form.now filling.now.ranges.now.k }
+    requires room { HasRoomForRange filling.now.ranges.now.widest
+        (F.most filling.now.form.now filling.now.ranges.now.k C.most_digits) own.old }
+    ensures { IsWrittenFrom D.contents (F.bytes filling.now.form.now) filling.now.ranges.now filling.now.lists.now
+        (flat_map (F.bytes filling.now.form.now) (spelled filling.now.ranges.now.k (whole filling.now.lists.now))) trays.old trays.new
         writer.old writer.new result }
 {
     let count = filling.ranges.bounds.len() - 1;
@@ -165,8 +182,8 @@ fn write_all<R: Wait, D: Write, W: PackedKmer + Drop, C: CountWidth + Drop>(
 /// Where every buffer that was sent on holds the text of its range, so does every one that came to the other end of its lane.
 fn compare_ends<W: PackedKmer + Drop>(fillers: &mut [Filler<W>], trays: &mut [Tray<W>])
     requires paired { ArePaired fillers.old trays.old }
-    ensures { (r : Ranges) (lists : List Listed)
-        → All (Sends (IsFull r lists)) fillers.old → All (Gets (IsFull r lists)) trays.old }
+    ensures { (line : List ℕ × ℕ → List ℕ) (r : Ranges) (lists : List Listed)
+        → All (Sends (IsFull line r lists)) fillers.old → All (Gets (IsFull line r lists)) trays.old }
 {
     for lane in 0..fillers.len() {
         let _ = trays[lane].full.slots_beside(&mut fillers[lane].full);
@@ -179,30 +196,36 @@ fn write_beside<
     D: Write,
     W: PackedKmer + Drop + Send + Sync,
     C: CountWidth + Drop + Send + Sync,
+    F: PairForm + Sync,
 >(
     writer: &mut Counted<D>,
-    filling: &Filling<'_, R, W, C>,
+    filling: &Filling<'_, R, W, C, F>,
     fillers: &mut [Filler<W>],
     trays: &mut [Tray<W>],
     own: &mut Buffer<W>,
 ) -> Result<(), WriteFault>
     requires ranges { AreRanges filling.now.ranges.now filling.now.lists.now }
+    requires takes { F.takes filling.now.form.now filling.now.ranges.now.k }
     requires some { 1 ≤ length fillers.old }
-    requires room { HasRoomForRange filling.now.ranges.now.widest (line_room filling.now.ranges.now.k C.most_digits) own.old }
-    ensures sent { AreSentOn filling.now.ranges.now filling.now.lists.now fillers.old fillers.new }
-    ensures written { IsWrittenFrom D.contents filling.now.ranges.now filling.now.lists.now
-        (text_of (spelled filling.now.ranges.now.k (whole filling.now.lists.now))) trays.old trays.new
+    requires room { HasRoomForRange filling.now.ranges.now.widest
+        (F.most filling.now.form.now filling.now.ranges.now.k C.most_digits) own.old }
+    ensures sent { AreSentOn (F.bytes filling.now.form.now) filling.now.ranges.now filling.now.lists.now fillers.old fillers.new }
+    ensures written { IsWrittenFrom D.contents (F.bytes filling.now.form.now) filling.now.ranges.now filling.now.lists.now
+        (flat_map (F.bytes filling.now.form.now) (spelled filling.now.ranges.now.k (whole filling.now.lists.now))) trays.old trays.new
         writer.old writer.new result }
 {
     let (_, written) = join_mut(
         filling.rt,
         &mut ||
             requires ranges { AreRanges filling.now.ranges.now filling.now.lists.now }
+            requires takes { F.takes filling.now.form.now filling.now.ranges.now.k }
             requires some { 1 ≤ length fillers.now }
         { fill_by_threads(filling, fillers) },
         &mut || -> Result<(), WriteFault>
             requires ranges { AreRanges filling.now.ranges.now filling.now.lists.now }
-            requires room { HasRoomForRange filling.now.ranges.now.widest (line_room filling.now.ranges.now.k C.most_digits) own.now }
+            requires takes { F.takes filling.now.form.now filling.now.ranges.now.k }
+            requires room { HasRoomForRange filling.now.ranges.now.widest
+                (F.most filling.now.form.now filling.now.ranges.now.k C.most_digits) own.now }
         {
             filling.desk.open();
             let written = write_all(writer, filling, trays, own);
@@ -221,18 +244,21 @@ pub fn write_ranges<
     D: Write,
     W: PackedKmer + Drop + Send + Sync,
     C: CountWidth + Drop + Send + Sync,
+    F: PairForm + Sync,
 >(
     writer: &mut Counted<D>,
-    filling: &Filling<'_, R, W, C>,
+    filling: &Filling<'_, R, W, C, F>,
     fillers: &mut [Filler<W>],
     trays: &mut [Tray<W>],
     own: &mut Buffer<W>,
 ) -> Result<(), WriteFault>
     requires ranges { AreRanges filling.now.ranges.now filling.now.lists.now }
+    requires takes { F.takes filling.now.form.now filling.now.ranges.now.k }
     requires lanes { AreLanes fillers.old trays.old }
-    requires room { HasRoomForRange filling.now.ranges.now.widest (line_room filling.now.ranges.now.k C.most_digits) own.old }
+    requires room { HasRoomForRange filling.now.ranges.now.widest
+        (F.most filling.now.form.now filling.now.ranges.now.k C.most_digits) own.old }
     ensures { IsWritten D.contents
-        (text_of (spelled filling.now.ranges.now.k (whole filling.now.lists.now)))
+        (flat_map (F.bytes filling.now.form.now) (spelled filling.now.ranges.now.k (whole filling.now.lists.now)))
         writer.old writer.new result }
 {
     if fillers.is_empty() {

@@ -1,6 +1,6 @@
 //! The dump of lists that share no word, on a device.
 ghost use Rattle.std.specs.Prelude.{◌≡◌, ◌^◌, ◌≤◌, length, OnErr, IfOk};
-ghost use Rattle.kmc_lists.specs.Line.{text_of};
+ghost use Rattle.std.specs.List.{flat_map};
 ghost use Rattle.kmc_lists.specs.Listed.{spelled};
 ghost use Rattle.kmc_lists.specs.Ordered.{CanBeMerged, joined, packs, whole};
 ghost use Rattle.kmc_dump.specs.Written.{IsDumped};
@@ -11,11 +11,12 @@ use crate::desk::Desk;
 use crate::filling::Filling;
 use crate::lane::make_lanes;
 use crate::output::write_ranges;
+use crate::pair_form::PairForm;
 use crate::parting::part_words;
 use crate::word_size::WordSize;
 use kmc_base::PackedKmer;
 use kmc_device::Counted;
-use kmc_lists::{CountWidth, KmerList, line_room};
+use kmc_lists::{CountWidth, KmerList};
 use std::alloc::{AllocError, Global};
 use std::io::Write;
 use std::sync::Wait;
@@ -83,8 +84,8 @@ fn lanes_of(threads: usize, ranges: usize) -> (usize, usize) {
     (lanes, if ranges > lanes { 2 } else { 1 })
 }
 
-/// Writes the dump of lists that share no word: the lines of all their pairs in the order of the words, and nothing else.
-/// The answer is the number of lines. Ranges of words are gathered and sorted by so many threads, while the calling thread writes those
+/// Writes the dump of lists that share no word: all their pairs in a form, in the order of the words, and nothing else.
+/// The answer is the number of pairs. Ranges of words are gathered and sorted by so many threads, while the calling thread writes those
 /// before; no list of all pairs is made. One thread does all in turn. All memory is had before the first write: after a refusal other
 /// than `Write` nothing was written, and after `Write` a front of the dump.
 pub(crate) fn write_lists<
@@ -92,28 +93,32 @@ pub(crate) fn write_lists<
     D: Write,
     W: PackedKmer + Drop + Send + Sync,
     C: CountWidth + Drop + Send + Sync,
+    F: PairForm + Sync,
 >(
     rt: &R,
     alloc: Global,
     writer: &mut Counted<D>,
     lists: &[KmerList<W, C>],
+    form: &F,
     size: WordSize,
     threads: usize,
 ) -> Result<u64, DumpError>
     requires merge { CanBeMerged size.k lists.now }
-    ensures { IsDumped D.contents (text_of (spelled size.k (whole lists.now))) (length (whole lists.now))
+    requires takes { F.takes form.now size.k }
+    ensures { IsDumped D.contents (flat_map (F.bytes form.now) (spelled size.k (whole lists.now))) (length (whole lists.now))
         writer.old writer.new result }
 {
     let total = count_pairs(lists)?;
     let ranges = part_words(rt, alloc, lists, size, total, threads)?;
     let (lanes, each) = lanes_of(threads, ranges.bounds.len().saturating_sub(1));
-    let line = line_room(size.k, C::digits());
+    let line = form.room(size.k, C::digits());
     let mut own = make_buffer(alloc, ranges.widest, line)?;
     let (mut fillers, mut trays) = make_lanes(alloc, lanes, each, ranges.widest, line)?;
     let desk = Desk::new(alloc, lanes)?;
     let filling = Filling {
         rt,
         lists,
+        form,
         ranges: &ranges,
         desk: &desk,
     };

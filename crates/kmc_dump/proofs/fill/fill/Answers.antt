@@ -20,7 +20,8 @@ returns-clause-full g c =
     record {
       inside = c.requires.inside;
       within = c.put_text-buffer.ensures.within;
-      text = range_read c.args.ranges.now c.args.lists.now c.args.range c.requires.inside _ _ c.index-from.ensures c.index-to.ensures _ c.put_text-buffer.ensures.text;
+      text = range_read c.args.ranges.now c.args.lists.now c.args.range c.requires.inside _ _ c.index-from.ensures c.index-to.ensures _ _
+          c.put_text-buffer.ensures.text;
     }
 
 pub returns-clause-room : goal.returns-clause-room

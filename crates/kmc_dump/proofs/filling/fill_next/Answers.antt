@@ -7,7 +7,7 @@ use Rattle.kmc_dump.proofs.filling.fill_next.Goals as goal
 
 pub returns-clause-sends : goal.returns-clause-sends
 returns-clause-sends g c = λ before.
-    let P = IsFull c.args.filling.now.ranges.now c.args.filling.now.lists.now in
+    let P = IsFull (g.F.PairForm.bytes c.args.filling.now.form.now) c.args.filling.now.ranges.now c.args.filling.now.lists.now in
     let so_far : All P (sent c.next_empty.new.filler.full) = subst (λ p. All P (sent p)) (sym c.next_empty.ensures) before.all in
     record {
       all = elim c.match-push.branch [

@@ -13,7 +13,7 @@ loop-range-preserved g c = record {
 
 pub returns-clause-sends : goal.returns-clause-sends
 returns-clause-sends g c = λ all.
-    let P = Sends (IsFull c.args.filling.now.ranges.now c.args.filling.now.lists.now) in
+    let P = Sends (IsFull (g.F.PairForm.bytes c.args.filling.now.form.now) c.args.filling.now.ranges.now c.args.filling.now.lists.now) in
     elim c.loop-range-test.branch [
       | else-loop-range-test w ↦ subst P (sym w.filler-is) (c.loop-range.invariant.sends all)
       | then-loop-range-test+then-not-fill_next w ↦ subst P (sym w.filler-is) (w.fill_next.ensures.sends (c.loop-range.invariant.sends all))

@@ -8,7 +8,8 @@ use Rattle.kmc_dump.proofs.filling.fill_on.Given as goal
 abbrev pub invariant-loop-range : goal.invariant-loop-range
 invariant-loop-range g l = record {
   ring : SameProducer l.initial.filler.full l.filler.full;
-  sends : Sends (IsFull l.filling.ranges.now l.filling.lists.now) l.initial.filler → Sends (IsFull l.filling.ranges.now l.filling.lists.now) l.filler;
+  sends : Sends (IsFull (g.F.PairForm.bytes l.filling.form.now) l.filling.ranges.now l.filling.lists.now) l.initial.filler
+      → Sends (IsFull (g.F.PairForm.bytes l.filling.form.now) l.filling.ranges.now l.filling.lists.now) l.filler;
 }
 
 abbrev pub decreases-loop-range : goal.decreases-loop-range

@@ -2,8 +2,7 @@ use Rattle.std.proofs.Common.{ℕ, ◌<◌, ◌≤◌, ◌^◌, All, List, ◌*�
 use Rattle.std.proofs.lemmas.List.{length-map}
 use Rattle.std.proofs.lemmas.List.Elements.{All-filter}
 use Rattle.std.proofs.lemmas.List.Sorted.{All-permutation, IsPermutation-map, length_permutation}
-use Rattle.std.specs.List.{filter}
-use Rattle.kmc_lists.specs.Line.{line_room, text_of}
+use Rattle.std.specs.List.{filter, flat_map}
 use Rattle.kmc_dump.specs.Keys.{key_pair}
 use Rattle.kmc_lists.specs.Listed.{spelled}
 use Rattle.kmc_lists.specs.Ordered.{is_within, joined, packs}
@@ -33,8 +32,8 @@ gather_keys-requires-clause-room g c =
       c.clear.ensures.capacity,
     )
 
-pub put_key_lines-requires-clause-fit : goal.put_key_lines-requires-clause-fit
-put_key_lines-requires-clause-fit g c =
+pub put_key_pairs-requires-clause-fit : goal.put_key_pairs-requires-clause-fit
+put_key_pairs-requires-clause-fit g c =
     let least = c.args.range.from * 2 ^ c.args.range.shift % 2 ^ 128 in
     let f : ℕ → ℕ × ℕ = key_pair least g.C.CountWidth.bits in
     let t = is_within (2 ^ c.args.range.shift) c.args.range.from c.args.range.to in
@@ -55,9 +54,9 @@ returns-clause-lines g c =
     let sorted = c.sort_unstable.new.self.items in
     let moved = gathered_moved f t c.args.lists.now c.loop-list.list-index _ made.items sorted c.loop-list-test.false c.loop-list.invariant.pairs refl
     (IsPermutation-map f made.items sorted c.sort_unstable.ensures.permutation) in
-    c.put_key_lines.ensures.lines
-    ∙ ap (λ (ns : List ℕ). text_of (spelled c.args.size.k (map f ns))) c.deref.ensures.value
-    ∙ ap (λ (ps : List (ℕ × ℕ)). text_of (spelled c.args.size.k ps)) (part_is t
+    c.put_key_pairs.ensures.lines
+    ∙ ap (λ (ns : List ℕ). flat_map (g.F.PairForm.bytes c.args.form.now) (spelled c.args.size.k (map f ns))) c.deref.ensures.value
+    ∙ ap (λ (ps : List (ℕ × ℕ)). flat_map (g.F.PairForm.bytes c.args.form.now) (spelled c.args.size.k ps)) (part_is t
     (packs c.args.lists.now) _ c.requires.merge.rise c.requires.merge.apart moved (keys_climb least g.C.CountWidth.bits sorted c.sort_unstable.ensures.sorted))
 
 pub gather_keys-requires-clause-least : goal.gather_keys-requires-clause-least
@@ -74,15 +73,15 @@ loop-list-preserved g c =
           ∙ sym (range_more t c.args.lists.now c.loop-list.list-index c.list-item.result c.loop-list-test.true c.list-item.is);
     }
 
-pub put_key_lines-requires-clause-room : goal.put_key_lines-requires-clause-room
-put_key_lines-requires-clause-room g c =
+pub put_key_pairs-requires-clause-room : goal.put_key_pairs-requires-clause-room
+put_key_pairs-requires-clause-room g c =
     let f : ℕ → ℕ × ℕ = key_pair (c.args.range.from * 2 ^ c.args.range.shift % 2 ^ 128) g.C.CountWidth.bits in
     let t = is_within (2 ^ c.args.range.shift) c.args.range.from c.args.range.to in
     let made = c.loop-list.keys.items in
     let long = ap length c.deref.ensures.value
     ∙ length_permutation made c.sort_unstable.new.self.items c.sort_unstable.ensures.permutation
     ∙ gathered_long f t c.args.lists.now c.loop-list.list-index made c.loop-list-test.false c.loop-list.invariant.pairs in
-    subst (λ n. n * line_room c.args.size.k g.C.CountWidth.most_digits ≤ length c.args.text.now) (sym long) c.requires.text
+    subst (λ n. n * g.F.PairForm.most c.args.form.now c.args.size.k g.C.CountWidth.most_digits ≤ length c.args.text.now) (sym long) c.requires.text
 
 pub returns-clause-within : goal.returns-clause-within
-returns-clause-within g c = c.put_key_lines.ensures.within
+returns-clause-within g c = c.put_key_pairs.ensures.within

@@ -17,12 +17,12 @@ loop-lane-preserved g c =
           get_or-set_other now.fillers now.lane i _ d (λ same. omega (arith, higher, same)) ∙ now.invariant.fillers i d (omega (arith, higher));
       trays = λ i e higher.
           get_or-set_other now.trays now.lane i _ e (λ same. omega (arith, higher, same)) ∙ now.invariant.trays i e (omega (arith, higher));
-      gets = λ r lists i d e below sends.
+      gets = λ line r lists i d e below sends.
           elim (cases_lt i now.lane) [
-            | inl front ↦ now.invariant.gets r lists i d e front sends
+            | inl front ↦ now.invariant.gets line r lists i d e front sends
             | inr last ↦
                 let at : i ≡ now.lane = omega (arith, below, last) in
-                lane_told (IsFull r lists) (get_or c.args.fillers.now i d) (get_or now.fillers now.lane f) (get_or c.args.trays.now i e) (get_or now.trays now.lane t)
+                lane_told (IsFull line r lists) (get_or c.args.fillers.now i d) (get_or now.fillers now.lane f) (get_or c.args.trays.now i e) (get_or now.trays now.lane t)
                 c.slots_beside.new.producer c.slots_beside.new.self (known_items c.slots_beside.new.self)
                 (read_alike c.args.fillers.now i now.lane d f at (omega (arith, at, c.loop-lane-test.true)) ∙ sym (now.invariant.fillers now.lane f (omega arith)))
                 (read_alike c.args.trays.now i now.lane e t at (omega (arith, at, inside_too)) ∙ sym (now.invariant.trays now.lane t (omega arith)))
@@ -31,7 +31,7 @@ loop-lane-preserved g c =
     }
 
 pub returns : goal.returns
-returns g c = λ r lists all k e inside.
+returns g c = λ line r lists all k e inside.
     let here : k < length c.args.fillers.now = omega (arith, inside, c.requires.paired.long) in
     let f = (some_at c.args.fillers.now k here).0 in
-    c.loop-lane.invariant.gets r lists k f e (omega (arith, here, c.loop-lane-test.false)) (all k f here)
+    c.loop-lane.invariant.gets line r lists k f e (omega (arith, here, c.loop-lane-test.false)) (all k f here)

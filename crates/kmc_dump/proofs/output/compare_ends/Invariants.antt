@@ -12,6 +12,6 @@ abbrev pub invariant-loop-lane : goal.invariant-loop-lane
 invariant-loop-lane g l = record {
   fillers : (i : ℕ) (d : Filler g.row.W.Denot) → l.lane ≤ i → get_or l.fillers i d ≡ get_or l.initial.fillers i d;
   trays : (i : ℕ) (e : Tray g.row.W.Denot) → l.lane ≤ i → get_or l.trays i e ≡ get_or l.initial.trays i e;
-  gets : (r : Ranges) (lists : List Listed) (i : ℕ) (d : Filler g.row.W.Denot) (e : Tray g.row.W.Denot) → i < l.lane
-      → Sends (IsFull r lists) (get_or l.initial.fillers i d) → Gets (IsFull r lists) (get_or l.initial.trays i e);
+  gets : (line : List ℕ × ℕ → List ℕ) (r : Ranges) (lists : List Listed) (i : ℕ) (d : Filler g.row.W.Denot) (e : Tray g.row.W.Denot) → i < l.lane
+      → Sends (IsFull line r lists) (get_or l.initial.fillers i d) → Gets (IsFull line r lists) (get_or l.initial.trays i e);
 }

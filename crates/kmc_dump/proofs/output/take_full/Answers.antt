@@ -6,29 +6,29 @@ use Rattle.kmc_dump.proofs.output.take_full.Goals.{in-Ok+else-buffer-range, in-E
 use Rattle.kmc_dump.proofs.output.take_full.Goals as goal
 
 pub returns-then-buffer-range-clause-gets : goal.returns-then-buffer-range-clause-gets
-returns-then-buffer-range-clause-gets g c = λ r lists more.
-    c.loop.invariant.gets r lists
+returns-then-buffer-range-clause-gets g c = λ line r lists more.
+    c.loop.invariant.gets line r lists
     (record {
-      all = front_are (IsFull r lists) (received c.loop.tray.full) (c.in-Ok.buffer ∷ []) (received c.pop.new.self) (sym c.in-Ok.ensures.ok.0) more.all;
+      all = front_are (IsFull line r lists) (received c.loop.tray.full) (c.in-Ok.buffer ∷ []) (received c.pop.new.self) (sym c.in-Ok.ensures.ok.0) more.all;
     })
 
 pub returns-then-buffer-range-clause-got : goal.returns-then-buffer-range-clause-got
-returns-then-buffer-range-clause-got g c = λ r lists more.
-    last_is (IsFull r lists) (received c.loop.tray.full) (received c.pop.new.self) c.in-Ok.buffer c.in-Ok.ensures.ok.0 more.all
+returns-then-buffer-range-clause-got g c = λ line r lists more.
+    last_is (IsFull line r lists) (received c.loop.tray.full) (received c.pop.new.self) c.in-Ok.buffer c.in-Ok.ensures.ok.0 more.all
 
 pub returns-then-has_left-clause-gets : goal.returns-then-has_left-clause-gets
-returns-then-has_left-clause-gets g c = λ r lists more.
-    c.loop.invariant.gets r lists (record { all = subst (All (IsFull r lists)) c.in-Err.ensures.empty.0 more.all })
+returns-then-has_left-clause-gets g c = λ line r lists more.
+    c.loop.invariant.gets line r lists (record { all = subst (All (IsFull line r lists)) c.in-Err.ensures.empty.0 more.all })
 
 pub loop-preserved : goal.loop-preserved
 loop-preserved g c = record {
   ring = same_consumer c.args.tray.now.full c.loop.tray.full c.pop.new.self c.loop.invariant.ring c.pop.ensures.ring;
-  gets = λ r lists more.
-      c.loop.invariant.gets r lists (record {
+  gets = λ line r lists more.
+      c.loop.invariant.gets line r lists (record {
         all = elim c.match-pop.branch [
           | in-Ok+else-buffer-range w ↦
-              front_are (IsFull r lists) (received c.loop.tray.full) (w.in-Ok.buffer ∷ []) (received c.pop.new.self) (sym w.in-Ok.ensures.ok.0) more.all
-          | in-Err+else-has_left w ↦ subst (All (IsFull r lists)) w.in-Err.ensures.empty.0 more.all
+              front_are (IsFull line r lists) (received c.loop.tray.full) (w.in-Ok.buffer ∷ []) (received c.pop.new.self) (sym w.in-Ok.ensures.ok.0) more.all
+          | in-Err+else-has_left w ↦ subst (All (IsFull line r lists)) w.in-Err.ensures.empty.0 more.all
         ];
       });
 }

@@ -1,4 +1,4 @@
-use Rattle.std.proofs.Common.{List}
+use Rattle.std.proofs.Common.{ℕ, List}
 use Rattle.rtrb.specs.Ring.{SameConsumer}
 use Rattle.kmc_lists.specs.Listed.{Listed}
 use Rattle.kmc_dump.specs.Full.{IsFull}
@@ -10,5 +10,5 @@ use Rattle.kmc_dump.proofs.output.take_full.Given as goal
 abbrev pub invariant-loop : goal.invariant-loop
 invariant-loop g l = record {
   ring : SameConsumer l.initial.tray.full l.tray.full;
-  gets : (r : Ranges) (lists : List Listed) → Gets (IsFull r lists) l.tray → Gets (IsFull r lists) l.initial.tray;
+  gets : (line : List ℕ × ℕ → List ℕ) (r : Ranges) (lists : List Listed) → Gets (IsFull line r lists) l.tray → Gets (IsFull line r lists) l.initial.tray;
 }

@@ -11,12 +11,12 @@ pub returns-then-is_empty-clause-written : goal.returns-then-is_empty-clause-wri
 returns-then-is_empty-clause-written g c = record { same = λ i d inside. ((refl, refl, refl, refl), refl); written = λ all. c.write_own.ensures.written }
 
 pub returns-clause-gets : goal.returns-clause-gets
-returns-clause-gets g c = λ r lists more.
+returns-clause-gets g c = λ line r lists more.
     let trays = c.args.trays.now in
     let lane = c.args.range % length trays in
     let inside : lane < length trays = mod-lt c.args.range (some_are trays (c.if-is_empty.ensures)) in
-    all_got (IsFull r lists) trays lane c.write_range.new.tray inside
-    (λ d got. subst (Gets (IsFull r lists)) (read_alike trays lane lane c.index-trays-lane.result d refl inside) (c.write_range.ensures.gets r lists got)) more
+    all_got (IsFull line r lists) trays lane c.write_range.new.tray inside
+    (λ d got. subst (Gets (IsFull line r lists)) (read_alike trays lane lane c.index-trays-lane.result d refl inside) (c.write_range.ensures.gets line r lists got)) more
 
 pub returns-clause-written : goal.returns-clause-written
 returns-clause-written g c =
@@ -29,6 +29,6 @@ returns-clause-written g c =
           (λ d. subst (λ (x : Tray g.row.W.Denot). SameConsumer x.full new.full) (read_alike trays lane lane c.index-trays-lane.result d refl inside) c.write_range.ensures.ring);
       written = λ all.
           c.write_range.ensures.written
-          (subst (Gets (IsFull c.args.filling.now.ranges.now c.args.filling.now.lists.now)) (get_or-set_same trays lane new new inside)
+          (subst (Gets (IsFull (g.F.PairForm.bytes c.args.filling.now.form.now) c.args.filling.now.ranges.now c.args.filling.now.lists.now)) (get_or-set_same trays lane new new inside)
           (all lane new (omega (arith, inside, length-set trays lane new))));
     }

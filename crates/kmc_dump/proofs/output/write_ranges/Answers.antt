@@ -12,7 +12,8 @@ pub returns : goal.returns
 returns g c =
     let r = c.args.filling.now.ranges.now in
     let lists = c.args.filling.now.lists.now in
+    let line = g.F.PairForm.bytes c.args.filling.now.form.now in
     c.write_beside-written.ensures.written.written
-    (c.compare_ends.ensures r lists
-    (all_send (IsFull r lists) c.args.fillers.now c.write_beside-written.new.fillers c.requires.lanes.none c.write_beside-written.auto.fillers
+    (c.compare_ends.ensures line r lists
+    (all_send (IsFull line r lists) c.args.fillers.now c.write_beside-written.new.fillers c.requires.lanes.none c.write_beside-written.auto.fillers
     c.write_beside-written.ensures.sent.more))

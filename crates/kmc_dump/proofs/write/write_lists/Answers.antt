@@ -1,6 +1,6 @@
 use Rattle.std.proofs.Common.{sym, subst, ◌∙◌, Ok, Err}
 use Rattle.std.proofs.lemmas.List.Sorted.{length_permutation}
-use Rattle.kmc_lists.specs.Line.{text_of}
+use Rattle.std.specs.List.{flat_map}
 use Rattle.kmc_lists.specs.Listed.{spelled}
 use Rattle.kmc_lists.specs.Ordered.{joined, packs, whole}
 use Rattle.kmc_lists.specs.Lemmas.Order.{in_order_moves}
@@ -35,17 +35,19 @@ returns-in-Ok g c =
     let lists = c.args.lists.now in
     let all = joined (packs lists) in
     let bytes = g.D.Write.contents in
+    let line = g.F.PairForm.bytes c.args.form.now in
     let old = c.args.writer.now in
     let new = c.write_ranges.new.writer in
     dumped bytes _ _ old new c.in_ok-total.total tt
     (c.in_ok-total.ensures.total ∙ sym (length_permutation all (whole lists) (in_order_moves all)))
-    (subst (λ k. IsWritten bytes (text_of (spelled k (whole lists))) old new (Ok tt)) c.in_ok-ranges.ensures.0 c.in-Ok.ensures)
+    (subst (λ k. IsWritten bytes (flat_map line (spelled k (whole lists))) old new (Ok tt)) c.in_ok-ranges.ensures.0 c.in-Ok.ensures)
 
 pub returns : goal.returns
 returns g c =
     let lists = c.args.lists.now in
     let bytes = g.D.Write.contents in
+    let line = g.F.PairForm.bytes c.args.form.now in
     let old = c.args.writer.now in
     let new = c.write_ranges.new.writer in
     front_dumped bytes _ _ old new c.in-Err.field-0
-    (subst (λ k. IsWritten bytes (text_of (spelled k (whole lists))) old new (Err c.in-Err.field-0)) c.in_ok-ranges.ensures.0 c.in-Err.ensures)
+    (subst (λ k. IsWritten bytes (flat_map line (spelled k (whole lists))) old new (Err c.in-Err.field-0)) c.in_ok-ranges.ensures.0 c.in-Err.ensures)
