@@ -50,14 +50,17 @@ def end_of(path):
 
 def header_of(stem):
     """The header of a database. One of another form is refused, with what to do about it."""
-    path = stem + PREFIX
-    end, size = end_of(path)
+    return header_in(*end_of(stem + PREFIX), stem + PREFIX)
+
+
+def header_in(end, size, path):
+    """The header in the last bytes of a prefix file, which has so many bytes."""
     if len(end) < HEADER.size or not end.endswith(PREFIX_MARKER):
         raise Fault("%s: it does not end as the file of a database does" % shown(path))
     k, mode, counter, prefix, least, low, rows, strands, high, version, length, _ = HEADER.unpack(end)
     if version == NEWER:
         raise Fault("%s: it is in the form of KMC 2 and 3, which is not sorted: 'kmc_tools transform %s sort OUT' makes a database that is read" % (
-            shown(path), stem))
+            shown(path), path[:-len(PREFIX)]))
     if version != SORTED or length != LENGTH or mode:
         raise Fault("%s: the database is of an unknown %s" % (shown(path), "version" if version else "mode" if mode else "header"))
     is_layout = 1 <= prefix <= min(k, MOST_PREFIX) and k <= MOST_K and (k - prefix) % 4 == 0 and 1 <= counter <= MOST_COUNTER
@@ -77,6 +80,11 @@ def size_of_prefix_file(header):
 def size_of_row(header):
     """The bytes of a row: the symbols behind the first part, four a byte, and the count."""
     return (header.k - header.prefix) // 4 + header.counter
+
+
+def size_of_suffix_file(header):
+    """The bytes of both markers and of the rows between them."""
+    return 2 * len(SUFFIX_MARKER) + header.rows * size_of_row(header)
 
 
 def checked(stem):

@@ -5,7 +5,7 @@ import contextlib
 import os
 
 from futoncrane.feeding import widened, write_all
-from futoncrane.ranges import LONGEST_LINE
+from futoncrane.ranged_dumps import LONGEST_LINE
 
 # bytes that a program is given at a time, which its pipe holds
 BLOCK = 1 << 19

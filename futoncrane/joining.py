@@ -61,7 +61,7 @@ def join(command, operation, asked, words=()):
 def table_by_ranges(names, cap, children, setting):
     """The table of two dumps, made range by range: the two counts of a k-mer, each at most `cap`, and how many k-mers have them. The rows rise.
     None where the dumps are not plain files, or are small, or at fault."""
-    if not all(map(merging.is_plain, names)):
+    if not all(map(merging.has_ranges, names)):
         return None
     found = ranges.tallied(names, "kmc_db", ["table", "-cs%d" % cap], children, setting)
     return None if found is None else [(*counts, found[counts]) for counts in sorted(found)]

@@ -108,6 +108,11 @@ def is_piped(name):
         raise Fault("%s: %s" % (shown(name), reason(fault))) from None
 
 
+def has_ranges(name):
+    """Whether ranges of k-mers can be read of a dump alone: where it is a plain file, or that of a database."""
+    return databases.stem_of(name) is not None or is_plain(name)
+
+
 def is_plain(name):
     """Whether a dump is a file that can be read from any place of it on."""
     return name != "-" and not name.startswith(("/dev/", "/proc/")) and os.path.isfile(name) and not is_piped(name)
@@ -128,7 +133,7 @@ def merged(names, limits, children, setting, output=None, reader=None, sink=None
            is_dump=True):
     """Merges these dumps at once, or joins them by another program with these words, into the output, the file `sink`, or what `reader` reads.
     Its standard input is `source`, or ours where that is one of the dumps. An answer that is a dump is made range by range where it can be."""
-    if is_dump and not reader and not sink and all(map(is_plain, names)) and ranges.joined(names, program, [*words, *limits], children, setting, output):
+    if is_dump and not reader and not sink and all(map(has_ranges, names)) and ranges.joined(names, program, [*words, *limits], children, setting, output):
         return
     parts = Parts(names, children)
     command = [places.find(program), *words, *limits, *parts.given]

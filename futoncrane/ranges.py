@@ -1,6 +1,7 @@
 """Dumps merged or joined by ranges of k-mers in several programs side by side. A range begins and ends at a line of each dump, and the k-mers
 of a range are above those of the range before. Each program refuses lines that do not rise within its range, and so what was taken of a dump
-rises as a whole. Where a program refuses, one program is given all, whose fault tells the line.
+rises as a whole. Where a program refuses, one program is given all, whose fault tells the line. A database is joined so too, by ranges of the
+entries of its table.
 
 Slices share no k-mer, and each of their lines is written as it stands: a range takes as many bytes as in the dumps, and each program writes its
 own at their place in the answer. What a join writes is as long as it comes out: it is put behind that of the range before."""
@@ -11,83 +12,68 @@ import os
 import subprocess
 import tempfile
 
-from futoncrane import places
+from futoncrane import databases, folders, places
 from futoncrane.children import ended
+from futoncrane.faults import Fault
 from futoncrane.progress import Watch, merging, read_by
-from futoncrane.sending import Sender
+from futoncrane.ranged_databases import RangedDatabase, Unfit
+from futoncrane.ranged_dumps import RangedDump
 
-# no line of a dump is longer, with the line feed
-LONGEST_LINE = 64 + 22
 # fewer bytes are merged by one program; so many pipes lead to all of them at most
 LEAST_BYTES, MOST_PIPES = 1 << 24, 256
 # a range of a join has about so many bytes of the dumps, since what it writes is kept until it is its turn
 RANGE_BYTES = 1 << 26
+# the tables of databases that are written for the ranges have so many times the bytes of the dumps at most
+MOST_TABLES = 1
 
 
-def line_from(file, place):
-    """Where the first line begins that begins at this place or behind it, and its k-mer; of no line the k-mer is empty."""
-    text = os.pread(file, 2 * LONGEST_LINE, max(0, place - 1))
-    start = place if place == 0 else place + text.index(b"\n") if b"\n" in text else place - 1 + len(text)
-    line = text[start - max(0, place - 1):]
-    return start, line.partition(b"\t")[0]
-
-
-def first_from(file, size, word):
-    """Where the first line begins whose k-mer is this one or behind it."""
-    low, high = 0, size
-    while low < high:
-        middle = (low + high) // 2
-        start, found = line_from(file, middle)
-        if found and found < word:
-            low = start + 1
-        else:
-            high = middle
-    return line_from(file, low)[0]
-
-
-def bounds_of(file, size, many):
-    """The k-mers that part a dump into so many ranges of about one size."""
-    found = {line_from(file, size * number // many)[1] for number in range(1, many)}
-    return sorted(found - {b""})
-
-
-def ranges_of(files, sizes, many):
-    """For each range where it begins and ends in each of the dumps, which may have no line of it."""
-    largest = max(range(len(files)), key=lambda it: sizes[it])
-    starts = [0] * len(files)
-    for bound in [*bounds_of(files[largest], sizes[largest], many), None]:
-        ends = list(sizes) if bound is None else [first_from(file, size, bound) for file, size in zip(files, sizes)]
+def ranges_of(operands, many):
+    """For each range its part of each operand, which may have no k-mer of it."""
+    largest = max(operands, key=lambda it: it.size)
+    letters = min((it.letters for it in operands if it.letters), default=None)
+    bounds = sorted({it[:letters] for it in largest.bounds(many)})
+    starts = [0] * len(operands)
+    for bound in [*bounds, None]:
+        ends = [it.end if bound is None else it.place_of(bound) for it in operands]
         if starts != ends:
-            yield list(zip(files, starts, ends))
+            yield [it.part(start, end) for it, start, end in zip(operands, starts, ends)]
         starts = ends
 
 
-def some_of(parts):
-    """Those of a range's parts that have lines."""
-    return [it for it in parts if it[1] < it[2]]
-
-
 def are_of_one_length(ranges):
-    """Whether the k-mers of all ranges are as long as each other, by the first line of each part."""
-    return len({len(line_from(file, start)[1]) for parts in ranges for file, start, _ in some_of(parts)}) < 2
+    """Whether the k-mers of all ranges are as long as each other, by the first one of each part."""
+    return len({it.length() for parts in ranges for it in parts} - {None}) < 2
+
+
+def size_of(operands):
+    """How many bytes of lines they have, or their dumps."""
+    return sum(it.size for it in operands)
 
 
 class Ranged:
-    """A program that reads a range of each dump, and writes to `sink`."""
+    """A program that reads a range of each dump, and writes to `sink`. `path` begins the names of files that are made for it."""
 
-    def __init__(self, words, parts, sink, children):
-        self.children, self.bytes = children, sum(end - start for _, start, end in parts)
-        self.senders = [Sender([it]) for it in parts]
-        sources = [it.source for it in self.senders]
-        self.program = children.start([*words, *("/dev/fd/%d" % it for it in sources)], pass_fds=sources, stdin=subprocess.DEVNULL, stdout=sink)
-        for it in self.senders:
+    def __init__(self, words, parts, sink, children, path=None):
+        self.children, self.parts, self.bytes = children, parts, sum(it.bytes for it in parts)
+        with contextlib.ExitStack() as made:
+            given = []
+            for number, it in enumerate(parts):
+                made.callback(it.drop)
+                given.append(it.given("%s.%d" % (path, number)))
+            sources = [it.source for it in parts]
+            self.program = children.start([*words, *given], pass_fds=sources, stdin=subprocess.DEVNULL, stdout=sink)
+            made.pop_all()
+        for it in parts:
             it.begin()
 
     def is_ended_well(self):
         """Waits for the end of the program, and tells whether it did its work, on all that it was to be given."""
         status, _ = ended(self.program)
         self.children.forget(self.program)
-        return status == 0 and all(it.is_whole() for it in self.senders)
+        are_taken = [it.is_taken() for it in self.parts]
+        for it in self.parts:
+            it.drop()
+        return status == 0 and all(are_taken)
 
 
 class Merger(Ranged):
@@ -109,9 +95,9 @@ class Merger(Ranged):
 class Joiner(Ranged):
     """A program that writes what it makes of a range to `made`, a file without a name in this folder."""
 
-    def __init__(self, words, parts, folder, children):
+    def __init__(self, words, parts, folder, children, path=None):
         self.made = tempfile.TemporaryFile(dir=folder, buffering=0)
-        super().__init__(words, parts, self.made, children)
+        super().__init__(words, parts, self.made, children, path)
 
     def stop(self):
         """Has the program end at once."""
@@ -143,10 +129,10 @@ def is_file(output):
     return output is not None and output.is_made and not output.packer
 
 
-def opened(names, files):
-    """The dumps, open for reading until `files` are closed, and their sizes."""
-    dumps = [files.enter_context(open(name, "rb", buffering=0)).fileno() for name in names]
-    return dumps, [os.fstat(it).st_size for it in dumps]
+def opened(names, files, children=None):
+    """The dumps and databases of these names, open until `files` are closed. Of databases dumps are made by `children`, where there are any."""
+    stems = [databases.stem_of(it) for it in names]
+    return [RangedDump(name, files) if stem is None else RangedDatabase(stem, files, children) for name, stem in zip(names, stems)]
 
 
 def merged(names, limits, children, setting, output):
@@ -156,56 +142,76 @@ def merged(names, limits, children, setting, output):
     if many < 2 or not is_file(output):
         return False
     with contextlib.ExitStack() as files:
-        dumps, sizes = opened(names, files)
-        if sum(sizes) < LEAST_BYTES:
+        dumps = [RangedDump(it, files) for it in names]
+        size = size_of(dumps)
+        if size < LEAST_BYTES:
             return False
         words, mergers = [places.find("kmc_merge"), *limits], []
-        for parts in ranges_of(dumps, sizes, many):
-            mergers.append(Merger(words, some_of(parts), output.work, mergers[-1].end if mergers else 0, children))
-        with Watch(Progress(mergers, sum(sizes)), mergers[0].program, not setting.quiet, step=merging):
+        for parts in ranges_of(dumps, many):
+            mergers.append(Merger(words, [it for it in parts if it.bytes], output.work, mergers[-1].end if mergers else 0, children))
+        with Watch(Progress(mergers, size), mergers[0].program, not setting.quiet, step=merging):
             is_done = all([it.is_done() for it in mergers])
-    if not is_done or mergers[-1].end != sum(sizes):
+    if not is_done or mergers[-1].end != size:
         os.ftruncate(output.file, 0)
         return False
     setting.report.step("kmc_merge")
-    setting.report.written = sum(sizes)
+    setting.report.written = size
     return True
 
 
-def made_in_order(names, command, folder, children, setting, take):
-    """Has programs of this command make something of each range of plain dumps, and gives `take` the files that they wrote, in their order.
-    Answers whether that was done: not for few bytes, nor where a program or `take` did not do its work."""
-    many = at_once(names, setting)
-    if many < 2:
-        return False
-    with contextlib.ExitStack() as files:
-        dumps, sizes = opened(names, files)
-        if sum(sizes) < LEAST_BYTES:
-            return False
-        ranges = list(ranges_of(dumps, sizes, max(many, sum(sizes) // RANGE_BYTES)))
-        if not are_of_one_length(ranges):
-            return False
-        left = (Joiner(command, parts, folder, children) for parts in ranges)
-        running = collections.deque(itertools.islice(left, many))
-        progress = Progress(running, sum(sizes))
+def ranges_fitting(operands, many):
+    """The ranges of operands that are read by so many programs at once; none for few bytes, nor where the tables of databases would be too much."""
+    size, tables = size_of(operands), sum(it.table for it in operands)
+    wanted = min(max(many, size // RANGE_BYTES), MOST_TABLES * size // tables if tables else size)
+    ranges = list(ranges_of(operands, wanted)) if size >= max(1, LEAST_BYTES) and wanted > 1 else []
+    return ranges if are_of_one_length(ranges) else []
+
+
+def taken_in_order(joiners, many, size, setting, take):
+    """Has so many joiners at once do their work, and `take` take the files that they wrote, in their order. Answers whether all was done."""
+    running = collections.deque()
+    try:
+        running.extend(itertools.islice(joiners, many))
+        progress = Progress(running, size)
         with Watch(progress, running[0].program, not setting.quiet, step=merging):
             while running:
                 first = running.popleft()
-                is_done = first.is_ended_well()
-                progress.done += first.bytes
-                running.extend(itertools.islice(left, 1 if is_done else 0))
                 with first.made:
-                    is_done = is_done and take(first.made)
-                if not is_done:
-                    for it in running:
-                        it.stop()
-                    return False
-    return True
+                    is_done = first.is_ended_well()
+                    progress.done += first.bytes
+                    running.extend(itertools.islice(joiners, 1 if is_done else 0))
+                    if not (is_done and take(first.made)):
+                        return False
+        return True
+    finally:
+        for it in running:
+            it.stop()
+
+
+def made_in_order(names, program, words, folder, children, setting, take):
+    """Has programs with these words make something of each range of plain dumps and databases, and gives `take` the files that they wrote, in their
+    order. Answers whether that was done: not for few bytes, nor where a program or `take` did not do its work."""
+    many = at_once(names, setting)
+    if many < 2:
+        return False
+    with contextlib.ExitStack() as files, contextlib.suppress(Fault, Unfit, OSError):
+        operands = opened(names, files, None if program == "kmc_db" else children)
+        ranges = ranges_fitting(operands, many)
+        if not ranges:
+            return False
+        path = None
+        if any(it.table for it in operands):
+            path = folders.made(folder or tempfile.gettempdir())
+            files.callback(folders.dropped, path)
+        command = [places.find(program), *words]
+        joiners = (Joiner(command, parts, folder, children, "%s/%d" % (path, number)) for number, parts in enumerate(ranges))
+        return taken_in_order(joiners, many, sum(it.bytes for parts in ranges for it in parts), setting, take)
+    return False
 
 
 def joined(names, program, words, children, setting, output):
-    """Joins plain dumps, or merges those that share k-mers, into the output by a program with these words for each range. Answers whether that
-    was done, as `merged` does."""
+    """Joins plain dumps and databases, or merges those that share k-mers, into the output by a program with these words for each range. Answers
+    whether that was done, as `merged` does."""
     def take(made):
         place, end = 0, os.fstat(made.fileno()).st_size
         with contextlib.suppress(OSError):  # who is asked to do it again has a fault that tells
@@ -217,7 +223,7 @@ def joined(names, program, words, children, setting, output):
         return False
     sink = os.open(output.work, os.O_WRONLY | os.O_CLOEXEC)
     try:
-        if not made_in_order(names, [places.find(program), *words], os.path.dirname(output.work), children, setting, take):
+        if not made_in_order(names, program, words, os.path.dirname(output.work), children, setting, take):
             os.ftruncate(sink, 0)
             return False
         setting.report.written = os.lseek(sink, 0, os.SEEK_CUR)
@@ -228,7 +234,7 @@ def joined(names, program, words, children, setting, output):
 
 
 def tallied(names, program, words, children, setting):
-    """The table of plain dumps by a program with these words for each range, as numbers of k-mers by their counts; none where that was not
+    """The table of plain dumps and databases by a program with these words for each range, as numbers of k-mers by their counts; none where that was not
     done. A k-mer is in one range, so its table is the sum of theirs."""
     found = collections.Counter()
 
@@ -239,7 +245,7 @@ def tallied(names, program, words, children, setting):
             found[tuple(counts)] += number
         return True
 
-    if not made_in_order(names, [places.find(program), *words], None, children, setting, take):
+    if not made_in_order(names, program, words, None, children, setting, take):
         return None
     setting.report.step(program)
     return found

@@ -70,7 +70,7 @@ def read_dumps(found, setting, children, reader):
         if not notes.is_whole(note):
             report.say("%s was counted with %s: the answer lacks what these leave out" % (shown(name), notes.limits_of(note)), setting.quiet)
     setting.k, setting.report.bytes_read = found[0].k, sum(it.bytes for it in found)
-    if isinstance(reader, dumps.Histogram) and len(names) == 1 and setting.cap >= setting.greatest and merging.is_plain(names[0]):
+    if isinstance(reader, dumps.Histogram) and len(names) == 1 and setting.cap >= setting.greatest and merging.has_ranges(names[0]):
         found = ranges.tallied(names, "kmc_db", ["histogram"], children, setting)
         if found is not None:
             reader.add({count: number for (count,), number in found.items() if setting.least <= count <= setting.greatest})

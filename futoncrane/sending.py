@@ -9,7 +9,7 @@ from futoncrane.output import begun
 
 class Sender:
     """Passes pieces of open files, each (descriptor, first byte, byte behind the last), on to a pipe, whose other end is `source`. Where it
-    `ends_lines`, a line feed goes behind a piece that ends without one. Whoever has handed `source` to a program closes it and calls `begin`."""
+    `ends_lines`, a line feed goes behind a piece that ends without one. Whoever has handed `source` to a program calls `begin`, which closes it."""
 
     def __init__(self, pieces, ends_lines=False):
         self.source, self.sink = os.pipe()
@@ -19,7 +19,15 @@ class Sender:
 
     def begin(self):
         os.close(self.source)
+        self.source = None
         begun(self.thread)
+
+    def drop(self):
+        """Closes the pipe, where no program was begun that reads it."""
+        if self.source is not None:
+            os.close(self.source)
+            os.close(self.sink)
+            self.source = None
 
     def _send(self):
         with contextlib.suppress(OSError):  # a program that reads no more has a status that tells

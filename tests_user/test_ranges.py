@@ -1,10 +1,11 @@
 """Dumps that are merged, joined and tabulated by ranges of k-mers side by side: each line is in one range, and the answer is that of one program."""
 import collections
+import contextlib
 import os
 import random
 import types
 
-from futoncrane import joining, merging, ranges, report
+from futoncrane import joining, merging, ranged_dumps, ranges, report
 from futoncrane.children import Children
 from futoncrane.options import MOST
 from room import BIN, content, program
@@ -38,7 +39,7 @@ def test_the_first_line_of_a_range_is_found(room):
         with open(name, "rb") as file:
             for bound in [*words, b"A", b"G", b"T" * 64, words[0][:1], words[-1][:1]]:
                 wanted = next((start for start, word in zip(starts, words) if word >= bound), len(text))
-                assert ranges.first_from(file.fileno(), len(text), bound) == wanted, (k, bound)
+                assert ranged_dumps.first_from(file.fileno(), len(text), bound) == wanted, (k, bound)
 
 
 def test_each_line_is_in_one_range(room):
@@ -47,20 +48,17 @@ def test_each_line_is_in_one_range(room):
         for slices in (1, 2, 5):
             names = dealt(room, some_words(source, 12, 200), slices, source)
             texts = [content(name) for name in names]
-            files = [os.open(name, os.O_RDONLY) for name in names]
             ends, last = [0] * slices, b""
-            for found in ranges.ranges_of(files, [len(it) for it in texts], many):
-                lines = []
-                for file, start, end in found:
-                    number = files.index(file)
-                    assert ends[number] == start
-                    ends[number] = end
-                    lines += texts[number][start:end].splitlines(keepends=True)
-                assert last < min(lines) and all(it.endswith(b"\n") for it in lines)
-                last = max(lines)
+            with contextlib.ExitStack() as files:
+                for found in ranges.ranges_of([ranged_dumps.RangedDump(it, files) for it in names], many):
+                    lines = []
+                    for number, part in enumerate(found):
+                        assert ends[number] == part.start
+                        ends[number] = part.end
+                        lines += texts[number][part.start:part.end].splitlines(keepends=True)
+                    assert last < min(lines) and all(it.endswith(b"\n") for it in lines)
+                    last = max(lines)
             assert ends == [len(it) for it in texts]
-            for it in files:
-                os.close(it)
 
 
 def merged(room, names, threads, least):
