@@ -10,7 +10,7 @@ CHOICES = ("min", "max", "sum", "diff", "left", "right")
 TEXT = """
 Both dumps must have been made with the same -k, and with or without --forward alike: where DUMP.json stands beside a dump that is looked
 at. They may be packed, or databases as NAME.kmc, and are read once, side by side. The work is done by kmc_db, whose answer is proved; large
-plain dumps are joined by as many of it as there are threads, each for a range of k-mers.
+plain dumps and databases are joined by as many of it as there are threads, each for a range of k-mers.
 
 The limits judge the count that the answer has for a k-mer, and every k-mer is listed unless they are given. --first-min, --first-max,
 --second-min and --second-max judge the counts of the dumps, before they are joined.
@@ -60,7 +60,7 @@ def join(command, operation, asked, words=()):
 
 def table_by_ranges(names, cap, children, setting):
     """The table of two dumps, made range by range: the two counts of a k-mer, each at most `cap`, and how many k-mers have them. The rows rise.
-    None where the dumps are not plain files, or are small, or at fault."""
+    None where a dump is neither a plain file nor that of a database, where they are small, or at fault."""
     if not all(map(merging.has_ranges, names)):
         return None
     found = ranges.tallied(names, "kmc_db", ["table", "-cs%d" % cap], children, setting)

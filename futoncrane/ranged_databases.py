@@ -1,17 +1,12 @@
 """A database by ranges of k-mers: a range begins and ends at an entry of its table. It is handed to a program as a database with fewer rows, whose
 prefix file is made anew and whose suffix file is a pipe, so that the program judges each entry and each row as it does those of the whole."""
 import bisect
-import contextlib
 import os
 import struct
-import subprocess
 
-from futoncrane import databases, places
-from futoncrane.children import ended
-from futoncrane.feeding import widened
-from futoncrane.ranged_dumps import Part
+from futoncrane import databases
+from futoncrane.database_parts import DatabasePart, DumpedPart
 from futoncrane.reading import letters_of
-from futoncrane.sending import Sender
 
 # the first parts of a table that is cut have no more letters: its ranges have prefix files of 32 MiB at most
 MOST_PREFIX = 11
@@ -60,9 +55,9 @@ class Table:
 
 
 class RangedDatabase:
-    """A database, open as long as `files` are. It counts as the `size` bytes of its dump, and its places are entries of its table, up to `end`. It can
-    be cut at words of at most as many `letters` as its first parts have, and for a range a `table` of so many bytes is written. A program that takes
-    no database is given dumps, which `children` of ours write."""
+    """A database, open as long as `files` are. It counts as the `size` bytes of its dump, and its places are entries of its table, up to `end`. It
+    can be cut at words of at most as many `letters` as its first parts have, and for a range a `table` of so many bytes is written. A program that
+    takes no database is given dumps, which `children` of ours write."""
 
     def __init__(self, stem, files, children=None):
         path, suffix = databases.files_of(stem)
@@ -95,13 +90,16 @@ class RangedDatabase:
         return self.header.rows if place == self.end else self.entries[place] if place else 0
 
     def part(self, start, end):
-        """What lies between two places."""
-        return DumpedPart(self, start, end) if self.children else DatabasePart(self, start, end)
+        """What lies between two places. The table must not fall from one to the other, nor go beyond the rows."""
+        before, behind = self.rows_before(start), self.rows_before(end)
+        if not before <= behind <= self.header.rows:
+            raise Unfit
+        entries, rows = (start, end), (before, behind - before)
+        return DumpedPart(self, entries, rows, self.children) if self.children else DatabasePart(self, entries, rows)
 
-    def write_prefix_file(self, path, first, last, rows):
-        """Makes the prefix file of a range of entries that has so many rows, behind so many: no row is before its first entry, and all are before those
-        behind it. All else of it is of this one."""
-        before, many = rows
+    def write_prefix_file(self, path, first, last, before, many):
+        """Makes the prefix file of some entries that have so many rows, behind so many: no row is before the first of them, and all are before the
+        entries behind them. All else of it is of this one."""
         with open(path, "xb") as file:
             file.write(bytes_at(self.file, 0, len(databases.PREFIX_MARKER)))
             file.seek(ENTRY.size * first, os.SEEK_CUR)
@@ -113,67 +111,5 @@ class RangedDatabase:
         """The suffix file of so many rows behind others, in pieces of this one: both of its markers, and the rows between them."""
         marker = len(databases.SUFFIX_MARKER)
         start = marker + self.row * before
-        return [(self.suffix, 0, marker), (self.suffix, start, start + self.row * many), (self.suffix, self.suffix_size - marker, self.suffix_size)]
-
-
-class DatabasePart(Part):
-    """The rows of some entries, which a program takes as a database of their own, of whose two files it reads the prefix file twice."""
-
-    def __init__(self, database, first, last):
-        start, end = database.rows_before(first), database.rows_before(last)
-        if not start <= end <= database.header.rows:
-            raise Unfit
-        super().__init__(2 * database.table + database.row * (end - start))
-        self.database, self.entries, self.rows, self.files = database, (first, last), (start, end - start), ()
-
-    def length(self):
-        """How many letters its k-mers have; none where it has no row."""
-        return self.database.header.k if self.rows[1] else None
-
-    def given(self, path):
-        """Has it ready for a program, as the database of this name, and answers that. The suffix file is the name of a pipe."""
-        self.files = databases.files_of(path)
-        self.database.write_prefix_file(self.files[0], *self.entries, self.rows)
-        self.sender = Sender(self.database.suffix_file(*self.rows))
-        os.symlink("/dev/fd/%d" % self.sender.source, self.files[1])
-        return path
-
-    def drop(self):
-        super().drop()
-        for it in self.files:
-            with contextlib.suppress(OSError):
-                os.unlink(it)
-
-
-class DumpedPart(DatabasePart):
-    """The same for a program that takes no database: it reads the dump, which a kmc_db writes into a pipe."""
-    dumper = dump = None
-
-    @property
-    def source(self):
-        return self.dump
-
-    def given(self, path):
-        word = super().given(path)
-        self.dump, sink = os.pipe()
-        widened(sink)
-        try:
-            self.dumper = self.database.children.start([places.find("kmc_db"), "dump", word], pass_fds=[self.sender.source], stdin=subprocess.DEVNULL, stdout=sink)
-        finally:
-            os.close(sink)
-        self.sender.begin()
-        return "/dev/fd/%d" % self.dump
-
-    def begin(self):
-        os.close(self.dump)
-        self.dump = None
-
-    def is_taken(self):
-        status, _ = ended(self.dumper)
-        self.database.children.forget(self.dumper)
-        return super().is_taken() and status == 0
-
-    def drop(self):
-        super().drop()
-        if self.dump is not None:
-            os.close(self.dump)
+        pieces = [(0, marker), (start, start + self.row * many), (self.suffix_size - marker, self.suffix_size)]
+        return [(self.suffix, *it) for it in pieces]

@@ -53,7 +53,7 @@ def size_of(operands):
 class Ranged:
     """A program that reads a range of each dump, and writes to `sink`. `path` begins the names of files that are made for it."""
 
-    def __init__(self, words, parts, sink, children, path=None):
+    def __init__(self, words, parts, sink, children, path=""):
         self.children, self.parts, self.bytes = children, parts, sum(it.bytes for it in parts)
         with contextlib.ExitStack() as made:
             given = []
@@ -95,7 +95,7 @@ class Merger(Ranged):
 class Joiner(Ranged):
     """A program that writes what it makes of a range to `made`, a file without a name in this folder."""
 
-    def __init__(self, words, parts, folder, children, path=None):
+    def __init__(self, words, parts, folder, children, path):
         self.made = tempfile.TemporaryFile(dir=folder, buffering=0)
         super().__init__(words, parts, self.made, children, path)
 
@@ -234,8 +234,8 @@ def joined(names, program, words, children, setting, output):
 
 
 def tallied(names, program, words, children, setting):
-    """The table of plain dumps and databases by a program with these words for each range, as numbers of k-mers by their counts; none where that was not
-    done. A k-mer is in one range, so its table is the sum of theirs."""
+    """The table of plain dumps and databases by a program with these words for each range, as numbers of k-mers by their counts; none where that
+    was not done. A k-mer is in one range, so its table is the sum of theirs."""
     found = collections.Counter()
 
     def take(made):

@@ -119,15 +119,15 @@ def test_a_range_of_a_database_is_a_database_of_its_rows(room):
 
 
 def test_joins_of_databases_and_dumps_by_ranges_are_those_of_one_program(room):
-    by_ranges_of(400)
+    by_ranges_of(900)
     source = random.Random(22)
     operations = sorted(OWN)
-    for number, k in enumerate((1, 2, 3, 4, 5, 9, 13, 31, 32, 33, 63, 64)):
+    for number, k in enumerate((1, 2, 3, 4, 9, 13, 31, 33, 64)):
         dumps = overlapping(source, k, 90)
         sides = []
         for name, dump in zip(("left", "right"), dumps):
             sides.append([room.path(room.write(name + ".dump", dump)), database_of(room, name, dump, k, source.choice(first_parts(k)))])
-        for operation in {operations[number % 4], operations[(number + 1) % 4]}:
+        for operation in (operations[number % 4], operations[(number + 1) % 4]):
             choice = ["-oc" + source.choice(sorted(CHOICES))] if OWN[operation] else []
             words = [operation, *choice, "-lci%d" % source.choice((0, 2))]
             wanted = one_by_one(room, [sides[0][0], sides[1][0]], words)
@@ -136,13 +136,13 @@ def test_joins_of_databases_and_dumps_by_ranges_are_those_of_one_program(room):
 
 
 def test_tables_and_histograms_of_databases_by_ranges(room):
-    by_ranges_of(400)
+    by_ranges_of(900)
     source = random.Random(23)
-    for k in (2, 6, 25, 33):
+    for k in (2, 6, 33):
         dumps = overlapping(source, k, 150)
         names = [database_of(room, "left", dumps[0], k, first_parts(k)[-1]), room.path(room.write("right.dump", dumps[1]))]
         left, right = ({word: int(count) for word, count in (line.split(b"\t") for line in it.splitlines())} for it in dumps)
-        for cap in (1, 100, MOST):
+        for cap in (1, MOST):
             wanted = collections.Counter((min(cap, left.get(word, 0)), min(cap, right.get(word, 0))) for word in {*left, *right})
             for given in (names, [names[0], database_of(room, "right", dumps[1], k, first_parts(k)[0])]):
                 with Children() as family:
@@ -154,23 +154,23 @@ def test_tables_and_histograms_of_databases_by_ranges(room):
 
 
 def test_databases_without_rows_with_one_and_with_all_in_one_entry(room):
-    by_ranges_of(100)
-    k, source = 9, random.Random(24)
-    dump = a_dump(source, k, 80)
-    some = room.path(room.write("some.dump", dump))
+    by_ranges_of(300)
+    source = random.Random(24)
+    dump = a_dump(source, 9, 80)
+    some = [room.path(room.write("some.dump", dump)), database_of(room, "same", dump, 9, 5)]
     same_first = b"".join(b"GATTA%s\t7\n" % "".join(it).encode() for it in sorted({tuple(source.choices(LETTERS, k=4)) for _ in range(60)}))
-    lines = dump.splitlines(keepends=True)
-    for rows in (b"", lines[0], lines[-1], b"A" * 9 + b"\t1\n", b"T" * 9 + b"\t1\n", same_first):
+    for number, rows in enumerate((b"", dump.splitlines(keepends=True)[0], b"A" * 9 + b"\t1\n", b"T" * 9 + b"\t1\n", same_first)):
         plain = room.path(room.write("other.dump", rows))
-        for prefix in (1, 5, 9):
-            other = database_of(room, "other", rows, k, prefix)
-            for words in (["union"], ["counters-subtract"], ["intersect", "-ocleft"]):
-                for names in ([some, other], [other, some]):
-                    wanted = one_by_one(room, [plain if it is other else it for it in names], words)
-                    assert joined(room, names, words) == (True, wanted), (rows, prefix, words)
-                    assert joined(room, [database_of(room, "same", dump, k, 5) if it is some else it for it in names], words) == (True, wanted), (rows, prefix, words)
+        for prefix in (1, 5):
+            other = database_of(room, "other", rows, 9, prefix)
+            for words in (["union"], ["counters-subtract"], ["intersect", "-ocleft"])[number % 2:][:2]:
+                wanted = one_by_one(room, [some[0], plain], words), one_by_one(room, [plain, some[0]], words)
+                for it in some:
+                    assert joined(room, [it, other], words) == (True, wanted[0]), (rows, prefix, words)
+                    assert joined(room, [other, it], words) == (True, wanted[1]), (rows, prefix, words)
     # nothing is there to part
-    assert joined(room, [database_of(room, "other", b"", k, 5), database_of(room, "same", b"", k, 1)], ["union"]) == (False, b"")
+    nothing = database_of(room, "other", b"", 9, 5), database_of(room, "more", b"", 9, 1)
+    assert joined(room, nothing, ["union"]) == (False, b"")
 
 
 def test_sums_of_databases_are_made_by_ranges(room):
@@ -212,7 +212,7 @@ def test_each_damaged_byte_of_a_database_is_told_as_one_program_tells_it(room):
     told = collections.Counter()
     for which, text in enumerate(sound):
         for place in range(len(text)):
-            for new in (bytes([text[place] ^ 1]), bytes([text[place] + 2 & 255]), b"", text[place:place + 1] * 2)[place % 2::2]:
+            for new in (bytes([text[place] ^ 1]), bytes([text[place] + 2 & 255]), [b"", text[place:place + 1] * 2][place % 2])[place % 3 % 2::2]:
                 files = [*sound]
                 files[which] = text[:place] + new + text[place + 1:]
                 write_database(room, "damaged", files)
@@ -260,17 +260,20 @@ def test_suffix_files_of_other_sizes_and_other_forms_are_no_ranges(room):
     names = [database_of(room, "db", dump, k, 5), room.path(room.write("other.dump", a_dump(random.Random(30), k, 50)))]
     prefix, suffix = content(room.path("db.kmc_pre")), content(room.path("db.kmc_suf"))
     row = (k - 5) // 4 + 4
-    for wrong in (suffix[:-row - 4] + suffix[-4:], suffix[:-4] + b"\1" * row + suffix[-4:], suffix + b"KMCS", suffix[4:], b"", b"KMCS", suffix[:-4] + b"KMCP", b"XMCS" + suffix[4:]):
+    for wrong in (suffix[:-row - 4] + suffix[-4:], suffix[:-4] + b"\1" * row + suffix[-4:], suffix + b"KMCS", suffix[4:], b"", b"KMCS",
+                  suffix[:-4] + b"KMCP", b"XMCS" + suffix[4:]):
         write_database(room, "db", (prefix, wrong))
         assert isinstance(both_ways(room, names, ["union"], 100), str)
     header = prefix[-72:]
-    for wrong in (prefix[:-72] + header[:60] + b"\0\2" + header[62:], prefix[:-4] + b"KMCQ", b"XMCP" + prefix[4:], prefix[:-72] + header[:12] + b"\1" + header[13:], prefix[:50], b""):
+    for wrong in (prefix[:-72] + header[:60] + b"\0\2" + header[62:], prefix[:-4] + b"KMCQ", b"XMCP" + prefix[4:],
+                  prefix[:-72] + header[:12] + b"\1" + header[13:], prefix[:50], b""):
         write_database(room, "db", (wrong, suffix))
         assert isinstance(both_ways(room, names, ["union"], 100), str)
     write_database(room, "db", (prefix, suffix))
     assert isinstance(both_ways(room, names, ["union"], 100), bytes)
     # k-mers of another length, a line that is none, and a k-mer of other letters
-    for wrong in (a_dump(random.Random(31), k + 1, 90), a_dump(random.Random(31), k + 1, 900), dump[:-1], dump.replace(b"\t", b" ", 1), dump.replace(b"T", b"N"), dump.lower()):
+    for wrong in (a_dump(random.Random(31), k + 1, 90), a_dump(random.Random(31), k + 1, 900), dump[:-1], dump.replace(b"\t", b" ", 1),
+                  dump.replace(b"T", b"N"), dump.lower()):
         room.write("other.dump", wrong)
         assert isinstance(both_ways(room, names, ["union"], 100), str)
     with open(names[1], "wb"):
@@ -346,8 +349,8 @@ def test_large_databases_are_read_by_ranges(room):
     room.write("half.dump", b"".join(content(room.path("large.dump")).splitlines(keepends=True)[::2]))
     room.stand_in("#!/bin/sh\necho \"$*\" >> log\nexec '%s' \"$@\"\n" % real, "kmc_db")
     os.symlink(program("kmc_merge"), room.path("bin/kmc_merge"))
-    for words in (["union", "large.kmc", "half.dump"], ["subtract", "large.kmc", "half.dump"], ["table", "half.dump", "large.kmc_pre"], ["histogram", "large.kmc"],
-                  ["compare", "large.kmc", "half.dump"], ["compare", "--first", "large.kmc_suf", "half.dump"]):
+    for words in (["union", "large.kmc", "half.dump"], ["table", "half.dump", "large.kmc_pre"], ["histogram", "large.kmc"],
+                  ["compare", "--first", "large.kmc_suf", "half.dump"]):
         wanted = room.run(words[0], "-q", "-t1", *words[1:])
         assert wanted.status == 0 and wanted.out, wanted
         room.write("log", "")

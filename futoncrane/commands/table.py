@@ -12,7 +12,7 @@ are drawn from it, and how alike two samples are.
 
 Both dumps must have been made with the same -k, and with or without --forward alike: where DUMP.json stands beside a dump that is looked
 at. They may be packed, or databases as NAME.kmc, and are read once, side by side. The work is done by kmc_db, whose answer is proved; large
-plain dumps are read by as many of it as there are threads, each for a range of k-mers.
+plain dumps and databases are read by as many of it as there are threads, each for a range of k-mers.
 """
 OPTIONS = [
     Option(["--cap"], "cap", "COUNT", number(1, MOST, MOST), 1000, "greater counts are taken for this, or for none (1000)", ["-cs", "--cs"]),
