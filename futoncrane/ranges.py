@@ -14,7 +14,7 @@ import tempfile
 
 from futoncrane import databases, folders, places
 from futoncrane.children import ended
-from futoncrane.faults import Fault
+from futoncrane.faults import Ended, Fault
 from futoncrane.progress import Watch, merging, read_by
 from futoncrane.ranged_databases import RangedDatabase, Unfit
 from futoncrane.ranged_dumps import RangedDump
@@ -183,6 +183,9 @@ def taken_in_order(joiners, many, size, setting, take):
                     if not (is_done and take(first.made)):
                         return False
         return True
+    except Ended:
+        running.clear()  # whoever catches it ends all children at once
+        raise
     finally:
         for it in running:
             it.stop()

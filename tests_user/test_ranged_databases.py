@@ -3,6 +3,7 @@ import collections
 import contextlib
 import os
 import random
+import signal
 import threading
 import types
 
@@ -11,10 +12,10 @@ from futoncrane.children import Children
 from futoncrane.faults import Fault
 from futoncrane.options import MOST
 from futoncrane.output import Output
-from room import BIN, LONG, content, program
+from room import BIN, LONG, content, program, wait_for
 from test_databases import listed, packed, write_database
 from test_joins import CHOICES, OWN
-from test_programs import ended
+from test_signals import interrupted, started
 
 GREATEST = 2**32 - 1
 LETTERS = "ACGT"
@@ -319,7 +320,7 @@ def test_a_program_that_is_killed_is_told_and_what_it_had_is_gone(room):
     names = [database_of(room, "db", dump, 21, 5), room.path(room.write("other.dump", a_dump(random.Random(33), 21, 50)))]
     wanted = one_by_one(room, names, ["union"])
     real = os.path.join(BIN, "kmc_db")
-    for number in (0, 1, 2, 5):
+    for number in (0, 1, 2):
         # one range alone is not read to its end; then one program reads all
         room.stand_in("#!/bin/sh\ncase \"$*\" in */%d.0*) kill -KILL $$;; esac\nexec '%s' \"$@\"\n" % (number, real), "kmc_db")
         os.environ["FUTONCRANE_BIN"] = room.path("bin")
@@ -364,3 +365,21 @@ def test_large_databases_are_read_by_ranges(room):
     for words in (["union", "-o", "none", "large.kmc", "half.dump"], ["histogram", "large.kmc"]):
         room.refuses(1, "large", "row", words=[words[0], "-q", "-t3", *words[1:]])
     assert not os.path.exists(room.path("none")) and not [it for it in os.listdir(room.folder) if it.startswith(".futoncrane-")]
+
+
+def test_a_signal_ends_the_programs_of_ranges_and_removes_their_files(room):
+    real = program("kmc_db")
+    a_large_database(room, "large", 720_000)
+    room.write("other.dump", b"A" * 21 + b"\t1\n")
+    # they begin to work, and do not end
+    room.stand_in("#!/bin/sh\ncase \"$*\" in *.futoncrane-*) echo > begun; exec sleep %d;; esac\nexec '%s' \"$@\"\n" % (LONG, real), "kmc_db")
+    before = room.files()
+    for number in (signal.SIGINT, signal.SIGTERM):
+        for words in (["union", "-q", "-t3", "-o", "answer", "large.kmc", "other.dump"], ["histogram", "-q", "-t3", "large.kmc"]):
+            child = started(room, words, start_new_session=True)
+            wait_for(room, "begun")
+            status, told, left = interrupted(child, number)
+            os.remove(room.path("begun"))
+            assert (status, told, left) == (128 + number, "", set()), (words, status, told, left)
+            assert room.files() == before and not [it for it in os.listdir(room.folder) if it.startswith(".futoncrane-")]
+            assert os.listdir(room.temporary) == []
