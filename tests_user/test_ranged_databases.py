@@ -4,6 +4,8 @@ import contextlib
 import os
 import random
 import signal
+import subprocess
+import tempfile
 import threading
 import types
 
@@ -333,14 +335,14 @@ def test_a_folder_that_takes_no_files_leaves_it_to_one_program(room):
     dump = a_dump(random.Random(34), 21, 200)
     name = database_of(room, "db", dump, 21, 5)
     wanted = collections.Counter((int(it.split(b"\t")[1]),) for it in dump.splitlines())
-    before = ranges.tempfile.tempdir
+    before = tempfile.tempdir
     try:
         for folder, is_done in ((room.temporary, True), (room.path("none"), False)):
-            ranges.tempfile.tempdir = folder
+            tempfile.tempdir = folder
             with Children() as family:
                 assert ranges.tallied([name], "kmc_db", ["histogram"], family, setting_of(3)) == (wanted if is_done else None)
     finally:
-        ranges.tempfile.tempdir = before
+        tempfile.tempdir = before
     nothing_is_left(room)
 
 
@@ -349,7 +351,7 @@ def test_large_databases_are_read_by_ranges(room):
     rows = 720_000
     name, prefix, suffix = a_large_database(room, "large", rows)
     with open(room.path("large.dump"), "wb") as text:
-        assert children.subprocess.run([real, "dump", room.path("large")], stdout=text, timeout=LONG, check=True).returncode == 0
+        assert subprocess.run([real, "dump", room.path("large")], stdout=text, timeout=LONG, check=True).returncode == 0
     room.write("half.dump", b"".join(content(room.path("large.dump")).splitlines(keepends=True)[::2]))
     room.stand_in("#!/bin/sh\necho \"$*\" >> log\nexec '%s' \"$@\"\n" % real, "kmc_db")
     os.symlink(program("kmc_merge"), room.path("bin/kmc_merge"))
