@@ -6,7 +6,7 @@ use Rattle.std.specs.Prelude.{◌≢◌}
 use Rattle.kmc_sum.specs.Source.{GoesOn}
 use Rattle.kmc_database.specs.Numbers.{low_first}
 use Rattle.kmc_database.specs.UnpackCauses.{BeginsOtherwise}
-use Rattle.kmc_database.proofs.Bytes.{length_low, low_same}
+use Rattle.kmc_database.specs.Lemmas.Bytes.{length_low, low_same}
 
 -- a reader that gave nothing before
 pub gave_first : (a b : Option (List ℕ)) (xs bytes : List ℕ) → xs ≡ [] → GoesOn a b xs bytes → Consumes a b bytes

@@ -7,7 +7,7 @@ use Rattle.kmc_database.specs.Numbers.{low_first}
 use Rattle.kmc_database.specs.Part.{EndsPart, IsEntry, IsPart}
 use Rattle.kmc_database.specs.Rows.{first_part}
 use Rattle.kmc_database.specs.declared.reading.Header.{Header}
-use Rattle.kmc_database.proofs.Bytes.{length_low, low_same}
+use Rattle.kmc_database.specs.Lemmas.Bytes.{length_low, low_same}
 use Rattle.kmc_database.proofs.ReadBack.{cut_same}
 
 entry_one : (bytes : List ℕ) (i a b : ℕ) → IsEntry bytes i a → IsEntry bytes i b → a ≡ b

@@ -14,7 +14,7 @@ use Rattle.kmc_database.specs.Layout.{IsLayout}
 use Rattle.kmc_database.specs.Numbers.{low_first}
 use Rattle.kmc_database.specs.Rows.{AreBelow, first_part, repeated, row_of}
 use Rattle.kmc_database.specs.declared.layout.Layout.{Layout}
-use Rattle.kmc_database.proofs.Bytes.{few_held}
+use Rattle.kmc_database.specs.Lemmas.Bytes.{few_held}
 use Rattle.kmc_database.proofs.SoFar.{counts_push, more_entries, rows_push}
 use Rattle.kmc_database.proofs.Tables.{below_more, entries_push}
 use Rattle.kmc_database.proofs.TakenBytes.{gave_on}

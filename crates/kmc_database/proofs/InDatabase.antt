@@ -25,9 +25,9 @@ use Rattle.kmc_database.specs.Rows.{AreBelow, first_part, number_below, row_of, 
 use Rattle.kmc_database.specs.declared.form.Form.{Form}
 use Rattle.kmc_database.specs.declared.layout.Layout.{Layout}
 use Rattle.kmc_database.specs.declared.reading.Header.{Header}
-use Rattle.kmc_database.proofs.Bytes.{length_low}
+use Rattle.kmc_database.specs.Lemmas.Bytes.{length_low}
 use Rattle.kmc_database.proofs.Parts.{length_rows}
-use Rattle.kmc_database.proofs.Ranges.{spread_join}
+use Rattle.kmc_database.specs.Lemmas.Ranges.{spread_join}
 use Rattle.kmc_database.proofs.ReadBack.{all_above, AreWordsFrom, length_header, none_below, one, one_header, part_small}
 use Rattle.kmc_database.proofs.Tables.{number_all}
 

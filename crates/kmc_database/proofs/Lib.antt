@@ -1,5 +1,4 @@
 mod Beginnings
-mod Bytes
 mod Checks
 mod Cuts
 mod DumpGiven
@@ -20,7 +19,6 @@ mod Numerals
 mod Opened
 mod Parts
 mod Queries
-mod Ranges
 mod ReadBack
 mod RowBytes
 mod RowExits

@@ -8,7 +8,7 @@ use Rattle.kmc_database.specs.DumpText.{has_form, has_layout, is_header}
 use Rattle.kmc_database.specs.Numbers.{low_first}
 use Rattle.kmc_database.specs.Numerals.{has_at, low_number}
 use Rattle.kmc_database.specs.declared.reading.Header.{Header}
-use Rattle.kmc_database.proofs.Bytes.{length_low}
+use Rattle.kmc_database.specs.Lemmas.Bytes.{length_low}
 use Rattle.kmc_database.proofs.HandedOut.{take_longer}
 use Rattle.kmc_database.proofs.LeftBytes.{held_first}
 use Rattle.kmc_database.proofs.Numerals.{low_of, short_at, stands_at}

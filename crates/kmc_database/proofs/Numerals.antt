@@ -9,7 +9,7 @@ use Rattle.std.specs.Int.{byte_at, bytes_high_first}
 use Rattle.std.specs.List.{AllByRecursion}
 use Rattle.kmc_database.specs.Numbers.{low_first}
 use Rattle.kmc_database.specs.Numerals.{has_at, low_number, with_digits}
-use Rattle.kmc_database.proofs.Bytes.{byte_is, length_low, low_same, next_quotient}
+use Rattle.kmc_database.specs.Lemmas.Bytes.{byte_is, length_low, low_same, next_quotient}
 
 pub low_of : (k n : ℕ) → n < 256 ^ k → low_number (low_first k n) ≡ n
 low_of zero n fits = omega (arith, fits)

@@ -12,7 +12,7 @@ use Rattle.kmc_database.specs.declared.open_error.OpenError.{OpenError}
 use Rattle.kmc_database.specs.declared.open_error.OpenError.TheVariants as open_error
 use Rattle.kmc_database.specs.declared.opening.OpenDatabase.{OpenDatabase}
 use Rattle.kmc_database.specs.declared.reading.Header.{Header}
-use Rattle.kmc_database.proofs.Bytes.{length_low}
+use Rattle.kmc_database.specs.Lemmas.Bytes.{length_low}
 use Rattle.kmc_database.proofs.InDatabase.{header_end, header_there}
 
 -- a file that is too short is not marked

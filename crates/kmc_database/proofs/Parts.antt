@@ -24,7 +24,7 @@ use Rattle.kmc_database.specs.Rows.{first_part, row_long, row_of, rows_of}
 use Rattle.kmc_database.specs.TakenRow.{pair_of_row}
 use Rattle.kmc_database.specs.declared.layout.Layout.{Layout}
 use Rattle.kmc_database.specs.declared.row_reading.Row.{Row}
-use Rattle.kmc_database.proofs.Bytes.{length_low}
+use Rattle.kmc_database.specs.Lemmas.Bytes.{length_low}
 use Rattle.kmc_database.proofs.Cuts.{IsCut, all_before, all_behind, count_before, count_behind, count_here, cut_at, equal_is, rising_before, rising_behind}
 use Rattle.kmc_database.proofs.ReadBack.{cut_same, row_same}
 

@@ -31,8 +31,9 @@ use Rattle.kmc_database.specs.Unpacked.{IsUnpacked}
 use Rattle.kmc_database.specs.declared.form.Form.{Form}
 use Rattle.kmc_database.specs.declared.layout.Layout.{Layout}
 use Rattle.kmc_database.specs.declared.reading.Header.{Header}
-use Rattle.kmc_database.proofs.Bytes.{length_low, low_same}
-use Rattle.kmc_database.proofs.Words.{part_fits, part_is, quotient_up}
+use Rattle.kmc_database.specs.Lemmas.Bytes.{length_low, low_same}
+use Rattle.kmc_database.proofs.Words.{quotient_up}
+use Rattle.kmc_database.specs.Lemmas.Words.{part_fits, part_is}
 
 -- two texts with fronts of one length
 pub cut_same : (xs ys us vs : List ℕ) → length xs ≡ length us → xs ++ ys ≡ us ++ vs → (xs ≡ us) × (ys ≡ vs)

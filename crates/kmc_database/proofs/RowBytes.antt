@@ -12,8 +12,8 @@ use Rattle.kmc_database.specs.Layout.{IsLayout}
 use Rattle.kmc_database.specs.Numbers.{low_first}
 use Rattle.kmc_database.specs.Rows.{row_long, row_of}
 use Rattle.kmc_database.specs.declared.layout.Layout.{Layout}
-use Rattle.kmc_database.proofs.Bytes.{bits_of_bytes, high_more, packed_high}
-use Rattle.kmc_database.proofs.Words.{bytes_behind, rest_is}
+use Rattle.kmc_database.specs.Lemmas.Bytes.{bits_of_bytes, high_more, packed_high}
+use Rattle.kmc_database.specs.Lemmas.Words.{bytes_behind, rest_is}
 
 -- the highest part of a number with a byte more
 pub part_kept : (i n b : ℕ) → b < 256 → (n * 256 + b) / 256 ^ (i + 1) ≡ n / 256 ^ i

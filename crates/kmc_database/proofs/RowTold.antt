@@ -18,11 +18,11 @@ use Rattle.kmc_database.specs.Rows.{first_part, row_long, row_of}
 use Rattle.kmc_database.specs.TakenRow.{pair_of_row}
 use Rattle.kmc_database.specs.declared.layout.Layout.{Layout}
 use Rattle.kmc_database.specs.declared.row_reading.Row.{Row}
-use Rattle.kmc_database.proofs.Bytes.{length_low, packed_high}
+use Rattle.kmc_database.specs.Lemmas.Bytes.{length_low, packed_high}
 use Rattle.kmc_database.proofs.Numerals.{above_digits, digits_of, low_of, low_small, stands_at}
 use Rattle.kmc_database.proofs.ReadBack.{cut_same}
 use Rattle.kmc_database.proofs.RowBytes.{bytes_of_rest}
-use Rattle.kmc_database.proofs.Words.{bytes_behind, part_is, rest_is}
+use Rattle.kmc_database.specs.Lemmas.Words.{bytes_behind, part_is, rest_is}
 
 module _ (l : Layout) (is : IsLayout l) where
   -- the symbols behind the first part, in their bytes

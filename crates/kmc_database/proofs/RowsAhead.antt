@@ -16,7 +16,7 @@ use Rattle.kmc_database.specs.Layout.{IsLayout}
 use Rattle.kmc_database.specs.Numbers.{low_first}
 use Rattle.kmc_database.specs.Rows.{AreBelow, first_part, number_below}
 use Rattle.kmc_database.specs.declared.layout.Layout.{Layout}
-use Rattle.kmc_database.proofs.Ranges.{spread_moved}
+use Rattle.kmc_database.specs.Lemmas.Ranges.{spread_moved}
 use Rattle.kmc_database.proofs.ReadBack.{again, AreWordsFrom, fits_at, one, part_small}
 
 abbrev pub Pairs : Type 0

@@ -6,7 +6,7 @@ use Rattle.std.specs.List.{flat_map, range_with_len}
 use Rattle.kmc_database.specs.Numbers.{low_first}
 use Rattle.kmc_database.specs.Rows.{AreBelow, entries, first_part, number_below, repeated}
 use Rattle.kmc_database.specs.declared.layout.Layout.{Layout}
-use Rattle.kmc_database.proofs.Ranges.{spread_join, spread_moved}
+use Rattle.kmc_database.specs.Lemmas.Ranges.{spread_join, spread_moved}
 
 module _ (l : Layout) where
   abbrev one : ℕ → List ℕ × ℕ → ℕ

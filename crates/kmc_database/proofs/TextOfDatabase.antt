@@ -23,11 +23,11 @@ use Rattle.kmc_database.specs.declared.form.Form.{Form}
 use Rattle.kmc_database.specs.declared.progress.Progress.{Progress}
 use Rattle.kmc_database.specs.declared.reading.Header.{Header}
 use Rattle.kmc_database.specs.declared.row_reading.Row.{Row}
-use Rattle.kmc_database.proofs.Bytes.{length_low}
+use Rattle.kmc_database.specs.Lemmas.Bytes.{length_low}
 use Rattle.kmc_database.proofs.DumpSteps.{text_of_begun, text_of_end, text_of_entry, text_of_last_part, text_of_row}
 use Rattle.kmc_database.proofs.HeaderSeen.{header_seen, stands_in}
 use Rattle.kmc_database.proofs.Numerals.{low_of, stands_at}
-use Rattle.kmc_database.proofs.Ranges.{spread_moved}
+use Rattle.kmc_database.specs.Lemmas.Ranges.{spread_moved}
 use Rattle.kmc_database.proofs.ReadBack.{again, all_above, AreWordsFrom, fits_at, none_below}
 use Rattle.kmc_database.proofs.RowTold.{long_row, row_there, row_told}
 use Rattle.kmc_database.proofs.Tables.{number_all}

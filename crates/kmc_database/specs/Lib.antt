@@ -13,6 +13,7 @@ pub mod Header
 pub mod Laws
 pub mod Layout
 pub mod LeftOf
+pub mod Lemmas
 pub mod LookedUp
 pub mod Messages
 pub mod Numbers

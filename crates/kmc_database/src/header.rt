@@ -43,7 +43,7 @@ fn strand_byte(strands: Strands) -> u8
 }
 
 /// The header of a database with so many rows.
-pub(crate) fn header_bytes(form: &Form, rows: u64) -> [u8; HEADER]
+pub fn header_bytes(form: &Form, rows: u64) -> [u8; HEADER]
     requires { IsLayout form.now.layout }
     ensures { result ≡ header_of form.now.layout rows (limits_of form.now) (strands_of form.now) }
 {

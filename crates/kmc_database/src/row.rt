@@ -23,7 +23,7 @@ pub(crate) fn first_part(layout: &Layout, packed: u128) -> u64
 }
 
 /// Whether the bytes of a count hold this one.
-pub(crate) fn holds_count(layout: &Layout, count: u64) -> bool
+pub fn holds_count(layout: &Layout, count: u64) -> bool
     requires { IsLayout layout.now }
     ensures { IsTrue result ↔ (count < 256 ^ layout.now.counter) }
 {

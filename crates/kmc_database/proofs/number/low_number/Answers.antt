@@ -1,5 +1,5 @@
 use Rattle.std.proofs.Common.{◌-◌, ◌<◌, length, arith}
-use Rattle.kmc_database.proofs.Bytes.{few_held}
+use Rattle.kmc_database.specs.Lemmas.Bytes.{few_held}
 use Rattle.kmc_database.proofs.number.low_number.Goals as goal
 
 pub overflow_mul-number : goal.overflow_mul-number

@@ -2,7 +2,8 @@ use Rattle.std.proofs.Common.{◌≡◌, ◌-◌, ◌*◌, ◌/◌, ◌^◌, ◌
 use Rattle.kmc_base.specs.Lemmas.Powers.{pow_quad}
 use Rattle.kmc_database.specs.Layout.{IsLayout}
 use Rattle.kmc_database.specs.declared.layout.Layout.{Layout}
-use Rattle.kmc_database.proofs.Words.{few_parts, part_fits, part_is}
+use Rattle.kmc_database.proofs.Words.{few_parts}
+use Rattle.kmc_database.specs.Lemmas.Words.{part_fits, part_is}
 use Rattle.kmc_database.proofs.row.first_part.Goals as goal
 
 quotient : (n j : ℕ) → n / 2 ^ (2 * j) ≡ n / 4 ^ j

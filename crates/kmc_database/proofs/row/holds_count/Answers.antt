@@ -2,7 +2,7 @@ use Rattle.std.proofs.Common.{◌≡◌, ℕ, ◌+◌, ◌*◌, ◌/◌, ◌^◌
 use Rattle.std.proofs.Math.Nat.{div-eq_of_lt, lt-div-mul-add}
 use Rattle.std.proofs.lemmas.Bool.Decides.{nat_tests}
 use Rattle.std.proofs.lemmas.Nat.{pow_pos}
-use Rattle.kmc_database.proofs.Bytes.{bits_of_bytes}
+use Rattle.kmc_database.specs.Lemmas.Bytes.{bits_of_bytes}
 use Rattle.kmc_database.proofs.row.holds_count.Goals as goal
 
 is_none : (n d : ℕ) → 1 ≤ d → IsTrue (nat_eq (n / d) 0) → n < d

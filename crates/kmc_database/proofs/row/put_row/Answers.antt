@@ -9,7 +9,7 @@ use Rattle.kmc_database.specs.Rows.{row_of}
 use Rattle.kmc_database.specs.declared.layout.Layout.{Layout}
 use Rattle.kmc_sum.specs.Lemmas.Written.{out_front}
 use Rattle.kmc_database.proofs.Gathering.{out_as}
-use Rattle.kmc_database.proofs.Words.{row_is}
+use Rattle.kmc_database.specs.Lemmas.Words.{row_is}
 use Rattle.kmc_database.proofs.row.put_row.Goals as goal
 
 -- the two parts that are put are the row

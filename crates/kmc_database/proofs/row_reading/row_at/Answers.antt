@@ -2,7 +2,7 @@ use Rattle.std.proofs.Common.{◌≡◌, ◌-◌, ◌/◌, length, take, subst, 
 use Rattle.std.proofs.lemmas.List.{length-take-le}
 use Rattle.std.specs.Int.{bytes_high_first}
 use Rattle.kmc_database.proofs.RowBytes.{row_whole}
-use Rattle.kmc_database.proofs.Words.{part_is}
+use Rattle.kmc_database.specs.Lemmas.Words.{part_is}
 use Rattle.kmc_database.proofs.row_reading.row_at.Goals as goal
 
 pub returns-clause-part : goal.returns-clause-part

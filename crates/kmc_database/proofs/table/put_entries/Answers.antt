@@ -4,7 +4,7 @@ use Rattle.kmc_device.specs.Device.{AppendsFront}
 use Rattle.kmc_device.specs.Lemmas.Devices.{front_of, on_err}
 use Rattle.kmc_sum.specs.Lemmas.Written.{out_front}
 use Rattle.kmc_database.specs.Rows.{repeated}
-use Rattle.kmc_database.proofs.Bytes.{low_is}
+use Rattle.kmc_database.specs.Lemmas.Bytes.{low_is}
 use Rattle.kmc_database.proofs.Gathering.{out_as}
 use Rattle.kmc_database.proofs.Tables.{repeated_join, repeated_more}
 use Rattle.kmc_database.proofs.table.put_entries.Goals as goal

@@ -2,7 +2,7 @@ use Rattle.std.proofs.Common.{sym, ap, ◌∙◌, arith}
 use Rattle.kmc_database.specs.LeftOf.{held_of}
 use Rattle.kmc_database.specs.Numbers.{low_first}
 use Rattle.kmc_database.specs.Numerals.{has_at}
-use Rattle.kmc_database.proofs.Bytes.{length_low}
+use Rattle.kmc_database.specs.Lemmas.Bytes.{length_low}
 use Rattle.kmc_database.proofs.NextParts.{begins_as, short_number}
 use Rattle.kmc_database.proofs.next_bytes.NextBytes.begins_with.Goals as goal
 

@@ -1,0 +1,13 @@
+-- The numbers of the refusals.
+use Rattle.std.specs.Prelude.{ℕ}
+use Rattle.kmc_packer.specs.declared.error.PackReadsError.{PackReadsError}
+use Rattle.kmc_packer.specs.declared.error.PackReadsError.TheVariants.{Prefix, Count, TooGreat, WritePrefix, WriteSuffix, Memory}
+
+-- in the order in which they can come
+abbrev pub number_of_pack_reads_error : PackReadsError → ℕ
+number_of_pack_reads_error (Prefix _) = 1
+number_of_pack_reads_error (Count _) = 2
+number_of_pack_reads_error TooGreat = 3
+number_of_pack_reads_error WritePrefix = 4
+number_of_pack_reads_error WriteSuffix = 5
+number_of_pack_reads_error Memory = 6
