@@ -2,6 +2,6 @@ mod Causes
 mod Great
 mod Packed
 mod Parts
-pub mod RowBytes
+mod RowParts
 mod Sums
 mod Written

@@ -2,6 +2,7 @@
 use Rattle.std.proofs.Common.{◌≡◌, ℕ, ◌+◌, ◌-◌, ◌*◌, ◌/◌, ◌%◌, ◌^◌, ◌<◌, ◌≤◌, cond, nat_lt, List, [], ◌∷◌, ◌++◌, length, get_or, take, refl, sym, ap, subst, ◌∙◌, arith, mod-eq_of_lt}
 use Rattle.std.specs.Prelude.{count_by, sum, All}
 use Rattle.std.specs.List.{flat_map, range_with_len, AllByRecursion}
+use Rattle.std.proofs.lemmas.Bool.Decides.{nat_tests}
 use Rattle.std.proofs.lemmas.List.{length-map}
 use Rattle.std.proofs.lemmas.List.Elements.{recursion_from_All}
 use Rattle.std.proofs.lemmas.List.Sorted.{All-permutation}
@@ -36,28 +37,31 @@ all_parts l is =
     let all : 1 * 2 ^ (2 * l.prefix) ≡ 4 ^ l.prefix = omega (arith, pow_quad l.prefix) in
     ap (λ n. n % 2 ^ 64) all ∙ mod-eq_of_lt (omega (arith, few_parts l is))
 
-module _ (l : Layout) (is : IsLayout l) where
-  abbrev pub weight : ℕ
-  weight = 2 ^ (2 * (l.k - l.prefix))
+-- what a slot leaves out of a word
+abbrev pub weight : Layout → ℕ
+weight l = 2 ^ (2 * (l.k - l.prefix))
 
-  slot_is : (n : ℕ) → n / weight ≡ n / 4 ^ (l.k - l.prefix)
+module _ (l : Layout) (is : IsLayout l) where
+  slot_is : (n : ℕ) → n / weight l ≡ n / 4 ^ (l.k - l.prefix)
   slot_is n = ap (λ d. n / d) (sym (pow_quad (l.k - l.prefix)))
 
   -- each word has a slot
-  pub fit_parts : (lists : List Listed) → CanBeMerged l.k lists → FitSlots weight (4 ^ l.prefix) lists
+  pub fit_parts : (lists : List Listed) → CanBeMerged l.k lists → FitSlots (weight l) (4 ^ l.prefix) lists
   fit_parts lists merge = record {
     inside = λ k d inside.
         let n = (get_or (joined (packs lists)) k d).0 in
         subst (λ q. q < 4 ^ l.prefix) (sym (slot_is n)) (part_fits l is n (merge.fit k d inside));
   }
 
-  below_are : (i : ℕ) (ps : List (ℕ × ℕ)) → AllByRecursion (λ p. p.0 < 4 ^ l.k) ps → number_below l (spelled l.k ps) i ≡ length (within weight 0 i ps)
+  below_are : (i : ℕ) (ps : List (ℕ × ℕ)) → AllByRecursion (λ p. p.0 < 4 ^ l.k) ps → number_below l (spelled l.k ps) i ≡ length (within (weight l) 0 i ps)
   below_are i [] fit = refl
   below_are i (p ∷ ps) fit =
-      let slot : first_part l (unpack l.k p.0) ≡ p.0 / weight = part_is l is p.0 fit.0 ∙ sym (slot_is p.0) in
-      let one : cond (nat_lt (first_part l (unpack l.k p.0)) i) 1 0 ≡ cond (is_within weight 0 i p) 1 0 = ap (λ n. cond (nat_lt n i) 1 0) slot in
+      let slot : first_part l (unpack l.k p.0) ≡ p.0 / weight l = part_is l is p.0 fit.0 ∙ sym (slot_is p.0) in
+      let same : cond (nat_lt (first_part l (unpack l.k p.0)) i) 1 0 + 0 ≡ cond (nat_lt (p.0 / weight l) i) 1 0 + 0 =
+      ap (λ n. cond (nat_lt n i) 1 0 + 0) slot in
+      let there : cond (nat_lt (p.0 / weight l) i) 1 0 + 0 ≡ cond (is_within (weight l) 0 i p) 1 0 + 0 = grind (arith, nat_tests) in
       sum_by-cons (λ (q : List ℕ × ℕ). cond (nat_lt (first_part l q.0) i) 1 0) (spell l.k p) (spelled l.k ps)
-      ∙ omega (arith, one, below_are i ps fit.1, more weight 0 i p ps)
+      ∙ omega (arith, same, there, below_are i ps fit.1, more (weight l) 0 i p ps)
 
   module _ (lists : List Listed) (merge : CanBeMerged l.k lists) where
     fits : AllByRecursion (λ p. p.0 < 4 ^ l.k) (whole lists)
@@ -67,14 +71,14 @@ module _ (l : Layout) (is : IsLayout l) where
         (All-permutation (λ p. p.0 < 4 ^ l.k) ps (in_order ps) (in_order_moves ps) merge.fit)
 
     -- an entry of the table
-    entry_is : (sizes : List ℕ) → HaveSizes weight (4 ^ l.prefix) sizes lists → (i : ℕ) → i < 4 ^ l.prefix
+    entry_is : (sizes : List ℕ) → HaveSizes (weight l) (4 ^ l.prefix) sizes lists → (i : ℕ) → i < 4 ^ l.prefix
         → sum (take i sizes) ≡ number_below l (spelled l.k (whole lists)) i
     entry_is sizes have i inside =
-        sum_is weight sizes lists have.each i (omega (arith, inside, have.long))
-        ∙ sym (within_whole weight 0 i lists)
+        sum_is (weight l) sizes lists have.each i (omega (arith, inside, have.long))
+        ∙ sym (within_whole (weight l) 0 i lists)
         ∙ sym (below_are i (whole lists) fits)
 
-    table_is : (sizes : List ℕ) → HaveSizes weight (4 ^ l.prefix) sizes lists → entries_by sizes (length sizes)
+    table_is : (sizes : List ℕ) → HaveSizes (weight l) (4 ^ l.prefix) sizes lists → entries_by sizes (length sizes)
         ≡ entries l (spelled l.k (whole lists)) (4 ^ l.prefix)
     table_is sizes have =
         ap (entries_by sizes) have.long

@@ -25,14 +25,6 @@ module _ (w : ℕ) where
       ∙ omega (arith, sum_is sizes lists are i (omega (arith, inside)), are i here, both w 0 i (i + 1) (omega arith) (omega arith) (joined (packs lists)),
       ap (λ n. count_within w 0 n lists) next)
 
-  -- all sizes together are no more than the pairs
-  pub sum_few : (slots : ℕ) (sizes : List ℕ) (lists : List Listed) → HaveSizes w slots sizes lists → sum sizes ≤ length (joined (packs lists))
-  sum_few slots sizes lists have =
-      let all : sum (take (length sizes) sizes) ≡ sum sizes = ap sum (take_all (length sizes) sizes (omega arith)) in
-      let ps = joined (packs lists) in
-      let t = is_within w 0 (length sizes) in
-      omega (arith, all, sum_is sizes lists have.each (length sizes) (omega arith), length-filter t ps, count_by-le-length t ps)
-
   -- the order of the pairs does not matter
   pub within_whole : (a b : ℕ) (lists : List Listed) → length (within w a b (whole lists)) ≡ count_within w a b lists
   within_whole a b lists =
@@ -41,3 +33,12 @@ module _ (w : ℕ) where
       length-filter t (in_order ps)
       ∙ sum_by-IsPermutation (λ (p : ℕ × ℕ). cond (t p) 1 0) ps (in_order ps) (in_order_moves ps)
       ∙ sym (length-filter t ps)
+
+  -- all sizes together are no more than the pairs
+  pub sum_few : (slots : ℕ) (sizes : List ℕ) (lists : List Listed) → HaveSizes w slots sizes lists → sum sizes ≤ length (whole lists)
+  sum_few slots sizes lists have =
+      let all : sum (take (length sizes) sizes) ≡ sum sizes = ap sum (take_all (length sizes) sizes (omega arith)) in
+      let t = is_within w 0 (length sizes) in
+      let ps = whole lists in
+      omega (arith, all, sum_is sizes lists have.each (length sizes) (omega arith), within_whole 0 (length sizes) lists, length-filter t ps,
+      count_by-le-length t ps)

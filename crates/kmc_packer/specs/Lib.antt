@@ -1,6 +1,7 @@
 pub mod Counts
 pub mod Errors
 pub mod Form
+pub mod Lemmas
 pub mod Lists
 pub mod Messages
 pub mod Reads

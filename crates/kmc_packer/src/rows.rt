@@ -2,7 +2,7 @@
 ghost use Rattle.std.specs.Prelude.{◌≡◌, ◌+◌, ◌≤◌, ◌++◌, length, take};
 ghost use Rattle.kmc_database.specs.Layout.{IsLayout};
 ghost use Rattle.kmc_database.specs.Rows.{row_long, row_of};
-ghost use Rattle.kmc_packer.proofs.RowBytes.{row_within};
+ghost use Rattle.kmc_packer.specs.Lemmas.RowLengths.{row_within};
 
 use kmc_base::high_bytes_first;
 use kmc_database::Layout;

@@ -64,7 +64,10 @@ pub(crate) fn write_suffix<T: Threads + Wait + Sync, W: Write>(
         Err(_) => return Err(DumpError::Write),
     }
     let form = Rows { layout: *layout };
-    let rows = write_pairs(rt, alloc, writer, lists, &form, layout.k, threads)?;
+    let rows = match write_pairs(rt, alloc, writer, lists, &form, layout.k, threads) {
+        Ok(rows) => rows,
+        Err(error) => return Err(error),
+    };
     match write_end(writer) {
         Ok(()) => Ok(rows),
         Err(_) => Err(DumpError::Write),

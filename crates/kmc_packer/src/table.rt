@@ -1,5 +1,5 @@
 //! The prefix file of lists.
-ghost use Rattle.std.specs.Prelude.{◌≡◌, ◌^◌, ◌<◌, sum, OnOk, OnErr};
+ghost use Rattle.std.specs.Prelude.{◌≡◌, ◌^◌, ◌<◌, ◌≤◌, sum, OnOk, OnErr};
 ghost use Rattle.std.specs.Io.KnownBytes.{Appends};
 ghost use Rattle.kmc_device.specs.Device.{AppendsFront, RisesByOne};
 ghost use Rattle.kmc_database.specs.Layout.{IsLayout};
@@ -17,13 +17,14 @@ pub(crate) fn write_prefix<W: Write>(
     rows: u64,
 ) -> Result<(), WriteFault>
     requires layout { IsLayout form.now.layout }
-    requires few { sum sizes.now < 2 ^ 64 }
+    requires parts { sum sizes.now ≤ rows }
     ensures ok { OnOk result (Appends (W.contents writer.old.inner) (W.contents writer.new.inner)
         (prefix_by form.now sizes.now rows)) }
     ensures kept { OnOk result (writer.new.failures ≡ writer.old.failures) }
     ensures failed { OnErr result (RisesByOne writer.old.failures writer.new.failures) }
     ensures front { OnErr result (AppendsFront (W.contents writer.old.inner)
         (W.contents writer.new.inner) (prefix_by form.now sizes.now rows)) }
+    ensures few { rows < 2 ^ 64 }
 {
     let mut table = ByteBuffer::new(b"KMCP");
     let mut before: u64 = 0;
