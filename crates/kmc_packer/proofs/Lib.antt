@@ -1,4 +1,3 @@
-mod Causes
 mod Great
 mod Packed
 mod Parts

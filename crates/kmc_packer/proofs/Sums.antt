@@ -1,7 +1,6 @@
 -- Running sums of how many pairs lie in each slot.
-use Rattle.std.proofs.Common.{◌≡◌, ℕ, zero, suc, ◌+◌, ◌/◌, ◌^◌, ◌<◌, ◌≤◌, cond, nat_lt, List, [], ◌∷◌, length, get_or, take, refl, sym, ap, ◌∙◌, arith, take_all}
-use Rattle.std.specs.Prelude.{count_by, sum}
-use Rattle.std.specs.List.{filter}
+use Rattle.std.proofs.Common.{◌≡◌, ℕ, zero, suc, ◌+◌, ◌<◌, ◌≤◌, cond, List, length, take, sym, ap, ◌∙◌, arith, take_all}
+use Rattle.std.specs.Prelude.{sum}
 use Rattle.std.proofs.lemmas.List.Sorted.{sum_by-IsPermutation}
 use Rattle.std.proofs.lemmas.List.Sums.{count_by-le-length, length-filter, sum_by_more}
 use Rattle.kmc_lists.specs.Listed.{Listed}

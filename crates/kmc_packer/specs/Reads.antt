@@ -11,7 +11,7 @@ use Rattle.kmc_options.specs.declared.run_error.RunError.TheVariants as run
 use Rattle.kmc_tool.specs.Run.{IsDumpOfInput}
 use Rattle.kmc_database.specs.Layout.{IsLayout}
 use Rattle.kmc_packer.specs.Form.{counted_form}
-use Rattle.kmc_packer.specs.Lists.{AreFilesOut, BothFiles, IsListsCause}
+use Rattle.kmc_packer.specs.Lists.{AreFilesOut, IsListsCause}
 use Rattle.kmc_packer.specs.declared.error.PackReadsError.{PackReadsError}
 use Rattle.kmc_packer.specs.declared.error.PackReadsError.TheVariants.{Prefix, Count, TooGreat, WritePrefix, WriteSuffix, Memory}
 use Rattle.kmc_packer.specs.declared.lists_error.PackListsError.{PackListsError}

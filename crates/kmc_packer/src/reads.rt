@@ -57,6 +57,8 @@ pub fn pack_reads<T: Threads + Wait + Sync, R: Read, W: Write>(
         Ok(lists) => lists,
         Err(error) => return Err(PackReadsError::Count(RunError::from(error))),
     };
-    let rows = pack_lists(rt, alloc, &lists, &form, prefix, suffix, params.counters)?;
-    Ok(rows)
+    match pack_lists(rt, alloc, &lists, &form, prefix, suffix, params.counters) {
+        Ok(rows) => Ok(rows),
+        Err(error) => Err(PackReadsError::from(error)),
+    }
 }

@@ -1,4 +1,4 @@
-use Rattle.std.proofs.Common.{ℕ, List, ◌^◌, ◌<◌, length, refl, subst, arith, take_all}
+use Rattle.std.proofs.Common.{ℕ, List, ◌^◌, ◌<◌, subst, arith, take_all}
 use Rattle.std.specs.Prelude.{All}
 use Rattle.kmc_lists.specs.Listed.{Listed}
 use Rattle.kmc_lists.specs.Ordered.{joined, packs}

@@ -1,4 +1,4 @@
-use Rattle.std.proofs.Common.{◌≡◌, ℕ, ◌+◌, ◌++◌, ◌≤◌, List, length, take, sym, ap, ◌∙◌, arith, append_assoc}
+use Rattle.std.proofs.Common.{ℕ, ◌++◌, List, take, ap, ◌∙◌, arith, append_assoc}
 use Rattle.kmc_packer.proofs.RowParts.{back_long, front_long, row_long_is, row_parts}
 use Rattle.kmc_packer.proofs.rows.RowsPairForm.put.Goals as goal
 
