@@ -21,8 +21,13 @@ module _ (w : ℕ) where
       let next : suc i ≡ i + 1 = omega arith in
       ap (λ n. sum (take n sizes)) next
       ∙ sum_by_more (λ (n : ℕ). n) sizes i 0 here
-      ∙ omega (arith, sum_is sizes lists are i (omega (arith, inside)), are i here, both w 0 i (i + 1) (omega arith) (omega arith) (joined (packs lists)),
-      ap (λ n. count_within w 0 n lists) next)
+      ∙ omega (
+        arith,
+        sum_is sizes lists are i (omega (arith, inside)),
+        are i here,
+        both w 0 i (i + 1) (omega arith) (omega arith) (joined (packs lists)),
+        ap (λ n. count_within w 0 n lists) next,
+      )
 
   -- the order of the pairs does not matter
   pub within_whole : (a b : ℕ) (lists : List Listed) → length (within w a b (whole lists)) ≡ count_within w a b lists
@@ -39,5 +44,11 @@ module _ (w : ℕ) where
       let all : sum (take (length sizes) sizes) ≡ sum sizes = ap sum (take_all (length sizes) sizes (omega arith)) in
       let t = is_within w 0 (length sizes) in
       let ps = whole lists in
-      omega (arith, all, sum_is sizes lists have.each (length sizes) (omega arith), within_whole 0 (length sizes) lists, length-filter t ps,
-      count_by-le-length t ps)
+      omega (
+        arith,
+        all,
+        sum_is sizes lists have.each (length sizes) (omega arith),
+        within_whole 0 (length sizes) lists,
+        length-filter t ps,
+        count_by-le-length t ps,
+      )

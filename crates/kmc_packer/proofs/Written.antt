@@ -60,12 +60,11 @@ file_parts f sizes rows i inside =
     let header = header_of f.layout rows (limits_of f) (strands_of f) in
     let others = flat_map g (range_with_len (0 + i) (length sizes - i)) in
     let sum : length sizes ≡ i + (length sizes - i) = omega (arith, inside) in
-    let table : entries_by sizes (length sizes) ≡ entries_by sizes i ++ others = ap (entries_by sizes) sum ∙ spread_join g 0 i (length sizes - i) in
-    (
+    let table : entries_by sizes (length sizes) ≡ entries_by sizes i ++ others = ap (entries_by sizes) sum ∙ spread_join g 0 i (length sizes - i) in (
       others ++ header,
       ap (λ (t : List ℕ). (prefix_marker ++ t) ++ header) table
-      ∙ ap (λ (t : List ℕ). t ++ header) (sym (append_assoc prefix_marker (entries_by sizes i) others))
-      ∙ append_assoc (prefix_marker ++ entries_by sizes i) others header,
+          ∙ ap (λ (t : List ℕ). t ++ header) (sym (append_assoc prefix_marker (entries_by sizes i) others))
+          ∙ append_assoc (prefix_marker ++ entries_by sizes i) others header,
     )
 
 pub table_front : (a b : Option (List ℕ)) (f : Form) (sizes : List ℕ) (rows i : ℕ) → i ≤ length sizes

@@ -12,7 +12,7 @@ pub enum PackReadsError {
     /// Words of so many symbols have no first part as long as was asked for.
     #[error("words of {0} symbols have no such first part")]
     Prefix(usize),
-    /// The reads were not counted.
+    /// The reads were not counted: a read failed, the text is no list of reads or too long, or memory was refused. Never a failed write.
     #[error("{0}")]
     Count(RunError),
     /// A count does not fit the bytes of a count.
@@ -24,7 +24,7 @@ pub enum PackReadsError {
     /// A write or the flush of the suffix file failed, or a write took nothing.
     #[error("cannot write the suffix file")]
     WriteSuffix,
-    /// Memory was refused, when the reads were counted.
+    /// Memory was refused after the reads were counted.
     #[error("out of memory")]
     Memory,
 }

@@ -36,7 +36,7 @@ loop-i-preserved g c =
     let held : c.to_u64-count.result < 256 ^ n = elim c.else-not-narrow.branch [
       | else-not-narrow-via-then-not-narrow+else-not-holds_count w ↦ w.if-not-holds_count.ensures.0 refl
       | else-not-narrow-via-else-not-narrow w ↦ narrow_held c.bits.result n c.to_u64-count.result (grind (arith, nat_tests, w.if-not-narrow.false))
-        (subst (λ b. c.to_u64-count.result < 2 ^ b) (sym c.bits.ensures.is) c.to_u64-count.ensures.fits)
+          (subst (λ b. c.to_u64-count.result < 2 ^ b) (sym c.bits.ensures.is) c.to_u64-count.ensures.fits)
     ] in
     record {
       held = All-more (λ (q : ℕ × ℕ). q.1 < 256 ^ n) c.args.list.now.packed c.loop-i.i p (omega (arith, c.loop-i-test.true, c.len-i-end.ensures))

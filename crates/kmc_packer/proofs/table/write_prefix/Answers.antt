@@ -16,8 +16,14 @@ pub overflow_add-before : goal.overflow_add-before
 overflow_add-before g c =
     let sizes = c.args.sizes.now in
     let i = c.loop-size.size-index in
-    omega (arith, c.loop-size.invariant.before, sum_by_more (λ (n : ℕ). n) sizes i 0 (omega (arith, c.loop-size-test.true)),
-    sum_by-take-le (λ (n : ℕ). n) sizes (i + 1), c.requires.parts, c.ranges.rows)
+    omega (
+      arith,
+      c.loop-size.invariant.before,
+      sum_by_more (λ (n : ℕ). n) sizes i 0 (omega (arith, c.loop-size-test.true)),
+      sum_by-take-le (λ (n : ℕ). n) sizes (i + 1),
+      c.requires.parts,
+      c.ranges.rows,
+    )
 
 pub loop-size-preserved : goal.loop-size-preserved
 loop-size-preserved g c =
