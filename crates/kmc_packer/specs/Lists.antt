@@ -22,11 +22,11 @@ pub record BothFiles (W : Type 0) : Type 0 where
   pub suffix : Watched W
 
 module _ {W : Type 0} (contents : W → Option (List ℕ)) (f : Form) (pairs : List (List ℕ × ℕ)) (old new : BothFiles W) where
+  -- of the suffix file a front of these bytes is out
   abbrev suffix_front : List ℕ → Type 0
   suffix_front bytes = AppendsFront (contents old.suffix.inner) (contents new.suffix.inner) bytes
 
-  -- why pairs are not packed, and what of their database is out: nothing, a front of the suffix file, or that file whole and a front of the
-  -- prefix file
+  -- why pairs are not packed, and what is out: nothing, a front of the suffix file, or that file whole and a front of the prefix file
   abbrev pub IsListsCause : PackListsError → Type 0
   IsListsCause TooGreat = HasGreat f.layout.counter pairs × (new ≡ old)
   IsListsCause Memory = (new.prefix ≡ old.prefix) × (new.suffix.failures ≡ old.suffix.failures) × suffix_front suffix_marker

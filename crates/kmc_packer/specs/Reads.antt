@@ -47,6 +47,7 @@ module _ {R W : Type 0} (remaining : R → Option (List ℕ)) (contents : W → 
     pub cause : IsListsCause contents (counted_form params first_part) pairs (record { prefix = prefix; suffix = suffix })
         (record { prefix = prefix_written; suffix = suffix_written }) e
 
+  -- nothing was written
   abbrev Unwritten : Type 0
   Unwritten = (prefix_written ≡ prefix) × (suffix_written ≡ suffix)
 
