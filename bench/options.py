@@ -8,7 +8,7 @@ The options, the flags and the usage line of a program are those of its tables i
 and defaults in setting.rt. A usage line and a synopsis name each of them and no other, a help text and a page have an entry for each, and an
 entry tells the range and the default. --help and --version are of all programs but kmc, -slices and --force of kmc_cut, and -oc, -b, -lci,
 -lcx, -rci and -rcx of kmc_db: they have no table. The help of kmc_db has the usage lines of what crates/kmc_db does, too, and what
-`kmc_db pack` takes is that of its own.
+`kmc_db pack` and `kmc_db count` take is that of their own.
 With --list the tables are printed.
 """
 import glob
@@ -28,6 +28,8 @@ OWN = {"kmc": set(), "kmc_merge": TEXTS, "kmc_cut": {"slices", "-force"} | TEXTS
        "kmc_db": {"oc", "b", "lci", "lcx", "rci", "rcx"} | TEXTS}
 # what the page and the help of kmc_db tell, and its usage line leaves out
 LEFT_OUT = {"lci", "lcx", "rci", "rcx"}
+# the uses of kmc_db that make a database, and the files that have their usage lines
+MAKING = {"pack": "packing", "count": "counting"}
 # a default that no page tells, since the program chooses where the option does not stand
 CHOSEN = {"p"}
 # a range that a text for everyone leaves out: any count
@@ -146,7 +148,7 @@ def page_of(name):
     with open(os.path.join(TOP, "docs", name + ".1"), encoding="utf-8") as file:
         page = file.read()
     uses = page.split(".Sh SYNOPSIS\n")[1].split(".Sh ")[0].split(".Nm\n")
-    synopsis = "".join(use for use in uses if not use.startswith(".Cm pack\n"))
+    synopsis = "".join(use for use in uses if not use.startswith((".Cm pack\n", ".Cm count\n")))
     entries = {}
     for entry in page.split(".Sh OPTIONS\n")[1].split(".Sh ")[0].split("\n.It ")[1:]:
         head, _, text = entry.partition("\n")
@@ -155,18 +157,18 @@ def page_of(name):
     return set(re.findall(r"Fl (\S+)", synopsis)), entries
 
 
-def packing_options():
-    """What the usage line of `kmc_db pack` takes."""
-    with open(os.path.join(CRATES, "kmc_db", "src", "packing.rt"), encoding="utf-8") as file:
-        return set(re.findall(r"\[-(-?[a-z]+)", file.read().partition("usage: kmc_db pack")[2].partition('"')[0]))
+def options_of_use(use):
+    """What the usage line of a use of kmc_db that makes a database takes."""
+    with open(os.path.join(CRATES, "kmc_db", "src", MAKING[use] + ".rt"), encoding="utf-8") as file:
+        return set(re.findall(r"\[-(-?[a-z]+)", file.read().partition(f"usage: kmc_db {use}")[2].partition('"')[0]))
 
 
-def packing_faults():
-    """What the synopsis of `kmc_db pack` and its usage line do not share."""
-    usage = packing_options()
+def faults_of_use(use):
+    """What the synopsis of such a use and its usage line do not share."""
+    usage = options_of_use(use)
     with open(os.path.join(TOP, "docs", "kmc_db.1"), encoding="utf-8") as file:
-        page = set(re.findall(r"Fl (\S+)", file.read().partition(".Cm pack\n")[2].partition(".Nm\n")[0]))
-    return [] if usage and usage == page else [f"the synopsis of kmc_db pack has {sorted(page)}, and its usage line {sorted(usage)}"]
+        page = set(re.findall(r"Fl (\S+)", file.read().partition(f".Cm {use}\n")[2].partition(".Nm\n")[0]))
+    return [] if usage and usage == page else [f"the synopsis of kmc_db {use} has {sorted(page)}, and its usage line {sorted(usage)}"]
 
 
 def tells(text, value):
@@ -209,13 +211,14 @@ def main():
             more = more_usages() if name == "kmc_db" else set()
             if set(shown) != set(usage.split(f", or {name} ")) | more:
                 faults.append(f"the help of {name} has other usage lines")
-            same(f"the help of {name}", set(entries), names | (OWN[name] - TEXTS) | (packing_options() if more else set()))
+            same(f"the help of {name}", set(entries), names | (OWN[name] - TEXTS) | (set().union(*map(options_of_use, MAKING)) if more else set()))
             ranges(f"the help of {name}", entries, options, False)
         synopsis, items = page_of(name)
         same(f"the synopsis of docs/{name}.1", synopsis, names | OWN[name])
         same(f"docs/{name}.1", set(items), names | OWN[name])
         ranges(f"docs/{name}.1", items, options, True)
-    faults += packing_faults()
+    for use in MAKING:
+        faults += faults_of_use(use)
     return ended("options", faults, f"the usage lines, help texts and pages have the options of {', '.join(told)}, with their ranges and defaults")
 
 

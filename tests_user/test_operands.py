@@ -67,6 +67,21 @@ def test_a_database_of_other_words_is_refused(room):
     assert ended(room, "kmc_db", "union", "two", "none") == (1, b"", b"kmc_db: none: cannot be opened\n")
 
 
+def test_databases_of_unlike_strands_are_refused(room):
+    program("kmc_db")
+    both_ways(room, "joined", 2, b"AC\t2\n")
+    packed(room, "apart", b"AC\t2\nGT\t1\n", "-ci1", "-b")
+    for words in (["union"], ["intersect"], ["table"]):
+        for names in (("joined", "apart"), ("apart.kmc_pre", "joined")):
+            told = ("kmc_db: %s, %s: only one of the two was counted with -b\n" % names).encode()
+            assert ended(room, "kmc_db", *words, *names) == (1, b"", told), (words, names)
+    # a text tells no strands
+    room.write("text", b"AC\t5\n")
+    assert ended(room, "kmc_db", "union", "-ci1", "text", "apart") == (0, b"AC\t7\nGT\t1\n", b"")
+    packed(room, "both", b"AC\t1\n", "-ci1", "-b")
+    assert ended(room, "kmc_db", "union", "-ci1", "both", "apart") == (0, b"AC\t3\nGT\t1\n", b"")
+
+
 def test_each_damaged_byte_of_an_operand_is_told_as_a_dump_tells_it(room):
     program("kmc_db")
     for k, dump, words in ((5, b"AACCG\t1\nAACGG\t2\nCAAAA\t3\n", ["-prefix1", "-cs255"]), (6, b"ACGTAC\t1\nGGGGGG\t70000\n", ["-prefix2", "-cs70000"])):

@@ -1,10 +1,11 @@
 -- The header at the end of a file that was read through.
 use Rattle.std.proofs.Common.{◌≡◌, ℕ, ◌-◌, ◌^◌, ◌<◌, inl, inr, min, List, [], ◌++◌, length, Option, sym, ap, subst, ◌∙◌, arith, append_assoc, length-append}
-use Rattle.std.specs.Prelude.{◌≢◌}
+use Rattle.std.specs.Prelude.{◌≢◌, slice_index}
+use Rattle.kmc_base.specs.declared.strands.Strands.{Strands}
 use Rattle.kmc_database.specs.Files.{prefix_long}
 use Rattle.kmc_database.specs.Header.{IsFormFault, IsHeaderOf}
 use Rattle.kmc_database.specs.Layout.{IsLayout}
-use Rattle.kmc_database.specs.Unpacked.{EndsInHeader, EndsInNoHeader, IsOfOtherLength, IsReadThrough, IsTold}
+use Rattle.kmc_database.specs.Unpacked.{EndsInHeader, EndsInNoHeader, IsOfOtherLength, IsReadThrough, IsTold, TellsStrands, strands_by}
 use Rattle.kmc_database.specs.declared.layout.Layout.{Layout}
 use Rattle.kmc_database.specs.declared.reading.FormFault.{FormFault}
 use Rattle.kmc_database.specs.declared.reading.Header.{Header}
@@ -50,6 +51,12 @@ module _ (a b : Option (List ℕ)) (last : List ℕ) (size : ℕ) (told : IsTold
           header = header;
           long = long;
         }
+
+    pub strands_found : (h : Header) → IsHeaderOf tail h → size ≡ prefix_long h.layout → length tail ≡ 72 → (s : Strands)
+        → s ≡ strands_by (slice_index tail 32) → TellsStrands a b s
+    unfolding header_found
+    strands_found h header sum long s is =
+        let found = header_found h header sum in record { front = front; last = tail; gave = found.gave; long = long; is = is }
 
     pub other_length : (h : Header) → IsHeaderOf tail h → size ≢ prefix_long h.layout → IsOfOtherLength a b
     other_length h header differ = record {

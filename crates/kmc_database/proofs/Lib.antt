@@ -27,7 +27,6 @@ mod RowsAhead
 mod Searches
 mod SoFar
 mod SoundSteps
-mod SourceExits
 mod StepExits
 mod Tables
 mod TakenBytes

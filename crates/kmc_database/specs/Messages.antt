@@ -5,6 +5,8 @@ use Rattle.kmc_database.specs.declared.error.PackError.{PackError}
 use Rattle.kmc_database.specs.declared.error.PackError.TheVariants.{Source, Empty, Prefix, TooGreat, WritePrefix, WriteSuffix, Memory, TooLong}
 use Rattle.kmc_database.specs.declared.reading.FormFault.{FormFault}
 use Rattle.kmc_database.specs.declared.reading.FormFault.TheVariants.{Marker, Newer, Version, Size, Mode, NoLayout}
+use Rattle.kmc_database.specs.declared.strands.StrandsError.{StrandsError}
+use Rattle.kmc_database.specs.declared.strands.StrandsError.TheVariants.{Unlike}
 use Rattle.kmc_database.specs.declared.unpack_error.UnpackError.{UnpackError}
 use Rattle.kmc_database.specs.declared.unpack_error.UnpackError.TheVariants as unpack
 
@@ -74,3 +76,7 @@ is_dump_unwritten unpack.Changed = false
 is_dump_unwritten unpack.ReadPrefix = false
 is_dump_unwritten unpack.ReadSuffix = false
 is_dump_unwritten unpack.Memory = false
+
+-- the line that tells why two databases of these names are not joined: `kmc_db: a, b: only one of the two was counted with -b`
+abbrev pub strands_message_of : List ℕ → List ℕ → StrandsError → List ℕ
+strands_message_of first second Unlike = codes "kmc_db: " ++ first ++ codes ", " ++ second ++ codes ": only one of the two was counted with -b"

@@ -10,6 +10,8 @@ use Rattle.kmc_database.specs.declared.reading.FormFault.{FormFault}
 use Rattle.kmc_database.specs.declared.reading.FormFault.TheVariants.{Marker, Newer, Version, Size, Mode, NoLayout}
 use Rattle.kmc_database.specs.declared.search_error.SearchError.{SearchError}
 use Rattle.kmc_database.specs.declared.search_error.SearchError.TheVariants as search_error
+use Rattle.kmc_database.specs.declared.strands.StrandsError.{StrandsError}
+use Rattle.kmc_database.specs.declared.strands.StrandsError.TheVariants.{Unlike}
 use Rattle.kmc_database.specs.declared.unpack_error.UnpackError.{UnpackError}
 use Rattle.kmc_database.specs.declared.unpack_error.UnpackError.TheVariants as unpack
 
@@ -71,3 +73,6 @@ number_of_search_error (search_error.Words _) = 3
 number_of_search_error search_error.OtherLength = 4
 number_of_search_error (search_error.LookUp _) = 5
 number_of_search_error search_error.Write = 6
+
+abbrev pub number_of_strands_error : StrandsError → ℕ
+number_of_strands_error Unlike = 1

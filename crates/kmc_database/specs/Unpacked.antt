@@ -1,6 +1,8 @@
 -- A database as the text of its dump.
-use Rattle.std.specs.Prelude.{◌≡◌, ◌≢◌, ℕ, ◌-◌, ◌^◌, ◌<◌, ◌≤◌, ◌⊎◌, min, List, [], ◌++◌, length, Option}
+use Rattle.std.specs.Prelude.{◌≡◌, ◌≢◌, ℕ, ◌-◌, ◌^◌, ◌<◌, ◌≤◌, ◌⊎◌, min, nat_eq, if◌then◌else◌, List, [], ◌++◌, length, slice_index, Option}
 use Rattle.std.specs.Io.KnownBytes.{Appends, Consumes, IsAtEnd}
+use Rattle.kmc_base.specs.declared.strands.Strands.{Strands}
+use Rattle.kmc_base.specs.declared.strands.Strands.TheVariants.{Apart, Joined}
 use Rattle.kmc_device.specs.Device.{GaveAll}
 use Rattle.kmc_sum.specs.Listed.{Lists}
 use Rattle.kmc_database.specs.Files.{CountsFit, prefix_long, prefix_start, suffix_file}
@@ -30,6 +32,18 @@ pub record EndsInHeader (start now : Option (List ℕ)) (h : Header) : Type 0 wh
   pub gave : GaveAll start now (front ++ last)
   pub header : IsHeaderOf last h
   pub long : length (front ++ last) ≡ prefix_long h.layout
+
+-- the strands by byte 32 of a header
+abbrev pub strands_by : ℕ → Strands
+strands_by byte = if nat_eq byte 0 then Joined else Apart
+
+-- the last 72 bytes of a file tell these strands
+pub record TellsStrands (start now : Option (List ℕ)) (strands : Strands) : Type 0 where
+  pub front : List ℕ
+  pub last : List ℕ
+  pub gave : GaveAll start now (front ++ last)
+  pub long : length last ≡ 72
+  pub is : strands ≡ strands_by (slice_index last 32)
 
 -- a file ends with 72 bytes that are no header, for this reason
 pub record EndsInNoHeader (start now : Option (List ℕ)) (fault : FormFault) : Type 0 where

@@ -1,8 +1,10 @@
 //! What is read as a dump: the text of one, or a database.
-ghost use Rattle.kmc_database.specs.DumpSource.{rest_of_source};
+ghost use Rattle.std.specs.Prelude.{◌≡◌};
+ghost use Rattle.kmc_database.specs.DumpSource.{fault_of, rest_of_source, strands_of};
 
 use crate::reader::DatabaseReader;
 use crate::unpack_error::UnpackError;
+use kmc_base::Strands;
 use std::io::{self, Read};
 
 /// What is read as a dump: the text of one, or the two files of a database.
@@ -25,10 +27,22 @@ impl<T: Read, R: Read> Read for DumpSource<T, R> {
 
 impl<T: Read, R: Read> DumpSource<T, R> {
     /// The fault for which a database's text ended before its rows did. A text has none here: its lines tell.
-    pub fn fault(&self) -> Option<UnpackError> {
+    pub fn fault(&self) -> Option<UnpackError>
+        ensures { result ≡ fault_of self.now }
+    {
         match self {
             DumpSource::Text(_) => None,
             DumpSource::Database(database) => database.fault(),
+        }
+    }
+
+    /// Whether words and their reverse complements are counted together, by the header of a database. A text does not tell.
+    pub fn strands(&self) -> Option<Strands>
+        ensures { result ≡ strands_of self.now }
+    {
+        match self {
+            DumpSource::Text(_) => None,
+            DumpSource::Database(database) => Some(database.strands()),
         }
     }
 }

@@ -5,9 +5,11 @@ ghost use Rattle.kmc_database.specs.Layout.{IsLayout};
 
 use crate::line_buffer::LineBuffer;
 use crate::next_bytes::NextBytes;
+use crate::opening::OpenDatabase;
 use crate::progress::Progress;
 use crate::reading::Header;
 use crate::unpack_error::UnpackError;
+use kmc_base::Strands;
 use std::io;
 use std::io::Read;
 
@@ -18,6 +20,7 @@ use std::io::Read;
 #[derive(Drop)]
 pub struct DatabaseReader<R> {
     pub(crate) header: Header,
+    pub(crate) strands: Strands,
     pub(crate) at: Progress,
     pub(crate) ended: bool,
     pub(crate) fault: Option<UnpackError>,
@@ -34,14 +37,17 @@ impl<R: Read> DatabaseReader<R> {
     ghost use Rattle.std.specs.Io.KnownBytes.{ReadConsumes};
     ghost use Rattle.kmc_database.specs.DumpReader.{of_both, rest_of};
 
-    /// A reader of the dump of a database with this header. Nothing is read yet.
-    pub fn new(header: Header, prefix: R, suffix: R) -> DatabaseReader<R>
-        requires { IsLayout header.layout }
-        ensures { rest_of R.remaining result
-            ≡ of_both (text_of_files header) (R.remaining prefix) (R.remaining suffix) }
+    /// A reader of the dump of a database whose header tells this. Nothing is read yet.
+    pub fn new(database: OpenDatabase, prefix: R, suffix: R) -> DatabaseReader<R>
+        requires { IsLayout database.header.layout }
+        ensures text { rest_of R.remaining result
+            ≡ of_both (text_of_files database.header) (R.remaining prefix) (R.remaining suffix) }
+        ensures strands { result.strands ≡ database.strands }
     {
+        let OpenDatabase { header, strands } = database;
         DatabaseReader {
             header,
+            strands,
             at: Progress {
                 begun: false,
                 entries: 0,
@@ -59,8 +65,17 @@ impl<R: Read> DatabaseReader<R> {
     }
 
     /// Why the text ended with byte 0, if it did: rows are numbered from 1, entries of the table from 0.
-    pub fn fault(&self) -> Option<UnpackError> {
+    pub fn fault(&self) -> Option<UnpackError>
+        ensures { result ≡ self.now.fault }
+    {
         self.fault
+    }
+
+    /// Whether words and their reverse complements are counted together, by the header.
+    pub fn strands(&self) -> Strands
+        ensures { result ≡ self.now.strands }
+    {
+        self.strands
     }
 
     /// Fills a buffer with what is left of the text, as far as it goes, and says how much came.

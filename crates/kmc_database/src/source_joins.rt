@@ -1,10 +1,13 @@
 //! Joins, tables and histograms of texts and databases, for a user, who is told of a refusal.
-ghost use Rattle.std.specs.Prelude.{◌≡◌, ◌≤◌, ◌⊎◌, ℕ, List, Option, length};
+ghost use Rattle.std.specs.Prelude.{◌≡◌, ◌≤◌, ℕ, List, Option, length};
 ghost use Rattle.std.specs.Process.{exit_status};
-ghost use Rattle.kmc_join.specs.Histogram.{IsHistogramBegun, IsHistogramWritten};
+ghost use Rattle.kmc_join.specs.Histogram.{IsHistogramWritten};
 ghost use Rattle.kmc_join.specs.State.{IsBegun, IsJoinWritten};
-ghost use Rattle.kmc_join.specs.Table.{IsTableBegun, IsTableWritten};
-ghost use Rattle.kmc_sum.specs.Sources.{left_at, lefts_of};
+ghost use Rattle.kmc_join.specs.Table.{IsTableWritten};
+ghost use Rattle.kmc_join.specs.Tabulation.{IsTableCause};
+ghost use Rattle.kmc_join.specs.Tally.{IsHistogramCause};
+ghost use Rattle.kmc_sum.specs.Answer.{IsCause};
+ghost use Rattle.kmc_sum.specs.Sources.{failures_of, left_at, lefts_of};
 ghost use Rattle.kmc_database.specs.DumpSource.{rest_of_source};
 
 use crate::dump_source::DumpSource;
@@ -88,8 +91,10 @@ pub fn join_sources<E: Eprint + Alloc<A = Global>, T: Read + Drop, R: Read + Dro
         × IsJoinWritten rule limits.now (lefts_of (rest_of_source T.remaining R.remaining) sources.items) nows lines
         (W.contents writer.old.inner) (W.contents writer.new.inner))
         × (writer.new.failures ≡ writer.old.failures) }
-    ensures failed { exit_status result ≡ 1 → (nows : List (Option (List ℕ))) × (k : ℕ)
-        × IsBegun k rule limits.now (lefts_of (rest_of_source T.remaining R.remaining) sources.items) nows
+    ensures failed { exit_status result ≡ 1 → (error : SumError) × (nows : List (Option (List ℕ))) × (news : List ℕ)
+        × IsCause (lefts_of (rest_of_source T.remaining R.remaining) sources.items) nows
+        (failures_of sources.items) news writer.old.failures writer.new.failures error
+        × (k : ℕ) × IsBegun k rule limits.now (lefts_of (rest_of_source T.remaining R.remaining) sources.items) nows
         (W.contents writer.old.inner) (W.contents writer.new.inner) }
     ensures statuses { exit_status result ≤ 1 }
 {
@@ -114,9 +119,9 @@ pub fn histogram_source<E: Eprint + Alloc<A = Global>, T: Read + Drop, R: Read +
         × IsHistogramWritten (left_at (lefts_of (rest_of_source T.remaining R.remaining) sources.items) 0) now
         (W.contents writer.old.inner) (W.contents writer.new.inner))
         × (writer.new.failures ≡ writer.old.failures) }
-    ensures failed { exit_status result ≡ 1 → (writer.new ≡ writer.old) ⊎ ((now : Option (List ℕ))
-        × IsHistogramBegun (left_at (lefts_of (rest_of_source T.remaining R.remaining) sources.items) 0) now
-        (W.contents writer.old.inner) (W.contents writer.new.inner)) }
+    ensures failed { exit_status result ≡ 1 → (error : SumError) × (nows : List (Option (List ℕ))) × (news : List ℕ)
+        × IsHistogramCause W.contents (lefts_of (rest_of_source T.remaining R.remaining) sources.items) nows
+        (failures_of sources.items) news writer.old writer.new error }
     ensures statuses { exit_status result ≤ 1 }
 {
     let mut sources = sources;
@@ -141,9 +146,9 @@ pub fn table_sources<E: Eprint + Alloc<A = Global>, T: Read + Drop, R: Read + Dr
         × IsTableWritten cap (lefts_of (rest_of_source T.remaining R.remaining) sources.items) nows
         (W.contents writer.old.inner) (W.contents writer.new.inner))
         × (writer.new.failures ≡ writer.old.failures) }
-    ensures failed { exit_status result ≡ 1 → (writer.new ≡ writer.old) ⊎ ((nows : List (Option (List ℕ)))
-        × IsTableBegun cap (lefts_of (rest_of_source T.remaining R.remaining) sources.items) nows
-        (W.contents writer.old.inner) (W.contents writer.new.inner)) }
+    ensures failed { exit_status result ≡ 1 → (error : SumError) × (nows : List (Option (List ℕ))) × (news : List ℕ)
+        × IsTableCause W.contents cap (lefts_of (rest_of_source T.remaining R.remaining) sources.items) nows
+        (failures_of sources.items) news writer.old writer.new error }
     ensures statuses { exit_status result ≤ 1 }
 {
     let mut sources = sources;

@@ -294,7 +294,8 @@ pub fn unpack<R: Read, W: Write>(
         Ok(room) => room,
         Err(_) => return Err(UnpackError::Memory),
     };
-    let header = last_header(first, &mut table)?;
+    let told = last_header(first, &mut table)?;
+    let header = told.header;
     match unpack_with(&header, prefix, &mut table, suffix, &mut body, writer) {
         Ok(()) => Ok(header.rows),
         Err(error) => Err(error),

@@ -1,7 +1,7 @@
 //! What words ask for of one dump or of two, whose names they are.
 
 use kmc_count::Limits;
-use kmc_join::{JoinRequest, JoinRule, asked_for, table_cap};
+use kmc_join::{JoinRequest, JoinRule, asked_for, full_names, table_cap};
 use kmc_options::is_file_name;
 use std::alloc::Global;
 
@@ -28,22 +28,6 @@ fn is_histogram(words: &[String]) -> bool {
     }
 }
 
-/// The name under which standard input is read.
-pub const INPUT: &str = "/dev/stdin";
-
-/// The words, with the full name of standard input for a lone hyphen.
-fn with_input_named(alloc: Global, words: Vec<String>) -> Option<Vec<String>> {
-    let mut named = Vec::new(alloc);
-    for word in words {
-        if word.as_str() == "-" {
-            named.push(String::from_str(alloc, INPUT).ok()?).ok()?;
-        } else {
-            named.push(word).ok()?;
-        }
-    }
-    Some(named)
-}
-
 /// So many words of the end.
 fn last_words(alloc: Global, words: Vec<String>, count: usize) -> Option<Vec<String>> {
     let mut files = Vec::new(alloc);
@@ -59,7 +43,7 @@ fn last_words(alloc: Global, words: Vec<String>, count: usize) -> Option<Vec<Str
 /// What the words ask for of one dump or of two, with standard input by its full name; none where they ask for nothing of the kind, or
 /// memory was refused.
 pub fn sources_request(alloc: Global, words: Vec<String>) -> Option<SourcesRequest> {
-    let words = with_input_named(alloc, words)?;
+    let words = full_names(alloc, words).ok()?;
     if is_histogram(&words) {
         let files = last_words(alloc, words, 1)?;
         return Some(SourcesRequest {

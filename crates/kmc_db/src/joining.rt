@@ -1,13 +1,14 @@
 //! Joins, tables and histograms of which an operand is a database in two files.
 
-use crate::asking::{INPUT, SourcesRequest, Wanted, sources_request};
+use crate::asking::{SourcesRequest, Wanted, sources_request};
 use crate::naming::{database_named, file_of, prefix_file_named};
+use kmc_base::Strands;
 use kmc_database::{
-    DatabaseReader, DumpSource, UnpackError, UnpackMessage, database_header, histogram_source,
-    join_sources, table_sources,
+    DatabaseReader, DumpSource, StrandsMessage, UnpackError, UnpackMessage, database_header,
+    histogram_source, join_sources, judge_strands, table_sources,
 };
 use kmc_device::Counted;
-use kmc_join::Operand;
+use kmc_join::{INPUT, Operand};
 use kmc_options::{arguments, ended};
 use std::alloc::Global;
 use std::fs;
@@ -51,8 +52,8 @@ fn database<T: Files + Eprint + Alloc<A = Global>>(
     first: T::File,
 ) -> Result<DatabaseReader<BufReader<T::File, Global>>, ExitCode> {
     let mut counted = Counted::new(first);
-    let header = match database_header(rt.alloc(), &mut counted) {
-        Ok(header) => header,
+    let found = match database_header(rt.alloc(), &mut counted) {
+        Ok(found) => found,
         Err(error) => return Err(refused(rt, name, error)),
     };
     let Some(prefix) = file_of(rt, name, "kmc_pre") else {
@@ -64,7 +65,7 @@ fn database<T: Files + Eprint + Alloc<A = Global>>(
     };
     let prefix = buffered(rt, name, prefix)?;
     let suffix = buffered(rt, name, suffix)?;
-    Ok(DatabaseReader::new(header, prefix, suffix))
+    Ok(DatabaseReader::new(found, prefix, suffix))
 }
 
 /// What a word names: a database, a file, or standard input, which is read once.
@@ -89,7 +90,7 @@ fn source<T: Files + Eprint + Alloc<A = Global>, I: Read>(
     }
 }
 
-/// Readers for what the words name, in their order.
+/// Readers for what the words name, in their order. Databases of unlike strands are refused.
 fn sources<T: Files + Eprint + Alloc<A = Global>, I: Read + Drop>(
     rt: &T,
     files: &[String],
@@ -97,8 +98,20 @@ fn sources<T: Files + Eprint + Alloc<A = Global>, I: Read + Drop>(
 ) -> Result<Vec<Counted<Source<T::File, I>>>, ExitCode> {
     let mut found = Vec::new(rt.alloc());
     let mut unread = Some(input);
+    let mut before: (&str, Option<Strands>) = ("", None);
     for word in files {
         let it = source(rt, word.as_str(), &mut unread)?;
+        let (first, told) = before;
+        let second = word.as_str();
+        if let Err(error) = judge_strands(told, it.strands()) {
+            let message = StrandsMessage {
+                first,
+                second,
+                error,
+            };
+            return Err(ended(rt, message, false));
+        }
+        before = (second, it.strands());
         if found.push(Counted::new(it)).is_err() {
             let _ = rt.eprintln("kmc_db: out of memory");
             return Err(ExitCode::from(1));

@@ -1,18 +1,21 @@
 //! The program `kmc_db`: two dumps, joined or told of, on standard output; or how many k-mers of reads on standard input have each count;
-//! or a dump on standard input as a database in two files, or such a database as a dump, or words with their counts in it; or help. On a
+//! or these reads, or a dump, as a database in two files, or such a database as a dump, or words with their counts in it; or help. On a
 //! fault it writes one line to standard error and ends with the fault's status. The first and the last are `kmc_join`'s, the second is
-//! `kmc_spectrum`'s, the others are `kmc_database`'s.
+//! `kmc_spectrum`'s, the third `kmc_packer`'s, the others are `kmc_database`'s.
 #![tactic(auto)]
 
 mod asking;
+mod counting;
 mod dumping;
 mod joining;
+mod making;
 mod naming;
 mod packing;
 mod querying;
 mod request;
 mod spectra;
 
+use crate::counting::{asks_to_count, count_input};
 use crate::dumping::{asks_to_dump, dump_files};
 use crate::joining::join_databases;
 use crate::packing::{asks_to_pack, pack_input};
@@ -39,6 +42,10 @@ fn main(rt: HostRuntime) -> ExitCode {
             let mut reader = Counted::new(rt.stdin());
             let mut writer = Counted::new(io::writer(&rt));
             return spectrum_of(&rt, words_behind(words), &mut reader, &mut writer);
+        }
+        if asks_to_count(&words) {
+            let mut reader = Counted::new(rt.stdin());
+            return count_input(&rt, words_behind(words), &mut reader);
         }
         if asks_to_pack(&words) {
             let mut reader = Counted::new(rt.stdin());

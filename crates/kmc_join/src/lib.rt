@@ -40,7 +40,7 @@ pub use asking::{asked_words, length_of};
 pub use fault::{JoinFault, Message};
 pub use histograms::histogram;
 pub use joining::join;
-pub use opening::Operand;
+pub use opening::{INPUT, Operand, full_names};
 pub use operation::{Choice, Operation};
 pub use queries::query;
 pub use query_error::QueryError;

@@ -30,7 +30,7 @@ impl<F: Read, I: Read> Read for Operand<F, I> {
 }
 
 /// The name under which standard input is read.
-const INPUT: &'static str = "/dev/stdin";
+pub const INPUT: &'static str = "/dev/stdin";
 
 /// The word, and for a lone hyphen the full name of standard input.
 fn full_name(alloc: Global, word: String) -> Result<String, AllocError>
@@ -44,7 +44,7 @@ fn full_name(alloc: Global, word: String) -> Result<String, AllocError>
 }
 
 /// The words, with the full name of standard input for a lone hyphen.
-pub(crate) fn full_names(alloc: Global, words: Vec<String>) -> Result<Vec<String>, AllocError>
+pub fn full_names(alloc: Global, words: Vec<String>) -> Result<Vec<String>, AllocError>
     ensures { IfOk result (λ named. map string_bytes named.items
         ≡ full_names (map string_bytes words.items)) }
 {

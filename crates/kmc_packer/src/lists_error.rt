@@ -1,4 +1,6 @@
 //! Why lists are not packed.
+ghost use Rattle.std.specs.Prelude.{◌≡◌};
+
 use thiserror::Error;
 
 /// Why lists are not packed.
@@ -16,4 +18,20 @@ pub enum PackListsError {
     /// Memory was refused.
     #[error("out of memory")]
     Memory,
+}
+
+impl PackListsError {
+    ghost use Rattle.kmc_packer.specs.RefusalNumbers.{number_of_pack_lists_error};
+
+    /// The number of the refusal, as crates/REFUSALS.md lists it.
+    pub fn number(&self) -> u8
+        ensures { result ≡ number_of_pack_lists_error self.now }
+    {
+        match self {
+            PackListsError::TooGreat => 1,
+            PackListsError::WritePrefix => 2,
+            PackListsError::WriteSuffix => 3,
+            PackListsError::Memory => 4,
+        }
+    }
 }

@@ -2,6 +2,7 @@
 use crate::databases::{ALL_SOUND, unpacked};
 use crate::devices::{SOUND, counts_of, packed};
 use crate::files::prefix_file;
+use kmc_base::Strands;
 use kmc_database::{DatabaseReader, Header, UnpackError, database_header};
 use kmc_device::Counted;
 use std::alloc::Global;
@@ -37,10 +38,10 @@ fn text_of(
     failing: Failing,
 ) -> Result<Reading, Fail> {
     let mut first = Counted::new(BlockReader::new(prefix, 7, 0));
-    let header = database_header(rt.alloc(), &mut first)?;
+    let told = database_header(rt.alloc(), &mut first)?;
     let table = BlockReader::new(prefix, 11, failing.0);
     let rows = BlockReader::new(suffix, 5, failing.1);
-    let mut reader = DatabaseReader::new(header, table, rows);
+    let mut reader = DatabaseReader::new(told, table, rows);
     let mut buffer = vec![in rt.alloc(); 0; size]?;
     let mut text = Vec::new(rt.alloc());
     let mut failures: u64 = 0;
@@ -66,7 +67,10 @@ fn text_of(
 /// The header of a prefix file.
 fn header_of(rt: &impl Alloc<A = Global>, prefix: &[u8]) -> Result<Header, UnpackError> {
     let mut reader = Counted::new(BlockReader::new(prefix, 7, 0));
-    database_header(rt.alloc(), &mut reader)
+    match database_header(rt.alloc(), &mut reader) {
+        Ok(told) => Ok(told.header),
+        Err(error) => Err(error),
+    }
 }
 
 /// Passes where the files are read as what is unpacked of them, by small and large buffers.
@@ -165,6 +169,24 @@ fn a_read_that_fails_loses_nothing(rt: HostRuntime) -> Result<(), Fail> {
             assert_eq!(rt; again.text.as_slice(), text.as_bytes());
             assert_eq!(rt; again.failures, 1);
         }
+    }
+    Ok(())
+}
+
+/// The strands that the header tells where its byte for them is this one.
+fn strands_by(rt: &impl Alloc<A = Global>, byte: u8) -> Result<Strands, Fail> {
+    let mut prefix = prefix_file(rt.alloc(), &TABLE, HEADER)?;
+    let place = prefix.len() - 40;
+    prefix[place] = byte;
+    let mut reader = Counted::new(BlockReader::new(prefix.as_slice(), 7, 0));
+    Ok(database_header(rt.alloc(), &mut reader)?.strands)
+}
+
+#[test]
+fn a_header_tells_its_strands(rt: HostRuntime) -> Result<(), Fail> {
+    assert!(rt; strands_by(&rt, 0)? == Strands::Joined);
+    for byte in [1, 2, 128, 255] {
+        assert!(rt; strands_by(&rt, byte)? == Strands::Apart);
     }
     Ok(())
 }

@@ -1,8 +1,10 @@
 //! Joins, tables and histograms of which one source is a database: what is written, and the status.
 use crate::files::prefix_file;
+use kmc_base::Strands;
 use kmc_count::Limits;
 use kmc_database::{
-    DatabaseReader, DumpSource, Header, Layout, histogram_source, join_sources, table_sources,
+    DatabaseReader, DumpSource, Header, Layout, OpenDatabase, StrandsError, StrandsMessage,
+    histogram_source, join_sources, judge_strands, table_sources,
 };
 use kmc_device::Counted;
 use kmc_join::{Choice, EVERY_COUNT, JoinRule, Operation};
@@ -16,13 +18,16 @@ const TABLE: [(u64, u64); 3] = [(0, 1), (2, 1), (3, 2)];
 
 const NUMBERS: [u32; 10] = [5, 0, 1, 1, 1, 255, 3, 0, 0, 0];
 
-const HEADER: Header = Header {
-    layout: Layout {
-        k: 5,
-        prefix: 1,
-        counter: 1,
+const TOLD: OpenDatabase = OpenDatabase {
+    header: Header {
+        layout: Layout {
+            k: 5,
+            prefix: 1,
+            counter: 1,
+        },
+        rows: 3,
     },
-    rows: 3,
+    strands: Strands::Joined,
 };
 
 const ROWS: &[u8] = b"KMCS\x16\x01\x1a\x02\0\x03KMCS";
@@ -54,7 +59,7 @@ fn joined<'a>(
     let table = BlockReader::new(prefix, 11, 0);
     let body = BlockReader::new(rows, 5, 0);
     let text = DumpSource::Text(BlockReader::new(dump, 7, 0));
-    let database = DumpSource::Database(DatabaseReader::new(HEADER, table, body));
+    let database = DumpSource::Database(DatabaseReader::new(TOLD, table, body));
     let mut given = Vec::new(rt.alloc());
     given.push(Counted::new(text))?;
     given.push(Counted::new(database))?;
@@ -76,7 +81,7 @@ fn tallied<'a>(
     let table = BlockReader::new(prefix, 11, 0);
     let body = BlockReader::new(rows, 5, 0);
     let database: DumpSource<BlockReader, BlockReader> = DumpSource::Database(DatabaseReader::new(
-        HEADER, table, body,
+        TOLD, table, body,
     ));
     let mut given = Vec::new(rt.alloc());
     given.push(Counted::new(database))?;
@@ -114,4 +119,50 @@ fn a_database_is_joined_as_its_dump(rt: HostRuntime) -> Result<(), Fail> {
 #[test]
 fn a_database_at_fault_is_not_joined(rt: HostRuntime) -> Result<(), Fail> {
     ends(&rt, EQUAL_ROWS, 1, ["", "", ""])
+}
+
+#[test]
+fn sources_tell_their_strands(rt: HostRuntime) -> Result<(), Fail> {
+    let text: DumpSource<BlockReader, BlockReader> = DumpSource::Text(BlockReader::new(
+        OTHER, 7, 0,
+    ));
+    assert!(rt; text.strands().is_none());
+    let prefix = prefix_file(rt.alloc(), &TABLE, NUMBERS)?;
+    let table = BlockReader::new(&prefix, 11, 0);
+    let rows = BlockReader::new(ROWS, 5, 0);
+    let database: DumpSource<BlockReader, BlockReader> = DumpSource::Database(DatabaseReader::new(
+        TOLD, table, rows,
+    ));
+    assert!(rt; database.strands() == Some(Strands::Joined));
+    Ok(())
+}
+
+#[test]
+fn only_strands_that_are_told_are_unlike(rt: HostRuntime) -> Result<(), Fail> {
+    let joined = Some(Strands::Joined);
+    let apart = Some(Strands::Apart);
+    for (first, second) in [
+        (None, None),
+        (None, apart),
+        (joined, None),
+        (joined, joined),
+        (apart, apart),
+    ] {
+        assert_eq!(rt; judge_strands(first, second), Ok(()));
+    }
+    let error = StrandsError::Unlike;
+    assert_eq!(rt; judge_strands(joined, apart), Err(error));
+    assert_eq!(rt; judge_strands(apart, joined), Err(error));
+    assert_eq!(rt; error.number(), 1);
+    let message = StrandsMessage {
+        first: "a",
+        second: "b.kmc_pre",
+        error,
+    };
+    let line = format!(in rt.alloc(); "{message}")?;
+    assert_eq!(rt;
+        line.as_str(),
+        "kmc_db: a, b.kmc_pre: only one of the two was counted with -b"
+    );
+    Ok(())
 }

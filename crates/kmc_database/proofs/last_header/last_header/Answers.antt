@@ -1,7 +1,9 @@
 use Rattle.std.proofs.Common.{◌≡◌, ℕ, ◌-◌, ◌≤◌, List, length, take, drop, sym, subst, ◌∙◌, arith, length-drop}
 use Rattle.std.proofs.lemmas.List.{length-take-le}
 use Rattle.kmc_database.specs.Header.{IsFormFault, IsHeaderOf}
-use Rattle.kmc_database.proofs.LastHeader.{header_found, no_header, other_length}
+use Rattle.std.specs.Prelude.{slice_index}
+use Rattle.kmc_database.specs.Unpacked.{strands_by}
+use Rattle.kmc_database.proofs.LastHeader.{header_found, no_header, other_length, strands_found}
 use Rattle.kmc_database.proofs.TakenBytes.{unread_at}
 use Rattle.kmc_database.proofs.last_header.last_header.Goals as goal
 
@@ -14,6 +16,22 @@ returns-then-size-prefix_long-clause-ok g c =
     header_found _ _ _ c.in-Ok.size c.in-Ok.ensures.ok _ _ (unread_at r.from (r.to - 72) r.to r.bytes.items low (omega arith)) h
     (subst (λ (l : List ℕ). IsHeaderOf (take (r.to - (r.to - 72)) (drop (r.to - 72) l)) h) c.deref.ensures.value c.in-Ok-found.ensures)
     (c.if-size-prefix_long.true ∙ c.prefix_long.ensures)
+
+pub returns-then-size-prefix_long-clause-strands : goal.returns-then-size-prefix_long-clause-strands
+returns-then-size-prefix_long-clause-strands g c =
+    let r = c.read_through.new.room in
+    let room = c.in-Ok.ensures.room in
+    let low : r.from ≤ r.to - 72 = omega (arith, c.if-room-lt-HEADER.false) in
+    let h = c.in-Ok-found.header in
+    let tail : List ℕ = take (r.to - (r.to - 72)) (drop (r.to - 72) r.bytes.items) in
+    let size : length tail ≡ r.to - (r.to - 72) =
+    length-take-le (r.to - (r.to - 72)) (drop (r.to - 72) r.bytes.items) (omega (arith, length-drop (r.to - 72) r.bytes.items, room.inside)) in
+    let long : length tail ≡ 72 = omega (arith, size, c.if-room-lt-HEADER.false) in
+    strands_found _ _ _ c.in-Ok.size c.in-Ok.ensures.ok _ _ (unread_at r.from (r.to - 72) r.to r.bytes.items low (omega arith)) h
+    (subst (λ (l : List ℕ). IsHeaderOf (take (r.to - (r.to - 72)) (drop (r.to - 72) l)) h) c.deref.ensures.value c.in-Ok-found.ensures)
+    (c.if-size-prefix_long.true ∙ c.prefix_long.ensures) long _
+    (subst (λ (l : List ℕ). c.strands_by-strands.result ≡ strands_by (slice_index (take (r.to - (r.to - 72)) (drop (r.to - 72) l)) 32)) c.deref.ensures.value
+    c.strands_by-strands.ensures)
 
 pub returns-else-size-prefix_long-clause-cause : goal.returns-else-size-prefix_long-clause-cause
 returns-else-size-prefix_long-clause-cause g c =

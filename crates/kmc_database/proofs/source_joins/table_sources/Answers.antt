@@ -3,7 +3,6 @@ use Rattle.kmc_join.specs.Table.{IsTableWritten}
 use Rattle.kmc_join.specs.Tabulation.{IsTableCause}
 use Rattle.kmc_sum.specs.Sources.{failures_of, lefts_of}
 use Rattle.kmc_database.specs.DumpSource.{rest_of_source}
-use Rattle.kmc_database.proofs.SourceExits.{table_left}
 use Rattle.kmc_database.proofs.source_joins.table_sources.Goals as goal
 
 pub returns-in-Ok-clause-done : goal.returns-in-Ok-clause-done
@@ -18,9 +17,9 @@ returns-in-Ok-clause-done g c = λ is.
 pub returns-in-Err-clause-failed : goal.returns-in-Err-clause-failed
 returns-in-Err-clause-failed g c = λ is.
     let rest = rest_of_source g.T.Read.remaining g.R.Read.remaining in
+    let nows = lefts_of rest c.table.new.readers in
     let news = failures_of c.table.new.readers in
     let cause = subst
-    (λ (starts : List (Option (List ℕ))). IsTableCause g.W.Write.contents c.args.cap starts (lefts_of rest c.table.new.readers)
-    (failures_of c.as_mut_slice.result.now) news c.args.writer.now c.table.new.writer c.in-Err.error)
-    (ap (lefts_of rest) c.as_mut_slice.ensures.value) c.in-Err.ensures.cause in
-    table_left g.W.Write.contents c.args.cap _ _ _ news c.args.writer.now c.table.new.writer c.in-Err.error cause
+    (λ (all : _). IsTableCause g.W.Write.contents c.args.cap (lefts_of rest all) nows (failures_of all) news c.args.writer.now c.table.new.writer
+    c.in-Err.error) c.as_mut_slice.ensures.value c.in-Err.ensures.cause in
+    (c.in-Err.error, nows, news, cause)
