@@ -1,15 +1,15 @@
 #!/bin/sh
-# Compares `futoncrane` with `kmc_tools simple` of KMC 3, and with one kmc_db alone: union, intersection, and both differences of two sets of reads
-# that share half of their genome, and the first two of these from databases. The answers must be equal. The table of the two stands beside them, which KMC 3 has not: its numbers must add up to the k-mers of the union.
-# Then what a database and a histogram of reads take beside a dump of them, and a thousand words looked up.
-# Prints two Markdown tables.
+# Compares `futoncrane` with `kmc_tools simple` of KMC 3, and with one kmc_db alone: union, intersection, and both differences of two sets of
+# reads that share half of their genome, and the first two of these from databases. The answers must be equal. The table of the two stands
+# beside them, which KMC 3 has not: its numbers must add up to the k-mers of the union. Then what a database and a histogram of reads take
+# beside a dump of them, and a thousand words looked up. Prints two Markdown tables.
 #
 # usage: bench/joins.sh
 #
 # Wants `kmc` and `kmc_tools` (Debian's package kmc) and GNU time. READS (1500000), K (31) and ROUNDS (3) are variables: so many reads of 100
-# symbols are simulated for each side. Ours reads two dumps or databases and writes a dump; KMC's reads two databases and writes one, and its dump is made
-# apart, for comparison alone. Memory is that of the largest program. A row has the least wall time of either. The files lie in a folder of $TMPDIR or /tmp, which is removed at
-# the end.
+# symbols are simulated for each side. Ours reads two dumps or databases and writes a dump; KMC's reads two databases and writes one, and its
+# dump is made apart, for comparison alone. Memory is that of the largest program. A row has the least wall time of each. The files lie in a
+# folder of $TMPDIR or /tmp, which is removed at the end.
 set -eu
 top=$(cd "$(dirname "$0")/.." && pwd)
 reads=${READS:-1500000}
@@ -91,9 +91,15 @@ awk -v step="$(($(wc -l < first.dump) / 1000))" 'NR % step == 1 && n++ < 1000 { 
 rm -f ./*.times
 round=0
 while [ "$round" -lt "$rounds" ]; do
-    rm -f alone.dump packed.*
+    rm -f alone.dump packed.* direct.* filed.*
     /usr/bin/time -a -o alone.times -f '%e %U %M' sh -c "$count > alone.dump"
     /usr/bin/time -a -o pack.times -f '%e %U %M' sh -c "$count | $top/kmc_db pack -k$k -ci1 -cs1000000 packed"
+    /usr/bin/time -a -o direct.times -f '%e %U %M' sh -c "$top/kmc_db count -k$k -ci1 -cs1000000 -sp4 -sr4 direct < first.fq"
+    FUTONCRANE_BIN=$top /usr/bin/time -a -o filed.times -f '%e %U %M' "$top/futoncrane/futoncrane" count -q -t4 "-k$k" --min 1 --cap 1000000 \
+        -o filed.kmc first.fq
+    cmp packed.kmc_suf direct.kmc_suf
+    cmp packed.kmc_pre direct.kmc_pre
+    cmp packed.kmc_suf filed.kmc_suf
     /usr/bin/time -a -o piped.times -f '%e %U %M' sh -c "$count | $top/kmc_db histogram - > rows"
     /usr/bin/time -a -o histogram.times -f '%e %U %M' sh -c "$top/kmc_db spectrum -k$k -ci1 -cs1000000 -sp4 -sr4 < first.fq > told.rows"
     cmp rows told.rows
@@ -112,7 +118,9 @@ while read -r name what; do
     echo "$what | $(best "$name") | $(best alone)" | awk -F ' [|] ' '{ printf "| %s | %s | %s | %s | %.2f |\n", $1, $2, $3, $4, $2 / $5 }'
 done <<END
 alone a dump of reads
-pack a database of reads
+direct a database of reads
+filed the same by futoncrane
+pack the same of the dump, through a pipe
 histogram the histogram of reads
 dealt the same by futoncrane
 piped the same of the dump, through a pipe

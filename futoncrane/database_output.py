@@ -1,17 +1,18 @@
-"""An answer that is a database: kmc_db makes its two files of the dump while that is written, in a folder beside them. They have their names
-only once both are whole."""
+"""An answer that is a database: kmc_db makes its two files in a folder beside them, of the dump while that is written, or of reads that it counts
+itself. They have their names only once both are whole."""
 import contextlib
 import os
 import subprocess
 
-from futoncrane import databases, folders, notes, places
+from futoncrane import databases, folders, notes, places, shared
 from futoncrane.children import held_signals, signal_of, told, too_late
 from futoncrane.faults import Fault, Misuse, reason, shown
 from futoncrane.feeding import widened
 from futoncrane.output import Output, is_replaced, mode_of
 
 MADE = "made"
-TOO_GREAT = "does not fit its bytes"
+# how kmc_db tells that a line of a dump has a count that no database holds, and that a k-mer of reads has
+TOO_GREAT = ("does not fit its bytes", "more often than the bytes of a count tell")
 
 
 def output_of(asked, setting, children, words):
@@ -43,6 +44,17 @@ def words_of_sum(noted, names, asked):
     return words_of(one["k"], asked.least, asked.greatest, asked.cap, one["strands"] == notes.APART)
 
 
+def width(number):
+    """How many bytes of a count hold the number: four at most."""
+    return next((it for it in (1, 2, 3) if number < 256**it), databases.MOST_COUNTER)
+
+
+def cap_of_reads(setting):
+    """The cap with which reads are counted into a database. No count is above the one that the inputs allow, and each has as many bytes as the cap
+    that is asked for wants."""
+    return max(shared.cap_of(setting), 256 ** (min(width(setting.cap), width(setting.greatest)) - 1))
+
+
 class DatabaseOutput(Output):
     """As Output is, for a name NAME.kmc: the files are NAME.kmc_pre, which makes it a database and comes last, and NAME.kmc_suf."""
 
@@ -60,17 +72,27 @@ class DatabaseOutput(Output):
         self.finals = [os.path.realpath(it) for it in databases.files_of(stem)]
         self.folder = folders.made(os.path.dirname(self.finals[0]))
         self.made = databases.files_of(os.path.join(self.folder, MADE))
-        source, self.descriptor = os.pipe()
-        widened(self.descriptor)
-        command = [places.find("kmc_db"), "pack", *self.words, os.path.join(self.folder, MADE)]
-        self.packer = self.children.start(command, stdin=source, stdout=subprocess.DEVNULL)
-        os.close(source)
-        self.is_made = True
+        self.descriptor, self.is_made = None, True
         return self
+
+    def opened(self):
+        """A pipe to kmc_db, which packs the dump that is written there. It is started when this is asked for."""
+        if self.packer is None:
+            source, self.descriptor = os.pipe()
+            widened(self.descriptor)
+            command = [places.find("kmc_db"), "pack", *self.words, os.path.join(self.folder, MADE)]
+            self.packer = self.children.start(command, stdin=source, stdout=subprocess.DEVNULL)
+            os.close(source)
+        return self.descriptor
+
+    def counted_by(self, words):
+        """The command that counts reads, with these words of kmc, and makes the files by itself."""
+        self.is_direct = True
+        return [places.find("kmc_db"), "count", *words, os.path.join(self.folder, MADE)]
 
     def __exit__(self, *fault):
         super().__exit__(*fault)
-        if self.packer.poll() is None:  # after a fault: it is to write no more into the folder
+        if self.packer and self.packer.poll() is None:  # after a fault: it is to write no more into the folder
             self.packer.kill()
             self.packer.wait()
         folders.dropped(self.folder)
@@ -81,18 +103,24 @@ class DatabaseOutput(Output):
         if not status:
             return
         said = told(self.packer).partition(": ")[2] or "kmc_db %s" % (signal_of(status) or "ended with status %d" % status)
+        self.judge_files(said)
+        raise Fault("%s: %s" % (self.shown, said))
+
+    def judge_files(self, said):
+        """Tells a fault that kmc_db tells of a file, or of a count that no database holds."""
         if said.endswith(TOO_GREAT):
             raise Fault("%s: a count of more than four bytes is in no database: give --cap 4294967295 or less" % self.shown)
         for made, final in zip(self.made, self.finals):
             if said.startswith(made + ": "):
                 raise Fault("%s: it %s%s" % (shown(final), said[len(made) + 2:], self.why()))
-        raise Fault("%s: %s" % (self.shown, said))
 
     def finish(self, is_counted=False):
         """Waits until both files are whole and on the disk, and gives them their names."""
-        self.let_go()
-        self.judge_packer()
-        self.rows = databases.header_of(os.path.join(self.folder, MADE)).rows
+        if not self.is_direct:
+            self.opened()  # also where no dump is written, as where there is none of any slice
+            self.let_go()
+            self.judge_packer()
+        self.rows = self.rows_made()
         for made, final in zip(self.made, self.finals):
             try:
                 os.chmod(made, mode_of(final))
@@ -106,6 +134,10 @@ class DatabaseOutput(Output):
             with contextlib.suppress(OSError):
                 flushed(it)
         self.report.step("kmc_db")
+
+    def rows_made(self):
+        """How many rows the header of the files that were made tells."""
+        return databases.header_of(os.path.join(self.folder, MADE)).rows
 
     def _move(self):
         """Gives the files their names. Older ones are put aside first, so that none stands beside a new one; after a fault all is as it was."""

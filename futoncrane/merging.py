@@ -137,7 +137,7 @@ def merged(names, limits, children, setting, output=None, reader=None, sink=None
         return
     parts = Parts(names, children)
     command = [places.find(program), *words, *limits, *parts.given]
-    out = subprocess.PIPE if reader else output.descriptor if output else sink
+    out = subprocess.PIPE if reader else output.opened() if output else sink
     merger = children.start(command, pass_fds=parts.pipes, stdin=0 if "-" in names else source, stdout=out)
     parts.let_go()
     if output:

@@ -147,7 +147,8 @@ def begun(thread):
 
 class Output:
     """The answer's file. `descriptor` is what a program writes to; `finish` gives the file its name. Left before, it leaves nothing.
-    `is_made` tells whether it is a file of its own, and no device, pipe or standard output."""
+    `is_made` tells whether it is a file of its own, and no device, pipe or standard output; `is_direct` whether a program makes it by itself."""
+    is_direct = False
 
     def __init__(self, name, children, is_last=True, threads=1, form="text"):
         self.name, self.children, self.is_last, self.threads, self.form = name, children, is_last, threads, form
@@ -213,6 +214,10 @@ class Output:
         """Counts the lines of the file while it is written from its front to its end."""
         if self.work and not self.packer:
             self.counted = begun(Lines(self.work, 0, grows=True))
+
+    def opened(self):
+        """What a program writes to."""
+        return self.descriptor
 
     def let_go(self):
         """Closes what a program writes to, once that program has it: the packer sees the end when the program ends."""

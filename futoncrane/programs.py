@@ -10,11 +10,11 @@ from futoncrane.progress import Watch, one_run
 
 
 def fed(command, found, setting, children, output, reader=None, text=None, step=one_run, disk=None):
-    """Feeds the inputs to a program that runs within the cap, and judges how it ended. What it writes goes to the output or the reader;
-    one that writes files does so on the disk `disk`."""
+    """Feeds the inputs to a program that runs within the cap, and judges how it ended. What it writes goes to the output or the reader, but for
+    an output that it makes by itself; one that writes files does so on the disk `disk`."""
     feed = Feed(found)
     space = memory.addresses(setting.memory, setting.threads) if setting.memory else None
-    sink = subprocess.PIPE if reader else output.descriptor if output else subprocess.DEVNULL
+    sink = subprocess.PIPE if reader else output.opened() if output and not output.is_direct else subprocess.DEVNULL
     program = children.start(command, space, env=memory.environment(), stdin=feed.source, stdout=sink)
     feed.close_source()
     if output:
@@ -46,6 +46,8 @@ def judge(program, watch, found, setting, output):
     line = re.fullmatch(r"line ([0-9]+): (.*)", text)
     if line and found:
         raise Fault(where(int(line[1]), found) + line[2])
+    if output and output.is_direct:
+        output.judge_files(text)
     if text.endswith((": cannot be written", "cannot write", "write failed")):
         raise Fault("%s: it cannot be written%s" % (output.shown if output else "the pipe", output.why() if output else ""))
     if ": cannot be made" in text and output:

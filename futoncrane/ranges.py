@@ -126,7 +126,7 @@ def at_once(names, setting):
 
 def is_file(output):
     """Whether the output is a file of its own, which may be written at any place."""
-    return output is not None and output.is_made and not output.packer
+    return output is not None and output.work is not None and not output.packer
 
 
 def opened(names, files, children=None):

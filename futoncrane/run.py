@@ -2,6 +2,7 @@
 import sys
 
 from futoncrane import doubts, dumps, folders, inputs, memory, merging, notes, places, ranges, report, shared, slices
+from futoncrane.database_output import DatabaseOutput, cap_of_reads
 from futoncrane.faults import Fault, Misuse, shown
 from futoncrane.programs import fed
 
@@ -35,10 +36,16 @@ def run(found, setting, children, output, reader=None):
         work.begin(plan.wanted, memory.disk(symbols), beside)
         work.count(output, reader)
     else:
-        command, taken = [places.find("kmc"), *shared.words(setting, format_name)], reader
+        words, taken = shared.words(setting, format_name), reader
         if isinstance(reader, dumps.Histogram):
-            command[:1], taken = [places.find("kmc_db"), "spectrum"], reader.take
+            command, taken = [places.find("kmc_db"), "spectrum", *words], reader.take
+        elif isinstance(output, DatabaseOutput):
+            command = output.counted_by(shared.words(setting, format_name, cap_of_reads(setting)))
+        else:
+            command = [places.find("kmc"), *words]
         fed(command, found, setting, children, output, taken, "one run, estimated to take at most %s of memory" % memory.human(plan.wanted))
+        if output and output.is_direct:
+            setting.report.written = output.rows_made()
     setting.report.doubt = doubts.of(found, setting)
     return work
 

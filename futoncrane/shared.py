@@ -79,9 +79,9 @@ def settings(asked, least=1, greatest=MOST, cap=MOST):
         report=report.Report(not asked.quiet or given.get("json") is not None))
 
 
-def words(told, format_name):
-    """KMC's words for these settings: those for cutting, and those for listing."""
-    return words_of_cut(told, format_name) + words_of_list(told)
+def words(told, format_name, cap=None):
+    """KMC's words for these settings: those for cutting, and those for listing, with the cap that is wanted or the one that the inputs allow."""
+    return words_of_cut(told, format_name) + words_of_list(told, cap=cap)
 
 
 def words_of_cut(told, format_name, splitters=None):
@@ -95,8 +95,8 @@ def cap_of(told):
     return min(told.cap, told.most)
 
 
-def words_of_list(told, counters=None):
-    found = ["-ci%d" % told.least, "-cx%d" % told.greatest, "-cs%d" % cap_of(told), "-sr%d" % (counters or told.counters)]
+def words_of_list(told, counters=None, cap=None):
+    found = ["-ci%d" % told.least, "-cx%d" % told.greatest, "-cs%d" % (cap or cap_of(told)), "-sr%d" % (counters or told.counters)]
     return found + (["-b"] if told.forward else [])
 
 

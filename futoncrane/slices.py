@@ -22,7 +22,7 @@ PAUSE = 0.01
 class Disk:
     """The files of the meantime, as a fault tells of them in the place of an output. Their own folder is gone by then: what is told is
     the one that it stood in."""
-    packer = None
+    packer, is_direct = None, False
 
     def __init__(self, path):
         self.path, self.shown = path, shown(os.path.dirname(os.path.dirname(path)))
@@ -53,7 +53,7 @@ class Listing:
         self.parts = merging.Parts(names, children)
         space = memory.addresses(setting.memory, setting.threads) if setting.memory else None
         command = [places.find("kmc_list"), *shared.words_of_list(setting, counters), *self.parts.given]
-        sink = output.descriptor if output else file if file else subprocess.PIPE
+        sink = output.opened() if output else file if file else subprocess.PIPE
         self.program = children.start(command, space, env=memory.environment(), pass_fds=self.parts.pipes,
                                       stdin=0 if "-" in names else subprocess.DEVNULL, stdout=sink)
         self.stream = self.program.stdout

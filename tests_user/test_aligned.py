@@ -85,8 +85,10 @@ def test_another_program_of_the_name_is_refused(room):
     os.mkdir(room.path("bin"))
     os.symlink(theirs, room.path("bin/kmc"))
     room.environment["FUTONCRANE_BIN"] = room.path("bin")
-    for command in ("count", "histogram", "solid", "size"):
-        room.refuses(1, "bin/kmc: it is not the program kmc of futoncrane", "KMC 3", "FUTONCRANE_BIN", words=[command, READS, "-o", "out.fa" if command == "solid" else "out"])
+    for command, out in (("count", "out"), ("solid", "out.fa")):
+        room.refuses(1, "bin/kmc: it is not the program kmc of futoncrane", "KMC 3", "FUTONCRANE_BIN", words=[command, READS, "-o", out])
+    for words in (["histogram"], ["size"], ["count", "-o", "db.kmc"]):  # these take another program
+        room.refuses(1, "the program kmc_db is not there", "FUTONCRANE_BIN", words=[*words, READS])
     ran = room.run("doctor")
     assert ran.status == 1 and b"kmc          MISSING: " in ran.out and ran.err == "" and b"Traceback" not in ran.out, ran
 

@@ -51,12 +51,11 @@ def test_slices_are_written_as_a_database(room):
 
 
 def test_no_text_is_written_for_a_database(room):
-    program("kmc_db")
-    room.stand_in("#!/bin/sh\ncat > /dev/null\nprintf 'ACGT\\t2\\n'\nls -a > listed\nprintf 'CCGT\\t2\\n'\n")
-    room.counts(b"", "count", "-k4", "-o", "db.kmc", READS)
+    room.stand_in("#!/bin/sh\n'%s' \"$@\" || exit\nls -a . .futoncrane-*/ > listed\n" % program("kmc_db"), "kmc_db")
+    room.counts(b"", "count", "-k25", "-o", "db.kmc", READS)
     names = set(content(room.path("listed")).decode().split())
-    assert len([it for it in names if it.startswith(".futoncrane-")]) == 1 and not [it for it in names if it.startswith("db")], names
-    assert listed(room) == b"ACGT\t2\nCCGT\t2\n"
+    assert {"made.kmc_pre", "made.kmc_suf"} < names and not [it for it in names if it.startswith("db") or "dump" in it], names
+    assert listed(room) == wanted_dump()
 
 
 def test_a_database_has_a_note(room):
@@ -64,7 +63,7 @@ def test_a_database_has_a_note(room):
     room.counts(b"", "count", "-k25", "-o", "db.kmc", READS)
     note = json.loads(content(room.path("db.kmc.json")))
     assert [note[it] for it in ("k", "strands", "min", "max", "cap", "inputs")] == [25, "joined", 2, None, 255, [READS]], note
-    assert note["totals"]["listed"] == wanted_dump().count(b"\n") and note["steps"] == ["kmc", "kmc_db"], note
+    assert note["totals"]["listed"] == wanted_dump().count(b"\n") and note["steps"] == ["kmc_db"], note
     room.write("db.kmc.json", b'{"mine": 1}')
     assert "is no note of a dump and stays" in room.run("count", "-k25", "-o", "db.kmc", READS).err and content(room.path("db.kmc.json")) == b'{"mine": 1}'
 
@@ -122,24 +121,31 @@ def test_a_database_that_cannot_be_written_is_told(room):
 
 
 def test_a_count_that_no_database_holds_is_told(room):
-    program("kmc_db")
-    room.stand_in("#!/bin/sh\ncat > /dev/null\nprintf 'ACGT\\t4294967296\\n'\n")
+    for it in "ab":
+        room.write(it + ".dump", b"ACGT\t4294967295\n")
+    room.refuses(1, "db.kmc: ", "--cap 4294967295", words=["merge", "--cap", "none", "-o", "db.kmc", "a.dump", "b.dump"])
+    room.counts(b"ACGT\t8589934590\n", "merge", "--cap", "none", "a.dump", "b.dump")
+    # of reads that many are too many for a test
+    told = "kmc_db: a k-mer occurs more often than the bytes of a count tell"
+    room.stand_in("#!/bin/sh\nif [ \"$1\" != count ]; then exec '%s' \"$@\"; fi\necho '%s' >&2\nexit 1\n" % (program("kmc_db"), told), "kmc_db")
     room.refuses(1, "db.kmc: ", "--cap 4294967295", words=["count", "-k4", "--cap", "none", "-o", "db.kmc", READS])
-    room.counts(b"", "count", "-k4", "--cap", "none", "-o", "dump", READS)
-    assert content(room.path("dump")) == b"ACGT\t4294967296\n"
 
 
 def test_a_program_that_fails_leaves_no_database(room):
     program("kmc_db")
-    for end, told in (("exit 3", "kmc ended with status 3"), ("kill -KILL $$", "kmc was ended by SIGKILL"), ("exit 1", "kmc ended with status 1")):
-        for out in ("db.kmc", "dump.gz"):
-            room.stand_in("#!/bin/sh\ncat > /dev/null\nprintf 'ACGT\\t1\\n'\n%s\n" % end)
-            room.refuses(1, told, words=["count", "-k4", "-o", out, READS])
+    for end, told in (("exit 3", "%s ended with status 3"), ("kill -KILL $$", "%s was ended by SIGKILL"), ("exit 1", "%s ended with status 1")):
+        for out, name in (("db.kmc", "kmc_db"), ("dump.gz", "kmc")):
+            room.stand_in("#!/bin/sh\ncat > /dev/null\nprintf 'ACGT\\t1\\n'\n%s\n" % end, name)
+            room.refuses(1, told % name, words=["count", "-k4", "-o", out, READS])
             assert not [it for it in os.listdir(room.folder) if it.startswith(".futoncrane")], out
-    room.stand_in("#!/bin/sh\nprintf 'ACGT\\t1\\n'\n")
+    room.write("a.dump", b"ACGT\t1\n")
+    room.write("b.dump", b"CCGT\t1\n")
     for end, told in (("kill -KILL $$", "kmc_db was ended by SIGKILL"), ("echo 'kmc_db: out of memory' >&2; exit 1", "db.kmc: out of memory"), ("exit 3", "kmc_db ended with status 3")):
         room.stand_in("#!/bin/sh\ncat > /dev/null\n%s\n" % end, "kmc_db")
-        room.refuses(1, told, words=["count", "-k4", "-o", "db.kmc", READS])
+        if not os.path.lexists(room.path("bin/kmc_merge")):
+            os.symlink(program("kmc_merge"), room.path("bin/kmc_merge"))
+        room.refuses(1, told, words=["merge", "-o", "db.kmc", "a.dump", "b.dump"])
+        assert not [it for it in os.listdir(room.folder) if it.startswith((".futoncrane", "db."))], told
 
 
 def test_a_database_is_written_through_links(room):

@@ -125,7 +125,7 @@ def hanging(room):
     """A kmc that writes some of the dump and then hangs, and a kmc_db that does so where it counts reads."""
     text = "#!/bin/sh\nprintf 'ACGT\\t2\\n'; : > begun; exec sleep 10000\n"
     room.stand_in(text)
-    room.stand_in(text.replace("\n", "\nif [ \"$1\" != spectrum ]; then exec '%s' \"$@\"; fi\n" % program("kmc_db"), 1), "kmc_db")
+    room.stand_in(text.replace("\n", "\ncase \"$1\" in spectrum|count) ;; *) exec '%s' \"$@\";; esac\n" % program("kmc_db"), 1), "kmc_db")
 
 
 def test_each_signal_has_its_status(room):

@@ -31,7 +31,7 @@ pub fn asks_to_count(words: &[String]) -> bool
 /// be written over.
 #[derive(Drop)]
 struct CountWords {
-    name: Option<String>,
+    name: String,
     first_part: Option<usize>,
     over: bool,
     /// The words that `kmc` takes.
@@ -58,20 +58,23 @@ fn with_word(sorted: CountWords, word: String) -> Result<CountWords, ParamsError
             return Err(ParamsError::Usage);
         }
         more.first_part = asked;
-    } else if is_file_name(word.as_str()) && more.name.is_none() {
-        more.name = Some(word);
-    } else {
-        if more.options.push(word).is_err() {
-            return Err(ParamsError::Memory);
-        }
+    } else if more.options.push(word).is_err() {
+        return Err(ParamsError::Memory);
     }
     Ok(more)
 }
 
-/// The words, sorted.
+/// The words, sorted: the last one is the name.
 fn sorted(alloc: Global, words: Vec<String>) -> Result<CountWords, ParamsError> {
+    let mut words = words;
+    let Some(name) = words.pop() else {
+        return Err(ParamsError::Usage);
+    };
+    if !is_file_name(name.as_str()) {
+        return Err(ParamsError::Usage);
+    }
     let mut sorted = CountWords {
-        name: None,
+        name,
         first_part: None,
         over: false,
         options: Vec::new(alloc),
@@ -144,9 +147,6 @@ pub fn count_input<T: Threads + Wait + Sync + Files + Eprint + Alloc<A = Global>
     let params = match settings(rt.alloc(), Program::Kmc, options) {
         Ok(params) => params,
         Err(error) => return refused(rt, error),
-    };
-    let Some(name) = name else {
-        return refused(rt, ParamsError::Usage);
     };
     match count_into(rt, name.as_str(), (&params, first_part, over), reader) {
         Ok(status) => status,

@@ -175,9 +175,9 @@ fn a_read_that_fails_loses_nothing(rt: HostRuntime) -> Result<(), Fail> {
 
 /// The strands that the header tells where its byte for them is this one.
 fn strands_by(rt: &impl Alloc<A = Global>, byte: u8) -> Result<Strands, Fail> {
-    let mut prefix = prefix_file(rt.alloc(), &TABLE, HEADER)?;
-    let place = prefix.len() - 40;
-    prefix[place] = byte;
+    let mut header = HEADER;
+    header[8] = u32::from(byte);
+    let prefix = prefix_file(rt.alloc(), &TABLE, header)?;
     let mut reader = Counted::new(BlockReader::new(prefix.as_slice(), 7, 0));
     Ok(database_header(rt.alloc(), &mut reader)?.strands)
 }

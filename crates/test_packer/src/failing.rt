@@ -83,7 +83,7 @@ fn a_suffix_file_that_cannot_be_written_has_a_front(rt: HostRuntime) {
         let found = made(&rt, WORDS, None, FASTQ, devices);
         assert_eq!(&rt; found.answer, Err(PackReadsError::WriteSuffix));
         assert!(&rt; found.prefix.is_empty());
-        assert_eq!(&rt; found.suffix.as_slice(), &sound.suffix[..room]);
+        assert!(&rt; found.suffix.len() == room && sound.suffix.starts_with(&found.suffix));
     }
     let unflushed = Devices {
         suffix: (size, false),
@@ -98,15 +98,15 @@ fn a_suffix_file_that_cannot_be_written_has_a_front(rt: HostRuntime) {
 fn a_prefix_file_that_cannot_be_written_has_a_front(rt: HostRuntime) {
     let sound = whole(&rt);
     let size = sound.prefix.len();
-    let last = size - 1;
-    for room in [0, 1, 4, 100, size - 73, size - 72, size - 71, last] {
+    for left in [1, 2, 71, 72, 73, 100, 2000, size] {
+        let room = size.saturating_sub(left);
         let devices = Devices {
             prefix: (room, true),
             ..SOUND
         };
         let found = made(&rt, WORDS, None, FASTQ, devices);
         assert_eq!(&rt; found.answer, Err(PackReadsError::WritePrefix));
-        assert_eq!(&rt; found.prefix.as_slice(), &sound.prefix[..room]);
+        assert!(&rt; found.prefix.len() == room && sound.prefix.starts_with(&found.prefix));
         assert_eq!(&rt; found.suffix.as_slice(), sound.suffix.as_slice());
     }
     let unflushed = Devices {

@@ -27,20 +27,22 @@ pub fn text_of(alloc: Global, reads: &[(&str, usize)]) -> Result<Vec<u8>, AllocE
     Ok(text)
 }
 
-/// A FASTA text of so many reads of 90 symbols: each is a stretch of one sequence, and one symbol in forty is N.
+/// A FASTA text of so many reads of 90 symbols: each is a stretch of one of five sequences, and one symbol in forty is N.
 pub fn text_of_stretches(alloc: Global, reads: usize) -> Result<Vec<u8>, AllocError> {
     let mut dice = Dice { state: 11 };
     let letters = b"ACGT";
-    let mut sequence = Vec::new(alloc);
-    for _place in 0..700 {
-        sequence.push(letters[dice.roll(4)])?;
-    }
     let mut text = Vec::new(alloc);
     for _read in 0..reads {
+        let mut sequence = Dice {
+            state: dice.roll(5) as u64,
+        };
+        for _place in 0..dice.roll(30) {
+            let _ = sequence.roll(4);
+        }
         text.extend_from_slice(b">r\n")?;
-        let from = dice.roll(600);
-        for symbol in &sequence[from..from + 90] {
-            text.push(if dice.roll(40) == 0 { b'N' } else { *symbol })?;
+        for _place in 0..90 {
+            let symbol = letters[sequence.roll(4)];
+            text.push(if dice.roll(40) == 0 { b'N' } else { symbol })?;
         }
         text.push(b'\n')?;
     }
