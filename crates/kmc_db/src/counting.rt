@@ -1,5 +1,5 @@
 //! `kmc_db count`: reads on standard input as a database in two files, with no dump between.
-ghost use Rattle.std.specs.Prelude.{◌≡◌, ◌+◌, ◌^◌, ◌<◌, length, true};
+ghost use Rattle.std.specs.Prelude.{◌+◌, ◌^◌, ◌<◌};
 
 use crate::making::database_files;
 use kmc_database::MOST_PREFIX;
@@ -16,16 +16,6 @@ use std::sync::Wait;
 use std::thread::Threads;
 
 const USAGE: &str = "usage: kmc_db count [options of kmc] [-prefix<len>] [--force] <name> < reads";
-
-/// Whether the first word is `count`.
-pub fn asks_to_count(words: &[String]) -> bool
-    ensures { result ≡ true → 0 < length words.now }
-{
-    match words.first() {
-        Some(word) => word.as_str() == "count",
-        None => false,
-    }
-}
 
 /// What the words say beside what a count is told: the database's name, the symbols of its first parts, and whether files of this name may
 /// be written over.

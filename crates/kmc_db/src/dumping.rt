@@ -1,5 +1,4 @@
 //! `kmc_db dump`: the dump of a database in two files, on standard output.
-ghost use Rattle.std.specs.Prelude.{◌≡◌, ◌<◌, length, true};
 
 use kmc_database::unpack_readers;
 use kmc_device::Counted;
@@ -11,16 +10,6 @@ use std::process::ExitCode;
 use std::rt::Files;
 
 const USAGE: &str = "usage: kmc_db dump <name> > a.dump";
-
-/// Whether the first word is `dump`.
-pub fn asks_to_dump(words: &[String]) -> bool
-    ensures { result ≡ true → 0 < length words.now }
-{
-    match words.first() {
-        Some(word) => word.as_str() == "dump",
-        None => false,
-    }
-}
 
 /// The name of a database, where the words behind `dump` are one.
 fn dump_request(words: &[String]) -> Option<&str> {

@@ -13,14 +13,14 @@ mod naming;
 mod packing;
 mod querying;
 mod request;
-mod spectra;
+mod uses;
 
-use crate::counting::{asks_to_count, count_input};
-use crate::dumping::{asks_to_dump, dump_files};
+use crate::counting::count_input;
+use crate::dumping::dump_files;
 use crate::joining::join_databases;
-use crate::packing::{asks_to_pack, pack_input};
+use crate::packing::pack_input;
 use crate::querying::query_files;
-use crate::spectra::{asks_for_spectrum, words_behind};
+use crate::uses::{asks_for, words_behind};
 use kmc_device::Counted;
 use kmc_join::{program, program_words};
 use kmc_options::{arguments, asks_for_text};
@@ -38,20 +38,20 @@ fn main(rt: HostRuntime) -> ExitCode {
             let mut writer = Counted::new(io::writer(&rt));
             return program_words(&rt, words, rt.reader(), &mut writer);
         }
-        if asks_for_spectrum(&words) {
+        if asks_for(&words, "spectrum") {
             let mut reader = Counted::new(rt.stdin());
             let mut writer = Counted::new(io::writer(&rt));
             return spectrum_of(&rt, words_behind(words), &mut reader, &mut writer);
         }
-        if asks_to_count(&words) {
+        if asks_for(&words, "count") {
             let mut reader = Counted::new(rt.stdin());
             return count_input(&rt, words_behind(words), &mut reader);
         }
-        if asks_to_pack(&words) {
+        if asks_for(&words, "pack") {
             let mut reader = Counted::new(rt.stdin());
             return pack_input(&rt, &words[1..], &mut reader);
         }
-        if asks_to_dump(&words) {
+        if asks_for(&words, "dump") {
             let mut writer = Counted::new(io::writer(&rt));
             return dump_files(&rt, &words[1..], &mut writer);
         }

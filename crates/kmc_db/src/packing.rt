@@ -1,5 +1,4 @@
 //! `kmc_db pack`: a dump on standard input as a database in two files.
-ghost use Rattle.std.specs.Prelude.{◌≡◌, ◌<◌, length, true};
 
 use crate::making::database_files;
 use crate::request::{PackRequest, pack_request};
@@ -15,16 +14,6 @@ const USAGE: &str =
 
 /// What stands in the place of a file's name where the dump is read from standard input.
 const INPUT: &str = "standard input";
-
-/// Whether the first word is `pack`.
-pub fn asks_to_pack(words: &[String]) -> bool
-    ensures { result ≡ true → 0 < length words.now }
-{
-    match words.first() {
-        Some(word) => word.as_str() == "pack",
-        None => false,
-    }
-}
 
 /// Makes the two files, and packs the dump into them.
 fn pack_into<T: Files + Eprint + Alloc<A = Global>, R: Read>(

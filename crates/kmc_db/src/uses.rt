@@ -1,12 +1,12 @@
-//! `kmc_db spectrum`: the words behind it are `kmc`'s, and all else is `kmc_spectrum`'s.
+//! The use of the program that the first word asks for.
 ghost use Rattle.std.specs.Prelude.{◌≡◌, ◌<◌, drop, length, true, vec_len};
 
-/// Whether the first word is `spectrum`.
-pub fn asks_for_spectrum(words: &[String]) -> bool
+/// Whether the first word is the name of this use.
+pub fn asks_for(words: &[String], name: &str) -> bool
     ensures { result ≡ true → 0 < length words.now }
 {
     match words.first() {
-        Some(word) => word.as_str() == "spectrum",
+        Some(word) => word.as_str() == name,
         None => false,
     }
 }
