@@ -1,15 +1,15 @@
 #!/bin/sh
 # Compares `futoncrane` with `kmc_tools simple` of KMC 3, and with one kmc_db alone: union, intersection, and both differences of two sets of
-# reads that share half of their genome, and the first two of these from databases. The answers must be equal. The table of the two stands
-# beside them, which KMC 3 has not: its numbers must add up to the k-mers of the union. Then what a database and a histogram of reads take
-# beside a dump of them, and a thousand words looked up. Prints two Markdown tables.
+# reads that share half of their genome, and the first two of these from databases, into a dump and into a database. The answers must be equal.
+# The table of the two stands beside them, which KMC 3 has not: its numbers must add up to the k-mers of the union. Then what a database and a
+# histogram of reads take beside a dump of them, and a thousand words looked up. Prints two Markdown tables.
 #
 # usage: bench/joins.sh
 #
 # Wants `kmc` and `kmc_tools` (Debian's package kmc) and GNU time. READS (1500000), K (31) and ROUNDS (3) are variables: so many reads of 100
-# symbols are simulated for each side. Ours reads two dumps or databases and writes a dump; KMC's reads two databases and writes one, and its
-# dump is made apart, for comparison alone. Memory is that of the largest program. A row has the least wall time of each. The files lie in a
-# folder of $TMPDIR or /tmp, which is removed at the end.
+# symbols are simulated for each side. Ours reads two dumps or databases and writes a dump, or a database, which a second kmc_db packs where one
+# alone joins; KMC's reads two databases and writes one, and its dump is made apart, for comparison alone. Memory is that of the largest
+# program. A row has the least wall time of each. The files lie in a folder of $TMPDIR or /tmp, which is removed at the end.
 set -eu
 top=$(cd "$(dirname "$0")/.." && pwd)
 reads=${READS:-1500000}
@@ -40,22 +40,32 @@ echo "|---|---|---|---|---|---|---|---|---|---|---|---|---|---|"
 read_in=$(cat first.dump second.dump | wc -l)
 while read -r kind name theirs command; do
     rm -f ./*.times
+    left=sorted_first right=sorted_second ends=.kmc made=.dump sink='> ours.dump'
     case $kind in
         dumps) left=first.dump right=second.dump ends='' what=$name ;;
-        databases) left=sorted_first right=sorted_second ends=.kmc what="$name of databases" ;;
+        databases) what="$name of databases" ;;
+        packed)
+            what="$name of databases, into a database" made=.kmc
+            sink="| $top/kmc_db pack -k$k -ci1 -cx9223372036854775808 -cs4294967295 ours" ;;
     esac
     round=0
     while [ "$round" -lt "$rounds" ]; do
         # new files: some file systems have who writes over a file wait for the disk when it is closed
-        rm -f ours.dump ranged.dump joined.*
+        rm -f ours.dump ranged.dump ours.kmc_* ranged.kmc_* joined.*
         # shellcheck disable=SC2086 # words of a command
         FUTONCRANE_BIN=$top /usr/bin/time -a -o ranged.times -f '%e %U %M' "$top/futoncrane/futoncrane" $command -q -t4 --cap 4294967295 \
-            -o ranged.dump "$left$ends" "$right$ends"
-        /usr/bin/time -a -o ours.times -f '%e %U %M' "$top/kmc_db" "$name" -ci1 -cs4294967295 "$left" "$right" > ours.dump
+            -o "ranged$made" "$left$ends" "$right$ends"
+        /usr/bin/time -a -o ours.times -f '%e %U %M' sh -c "$top/kmc_db $name -ci1 -cs4294967295 $left $right $sink"
         /usr/bin/time -a -o theirs.times -f '%e %U %M' kmc_tools -t4 simple first second "$theirs" joined -cs4294967295 > log 2>&1
         round=$((round + 1))
     done
     kmc_tools -t4 transform joined dump -s theirs.dump > log 2>&1
+    if [ "$kind" = packed ]; then
+        cmp ranged.kmc_pre ours.kmc_pre
+        cmp ranged.kmc_suf ours.kmc_suf
+        "$top/kmc_db" dump ours > ours.dump
+        "$top/kmc_db" dump ranged > ranged.dump
+    fi
     cmp ours.dump theirs.dump
     cmp ranged.dump theirs.dump
     if [ "$name" = union ]; then
@@ -71,6 +81,8 @@ dumps subtract kmers_subtract subtract
 dumps counters-subtract counters_subtract subtract --counts
 databases intersect intersect intersect
 databases union union union
+packed intersect intersect intersect
+packed union union union
 END
 
 rm -f ./*.times

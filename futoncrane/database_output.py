@@ -5,7 +5,7 @@ import os
 import subprocess
 
 from futoncrane import databases, folders, notes, places, shared
-from futoncrane.children import held_signals, signal_of, told, too_late
+from futoncrane.children import held_signals, signal_of, sweep, told, too_late
 from futoncrane.faults import Fault, Misuse, reason, shown
 from futoncrane.feeding import widened
 from futoncrane.output import Output, is_replaced, mode_of
@@ -71,30 +71,44 @@ class DatabaseOutput(Output):
                 raise Fault("%s: it is no file, and a database is written into two files" % shown(it))
         self.finals = [os.path.realpath(it) for it in databases.files_of(stem)]
         self.folder = folders.made(os.path.dirname(self.finals[0]))
-        self.made = databases.files_of(os.path.join(self.folder, MADE))
+        self.stem = os.path.join(self.folder, MADE)
+        self.made = databases.files_of(self.stem)
         self.descriptor, self.is_made = None, True
         return self
 
     def opened(self):
         """A pipe to kmc_db, which packs the dump that is written there. It is started when this is asked for."""
         if self.packer is None:
-            source, self.descriptor = os.pipe()
-            widened(self.descriptor)
-            command = [places.find("kmc_db"), "pack", *self.words, os.path.join(self.folder, MADE)]
-            self.packer = self.children.start(command, stdin=source, stdout=subprocess.DEVNULL)
-            os.close(source)
+            self.packer, self.descriptor = self.packer_into(self.stem)
         return self.descriptor
+
+    def packer_into(self, stem, k=None):
+        """A kmc_db that packs a dump into a database of this name, and the pipe that the dump is written to. A dump without lines can be packed where
+        the words tell its k, or where it is given here."""
+        words = self.words if k is None or self.tells_k() else [*self.words, "-k%d" % k]
+        source, sink = os.pipe()
+        widened(sink)
+        try:
+            return self.children.start([places.find("kmc_db"), "pack", *words, stem], stdin=source, stdout=subprocess.DEVNULL), sink
+        except Fault:
+            os.close(sink)
+            raise
+        finally:
+            os.close(source)
+
+    def tells_k(self):
+        """Whether the words tell k."""
+        return any(it.startswith("-k") for it in self.words)
 
     def counted_by(self, words):
         """The command that counts reads, with these words of kmc, and makes the files by itself."""
         self.is_direct = True
-        return [places.find("kmc_db"), "count", *words, os.path.join(self.folder, MADE)]
+        return [places.find("kmc_db"), "count", *words, self.stem]
 
     def __exit__(self, *fault):
         super().__exit__(*fault)
-        if self.packer and self.packer.poll() is None:  # after a fault: it is to write no more into the folder
-            self.packer.kill()
-            self.packer.wait()
+        if fault[0]:
+            sweep()  # no program is to write into the folder any more
         folders.dropped(self.folder)
 
     def judge_packer(self):
@@ -137,7 +151,7 @@ class DatabaseOutput(Output):
 
     def rows_made(self):
         """How many rows the header of the files that were made tells."""
-        return databases.header_of(os.path.join(self.folder, MADE)).rows
+        return databases.header_of(self.stem).rows
 
     def _move(self):
         """Gives the files their names. Older ones are put aside first, so that none stands beside a new one; after a fault all is as it was."""

@@ -1,5 +1,4 @@
 """What a program is given of a database that is cut into ranges: a part of it as a database of its own, or the dump of that."""
-import contextlib
 import os
 import subprocess
 
@@ -15,7 +14,7 @@ class DatabasePart(Part):
 
     def __init__(self, database, entries, rows):
         super().__init__(2 * database.table + database.row * rows[1])
-        self.database, self.entries, self.rows, self.files = database, entries, rows, ()
+        self.database, self.entries, self.rows, self.path = database, entries, rows, None
 
     def length(self):
         """How many letters its k-mers have; none where it has no row."""
@@ -23,17 +22,17 @@ class DatabasePart(Part):
 
     def given(self, path):
         """Has it ready for a program, as the database of this name, and answers that. The suffix file is the name of a pipe."""
-        self.files = databases.files_of(path)
-        self.database.write_prefix_file(self.files[0], *self.entries, *self.rows)
+        self.path = path
+        prefix, suffix = databases.files_of(path)
+        self.database.write_prefix_file(prefix, *self.entries, *self.rows)
         self.sender = Sender(self.database.suffix_file(*self.rows))
-        os.symlink("/dev/fd/%d" % self.sender.source, self.files[1])
+        os.symlink("/dev/fd/%d" % self.sender.source, suffix)
         return path
 
     def drop(self):
         super().drop()
-        for it in self.files:
-            with contextlib.suppress(OSError):
-                os.unlink(it)
+        if self.path:
+            databases.drop(self.path)
 
 
 class DumpedPart(DatabasePart):

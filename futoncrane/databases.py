@@ -1,5 +1,6 @@
 """Databases of k-mers in KMC's sorted form. NAME.kmc, NAME.kmc_pre and NAME.kmc_suf all mean the two files of the database NAME."""
 import collections
+import contextlib
 import os
 import struct
 
@@ -35,6 +36,13 @@ def file_of(name):
     """The file that a word names: of a database the prefix file."""
     stem = stem_of(name)
     return name if stem is None else stem + PREFIX
+
+
+def drop(stem):
+    """Removes the files of a database, as far as they are there."""
+    for it in files_of(stem):
+        with contextlib.suppress(OSError):
+            os.unlink(it)
 
 
 def end_of(path):

@@ -5,8 +5,9 @@ import signal
 import stat
 import subprocess
 
-from futoncrane import databases, dumping, packing, places, ranges
+from futoncrane import databases, dumping, packing, places, ranged_output, ranges
 from futoncrane.children import ended, open_more, signal_of
+from futoncrane.database_output import DatabaseOutput
 from futoncrane.faults import Fault, Misuse, reason, shown
 from futoncrane.feeding import judge_unpacker, widened
 from futoncrane.options import MOST
@@ -133,7 +134,8 @@ def merged(names, limits, children, setting, output=None, reader=None, sink=None
            is_dump=True):
     """Merges these dumps at once, or joins them by another program with these words, into the output, the file `sink`, or what `reader` reads.
     Its standard input is `source`, or ours where that is one of the dumps. An answer that is a dump is made range by range where it can be."""
-    if is_dump and not reader and not sink and all(map(has_ranges, names)) and ranges.joined(names, program, [*words, *limits], children, setting, output):
+    joined = ranged_output.joined if isinstance(output, DatabaseOutput) else ranges.joined
+    if is_dump and not reader and not sink and all(map(has_ranges, names)) and joined(names, program, [*words, *limits], children, setting, output):
         return
     parts = Parts(names, children)
     command = [places.find(program), *words, *limits, *parts.given]

@@ -147,7 +147,8 @@ def begun(thread):
 
 class Output:
     """The answer's file. `descriptor` is what a program writes to; `finish` gives the file its name. Left before, it leaves nothing.
-    `is_made` tells whether it is a file of its own, and no device, pipe or standard output; `is_direct` whether a program makes it by itself."""
+    `is_made` tells whether it is a file of its own, and no device, pipe or standard output; `is_direct` whether it is made in place, and nothing is
+    written to the descriptor."""
     is_direct = False
 
     def __init__(self, name, children, is_last=True, threads=1, form="text"):

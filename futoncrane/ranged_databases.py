@@ -29,6 +29,11 @@ def bytes_at(file, place, size):
     return found
 
 
+def with_rows(end, rows):
+    """The end of a prefix file, its header and its marker, with so many rows in place of those that it tells."""
+    return end[:ROWS.start] + ENTRY.pack(rows) + end[ROWS.stop:]
+
+
 class Table:
     """The table in a prefix file, as a sequence: for each first part the number of rows that are before it."""
 
@@ -105,7 +110,7 @@ class RangedDatabase:
             file.seek(ENTRY.size * first, os.SEEK_CUR)
             file.write(self.entries.less(first, last, before))
             file.write(ENTRY.pack(many) * (self.end - last))
-            file.write(self.last[:ROWS.start] + ENTRY.pack(many) + self.last[ROWS.stop:])
+            file.write(with_rows(self.last, many))
 
     def suffix_file(self, before, many):
         """The suffix file of so many rows behind others, in pieces of this one: both of its markers, and the rows between them."""

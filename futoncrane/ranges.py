@@ -40,9 +40,10 @@ def ranges_of(operands, many):
         starts = ends
 
 
-def are_of_one_length(ranges):
-    """Whether the k-mers of all ranges are as long as each other, by the first one of each part."""
-    return len({it.length() for parts in ranges for it in parts} - {None}) < 2
+def lengths_of(ranges):
+    """How many letters the k-mers of these ranges have, by the first one of each part: one number, or none where no part has a k-mer. More than one
+    are those of operands that do not fit each other."""
+    return {it.length() for parts in ranges for it in parts} - {None}
 
 
 def size_of(operands):
@@ -93,11 +94,11 @@ class Merger(Ranged):
 
 
 class Joiner(Ranged):
-    """A program that writes what it makes of a range to `made`, a file without a name in this folder."""
+    """A program whose answer for a range is in `made` in the end, which is closed once that was taken."""
 
-    def __init__(self, words, parts, folder, children, path):
-        self.made = tempfile.TemporaryFile(dir=folder, buffering=0)
-        super().__init__(words, parts, self.made, children, path)
+    def __init__(self, words, parts, made, children, path, sink=None):
+        self.made = made
+        super().__init__(words, parts, made if sink is None else sink, children, path)
 
     def stop(self):
         """Has the program end at once."""
@@ -164,7 +165,7 @@ def ranges_fitting(operands, many):
     size, tables = size_of(operands), sum(it.table for it in operands)
     wanted = min(max(many, size // RANGE_BYTES), MOST_TABLES * size // tables if tables else size)
     ranges = list(ranges_of(operands, wanted)) if size >= max(1, LEAST_BYTES) and wanted > 1 else []
-    return ranges if are_of_one_length(ranges) else []
+    return ranges if len(lengths_of(ranges)) < 2 else []
 
 
 def taken_in_order(joiners, many, size, setting, take):
@@ -191,9 +192,9 @@ def taken_in_order(joiners, many, size, setting, take):
             it.stop()
 
 
-def made_in_order(names, program, words, folder, children, setting, take):
-    """Has programs with these words make something of each range of plain dumps and databases, and gives `take` the files that they wrote, in their
-    order. Answers whether that was done: not for few bytes, nor where a program or `take` did not do its work."""
+def made_in_order(names, program, folder, children, setting, begin, take):
+    """Has `begin` begin a joiner by this program for each range of plain dumps and databases, and gives `take` what they made, in their order. What
+    is made for them lies in this folder. Answers whether that was done: not for few bytes, nor where a program or `take` did not do its work."""
     many = at_once(names, setting)
     if many < 2:
         return False
@@ -206,27 +207,41 @@ def made_in_order(names, program, words, folder, children, setting, take):
         if any(it.table for it in operands):
             path = folders.made(folder or tempfile.gettempdir())
             files.callback(folders.dropped, path)
-        command = [places.find(program), *words]
-        joiners = (Joiner(command, parts, folder, children, "%s/%d" % (path, number)) for number, parts in enumerate(ranges))
-        return taken_in_order(joiners, many, sum(it.bytes for parts in ranges for it in parts), setting, take)
+        return taken_in_order(begin(ranges, path), many, sum(it.bytes for parts in ranges for it in parts), setting, take)
     return False
+
+
+def texts(program, words, folder, children):
+    """What begins, for each range, a joiner that writes lines to a file without a name in this folder."""
+    def begin(ranges, path):
+        command = [places.find(program), *words]
+        for number, parts in enumerate(ranges):
+            yield Joiner(command, parts, tempfile.TemporaryFile(dir=folder, buffering=0), children, "%s/%d" % (path, number))
+    return begin
+
+
+def is_copied(sink, file, start, end):
+    """Has the system copy a part of a file behind what `sink` has. Answers whether all of it was."""
+    with contextlib.suppress(OSError):  # who is asked to do it again has a fault that tells
+        moved = None
+        while start < end and moved != 0:
+            moved = os.sendfile(sink, file, start, end - start)
+            start += moved
+    return start == end
 
 
 def joined(names, program, words, children, setting, output):
     """Joins plain dumps and databases, or merges those that share k-mers, into the output by a program with these words for each range. Answers
     whether that was done, as `merged` does."""
     def take(made):
-        place, end = 0, os.fstat(made.fileno()).st_size
-        with contextlib.suppress(OSError):  # who is asked to do it again has a fault that tells
-            while place < end:
-                place += os.sendfile(sink, made.fileno(), place, end - place)
-        return place == end
+        return is_copied(sink, made.fileno(), 0, os.fstat(made.fileno()).st_size)
 
     if not is_file(output):
         return False
+    folder = os.path.dirname(output.work)
     sink = os.open(output.work, os.O_WRONLY | os.O_CLOEXEC)
     try:
-        if not made_in_order(names, program, words, os.path.dirname(output.work), children, setting, take):
+        if not made_in_order(names, program, folder, children, setting, texts(program, words, folder, children), take):
             os.ftruncate(sink, 0)
             return False
         setting.report.written = os.lseek(sink, 0, os.SEEK_CUR)
@@ -248,7 +263,7 @@ def tallied(names, program, words, children, setting):
             found[tuple(counts)] += number
         return True
 
-    if not made_in_order(names, program, words, None, children, setting, take):
+    if not made_in_order(names, program, None, children, setting, texts(program, words, None, children), take):
         return None
     setting.report.step(program)
     return found

@@ -75,6 +75,7 @@ class Room:
         self.temporary = os.path.join(self.folder, "tmp")
         os.mkdir(self.temporary)
         self.environment = dict(os.environ, TMPDIR=self.temporary, FUTONCRANE_BIN=BIN)
+        self.command = COMMAND
 
     def path(self, name):
         return os.path.join(self.folder, name)
@@ -102,7 +103,7 @@ class Room:
     def run(self, *words, text=None, source=None, **others):
         """Runs futoncrane with these words; its input is `text`, the open file `source`, or empty."""
         given = {"stdin": source or subprocess.DEVNULL} if text is None else {"input": text}
-        ran = subprocess.run([*COMMAND, *words], cwd=self.folder, env=self.environment, stdout=subprocess.PIPE, stderr=subprocess.PIPE,
+        ran = subprocess.run([*self.command, *words], cwd=self.folder, env=self.environment, stdout=subprocess.PIPE, stderr=subprocess.PIPE,
                              timeout=LONG, **given, **others)
         return Told(ran.returncode, ran.stdout, ran.stderr.decode(errors="replace"))
 

@@ -38,6 +38,7 @@ class UserTest(unittest.TestCase):
         self.function, self.base = function, base
 
     def runTest(self):
+        os.environ["FUTONCRANE_BIN"] = room.BIN  # the test before may have named stand-ins
         here = room.Room(self.base)
         self.addCleanup(here.gone)
         self.function(here)

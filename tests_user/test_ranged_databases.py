@@ -48,7 +48,6 @@ def database_of(room, name, dump, k, prefix):
 def by_ranges_of(size, least=0):
     """Has ranges be made of so many bytes of lines, where these are no fewer than `least`."""
     program("kmc_db")
-    os.environ["FUTONCRANE_BIN"] = BIN
     ranges.LEAST_BYTES, ranges.RANGE_BYTES, ranges.MOST_TABLES = least, size, 1 << 40
 
 

@@ -64,7 +64,6 @@ def test_each_line_is_in_one_range(room):
 def merged(room, names, threads, least):
     """Whether the dumps were merged by ranges, where no fewer bytes than `least` are; and what is in the answer."""
     program("kmc_merge")
-    os.environ["FUTONCRANE_BIN"] = BIN
     ranges.LEAST_BYTES = least
     with Children() as children, open(room.path("answer"), "wb") as file:
         setting = types.SimpleNamespace(threads=threads, quiet=True, report=report.Report(False))
@@ -115,7 +114,6 @@ def answer_of(names, number):
 def joined(room, names, words, threads, program_name="kmc_db", range_bytes=200):
     """Whether the dumps were joined by ranges of about so many bytes, and what is in the answer."""
     program(program_name)
-    os.environ["FUTONCRANE_BIN"] = BIN
     ranges.LEAST_BYTES, ranges.RANGE_BYTES = 0, range_bytes
     with Children() as children, open(room.path("answer"), "wb") as file:
         setting = types.SimpleNamespace(threads=threads, quiet=True, report=report.Report(False))
@@ -181,7 +179,6 @@ def test_dumps_that_one_program_refuses_are_not_joined_by_ranges(room):
 
 def test_a_table_by_ranges_is_the_table(room):
     program("kmc_db")
-    os.environ["FUTONCRANE_BIN"] = BIN
     source = random.Random(11)
     ranges.LEAST_BYTES, ranges.RANGE_BYTES = 0, 200
     for k, most in ((2, 16), (25, 200)):

@@ -16,7 +16,7 @@ MOMENTS = 20
 
 def started(room, words, **others):
     """The command, at work."""
-    return subprocess.Popen([*COMMAND, *words], cwd=room.folder, env=room.environment, stdin=subprocess.DEVNULL, stdout=subprocess.DEVNULL,
+    return subprocess.Popen([*room.command, *words], cwd=room.folder, env=room.environment, stdin=subprocess.DEVNULL, stdout=subprocess.DEVNULL,
                             stderr=subprocess.PIPE, **others)
 
 

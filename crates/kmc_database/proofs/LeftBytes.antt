@@ -1,7 +1,7 @@
 -- A file whose next bytes are held.
 use Rattle.std.proofs.Common.{◌≡◌, ℕ, ◌+◌, ◌-◌, ◌≤◌, List, ◌++◌, length, take, drop, Option, Some, None, refl, sym, ap, subst, ◌∙◌, arith, append_assoc, length-drop}
 use Rattle.std.specs.Io.KnownBytes.{Consumes, IsAtEnd, Keeps, prepend_known}
-use Rattle.std.proofs.lemmas.List.{append-nil, drop-append-le, drop-take}
+use Rattle.std.proofs.lemmas.List.{append-nil, drop-append-le}
 use Rattle.std.proofs.lemmas.List.Edits.{take-paste}
 use Rattle.std.specs.List.{copy_within}
 use Rattle.kmc_device.specs.Lemmas.Lines.{put_then_take}
@@ -45,43 +45,58 @@ held_less held left n None bytes few is e = absurd (cc)
 held_less held left n (Some rest) bytes few is e =
     ap Some (ap (λ (t : List ℕ). t ++ rest) is ∙ sym (drop-append-le n held rest few) ∙ ap (drop n) (some_same (held ++ rest) bytes e))
 
--- ---- a buffer that is read into behind what it holds
+-- ---- a room that is read into behind what stands at its front
 
-module _ (held out : List ℕ) (at size : ℕ) (inside : at ≤ length held) (long : length out ≡ size - at) where
+module _ (room out : List ℕ) (from to size : ℕ) (front : from ≡ 0) (inside : to ≤ length room) (long : length out ≡ size - to) where
+  -- what a room holds, with the bytes that came behind it
+  abbrev here : ℕ → List ℕ → List ℕ
+  here end bytes = take (end - from) (drop from bytes)
+
+  at_front : (end : ℕ) (bytes : List ℕ) → here end bytes ≡ take end bytes
+  at_front end bytes =
+      let none : end - 0 ≡ end = omega arith in
+      subst (λ (f : ℕ). take (end - f) (drop f bytes) ≡ take end bytes) (sym front) (ap (λ m. take m bytes) none)
+
   -- n bytes came
-  pub filled_more : (n : ℕ) (old new : Option (List ℕ)) → n ≤ size - at → Consumes old new (take n out)
-      → StaysKnown (prepend_known (take at held) old) (prepend_known (take (at + n) (put_mid at (size - at) held out)) new)
+  pub filled_more : (n : ℕ) (old new : Option (List ℕ)) → n ≤ size - to → Consumes old new (take n out)
+      → StaysKnown (prepend_known (take (to - from) (drop from room)) old)
+      (prepend_known (take (to + n - from) (drop from (put_mid to (size - to) room out))) new)
   filled_more n old new few gave =
-      subst (λ (t : List ℕ). StaysKnown (prepend_known (take at held) old) (prepend_known t new))
-      (sym (put_then_take held out at n (size - at) inside long few))
-      (held_more (take at held) (take n out) old new gave)
+      subst (λ (t : List ℕ). StaysKnown (prepend_known (take (to - from) (drop from room)) old) (prepend_known t new))
+      (ap (λ (t : List ℕ). t ++ take n out) (at_front to room) ∙ sym (put_then_take room out to n (size - to) inside long few)
+      ∙ sym (at_front (to + n) (put_mid to (size - to) room out)))
+      (held_more (take (to - from) (drop from room)) (take n out) old new gave)
 
-  front_same : take at (put_mid at (size - at) held out) ≡ take at held
+  front_same : take (to - from) (drop from (put_mid to (size - to) room out)) ≡ take (to - from) (drop from room)
   front_same =
-      let none : at + 0 ≡ at = omega arith in
-      ap (λ m. take m (put_mid at (size - at) held out)) (sym none)
-      ∙ put_then_take held out at 0 (size - at) inside long (omega arith)
-      ∙ append-nil (take at held)
+      let none : to + 0 ≡ to = omega arith in
+      at_front to (put_mid to (size - to) room out)
+      ∙ ap (λ m. take m (put_mid to (size - to) room out)) (sym none)
+      ∙ put_then_take room out to 0 (size - to) inside long (omega arith)
+      ∙ append-nil (take to room)
+      ∙ sym (at_front to room)
 
   -- none came
   pub filled_same : (old new : Option (List ℕ)) → Keeps old new
-      → StaysKnown (prepend_known (take at held) old) (prepend_known (take at (put_mid at (size - at) held out)) new)
+      → StaysKnown (prepend_known (take (to - from) (drop from room)) old)
+      (prepend_known (take (to - from) (drop from (put_mid to (size - to) room out))) new)
   filled_same old new kept =
-      subst (λ (t : List ℕ). StaysKnown (prepend_known (take at held) old) (prepend_known t new)) (sym front_same) (held_kept (take at held) old new kept)
+      subst (λ (t : List ℕ). StaysKnown (prepend_known (take (to - from) (drop from room)) old) (prepend_known t new)) (sym front_same)
+      (held_kept (take (to - from) (drop from room)) old new kept)
 
   pub filled_none : (n : ℕ) (old new : Option (List ℕ)) → n ≡ 0 → Consumes old new (take n out)
-      → StaysKnown (prepend_known (take at held) old) (prepend_known (take at (put_mid at (size - at) held out)) new)
+      → StaysKnown (prepend_known (take (to - from) (drop from room)) old)
+      (prepend_known (take (to - from) (drop from (put_mid to (size - to) room out))) new)
   filled_none n old new none gave =
-      let same : at + n ≡ at = omega (arith, none) in
-      subst (λ (m : ℕ). StaysKnown (prepend_known (take at held) old) (prepend_known (take m (put_mid at (size - at) held out)) new)) same
+      let same : to + n ≡ to = omega (arith, none) in
+      subst (λ (m : ℕ). StaysKnown (prepend_known (take (to - from) (drop from room)) old)
+      (prepend_known (take (m - from) (drop from (put_mid to (size - to) room out))) new)) same
       (filled_more n old new (omega (arith, none)) gave)
 
--- the bytes that are held behind those that are taken, moved to the front
-pub moved_front : (xs : List ℕ) (n end : ℕ) → n ≤ end → end ≤ length xs → take (end - n) (copy_within xs n end 0) ≡ drop n (take end xs)
-moved_front xs n end order inside =
-    let all : n + (end - n) ≡ end = omega (arith, order) in
-    let none : 0 + (end - n) ≡ end - n = omega arith in
-    ap (λ m. take m (copy_within xs n end 0)) (sym none)
-    ∙ take-paste xs 0 (drop n xs) (end - n) (omega arith) (omega (arith, inside, length-drop n xs))
-    ∙ sym (drop-take n (end - n) xs)
-    ∙ ap (λ m. drop n (take m xs)) all
+-- the bytes that are held, moved to the front
+pub moved_front : (room : List ℕ) (from to : ℕ) → from ≤ to → to ≤ length room
+    → take (to - from - 0) (drop 0 (copy_within room from to 0)) ≡ take (to - from) (drop from room)
+moved_front room from to order inside =
+    let none : to - from - 0 ≡ 0 + (to - from) = omega arith in
+    ap (λ m. take m (copy_within room from to 0)) none
+    ∙ take-paste room 0 (drop from room) (to - from) (omega arith) (omega (arith, inside, length-drop from room))

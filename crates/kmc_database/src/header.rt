@@ -1,10 +1,11 @@
 //! The header of a database.
-ghost use Rattle.std.specs.Prelude.{◌≡◌, ◌+◌, ◌≤◌, ◌++◌, length, take};
+ghost use Rattle.std.specs.Prelude.{◌≡◌};
 ghost use Rattle.kmc_database.specs.Files.{header_of, limits_of, strand_byte, strands_of};
 ghost use Rattle.kmc_database.specs.Form.{greatest_told};
 ghost use Rattle.kmc_database.specs.Layout.{IsLayout};
 
 use crate::form::Form;
+use crate::room_parts::put_part;
 use kmc_base::Strands;
 
 /// The bytes of a header, with the marker behind it.
@@ -19,17 +20,6 @@ fn greatest_told(form: &Form) -> u64
     } else {
         form.greatest.min(u64::from(u32::MAX))
     }
-}
-
-/// Puts bytes behind the first `at` of a header, and says where they end.
-fn put_at(bytes: &mut [u8], at: usize, part: &[u8]) -> usize
-    requires { at + length part.now ≤ length bytes.old }
-    ensures bytes { take result bytes.new ≡ take at bytes.old ++ part.now }
-    ensures end { result ≡ at + length part.now }
-{
-    let end = at + part.len();
-    bytes[at..end].copy_from_slice(part);
-    end
 }
 
 /// The byte that tells whether a word and its reverse complement are counted together.
@@ -50,22 +40,22 @@ pub fn header_bytes(form: &Form, rows: u64) -> [u8; HEADER]
     let layout = form.layout;
     let greatest = greatest_told(form);
     let mut bytes = [0; HEADER];
-    let at = put_at(&mut bytes, 0, &(layout.k as u32).to_le_bytes());
-    let at = put_at(&mut bytes, at, &0u32.to_le_bytes());
-    let at = put_at(&mut bytes, at, &(layout.counter as u32).to_le_bytes());
-    let at = put_at(&mut bytes, at, &(layout.prefix as u32).to_le_bytes());
-    let at = put_at(&mut bytes, at, &form.least.to_le_bytes());
-    let at = put_at(
+    let at = put_part(&mut bytes, 0, &(layout.k as u32).to_le_bytes());
+    let at = put_part(&mut bytes, at, &0u32.to_le_bytes());
+    let at = put_part(&mut bytes, at, &(layout.counter as u32).to_le_bytes());
+    let at = put_part(&mut bytes, at, &(layout.prefix as u32).to_le_bytes());
+    let at = put_part(&mut bytes, at, &form.least.to_le_bytes());
+    let at = put_part(
         &mut bytes,
         at,
         &((greatest % (1 << 32)) as u32).to_le_bytes(),
     );
-    let at = put_at(&mut bytes, at, &rows.to_le_bytes());
-    let at = put_at(&mut bytes, at, &[strand_byte(form.strands), 0, 0, 0]);
-    let at = put_at(&mut bytes, at, &((greatest >> 32) as u32).to_le_bytes());
-    let at = put_at(&mut bytes, at, &[0; 20]);
-    let at = put_at(&mut bytes, at, &0u32.to_le_bytes());
-    let at = put_at(&mut bytes, at, &64u32.to_le_bytes());
-    put_at(&mut bytes, at, b"KMCP");
+    let at = put_part(&mut bytes, at, &rows.to_le_bytes());
+    let at = put_part(&mut bytes, at, &[strand_byte(form.strands), 0, 0, 0]);
+    let at = put_part(&mut bytes, at, &((greatest >> 32) as u32).to_le_bytes());
+    let at = put_part(&mut bytes, at, &[0; 20]);
+    let at = put_part(&mut bytes, at, &0u32.to_le_bytes());
+    let at = put_part(&mut bytes, at, &64u32.to_le_bytes());
+    put_part(&mut bytes, at, b"KMCP");
     bytes
 }

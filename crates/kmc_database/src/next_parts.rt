@@ -89,7 +89,7 @@ impl<R: Read> NextBytes<R> {
             → left_of R.remaining self.new ≡ Some bytes
             → ends ≡ bytes_eq bytes (low_first 4 marker)) }
     {
-        if self.fill(5)? || self.filled != 4 {
+        if self.fill(5)? || self.held().len() != 4 {
             return Ok(false);
         }
         Ok(has_number(self.held(), 0, 4, marker))

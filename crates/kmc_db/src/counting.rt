@@ -1,12 +1,10 @@
 //! `kmc_db count`: reads on standard input as a database in two files, with no dump between.
 ghost use Rattle.std.specs.Prelude.{◌+◌, ◌^◌, ◌<◌};
 
+use crate::first_part::first_part_asked;
 use crate::making::database_files;
-use kmc_database::MOST_PREFIX;
 use kmc_device::Counted;
-use kmc_options::{
-    Named, Params, ParamsError, Program, is_file_name, number, rest_after, settings,
-};
+use kmc_options::{Named, Params, ParamsError, Program, is_file_name, rest_after, settings};
 use kmc_packer::pack_reads_told;
 use std::alloc::Global;
 use std::io::Read;
@@ -28,22 +26,13 @@ struct CountWords {
     options: Vec<String>,
 }
 
-/// The symbols of a first part.
-fn symbols(text: &str) -> Option<usize> {
-    let symbols = number(text)?;
-    if symbols < 1 || symbols > MOST_PREFIX as u64 {
-        return None;
-    }
-    Some(symbols as usize)
-}
-
 /// The words sorted so far, with one more. One that stands twice is not taken.
 fn with_word(sorted: CountWords, word: String) -> Result<CountWords, ParamsError> {
     let mut more = sorted;
     if word.as_str() == "--force" {
         more.over = true;
     } else if let Some(text) = rest_after("-prefix", word.as_str()) {
-        let asked = symbols(text);
+        let asked = first_part_asked(text);
         if asked.is_none() || more.first_part.is_some() {
             return Err(ParamsError::Usage);
         }

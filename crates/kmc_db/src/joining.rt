@@ -12,15 +12,12 @@ use kmc_join::{INPUT, Operand};
 use kmc_options::{arguments, ended};
 use std::alloc::Global;
 use std::fs;
-use std::io::{BufReader, Read, Write};
+use std::io::{Read, Write};
 use std::process::ExitCode;
 use std::rt::{Env, Files};
 
-/// The bytes that a file of a database is read by.
-const BLOCK: usize = 65536;
-
 /// A database, or the text of a dump: a file, or standard input in its place.
-type Source<F, I> = DumpSource<Operand<F, I>, BufReader<F, Global>>;
+type Source<F, I> = DumpSource<Operand<F, I>, F>;
 
 /// The status of a fault of a database, which is told.
 fn refused<T: Eprint>(rt: &T, database: &str, error: UnpackError) -> ExitCode {
@@ -33,24 +30,12 @@ fn unopened<T: Eprint>(rt: &T, name: &str) -> ExitCode {
     ExitCode::from(1)
 }
 
-/// A reader of a file by blocks.
-fn buffered<T: Eprint + Alloc<A = Global>, F: Read + Drop>(
-    rt: &T,
-    database: &str,
-    file: F,
-) -> Result<BufReader<F, Global>, ExitCode> {
-    match BufReader::with_capacity(rt.alloc(), BLOCK, file) {
-        Ok(reader) => Ok(reader),
-        Err(_) => Err(refused(rt, database, UnpackError::Memory)),
-    }
-}
-
 /// The database of this name, of which the prefix file was opened: it is read once for its header, and opened again.
 fn database<T: Files + Eprint + Alloc<A = Global>>(
     rt: &T,
     name: &str,
     first: T::File,
-) -> Result<DatabaseReader<BufReader<T::File, Global>>, ExitCode> {
+) -> Result<DatabaseReader<T::File>, ExitCode> {
     let mut counted = Counted::new(first);
     let found = match database_header(rt.alloc(), &mut counted) {
         Ok(found) => found,
@@ -63,8 +48,6 @@ fn database<T: Files + Eprint + Alloc<A = Global>>(
         let _ = eprintln!(rt; "kmc_db: {name}.kmc_suf: cannot be opened");
         return Err(ExitCode::from(1));
     };
-    let prefix = buffered(rt, name, prefix)?;
-    let suffix = buffered(rt, name, suffix)?;
     Ok(DatabaseReader::new(found, prefix, suffix))
 }
 

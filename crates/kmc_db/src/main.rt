@@ -7,6 +7,7 @@
 mod asking;
 mod counting;
 mod dumping;
+mod first_part;
 mod joining;
 mod making;
 mod naming;

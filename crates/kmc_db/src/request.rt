@@ -1,7 +1,9 @@
 //! What the words behind `pack` ask for.
+
+use crate::first_part::first_part_asked;
 use kmc_base::Strands;
-use kmc_database::{MOST_PREFIX, PackOptions, counter_bytes};
-use kmc_options::{Setting, is_file_name, number, rest_after};
+use kmc_database::{PackOptions, counter_bytes};
+use kmc_options::{Setting, is_file_name, rest_after};
 
 /// What a database is asked to be like, its name, and whether files of this name may be written over.
 #[derive(Clone, Copy)]
@@ -15,7 +17,7 @@ pub struct PackRequest<'a> {
 #[derive(Clone, Copy)]
 struct PackWords<'a> {
     k: Option<u64>,
-    prefix: Option<u64>,
+    prefix: Option<usize>,
     least: Option<u64>,
     greatest: Option<u64>,
     cap: Option<u64>,
@@ -33,12 +35,11 @@ fn once(before: Option<u64>, setting: Setting, text: &str) -> Option<Option<u64>
 }
 
 /// The symbols of a first part, where none were given before.
-fn prefix_once(before: Option<u64>, text: &str) -> Option<Option<u64>> {
-    let symbols = number(text)?;
-    if before.is_some() || symbols < 1 || symbols > MOST_PREFIX as u64 {
+fn prefix_once(before: Option<usize>, text: &str) -> Option<Option<usize>> {
+    if before.is_some() {
         return None;
     }
-    Some(Some(symbols))
+    Some(Some(first_part_asked(text)?))
 }
 
 /// The words with one more; none where that one is not understood, or stands twice.
@@ -98,7 +99,7 @@ pub fn pack_request(words: &[String]) -> Option<PackRequest<'_>> {
     let greatest = or_default(sorted.greatest, Setting::Cx);
     let options = PackOptions {
         k: symbols(sorted.k),
-        prefix: symbols(sorted.prefix),
+        prefix: sorted.prefix,
         counter: counter_bytes(or_default(sorted.cap, Setting::Cs), greatest),
         least: or_default(sorted.least, Setting::Ci).min(u64::from(u32::MAX)) as u32,
         greatest,

@@ -55,6 +55,7 @@ impl PairForm for Lines {
         line_room(k, digits)
     }
 
+    #[inline(always)]
     fn put(&self, text: &mut [u8], at: usize, packed: u128, k: usize, count: u64) -> usize {
         put_line(text, at, &Kmer::of_packed(packed, k), count)
     }

@@ -1,11 +1,11 @@
 //! The rows of a database as a form of pairs.
-ghost use Rattle.std.specs.Prelude.{◌≡◌, ◌+◌, ◌≤◌, ◌++◌, length, take};
+ghost use Rattle.std.specs.Prelude.{◌≡◌};
 ghost use Rattle.kmc_database.specs.Layout.{IsLayout};
 ghost use Rattle.kmc_database.specs.Rows.{row_long, row_of};
 ghost use Rattle.kmc_packer.specs.Lemmas.RowLengths.{row_within};
 
 use kmc_base::high_bytes_first;
-use kmc_database::Layout;
+use kmc_database::{Layout, put_part};
 use kmc_dump::PairForm;
 
 /// The rows of a database with this layout: the symbols of a word behind its first part, four a byte, and its count, the lowest byte
@@ -14,18 +14,6 @@ use kmc_dump::PairForm;
 pub struct Rows {
     pub layout: Layout,
     pub ghost is: { IsLayout layout },
-}
-
-/// Puts bytes behind the first `at` of a text, and says where they end.
-fn put_at(text: &mut [u8], at: usize, part: &[u8]) -> usize
-    requires { at + length part.now ≤ length text.old }
-    ensures bytes { take result text.new ≡ take at text.old ++ part.now }
-    ensures end { result ≡ at + length part.now }
-    ensures long { length text.new ≡ length text.old }
-{
-    let end = at + part.len();
-    text[at..end].copy_from_slice(part);
-    end
 }
 
 impl PairForm for Rows {
@@ -39,12 +27,13 @@ impl PairForm for Rows {
         (self.layout.k - self.layout.prefix) / 4 + self.layout.counter
     }
 
+    #[inline(always)]
     fn put(&self, text: &mut [u8], at: usize, packed: u128, _k: usize, count: u64) -> usize {
         let size = (self.layout.k - self.layout.prefix) / 4;
         let word = high_bytes_first(packed);
         let number = count.to_le_bytes();
-        let behind = put_at(text, at, &word[16 - size..]);
-        put_at(text, behind, &number[..self.layout.counter])
+        let behind = put_part(text, at, &word[16 - size..]);
+        put_part(text, behind, &number[..self.layout.counter])
     }
 
     ghost enough = { λ rows k digits p takes long short. row_within rows.layout k p rows.is takes long };
