@@ -26,6 +26,9 @@ impl<T> Model for Counted<T> {
 }
 
 impl<T> Counted<T> {
+    ghost use Rattle.std.specs.Borrow.{Lends, sem};
+    ghost use Rattle.kmc_device.specs.contracts.counted.Counted.{the_row};
+
     /// The device with no failure yet.
     pub fn new(inner: T) -> Counted<T>
         ensures { result ≡ record { inner = inner; failures = 0; reads = 0; pipe_closed = false } }
@@ -57,6 +60,15 @@ impl<T> Counted<T> {
         ensures { result ≡ self.now.pipe_closed }
     {
         self.pipe_closed
+    }
+
+    /// The device, for calls that neither read nor write: they are not counted.
+    pub fn inner_mut(&mut self) -> &mut T
+        ensures value { result.now ≡ self.old.inner }
+        ensures* writes_back { sem 𝓛 (Lends (the_row T.row) T.row self.entry result
+            (λ w. record self.old { inner = w })) }
+    {
+        &mut self.inner
     }
 
     /// The device.
