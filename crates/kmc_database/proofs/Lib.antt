@@ -11,6 +11,7 @@ mod Given
 mod HandedOut
 mod HeaderParts
 mod HeaderSeen
+mod HeldLines
 mod InDatabase
 mod LastHeader
 mod LeftBytes

@@ -10,6 +10,7 @@ pub mod Files
 pub mod Form
 pub mod Given
 pub mod Header
+pub mod HeldLine
 pub mod Laws
 pub mod Layout
 pub mod LeftOf

@@ -5,6 +5,7 @@ ghost use Rattle.kmc_database.specs.DumpSource.{fault_of, rest_of_source, strand
 use crate::reader::DatabaseReader;
 use crate::unpack_error::UnpackError;
 use kmc_base::Strands;
+use kmc_sum::{Line, LineRead};
 use std::io::{self, Read};
 
 /// What is read as a dump: the text of one, or the two files of a database.
@@ -21,6 +22,15 @@ impl<T: Read, R: Read> Read for DumpSource<T, R> {
         match self {
             DumpSource::Text(text) => text.read(buf),
             DumpSource::Database(database) => database.read(buf),
+        }
+    }
+}
+
+impl<T: Read, R: Read> LineRead for DumpSource<T, R> {
+    fn take_line(&mut self) -> Option<Line> {
+        match self {
+            DumpSource::Text(_) => None,
+            DumpSource::Database(database) => database.take_line(),
         }
     }
 }

@@ -7,11 +7,13 @@
 
 mod byte_buffer;
 mod checking;
+mod digits;
 mod dump_source;
 mod error;
 mod form;
 mod header;
 mod held;
+mod held_line;
 mod last_header;
 pub mod laws;
 mod layout;

@@ -45,6 +45,14 @@ impl LineBuffer {
         self.at == self.end
     }
 
+    /// Holds nothing any more.
+    pub fn clear(&mut self)
+        ensures { self.new ≡ [] }
+    {
+        self.at = 0;
+        self.end = 0;
+    }
+
     /// Holds the line of a packed word of `k` codes and its count in place of what it held.
     pub fn hold_line(&mut self, packed: u128, k: usize, count: u64)
         requires some { 1 ≤ k }

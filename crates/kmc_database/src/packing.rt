@@ -16,12 +16,12 @@ use crate::layout::layout_for;
 use crate::row::{first_part, holds_count, put_row};
 use crate::table::put_entries;
 use kmc_device::Counted;
-use kmc_sum::{Head, Room, first_head, next_head};
+use kmc_sum::{Head, LineRead, Room, first_head, next_head};
 use std::alloc::Global;
-use std::io::{Read, Write};
+use std::io::Write;
 
 /// The first line of the dump, and the form of its database.
-fn begin<R: Read>(
+fn begin<R: LineRead>(
     options: &PackOptions,
     reader: &mut Counted<R>,
     room: &mut Room,
@@ -71,7 +71,7 @@ fn end<W: Write>(
 }
 
 /// Packs the line of the first head and those behind it.
-fn pack_rows<R: Read, W: Write>(
+fn pack_rows<R: LineRead, W: Write>(
     reader: &mut Counted<R>,
     room: &mut Room,
     first: Head,
@@ -128,7 +128,7 @@ fn pack_rows<R: Read, W: Write>(
 /// Reads a dump to its end and writes it as a database in KMC 1's sorted form, in one pass: a table of first parts and a header to
 /// `prefix`, a row for each word to `suffix`, and says how many rows. It takes a block of 64 KiB for the dump and a buffer for each
 /// file, however long the dump is. The header is written last, when all else is out, so that files that were given up are no database.
-pub fn pack<R: Read, W: Write>(
+pub fn pack<R: LineRead, W: Write>(
     alloc: Global,
     options: &PackOptions,
     reader: &mut Counted<R>,

@@ -3,13 +3,14 @@ ghost use Rattle.std.specs.Prelude.{◌≡◌};
 ghost use Rattle.kmc_database.specs.DumpText.{IsWithin, text_of_files};
 ghost use Rattle.kmc_database.specs.Layout.{IsLayout};
 
-use crate::line_buffer::LineBuffer;
+use crate::held_line::HeldLine;
 use crate::next_bytes::NextBytes;
 use crate::opening::OpenDatabase;
 use crate::progress::Progress;
 use crate::reading::Header;
 use crate::unpack_error::UnpackError;
 use kmc_base::Strands;
+use kmc_sum::{Line, LineRead};
 use std::io;
 use std::io::Read;
 
@@ -25,7 +26,7 @@ pub struct DatabaseReader<R> {
     pub(crate) ended: bool,
     pub(crate) fault: Option<UnpackError>,
     pub(crate) failed: Option<io::Error>,
-    pub(crate) line: LineBuffer,
+    pub(crate) line: HeldLine,
     pub(crate) prefix: NextBytes<R>,
     pub(crate) suffix: NextBytes<R>,
     pub ghost layout: { IsLayout header.layout },
@@ -58,7 +59,7 @@ impl<R: Read> DatabaseReader<R> {
             ended: false,
             fault: None,
             failed: None,
-            line: LineBuffer::new(),
+            line: HeldLine::new(),
             prefix: NextBytes::new(prefix),
             suffix: NextBytes::new(suffix),
         }
@@ -117,5 +118,23 @@ impl<R: Read> Read for DatabaseReader<R> {
             Some(error) => Err(error),
             None => self.give(buf),
         }
+    }
+}
+
+impl<R: Read> LineRead for DatabaseReader<R> {
+    fn take_line(&mut self) -> Option<Line> {
+        while self.failed.is_none() {
+            if let Some(line) = self.line.take_line() {
+                return Some(line);
+            }
+            if self.ended || !self.line.is_empty() {
+                return None;
+            }
+            if let Err(error) = self.advance() {
+                self.failed = Some(error);
+                return None;
+            }
+        }
+        None
     }
 }

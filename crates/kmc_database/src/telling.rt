@@ -10,8 +10,9 @@ use crate::message::PackMessage;
 use crate::packing::pack;
 use kmc_device::Counted;
 use kmc_options::ended;
+use kmc_sum::LineRead;
 use std::alloc::Global;
-use std::io::{Read, Write};
+use std::io::Write;
 use std::process::ExitCode;
 
 /// The names of a dump and of a database, as they were given.
@@ -23,7 +24,7 @@ pub struct PackNames<'a> {
 
 /// Packs a dump as [`pack`] does. A refusal is shown in one line on standard error. The exit status is 0 where the database was written
 /// and no device failed, and else 1; then the files are as they were, or a front of each is out.
-pub fn pack_reader<T: Eprint + Alloc<A = Global>, R: Read, W: Write>(
+pub fn pack_reader<T: Eprint + Alloc<A = Global>, R: LineRead, W: Write>(
     rt: &T,
     names: PackNames<'_>,
     options: &PackOptions,

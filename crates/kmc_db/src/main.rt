@@ -26,6 +26,7 @@ use kmc_device::Counted;
 use kmc_join::{program, program_words};
 use kmc_options::{arguments, asks_for_text};
 use kmc_spectrum::spectrum_of;
+use kmc_sum::TextReader;
 use std::io;
 use std::process::ExitCode;
 
@@ -49,7 +50,7 @@ fn main(rt: HostRuntime) -> ExitCode {
             return count_input(&rt, words_behind(words), &mut reader);
         }
         if asks_for(&words, "pack") {
-            let mut reader = Counted::new(rt.stdin());
+            let mut reader = Counted::new(TextReader(rt.stdin()));
             return pack_input(&rt, &words[1..], &mut reader);
         }
         if asks_for(&words, "dump") {

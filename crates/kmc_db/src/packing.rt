@@ -4,8 +4,8 @@ use crate::making::database_files;
 use crate::request::{PackRequest, pack_request};
 use kmc_database::{PackNames, pack_reader};
 use kmc_device::Counted;
+use kmc_sum::LineRead;
 use std::alloc::Global;
-use std::io::Read;
 use std::process::ExitCode;
 use std::rt::Files;
 
@@ -16,7 +16,7 @@ const USAGE: &str =
 const INPUT: &str = "standard input";
 
 /// Makes the two files, and packs the dump into them.
-fn pack_into<T: Files + Eprint + Alloc<A = Global>, R: Read>(
+fn pack_into<T: Files + Eprint + Alloc<A = Global>, R: LineRead>(
     rt: &T,
     request: PackRequest<'_>,
     reader: &mut Counted<R>,
@@ -38,7 +38,7 @@ fn pack_into<T: Files + Eprint + Alloc<A = Global>, R: Read>(
 
 /// Packs the dump that the reader gives, as these words ask. The exit status is 0 where the database was written, 2 where the words
 /// are wrong, and else 1.
-pub fn pack_input<T: Files + Eprint + Alloc<A = Global>, R: Read>(
+pub fn pack_input<T: Files + Eprint + Alloc<A = Global>, R: LineRead>(
     rt: &T,
     words: &[String],
     reader: &mut Counted<R>,

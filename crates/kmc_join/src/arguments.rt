@@ -33,6 +33,7 @@ use crate::words::asks_for_histogram;
 use kmc_count::Limits;
 use kmc_device::Counted;
 use kmc_options::{arguments, asked_text, ended, shown};
+use kmc_sum::LineRead;
 use std::alloc::Global;
 use std::io::{Read, Write};
 use std::process::ExitCode;
@@ -41,7 +42,7 @@ use std::rt::{Env, Files};
 /// Reads the readers of the two files to their ends, and writes the dump of the join of what they list, within the limits. A fault
 /// is shown in one line on standard error, but for a write to a pipe whose other end is closed. The exit status is 0 where
 /// the dump was written and no device failed, and else 1; then a front of the dump is out.
-pub fn join_readers<T: Eprint + Alloc<A = Global>, R: Read, W: Write>(
+pub fn join_readers<T: Eprint + Alloc<A = Global>, R: LineRead, W: Write>(
     rt: &T,
     files: &[String],
     rule: JoinRule,
@@ -119,7 +120,7 @@ pub fn join_files<T: Files + Eprint + Alloc<A = Global>, I: Read + Drop, W: Writ
 /// Reads the reader of one file to its end, and writes the histogram of the dump that it lists. A fault is shown in one line on standard
 /// error, but for a write to a pipe whose other end is closed. The exit status is 0 where the histogram was written and no device failed,
 /// and else 1.
-pub fn histogram_reader<T: Eprint + Alloc<A = Global>, R: Read, W: Write>(
+pub fn histogram_reader<T: Eprint + Alloc<A = Global>, R: LineRead, W: Write>(
     rt: &T,
     files: &[String],
     readers: &mut [Counted<R>],
@@ -173,7 +174,7 @@ fn histogram_file<T: Files + Eprint + Alloc<A = Global>, I: Read + Drop, W: Writ
 /// Reads the readers of the two files to their ends, and writes the table of the dumps that they list. A fault is shown in one line on
 /// standard error, but for a write to a pipe whose other end is closed. The exit status is 0 where the table was written and no device
 /// failed, and else 1.
-pub fn table_readers<T: Eprint + Alloc<A = Global>, R: Read, W: Write>(
+pub fn table_readers<T: Eprint + Alloc<A = Global>, R: LineRead, W: Write>(
     rt: &T,
     files: &[String],
     cap: u64,

@@ -6,12 +6,12 @@ ghost use Rattle.kmc_join.specs.Tally.{IsHistogramAnswer};
 use crate::rows::{put_text, rows};
 use crate::tallying::tallied;
 use kmc_device::Counted;
-use kmc_sum::{Head, Room, SumError, heads_for, open, rooms_for};
+use kmc_sum::{Head, LineRead, Room, SumError, heads_for, open, rooms_for};
 use std::alloc::Global;
-use std::io::{Read, Write};
+use std::io::Write;
 
 /// Opens the source and writes its histogram, with a room and heads that are there.
-fn histogram_in<R: Read, W: Write>(
+fn histogram_in<R: LineRead, W: Write>(
     alloc: Global,
     readers: &mut [Counted<R>],
     rooms: &mut [Room],
@@ -40,7 +40,7 @@ fn histogram_in<R: Read, W: Write>(
 /// Reads the dump of one source, a block at a time, and writes a line for each count that a word of it has, the counts rising: the count, a
 /// tab, how many words have it. It takes 72 KiB and some tens of bytes a count. Where it is given up, a front of the
 /// histogram is out if a write failed, and else nothing.
-pub fn histogram<R: Read, W: Write>(
+pub fn histogram<R: LineRead, W: Write>(
     alloc: Global,
     readers: &mut [Counted<R>],
     writer: &mut Counted<W>,

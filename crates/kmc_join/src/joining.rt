@@ -10,12 +10,14 @@ use crate::rule::JoinRule;
 use crate::taking::take_word;
 use kmc_count::Limits;
 use kmc_device::Counted;
-use kmc_sum::{Head, OutputBuffer, Room, SumError, build, heads_for, open, put_pair, rooms_for};
+use kmc_sum::{
+    Head, LineRead, OutputBuffer, Room, SumError, build, heads_for, open, put_pair, rooms_for,
+};
 use std::alloc::Global;
-use std::io::{Read, Write};
+use std::io::Write;
 
 /// Takes all lines of the two sources, least word first, and writes the dump of their join.
-fn drain<R: Read, W: Write>(
+fn drain<R: LineRead, W: Write>(
     readers: &mut [Counted<R>],
     rooms: &mut [Room],
     heads: &mut [Head],
@@ -56,7 +58,7 @@ fn drain<R: Read, W: Write>(
 }
 
 /// Opens the two sources and writes the dump of their join, with rooms and heads that are there.
-fn join_in<R: Read, W: Write>(
+fn join_in<R: LineRead, W: Write>(
     readers: &mut [Counted<R>],
     rooms: &mut [Room],
     heads: &mut [Head],
@@ -80,7 +82,7 @@ fn join_in<R: Read, W: Write>(
 /// Reads the dumps of two sources side by side, a block of each at a time, and writes the dump of their join, the numbers that it gives
 /// words within the limits; says how many lines it has. It takes 64 KiB a source and a buffer for what is written. After a refusal what
 /// went out is a front of the dump of what the sources gave before it.
-pub fn join<R: Read, W: Write>(
+pub fn join<R: LineRead, W: Write>(
     alloc: Global,
     readers: &mut [Counted<R>],
     rule: JoinRule,

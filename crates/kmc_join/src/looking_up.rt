@@ -10,12 +10,11 @@ use crate::key_counts::note_count;
 use crate::query_error::QueryError;
 use kmc_base::{Kmer, MAX_K};
 use kmc_device::Counted;
-use kmc_sum::{Head, LineFault, Room, SourceFault, first_head, next_head};
+use kmc_sum::{Head, LineFault, LineRead, Room, SourceFault, first_head, next_head};
 use std::alloc::Global;
-use std::io::Read;
 
 /// Takes the line of the first head and those behind it, and notes the counts of the keys, each of which is 0 before.
-fn walk<D: Read>(
+fn walk<D: LineRead>(
     dump: &mut Counted<D>,
     room: &mut Room,
     first: Head,
@@ -68,7 +67,7 @@ fn first_error(fault: SourceFault) -> QueryError
 
 /// Reads the dump, whose words are as long as said unless that is 0, to its end, and gives the count of each of the sorted keys: 0 where
 /// the dump does not list it.
-pub(crate) fn looked_up<D: Read>(
+pub(crate) fn looked_up<D: LineRead>(
     alloc: Global,
     dump: &mut Counted<D>,
     length: usize,

@@ -5,7 +5,7 @@ ghost use Rattle.kmc_join.specs.Operand.{full_name, full_names, left_of};
 
 use crate::fault::JoinFault;
 use kmc_device::Counted;
-use kmc_sum::SumError;
+use kmc_sum::{Line, LineRead, SumError, TextReader};
 use std::alloc::{AllocError, Global};
 use std::fs;
 use std::io::{self, Read};
@@ -26,6 +26,12 @@ impl<F: Read, I: Read> Read for Operand<F, I> {
             Operand::File(file) => file.read(buf),
             Operand::Input(input) => input.read(buf),
         }
+    }
+}
+
+impl<F: Read, I: Read> LineRead for Operand<F, I> {
+    fn take_line(&mut self) -> Option<Line> {
+        None
     }
 }
 
@@ -99,12 +105,12 @@ fn operand_named<T: Files, I: Read>(
 }
 
 /// The dump of this name, where it can be opened; standard input is none, since words are read there.
-pub(crate) fn dump_named<T: Files>(rt: &T, name: &str) -> Option<Counted<T::File>> {
+pub(crate) fn dump_named<T: Files>(rt: &T, name: &str) -> Option<Counted<TextReader<T::File>>> {
     if name == INPUT {
         return None;
     }
     match fs::open(rt, name) {
-        Ok(file) => Some(Counted::new(file)),
+        Ok(file) => Some(Counted::new(TextReader(file))),
         Err(_) => None,
     }
 }

@@ -14,7 +14,7 @@ use crate::looking_up::looked_up;
 use crate::query_error::QueryError;
 use kmc_base::{Kmer, Strands};
 use kmc_device::{Counted, WriteFault};
-use kmc_sum::OutputBuffer;
+use kmc_sum::{LineRead, OutputBuffer};
 use std::alloc::Global;
 use std::io::{Read, Write};
 
@@ -51,7 +51,7 @@ fn put_answers<W: Write>(
 /// its reverse complement. All words are as long as those of the dump, or else refused; the dump is read once, a block of 64 KiB at a time,
 /// and all words are held in memory, some 72 bytes each. Where it is given up, a front of the answers is out if a write failed, and else
 /// nothing.
-pub fn query<D: Read, Q: Read, W: Write>(
+pub fn query<D: LineRead, Q: Read, W: Write>(
     alloc: Global,
     dump: &mut Counted<D>,
     words: &mut Counted<Q>,

@@ -13,6 +13,7 @@ use crate::query_error::QueryError;
 use kmc_base::Strands;
 use kmc_device::Counted;
 use kmc_options::ended;
+use kmc_sum::LineRead;
 use std::alloc::Global;
 use std::io::{Read, Write};
 use std::process::ExitCode;
@@ -20,7 +21,7 @@ use std::rt::Files;
 
 /// Reads words and a dump to their ends, and writes the words with their counts there. A fault is shown in one line on standard error, but
 /// for a write to a pipe whose other end is closed. The exit status is 0 where the counts were written and no device failed, and else 1.
-pub fn query_readers<T: Eprint + Alloc<A = Global>, D: Read, Q: Read, W: Write>(
+pub fn query_readers<T: Eprint + Alloc<A = Global>, D: LineRead, Q: Read, W: Write>(
     rt: &T,
     files: &[String],
     strands: Strands,

@@ -6,12 +6,12 @@ ghost use Rattle.kmc_join.specs.Tabulation.{IsTableAnswer};
 use crate::rows::{put_text, table_rows};
 use crate::tabulating::tabulated;
 use kmc_device::Counted;
-use kmc_sum::{Head, Room, SumError, build, heads_for, open, rooms_for};
+use kmc_sum::{Head, LineRead, Room, SumError, build, heads_for, open, rooms_for};
 use std::alloc::Global;
-use std::io::{Read, Write};
+use std::io::Write;
 
 /// Opens the two sources and writes their table, with rooms and heads that are there.
-fn table_in<R: Read, W: Write>(
+fn table_in<R: LineRead, W: Write>(
     alloc: Global,
     readers: &mut [Counted<R>],
     rooms: &mut [Room],
@@ -44,7 +44,7 @@ fn table_in<R: Read, W: Write>(
 /// then by the second; a dump that does not list a word has the count 0 of it, and a greater count than the cap is taken for the cap. It
 /// takes 64 KiB a source and some tens of bytes for each two counts. Where it is given up, a front of the table is out if a write failed,
 /// and else nothing.
-pub fn table<R: Read, W: Write>(
+pub fn table<R: LineRead, W: Write>(
     alloc: Global,
     readers: &mut [Counted<R>],
     cap: u64,

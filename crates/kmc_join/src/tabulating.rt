@@ -12,10 +12,9 @@ ghost use Rattle.kmc_join.specs.Tally.{IsTallyCause};
 use crate::taking::{CountedWord, take_word};
 use crate::tally::{Tally, count_key};
 use kmc_device::Counted;
-use kmc_sum::{Head, Room, SumError};
+use kmc_sum::{Head, LineRead, Room, SumError};
 use std::alloc::Global;
 use std::collections::BTreeMap;
-use std::io::Read;
 
 /// The two counts of a word, each at most the cap.
 fn capped(word: CountedWord, cap: u64) -> (u64, u64)
@@ -25,7 +24,7 @@ fn capped(word: CountedWord, cap: u64) -> (u64, u64)
 }
 
 /// Takes all lines of the two sources, least word first, and tallies the two counts of each word, each at most the cap.
-pub(crate) fn tabulated<R: Read>(
+pub(crate) fn tabulated<R: LineRead>(
     alloc: Global,
     readers: &mut [Counted<R>],
     rooms: &mut [Room],

@@ -7,8 +7,7 @@ ghost use Rattle.kmc_sum.specs.Sources.{AreReady, GaveFronts, failures_of, lefts
 ghost use Rattle.kmc_join.specs.Taking.{AreAbreast, IsTaken};
 
 use kmc_device::Counted;
-use kmc_sum::{Head, Room, SourceError, advance};
-use std::io::Read;
+use kmc_sum::{Head, LineRead, Room, SourceError, advance};
 
 /// A packed word and its counts in the first and in the second source: 0 where a source does not have it.
 #[derive(Clone, Copy)]
@@ -18,7 +17,7 @@ pub(crate) struct CountedWord {
 }
 
 /// Takes the least word that either of the two sources has next, from each that has it.
-pub(crate) fn take_word<R: Read>(
+pub(crate) fn take_word<R: LineRead>(
     readers: &mut [Counted<R>],
     rooms: &mut [Room],
     heads: &mut [Head],

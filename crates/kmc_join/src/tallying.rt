@@ -9,13 +9,12 @@ ghost use Rattle.kmc_join.specs.Tally.{IsTallyCause, IsWholeTally};
 
 use crate::tally::{Tally, none_small, put_small, see_count};
 use kmc_device::Counted;
-use kmc_sum::{Head, Room, SumError, advance};
+use kmc_sum::{Head, LineRead, Room, SumError, advance};
 use std::alloc::Global;
 use std::collections::BTreeMap;
-use std::io::Read;
 
 /// Takes all lines of one source, and tallies their counts.
-pub(crate) fn tallied<R: Read>(
+pub(crate) fn tallied<R: LineRead>(
     alloc: Global,
     readers: &mut [Counted<R>],
     rooms: &mut [Room],

@@ -1,7 +1,9 @@
 -- A source of lines: a reader, and the bytes that it gave and that are not yet judged.
 use Rattle.std.specs.Prelude.{◌≡◌, ℕ, ◌-◌, ◌≤◌, ◌⊎◌, List, ◌++◌, length, take, drop, Option}
 use Rattle.std.specs.Io.KnownBytes.{Consumes, IsAtEnd}
+use Rattle.kmc_sum.specs.declared.line.Line.{Line}
 use Rattle.kmc_sum.specs.declared.source.Room.{Room}
+use Rattle.kmc_sum.specs.Line.{IsLineOf}
 use Rattle.kmc_sum.specs.Numbers.{longest_line}
 
 -- the bytes of a room that are not yet judged
@@ -23,3 +25,10 @@ pub record GoesOn (old new : Option (List ℕ)) (before after : List ℕ) : Type
   pub bytes : List ℕ
   pub gave : Consumes old new bytes
   pub are : after ≡ before ++ bytes
+
+-- the reader handed out a line, whose bytes it went on by
+pub record HandsOut (old new : Option (List ℕ)) (line : Line) : Type 0 where
+  pub text : List ℕ
+  pub gave : Consumes old new text
+  pub is : IsLineOf line text
+  pub all : line.end ≡ length text

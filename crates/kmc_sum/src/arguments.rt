@@ -13,6 +13,7 @@ ghost use Rattle.kmc_sum.specs.declared.arguments.TheConstants.{HELP};
 
 use crate::error::SumError;
 use crate::fault::{Fault, Message, unnamed};
+use crate::line_read::{LineRead, TextReader};
 use crate::merging::{MOST_SOURCES, merge};
 use crate::request::{RequestError, asked_for};
 use kmc_count::Limits;
@@ -20,7 +21,7 @@ use kmc_device::Counted;
 use kmc_options::{arguments, asked_text, ended, shown};
 use std::alloc::Global;
 use std::fs;
-use std::io::{Read, Write};
+use std::io::Write;
 use std::process::ExitCode;
 use std::rt::{Env, Files};
 
@@ -41,7 +42,7 @@ Dumps of parts of the reads are made with all counts, and dumps of slices are me
 fn opened<T: Files + Alloc<A = Global>>(
     rt: &T,
     files: &[String],
-) -> Result<Vec<Counted<T::File>>, Fault>
+) -> Result<Vec<Counted<TextReader<T::File>>>, Fault>
     ensures { MatchResult result (λ readers. length readers.items ≡ length files.now)
         (λ fault. (fault ≡ Fault.Sum SumError.Memory)
         ⊎ ((i : ℕ) × (i < length files.now) × (fault ≡ Fault.NotOpened i))) }
@@ -51,7 +52,7 @@ fn opened<T: Files + Alloc<A = Global>>(
         let Ok(file) = fs::open(rt, files[i].as_str()) else {
             return Err(Fault::NotOpened(i));
         };
-        if readers.push(Counted::new(file)).is_err() {
+        if readers.push(Counted::new(TextReader(file))).is_err() {
             return Err(Fault::Sum(SumError::Memory));
         }
     }
@@ -61,7 +62,7 @@ fn opened<T: Files + Alloc<A = Global>>(
 /// Reads the readers of the files to their ends, and writes the dump of the sum of what they list, within the limits. A fault
 /// is shown in one line on standard error, but for a write to a pipe whose other end is closed. The exit status is 0 where
 /// the dump was written and no device failed, and else 1; then a front of the dump is out.
-pub fn sum_readers<T: Eprint + Alloc<A = Global>, R: Read, W: Write>(
+pub fn sum_readers<T: Eprint + Alloc<A = Global>, R: LineRead, W: Write>(
     rt: &T,
     files: &[String],
     limits: &Limits,

@@ -8,6 +8,7 @@ ghost use Rattle.kmc_sum.specs.Sources.{IsFresh, AreReady, AreSources, lefts_of}
 
 use crate::error::SumError;
 use crate::heads::{Head, build};
+use crate::line_read::LineRead;
 use crate::opening::{heads_for, open, rooms_for};
 use crate::output::OutputBuffer;
 use crate::source::Room;
@@ -16,10 +17,10 @@ use crate::writing::put_pair;
 use kmc_count::Limits;
 use kmc_device::Counted;
 use std::alloc::Global;
-use std::io::{Read, Write};
+use std::io::Write;
 
 /// Takes all lines of the sources, least word first, and writes the dump of their sum.
-fn drain<R: Read, W: Write>(
+fn drain<R: LineRead, W: Write>(
     readers: &mut [Counted<R>],
     rooms: &mut [Room],
     heads: &mut [Head],
@@ -72,7 +73,7 @@ fn drain<R: Read, W: Write>(
 }
 
 /// Opens the sources and writes the dump of their sum, with rooms and heads that are there.
-fn merge_in<R: Read, W: Write>(
+fn merge_in<R: LineRead, W: Write>(
     readers: &mut [Counted<R>],
     rooms: &mut [Room],
     heads: &mut [Head],
@@ -99,7 +100,7 @@ pub const MOST_SOURCES: usize = 1000;
 /// that they list, within the limits; says how many lines it has. A sum above 2^64 - 1 stays there, where no limit lists
 /// it. It takes 64 KiB a source and about log2 n comparisons a line of n sources. After a refusal what went out is a front
 /// of the dump of what the sources gave before it.
-pub fn merge<R: Read, W: Write>(
+pub fn merge<R: LineRead, W: Write>(
     alloc: Global,
     readers: &mut [Counted<R>],
     limits: &Limits,

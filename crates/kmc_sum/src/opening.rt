@@ -10,11 +10,11 @@ ghost use Rattle.kmc_sum.specs.declared.error.LineFault.{LineFault};
 
 use crate::error::{LineFault, SourceError, SourceFault};
 use crate::heads::Head;
+use crate::line_read::LineRead;
 use crate::source::{Room, next_line};
 use kmc_base::MAX_K;
 use kmc_device::Counted;
 use std::alloc::{AllocError, Global};
-use std::io::Read;
 
 /// So many rooms.
 pub fn rooms_for(alloc: Global, count: usize) -> Result<Vec<Room>, AllocError>
@@ -45,7 +45,7 @@ pub fn heads_for(alloc: Global, count: usize) -> Result<Vec<Head>, AllocError>
 }
 
 /// The first head of a source, and the length of its word, which is `k` unless that is 0.
-pub fn first_head<R: Read>(
+pub fn first_head<R: LineRead>(
     reader: &mut Counted<R>,
     room: &mut Room,
     source: usize,
@@ -102,7 +102,7 @@ pub fn first_head<R: Read>(
 }
 
 /// Puts the first heads of all sources to their places, and says how long their words are: 1 where there is none.
-pub fn open<R: Read>(
+pub fn open<R: LineRead>(
     readers: &mut [Counted<R>],
     rooms: &mut [Room],
     heads: &mut [Head],

@@ -1,16 +1,17 @@
 //! A source of lines: a reader, and a room for the bytes that it gave and that are not yet judged, a block at a time.
 ghost use Rattle.std.specs.Prelude.{◌≡◌, ◌≢◌, ℕ, ◌+◌, ◌-◌, ◌^◌, ◌<◌, ◌≤◌, ◌++◌, [], List, length, take, drop, min, OnOk, OnErr, IfOk, IfErr, IsErrOf, MatchOption, Option, IfSome, None};
-ghost use Rattle.std.specs.Io.KnownBytes.{IsAtEnd};
+ghost use Rattle.std.specs.Io.KnownBytes.{IsAtEnd, Keeps};
 ghost use Rattle.kmc_device.specs.Device.{RisesByOne};
 ghost use Rattle.kmc_sum.specs.Line.{IsLineOf};
 ghost use Rattle.kmc_sum.specs.Faults.{BeginsNoLine, GaveFront, IsFaultAt, line_after};
 ghost use Rattle.kmc_sum.specs.Pairs.{EndsIn, pairs_of};
 ghost use Rattle.kmc_sum.specs.declared.error.LineFault.{LineFault};
 ghost use Rattle.kmc_sum.specs.declared.error.SourceFault.{SourceFault};
-ghost use Rattle.kmc_sum.specs.Source.{unread, IsRoom, IsEnough, GoesOn};
+ghost use Rattle.kmc_sum.specs.Source.{unread, IsRoom, IsEnough, GoesOn, HandsOut};
 
 use crate::error::{LineFault, SourceFault};
 use crate::line::{Line, line_at};
+use crate::line_read::LineRead;
 use kmc_base::MAX_K;
 use kmc_device::{Counted, read_behind};
 use std::alloc::{AllocError, Global};
@@ -87,8 +88,8 @@ pub fn fill<R: Read>(reader: &mut Counted<R>, room: &mut Room) -> Result<(), Sou
     Ok(())
 }
 
-/// Takes the next line of a source, where it has one.
-pub fn next_line<R: Read>(
+/// Takes the next line of a source from its bytes, where it has one.
+fn next_text_line<R: Read>(
     reader: &mut Counted<R>,
     room: &mut Room,
 ) -> Result<Option<Line>, SourceFault>
@@ -135,8 +136,57 @@ pub fn next_line<R: Read>(
     }
 }
 
+/// Takes the next line of a reader, where it has it at hand.
+fn handed_line<R: LineRead>(reader: &mut Counted<R>) -> Option<Line>
+    ensures line { MatchOption result
+        (Keeps (R.remaining reader.old.inner) (R.remaining reader.new.inner))
+        (HandsOut (R.remaining reader.old.inner) (R.remaining reader.new.inner)) }
+    ensures kept { reader.new.failures ≡ reader.old.failures }
+{
+    reader.inner_mut().take_line()
+}
+
+/// Takes the next line of a source, where it has one. A line that the reader has at hand is taken as it is.
+pub fn next_line<R: LineRead>(
+    reader: &mut Counted<R>,
+    room: &mut Room,
+) -> Result<Option<Line>, SourceFault>
+    requires { IsRoom room.old }
+    ensures room { IsRoom room.new }
+    ensures ok { IfOk result (λ answer. (rest : List ℕ)
+        × GoesOn (R.remaining reader.old.inner) (R.remaining reader.new.inner)
+        (unread room.old) rest
+        × MatchOption answer
+        ((rest ≡ []) × (unread room.new ≡ []) × (room.new.lines ≡ room.old.lines)
+        × IsAtEnd (R.remaining reader.new.inner))
+        (λ l. IsLineOf l rest × (unread room.new ≡ drop l.end rest)
+        × (room.new.lines ≡ min (room.old.lines + 1) (2 ^ 64 - 1)))) }
+    ensures malformed { (line : ℕ) (fault : LineFault)
+        → IsErrOf result (SourceFault.Line line fault)
+        → (line ≡ min (room.old.lines + 1) (2 ^ 64 - 1)) × (fault ≡ LineFault.Malformed)
+        × (rest : List ℕ)
+        × GoesOn (R.remaining reader.old.inner) (R.remaining reader.new.inner)
+        (unread room.old) rest
+        × (rest ≢ []) × IsEnough rest (R.remaining reader.new.inner) × BeginsNoLine rest }
+    ensures kept { OnOk result (reader.new.failures ≡ reader.old.failures) }
+    ensures read { IsErrOf result SourceFault.Read
+        → RisesByOne reader.old.failures reader.new.failures }
+    ensures lost { OnErr result
+        ((rest : List ℕ)
+        × GoesOn (R.remaining reader.old.inner) (R.remaining reader.new.inner)
+        (unread room.old) rest) }
+{
+    if room.from == room.to {
+        if let Some(line) = handed_line(reader) {
+            room.lines = room.lines.saturating_add(1);
+            return Ok(Some(line));
+        }
+    }
+    next_text_line(reader, room)
+}
+
 /// Takes the next line of a source behind a line with the word `last` of `k` codes.
-pub fn next_pair<R: Read>(
+pub fn next_pair<R: LineRead>(
     reader: &mut Counted<R>,
     room: &mut Room,
     k: usize,

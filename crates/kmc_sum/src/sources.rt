@@ -10,12 +10,12 @@ ghost use Rattle.kmc_sum.specs.declared.error.LineFault.{LineFault};
 
 use crate::error::{SourceError, SourceFault};
 use crate::heads::{Head, mend};
+use crate::line_read::LineRead;
 use crate::source::{Room, next_pair};
 use kmc_device::Counted;
-use std::io::Read;
 
 /// The head of a source behind one with the word `packed` of `k` codes.
-pub fn next_head<R: Read>(
+pub fn next_head<R: LineRead>(
     reader: &mut Counted<R>,
     room: &mut Room,
     source: usize,
@@ -62,7 +62,7 @@ pub fn next_head<R: Read>(
 }
 
 /// Takes the first head, and puts the next line of its source there.
-pub fn advance<R: Read>(
+pub fn advance<R: LineRead>(
     readers: &mut [Counted<R>],
     rooms: &mut [Room],
     heads: &mut [Head],

@@ -2,6 +2,7 @@
 use kmc_base::Strands;
 use kmc_database::{PackError, PackOptions, pack};
 use kmc_device::Counted;
+use kmc_sum::TextReader;
 use std::alloc::Global;
 use std::test::Fail;
 use test_support::{BlockReader, Full, NarrowWriter};
@@ -51,7 +52,11 @@ pub fn packed(
     options: &PackOptions,
     devices: Devices,
 ) -> Result<Written, Fail> {
-    let mut reader = Counted::new(BlockReader::new(text.as_bytes(), 7, devices.failing));
+    let mut reader = Counted::new(TextReader(BlockReader::new(
+        text.as_bytes(),
+        7,
+        devices.failing,
+    )));
     let (prefix_room, prefix_flushes) = devices.prefix;
     let out = Vec::new(rt.alloc());
     let out = NarrowWriter::new(out, 5000, prefix_room, Full::Fails, prefix_flushes);

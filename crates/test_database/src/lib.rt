@@ -12,6 +12,8 @@ mod devices;
 #[cfg(test)]
 mod files;
 #[cfg(test)]
+mod handed_lines;
+#[cfg(test)]
 mod headers;
 #[cfg(test)]
 mod packs;

@@ -2,7 +2,7 @@
 use kmc_count::Limits;
 use kmc_device::Counted;
 use kmc_join::{Choice, EVERY_COUNT, JoinRule, Operation, join};
-use kmc_sum::{LineFault, SourceError, SourceFault, SumError};
+use kmc_sum::{LineFault, SourceError, SourceFault, SumError, TextReader};
 use std::alloc::Global;
 use std::process::Abort;
 use std::test::Fail;
@@ -46,6 +46,11 @@ pub fn on_every_count(operation: Operation) -> JoinRule {
     }
 }
 
+/// A reader of a dump that gives three bytes at a time, and fails in one of its reads, if not in read 0.
+pub fn text_reader<'a>(text: &'a str, failing: u64) -> TextReader<BlockReader<'a>> {
+    TextReader(BlockReader::new(text.as_bytes(), 3, failing))
+}
+
 /// What a join of two texts answers, and what it writes, with readers that give three bytes at a time.
 pub fn joined(
     rt: &(impl Abort + Alloc<A = Global>),
@@ -56,8 +61,8 @@ pub fn joined(
 ) -> Result<(Result<u64, SumError>, Vec<u8>), Fail> {
     let [first, second] = texts;
     let mut readers = [
-        Counted::new(BlockReader::new(first.as_bytes(), 3, devices.failing)),
-        Counted::new(BlockReader::new(second.as_bytes(), 3, devices.failing)),
+        Counted::new(text_reader(first, devices.failing)),
+        Counted::new(text_reader(second, devices.failing)),
     ];
     let out = NarrowWriter::new(
         Vec::new(rt.alloc()),

@@ -1,12 +1,12 @@
 //! Histograms of dumps, worked by hand.
-use crate::devices::{Devices, SOUND, at};
+use crate::devices::{Devices, SOUND, at, text_reader};
 use kmc_device::Counted;
 use kmc_join::histogram;
 use kmc_sum::{LineFault, SourceFault, SumError};
 use std::alloc::Global;
 use std::process::Abort;
 use std::test::Fail;
-use test_support::{BlockReader, Full, NarrowWriter};
+use test_support::{Full, NarrowWriter};
 
 /// What a histogram of a text answers, and what it writes, with a reader that gives three bytes at a time.
 fn counted(
@@ -14,8 +14,7 @@ fn counted(
     text: &'static str,
     devices: Devices,
 ) -> (Result<(), SumError>, Vec<u8>) {
-    let reader = BlockReader::new(text.as_bytes(), 3, devices.failing);
-    let mut readers = [Counted::new(reader)];
+    let mut readers = [Counted::new(text_reader(text, devices.failing))];
     let out = NarrowWriter::new(
         Vec::new(rt.alloc()),
         5,

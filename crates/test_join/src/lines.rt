@@ -2,7 +2,7 @@
 use crate::devices::{at, limits};
 use kmc_device::Counted;
 use kmc_join::histogram;
-use kmc_sum::{LineFault, SourceFault, SumError, merge};
+use kmc_sum::{LineFault, SourceFault, SumError, TextReader, merge};
 use std::alloc::{AllocError, Global};
 use std::process::Abort;
 use std::test::Fail;
@@ -50,7 +50,7 @@ fn merged(
     rt: &(impl Abort + Alloc<A = Global>),
     text: &[u8],
 ) -> Result<(Result<u64, SumError>, Vec<u8>), Fail> {
-    let mut readers = [Counted::new(BlockReader::new(text, 4096, 0))];
+    let mut readers = [Counted::new(TextReader(BlockReader::new(text, 4096, 0)))];
     let out = NarrowWriter::new(Vec::new(rt.alloc()), 4096, 1 << 20, Full::Fails, true);
     let mut writer = Counted::new(out);
     let answer = merge(
@@ -64,7 +64,7 @@ fn merged(
 
 /// What the histogram of one text answers and writes.
 fn counted(rt: &(impl Abort + Alloc<A = Global>), text: &[u8]) -> (Result<(), SumError>, Vec<u8>) {
-    let mut readers = [Counted::new(BlockReader::new(text, 4096, 0))];
+    let mut readers = [Counted::new(TextReader(BlockReader::new(text, 4096, 0)))];
     let out = NarrowWriter::new(Vec::new(rt.alloc()), 4096, 1 << 20, Full::Fails, true);
     let mut writer = Counted::new(out);
     let answer = histogram(rt.alloc(), &mut readers, &mut writer);

@@ -1,5 +1,5 @@
 //! The counts that dumps have for words, worked by hand.
-use crate::devices::{Devices, SOUND};
+use crate::devices::{Devices, SOUND, text_reader};
 use kmc_base::Strands;
 use kmc_device::Counted;
 use kmc_join::{QueryError, query, query_strands};
@@ -21,7 +21,7 @@ fn asked(
     failing_words: u64,
 ) -> (Result<u64, QueryError>, Vec<u8>) {
     let [dump, words] = texts;
-    let mut dump = Counted::new(BlockReader::new(dump.as_bytes(), 3, devices.failing));
+    let mut dump = Counted::new(text_reader(dump, devices.failing));
     let mut words = Counted::new(BlockReader::new(words.as_bytes(), 3, failing_words));
     let out = NarrowWriter::new(
         Vec::new(rt.alloc()),

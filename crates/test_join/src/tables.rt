@@ -1,12 +1,12 @@
 //! Tables of two dumps, worked by hand.
-use crate::devices::{Devices, SOUND, at};
+use crate::devices::{Devices, SOUND, at, text_reader};
 use kmc_device::Counted;
 use kmc_join::table;
 use kmc_sum::{LineFault, SourceFault, SumError};
 use std::alloc::Global;
 use std::process::Abort;
 use std::test::Fail;
-use test_support::{BlockReader, Full, NarrowWriter};
+use test_support::{Full, NarrowWriter};
 
 /// What a table of two texts answers, and what it writes, with readers that give three bytes at a time.
 fn tabled(
@@ -17,8 +17,8 @@ fn tabled(
 ) -> (Result<(), SumError>, Vec<u8>) {
     let [first, second] = texts;
     let mut readers = [
-        Counted::new(BlockReader::new(first.as_bytes(), 3, devices.failing)),
-        Counted::new(BlockReader::new(second.as_bytes(), 3, devices.failing)),
+        Counted::new(text_reader(first, devices.failing)),
+        Counted::new(text_reader(second, devices.failing)),
     ];
     let out = NarrowWriter::new(
         Vec::new(rt.alloc()),

@@ -4,6 +4,7 @@ use crate::texts::{text_of_stretches, words_of};
 use kmc_database::{PackOptions, counter_bytes, pack};
 use kmc_device::Counted;
 use kmc_options::{Params, Program, settings};
+use kmc_sum::TextReader;
 use kmc_tool::run;
 use std::alloc::Global;
 use std::process::Abort;
@@ -31,7 +32,7 @@ fn packed<T: Abort + Threads + Wait + Sync + Alloc<A = Global>>(
     let bytes = dump.into_inner();
     let mut prefix = Counted::new(Vec::new(rt.alloc()));
     let mut suffix = Counted::new(Vec::new(rt.alloc()));
-    let mut reader = Counted::new(bytes.as_slice());
+    let mut reader = Counted::new(TextReader(bytes.as_slice()));
     let rows = pack(rt.alloc(), &options, &mut reader, &mut prefix, &mut suffix);
     assert_eq!(rt; rows, Ok(lines));
     (lines, prefix.into_inner(), suffix.into_inner())

@@ -1,6 +1,8 @@
 use kmc_count::Limits;
 use kmc_device::Counted;
-use kmc_sum::{LineFault, MOST_SOURCES, SourceError, SourceFault, SumError, merge};
+use kmc_sum::{
+    LineFault, MOST_SOURCES, SourceError, SourceFault, SumError, TextReader, merge,
+};
 use std::alloc::Global;
 use std::process::Abort;
 use std::test::Fail;
@@ -50,7 +52,7 @@ fn summed(
 ) -> Result<(Result<u64, SumError>, Vec<u8>), Fail> {
     let mut readers = Vec::new(rt.alloc());
     for text in texts {
-        let reader = BlockReader::new(text.as_bytes(), 3, devices.failing);
+        let reader = TextReader(BlockReader::new(text.as_bytes(), 3, devices.failing));
         if readers.push(Counted::new(reader)).is_err() {
             return Err(Fail::from("out of memory"));
         }

@@ -6,7 +6,7 @@ use kmc_count::Limits;
 use kmc_device::Counted;
 use kmc_options::Params;
 use kmc_slices::{SliceRecords, cut_slices, list_records};
-use kmc_sum::{MOST_SOURCES, merge};
+use kmc_sum::{MOST_SOURCES, TextReader, merge};
 use kmc_tool::run;
 use std::alloc::Global;
 use std::process::Abort;
@@ -70,7 +70,7 @@ fn dump_of_slice<R: Abort + Threads + Wait + Sync>(
 fn merged(rt: &impl Abort, alloc: Global, dumps: &[Vec<u8>]) -> Vec<u8> {
     let mut readers = Vec::new(alloc);
     for dump in dumps {
-        let reader = BlockReader::new(dump, 1000, 0);
+        let reader = TextReader(BlockReader::new(dump, 1000, 0));
         readers.push(Counted::new(reader)).expect(rt, "memory");
     }
     assert!(rt; 1 <= readers.len() && readers.len() <= MOST_SOURCES);

@@ -5,7 +5,7 @@ use Rattle.kmc_sum.specs.Faults.{BeginsNoLine}
 use Rattle.kmc_sum.specs.Line.{IsLineOf}
 use Rattle.kmc_sum.specs.declared.error.LineFault.TheVariants.{Malformed}
 use Rattle.kmc_sum.specs.Source.{unread}
-use Rattle.kmc_sum.proofs.source.next_line.Goals as goal
+use Rattle.kmc_sum.proofs.source.next_text_line.Goals as goal
 
 pub returns-in-Some-clause-ok : goal.returns-in-Some-clause-ok
 returns-in-Some-clause-ok g c =
