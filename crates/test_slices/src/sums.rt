@@ -1,8 +1,6 @@
 use kmc_count::Limits;
 use kmc_device::Counted;
-use kmc_sum::{
-    LineFault, MOST_SOURCES, SourceError, SourceFault, SumError, TextReader, merge,
-};
+use kmc_sum::{LineFault, MOST_SOURCES, SourceError, SourceFault, SumError, TextReader, merge};
 use std::alloc::Global;
 use std::process::Abort;
 use std::test::Fail;
