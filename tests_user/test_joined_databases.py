@@ -207,7 +207,7 @@ def test_counts_in_slices_are_merged_into_a_database_by_ranges(room):
         program(it)
     in_small_ranges(room)
     for k, words in ((25, []), (3, ["--min", "1", "--cap", "none"]), (13, ["--forward"])):
-        room.counts(b"", "count", "-q", "-k%d" % k, *words, "--slices", "1000", "-t1", "-o", "one.kmc", READS)
+        room.counts(b"", "count", "-q", "-k%d" % k, *words, "--slices", "40", "-t1", "-o", "one.kmc", READS)
         assert packers(room) == (0, 1)
         room.counts(b"", "count", "-q", "-k%d" % k, *words, "--slices", "3", "-t3", "-o", "db.kmc", READS)
         many, one = packers(room)
