@@ -22,10 +22,12 @@ WHOLE = ["-ci1", "-cx%d" % MOST, "-cs%d" % MOST]
 
 
 class Parts:
-    """Files as the programs take them: by their names, or through pipes from programs that unpack them or write the dumps of databases."""
+    """Files as the programs take them: by their names, or through pipes from programs that unpack them or, for a program that takes no database,
+    write the dumps of databases."""
 
-    def __init__(self, names, children):
+    def __init__(self, names, children, takes_databases=False):
         self.given, self.children, self.writers, self.pipes, self.bytes = {}, children, [], [], 0
+        self.takes_databases = takes_databases
         for name in names:
             try:
                 self._add(name)
@@ -35,7 +37,10 @@ class Parts:
     def _add(self, name):
         stem = databases.stem_of(name)
         if stem is not None:
-            self._add_piped(name, None, lambda sink: dumping.dumped(stem, self.children, sink))
+            if self.takes_databases:
+                self._add_database(name, stem)
+            else:
+                self._add_piped(name, None, lambda sink: dumping.dumped(stem, self.children, sink))
             return
         with open(0 if name == "-" else name, "rb", closefd=name != "-") as file:
             kind = packing.kind_of_file(file.fileno())
@@ -44,6 +49,13 @@ class Parts:
                 return
             self.bytes += os.fstat(file.fileno()).st_size
         self.given["/dev/stdin" if name == "-" else "./" + name if name.startswith("-") else name] = shown(name)
+
+    def _add_database(self, name, stem):
+        """The database itself, whose prefix file is read twice."""
+        databases.checked(stem)
+        prefix, suffix = databases.files_of(dumping.word_of(stem))
+        self.bytes += 2 * os.path.getsize(prefix) + os.path.getsize(suffix)
+        self.given[prefix] = shown(name)
 
     def _add_piped(self, name, kind, start):
         """A file that is read through a pipe: `start` begins what writes to it."""
@@ -137,7 +149,7 @@ def merged(names, limits, children, setting, output=None, reader=None, sink=None
     joined = ranged_output.joined if isinstance(output, DatabaseOutput) else ranges.joined
     if is_dump and not reader and not sink and all(map(has_ranges, names)) and joined(names, program, [*words, *limits], children, setting, output):
         return
-    parts = Parts(names, children)
+    parts = Parts(names, children, program == "kmc_db")
     command = [places.find(program), *words, *limits, *parts.given]
     out = subprocess.PIPE if reader else output.opened() if output else sink
     merger = children.start(command, pass_fds=parts.pipes, stdin=0 if "-" in names else source, stdout=out)

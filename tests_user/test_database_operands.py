@@ -122,7 +122,19 @@ def test_a_fault_of_the_program_that_dumps_is_the_fault(room):
                       ("kill -KILL $$", "db.kmc: kmc_db was ended by SIGKILL"), ("exit 3", "db.kmc: kmc_db ended with status 3")):
         for lines in ("printf 'ACGT\\t3\\n'", "printf 'ACGT\\t3\\nCC'"):
             room.stand_in('#!/bin/sh\nif [ "$1" != dump ]; then exec \'%s\' "$@"; fi\n%s\n%s\n' % (real, lines, end), "kmc_db")
-            room.write("a", b"ACGT\t1\n")
-            for words in (["merge", "-o", "out", "db.kmc"], ["histogram", "db.kmc"], ["table", "-o", "out", "a", "db.kmc"],
-                          ["compare", "--common", "-o", "out", "a", "db.kmc"]):
+            for words in (["merge", "-o", "out", "db.kmc"], ["histogram", "db.kmc"]):
                 room.refuses(1, told, words=words)
+
+
+def test_joins_read_a_database_themselves(room):
+    real = program("kmc_db")
+    packed(room, "db", wanted_dump())
+    room.write("whole.dump", wanted_dump())
+    room.write("some.dump", b"".join(wanted_dump().splitlines(keepends=True)[::3]))
+    os.mkdir(room.path("bin"))
+    room.stand_in("#!/bin/sh\nif [ \"$1\" = dump ]; then exit 9; fi\nexec '%s' \"$@\"\n" % real, "kmc_db")
+    for words in (["union"], ["intersect"], ["subtract"], ["table"]):
+        for pair in (["{}", "some.dump"], ["some.dump", "{}"]):
+            of_database, of_dump = (room.run(*words, "-q", *[it.format(name) for it in pair]) for name in ("db.kmc", "whole.dump"))
+            assert of_database.status == of_dump.status == 0 and of_database.out == of_dump.out, (words, pair, of_database)
+    assert room.run("histogram", "db.kmc").status == 1  # which reads the dump
