@@ -8,7 +8,7 @@ from futoncrane import databases, folders, notes, places, shared
 from futoncrane.children import held_signals, signal_of, sweep, told, too_late
 from futoncrane.faults import Fault, Misuse, reason, shown
 from futoncrane.feeding import widened
-from futoncrane.output import Output, is_replaced, mode_of
+from futoncrane.output import Flush, Output, begun, is_replaced, mode_of
 
 MADE = "made"
 # how kmc_db tells that a line of a dump has a count that no database holds, and that a k-mer of reads has
@@ -74,6 +74,7 @@ class DatabaseOutput(Output):
         self.stem = os.path.join(self.folder, MADE)
         self.made = databases.files_of(self.stem)
         self.descriptor, self.is_made = None, True
+        self.flush = begun(Flush(self.made[1]))
         return self
 
     def opened(self):
@@ -135,6 +136,7 @@ class DatabaseOutput(Output):
             self.let_go()
             self.judge_packer()
         self.rows = self.rows_made()
+        self.flush.end()
         for made, final in zip(self.made, self.finals):
             try:
                 os.chmod(made, mode_of(final))

@@ -79,17 +79,22 @@ class Counter(threading.Thread):
 
 
 class Flush(threading.Thread):
-    """Has what is written to a file go to the disk while more is written, so that little is left to wait for at the end."""
-    SECONDS = 1
+    """Has what is written to a file go to the disk while more is written, so that little is left to wait for at the end. The file may be made later."""
+    SECONDS = 0.25
 
-    def __init__(self, file):
+    def __init__(self, path):
         super().__init__(daemon=True)
-        self.file, self.over = file, threading.Event()
+        self.path, self.over = path, threading.Event()
 
     def run(self):
+        file = None
         while not self.over.wait(self.SECONDS):
             with contextlib.suppress(OSError):  # the wait at the end tells
-                os.fdatasync(self.file)
+                if file is None:
+                    file = os.open(self.path, os.O_RDONLY | os.O_CLOEXEC)
+                os.fdatasync(file)
+        if file is not None:
+            os.close(file)
 
     def end(self):
         self.over.set()
@@ -209,7 +214,7 @@ class Output:
             TEMPORARY.add(self.work)
         self.descriptor = self.file
         os.fchmod(self.file, mode)
-        self.flush = begun(Flush(self.file))
+        self.flush = begun(Flush(self.work))
 
     def follow(self):
         """Counts the lines of the file while it is written from its front to its end."""

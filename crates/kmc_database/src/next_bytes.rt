@@ -5,7 +5,7 @@ use std::io;
 use std::io::Read;
 
 /// The most bytes that are held, which is how many a reader is asked for at a time.
-pub(crate) const MOST_HELD: usize = 4096;
+pub(crate) const MOST_HELD: usize = 16384;
 
 /// A reader, and the bytes that it gave and that are not taken: those of the room between two places. A failed read loses none.
 #[derive(Drop)]
@@ -14,9 +14,9 @@ pub(crate) struct NextBytes<R> {
     pub room: [u8; MOST_HELD],
     pub from: usize,
     pub to: usize,
-    pub ghost long: { length room ≡ 4096 },
+    pub ghost long: { length room ≡ 16384 },
     pub ghost order: { from ≤ to },
-    pub ghost within: { to ≤ 4096 },
+    pub ghost within: { to ≤ 16384 },
 }
 
 impl<R: Read> NextBytes<R> {

@@ -17,7 +17,7 @@ use std::io::Read;
 /// A reader that gives the dump of a database, a line for each row, while it reads the prefix file and the suffix file once, each from its
 /// beginning to its end. Where the files are no database with this header, byte 0 stands in place of the first row at fault and of all
 /// behind it, which is no line: whoever reads it as a dump refuses it there, and [`DatabaseReader::fault`] tells why. It holds one line
-/// and 4 KiB of each file, for which it asks at a time.
+/// and 16 KiB of each file, for which it asks at a time.
 #[derive(Drop)]
 pub struct DatabaseReader<R> {
     pub(crate) header: Header,

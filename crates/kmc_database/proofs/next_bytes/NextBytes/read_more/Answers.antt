@@ -7,13 +7,13 @@ use Rattle.kmc_database.proofs.next_bytes.NextBytes.read_more.Goals as goal
 pub returns-in_err-count-clause-same : goal.returns-in_err-count-clause-same
 returns-in_err-count-clause-same g c = λ bytes known.
     let f = c.loop-self.self in
-    filled_same f.room c.read.new.buf f.from f.to 4096 c.loop-self.invariant.front (omega arith) (omega arith) _ _ c.in_err-count.ensures.bytes bytes
+    filled_same f.room c.read.new.buf f.from f.to 16384 c.loop-self.invariant.front (omega arith) (omega arith) _ _ c.in_err-count.ensures.bytes bytes
     (c.loop-self.invariant.same bytes known)
 
 pub returns-then-count-eq0-clause-same : goal.returns-then-count-eq0-clause-same
 returns-then-count-eq0-clause-same g c = λ bytes known.
     let f = c.loop-self.self in
-    filled_none f.room c.read.new.buf f.from f.to 4096 c.loop-self.invariant.front (omega arith) (omega arith) c.in_ok-count.count _ _
+    filled_none f.room c.read.new.buf f.from f.to 16384 c.loop-self.invariant.front (omega arith) (omega arith) c.in_ok-count.count _ _
     c.if-count-eq0.true c.in_ok-count.ensures.bytes.0 bytes (c.loop-self.invariant.same bytes known)
 
 pub loop-self-preserved : goal.loop-self-preserved
@@ -22,7 +22,7 @@ loop-self-preserved g c =
     record {
       front = c.loop-self.invariant.front;
       same = λ bytes known.
-          filled_more f.room c.read.new.buf f.from f.to 4096 c.loop-self.invariant.front (omega arith) (omega arith) c.in_ok-count.count _ _
+          filled_more f.room c.read.new.buf f.from f.to 16384 c.loop-self.invariant.front (omega arith) (omega arith) c.in_ok-count.count _ _
           (omega (arith, c.in_ok-count.ensures.bound.0)) c.in_ok-count.ensures.bytes.0 bytes (c.loop-self.invariant.same bytes known);
     }
 
