@@ -1,5 +1,5 @@
 -- A line in hand.
-use Rattle.std.specs.Prelude.{◌≡◌, ⊤, ℕ, ◌<◌, ◌≤◌, ◌^◌, List, [], length, Option, Some, None}
+use Rattle.std.specs.Prelude.{◌≡◌, ⊤, ℕ, ◌<◌, ◌^◌, List, [], length, Option, Some, None}
 use Rattle.kmc_base.specs.Packed.{unpack}
 use Rattle.kmc_lists.specs.Line.{line_of}
 use Rattle.kmc_sum.specs.Line.{IsLineOf}

@@ -1,14 +1,8 @@
 -- A dump behind its first line: why it is not read to its end, and how long its words are.
-use Rattle.std.proofs.Common.{◌≡◌, ℕ, zero, suc, ◌≤◌, ◌==◌, Bool, true, false, cond, List, Option, max, length, replicate, get_or, ◌<◌, inl, inr, ◌⊎◌, refl, sym, ap, subst, ◌∙◌, arith}
-use Rattle.std.proofs.lemmas.Bool.Decides.{nat_tests}
-use Rattle.kmc_device.specs.Device.{RisesByOne, Watched}
-use Rattle.kmc_sum.specs.Faults.{IsFaultAt}
+use Rattle.std.proofs.Common.{◌≡◌, ℕ, zero, suc, List, Option, max, inl, inr, ◌⊎◌, refl, subst, ◌∙◌, arith}
+use Rattle.kmc_device.specs.Device.{Watched}
 use Rattle.kmc_sum.specs.Listed.{IsLength}
 use Rattle.kmc_sum.specs.Sources.{Agrees}
-use Rattle.kmc_sum.specs.declared.error.LineFault.{LineFault}
-use Rattle.kmc_sum.specs.declared.error.LineFault.TheVariants as line_fault
-use Rattle.kmc_sum.specs.declared.error.SourceFault.{SourceFault}
-use Rattle.kmc_sum.specs.declared.error.SourceFault.TheVariants.{Line, Read}
 use Rattle.kmc_join.specs.LookedUp.{IsDumpCause, IsDumpFault, IsWalkCause}
 use Rattle.kmc_join.specs.declared.query_error.QueryError.{QueryError}
 use Rattle.kmc_join.specs.declared.query_error.QueryError.TheVariants.{ReadWords, NoWord, OtherLength, Unlike, Dump, Write, Memory, TooLong}

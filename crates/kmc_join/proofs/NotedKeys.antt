@@ -1,6 +1,6 @@
 -- The counts of keys, noted one line of a dump after the other.
-use Rattle.std.proofs.Common.{◌≡◌, ℕ, zero, suc, ◌+◌, ◌-◌, ◌<◌, ◌≤◌, ◌^◌, ◌⊎◌, inl, inr, Bool, true, false, cond, List, [], ◌∷◌, ◌++◌, length, get_or, Option, refl, sym, ap, not, subst, ◌∙◌, arith, add-zero, zero-add, append-nil, length-append}
-use Rattle.std.specs.Io.KnownBytes.{Consumes, IsAtEnd}
+use Rattle.std.proofs.Common.{◌≡◌, ℕ, ◌+◌, ◌-◌, ◌<◌, ◌≤◌, ◌^◌, ◌⊎◌, inl, inr, Bool, true, false, cond, List, [], ◌∷◌, ◌++◌, length, get_or, Option, refl, sym, ap, not, subst, ◌∙◌, arith, add-zero, zero-add, append-nil, length-append}
+use Rattle.std.specs.Io.KnownBytes.{Consumes}
 use Rattle.std.specs.declared.cmp.Ordering.TheVariants.{Less}
 use Rattle.std.proofs.lemmas.Bool.{cases_eq}
 use Rattle.std.proofs.lemmas.List.Sums.{sum_by-append, sum_by-cons}
@@ -11,7 +11,7 @@ use Rattle.kmc_count.specs.Occurrences.{same_word}
 use Rattle.kmc_lists.specs.Line.{text_of}
 use Rattle.kmc_device.specs.Device.{RisesByOne}
 use Rattle.kmc_sum.specs.Faults.{GaveFront, IsFaultAt}
-use Rattle.kmc_sum.specs.Heads.{pending, rank}
+use Rattle.kmc_sum.specs.Heads.{pending}
 use Rattle.kmc_sum.specs.Listed.{IsLength}
 use Rattle.kmc_sum.specs.Source.{unread}
 use Rattle.kmc_sum.specs.Sources.{IsSource}

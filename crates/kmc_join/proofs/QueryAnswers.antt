@@ -1,22 +1,15 @@
 -- What a query answers.
-use Rattle.std.proofs.Common.{◌≡◌, ℕ, ◌≤◌, List, [], ◌∷◌, length, map, Option, Result, Ok, Err, refl, sym, ap, subst, ◌∙◌, arith}
-use Rattle.std.specs.Io.KnownBytes.{Appends}
-use Rattle.std.specs.Result.{IsErrAnd}
-use Rattle.std.proofs.lemmas.List.{length-map}
+use Rattle.std.proofs.Common.{◌≡◌, ℕ, List, map, Option, refl, sym, subst}
 use Rattle.kmc_base.specs.Strands.{key}
 use Rattle.kmc_base.specs.declared.strands.Strands.{Strands}
-use Rattle.kmc_device.specs.Device.{AppendsFront, GaveAll, RisesByOne, Watched}
+use Rattle.kmc_device.specs.Device.{GaveAll}
 use Rattle.kmc_lists.specs.Line.{text_of}
 use Rattle.kmc_sum.specs.Listed.{IsLength}
 use Rattle.kmc_sum.specs.Sources.{Agrees}
-use Rattle.kmc_sum.specs.Sum.{listed_count}
-use Rattle.kmc_join.specs.Asking.{AreAsked, IsWordsCause, length_of, words_text}
+use Rattle.kmc_join.specs.Asking.{AreAsked, length_of, words_text}
 use Rattle.kmc_join.specs.KeyCounts.{AreCounts}
-use Rattle.kmc_join.specs.LookedUp.{IsDumpCause, IsLookedUp}
-use Rattle.kmc_join.specs.Query.{AreAnswers, IsQueryBegun, IsQueryWritten, answers_of}
-use Rattle.kmc_join.specs.QueryAnswer.{HasAsked, Inputs, IsDumpUnread, IsQueryAnswer, IsQueryCause, inputs_of}
-use Rattle.kmc_join.specs.declared.query_error.QueryError.{QueryError}
-use Rattle.kmc_join.specs.declared.query_error.QueryError.TheVariants.{ReadWords, NoWord, OtherLength, Unlike, Dump, Write, Memory, TooLong}
+use Rattle.kmc_join.specs.LookedUp.{IsLookedUp}
+use Rattle.kmc_join.specs.Query.{AreAnswers, answers_of}
 use Rattle.kmc_join.proofs.Answered.{asked_agree}
 
 -- the words have these answers

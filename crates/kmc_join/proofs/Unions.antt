@@ -1,17 +1,16 @@
 -- The union of two dumps by the sum of their counts is their merge.
-use Rattle.std.proofs.Common.{◌≡◌, ℕ, zero, suc, ◌+◌, ◌-◌, ◌<◌, ◌≤◌, ◌^◌, Bool, true, false, cond, List, [], ◌∷◌, refl, sym, ap, subst, ◌∙◌, arith, add-zero}
+use Rattle.std.proofs.Common.{◌≡◌, ℕ, zero, suc, ◌+◌, ◌<◌, ◌^◌, Bool, true, false, cond, List, [], ◌∷◌, refl, sym, subst, ◌∙◌, arith}
 use Rattle.std.specs.Prelude.{◌&&◌, nat_le}
 use Rattle.std.specs.List.{AllByRecursion, AllZip}
 use Rattle.std.proofs.lemmas.Bool.Decides.{nat_tests}
-use Rattle.std.proofs.lemmas.List.Sums.{sum_by-cons}
 use Rattle.kmc_count.specs.declared.limits.Limits.{Limits}
 use Rattle.kmc_count.specs.Dump.{IsDump}
 use Rattle.kmc_count.specs.Lemmas.Listing.{same_is}
 use Rattle.kmc_count.specs.Occurrences.{same_word}
-use Rattle.kmc_sum.specs.Listed.{AreListed, IsLength, IsMerge, IsPair, Lists}
+use Rattle.kmc_sum.specs.Listed.{AreListed, IsLength, IsPair, Lists}
 use Rattle.kmc_sum.specs.Sum.{listed_count, sum_of}
 use Rattle.kmc_join.specs.Join.{IsJoin, joined}
-use Rattle.kmc_join.specs.Laws.{AreOneSum, IsUnionBySum, TakesEach, UnionBySumIsMerge}
+use Rattle.kmc_join.specs.Laws.{IsUnionBySum, TakesEach, UnionBySumIsMerge}
 use Rattle.kmc_join.specs.Operation.{combined}
 use Rattle.kmc_join.specs.Rule.{within}
 use Rattle.kmc_join.specs.declared.operation.Choice.TheVariants.{Sum}

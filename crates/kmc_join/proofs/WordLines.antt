@@ -1,6 +1,6 @@
 -- The line of a word at the front of bytes.
 use Rattle.std.proofs.Common.{◌≡◌, ℕ, zero, suc, ◌+◌, ◌-◌, ◌<◌, ◌≤◌, ◌⊎◌, inl, inr, List, [], ◌∷◌, ◌++◌, length, take, drop, get_or, map, set, refl, sym, ap, subst, ◌∙◌, arith, append_assoc, length-append, length-drop}
-use Rattle.std.specs.Prelude.{All, MatchOption, Option, None, Some}
+use Rattle.std.specs.Prelude.{MatchOption, Option, None, Some}
 use Rattle.std.proofs.lemmas.List.{get_or_append_left, get_or-append_right, get_or-take, get_or-set_other, get_or-set_same, map-append, take_more, take_more_set, length-map, length-take-le, take-append-drop, drop-take, drop-drop, drop_at}
 use Rattle.std.proofs.lemmas.List.Elements.{All-get_or, All-from_get_or}
 use Rattle.std.proofs.lemmas.Bool.{cases_eq, cases_order}

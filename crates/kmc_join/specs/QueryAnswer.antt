@@ -1,5 +1,5 @@
 -- What a query answers.
-use Rattle.std.specs.Prelude.{◌≡◌, ◌≢◌, ◌≤◌, ℕ, List, [], length, Option, Result, IfErr, IfOk, OnOk}
+use Rattle.std.specs.Prelude.{◌≡◌, ◌≤◌, ℕ, List, length, Option, Result, IfErr, IfOk, OnOk}
 use Rattle.kmc_base.specs.declared.strands.Strands.{Strands}
 use Rattle.kmc_device.specs.Device.{GaveAll, RisesByOne, Watched}
 use Rattle.kmc_sum.specs.Faults.{IsFaultAt}

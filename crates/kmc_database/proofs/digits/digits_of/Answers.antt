@@ -1,4 +1,4 @@
-use Rattle.std.proofs.Common.{◌/◌, length, decimal, ap, arith}
+use Rattle.std.proofs.Common.{◌/◌, length, ap, arith}
 use Rattle.std.proofs.lemmas.Fmt.{decimal_digit, decimal_nonempty}
 use Rattle.kmc_database.proofs.HeldLines.{digits_few, one_digit_more}
 use Rattle.kmc_database.proofs.digits.digits_of.Goals as goal

@@ -1,6 +1,5 @@
-use Rattle.std.proofs.Common.{◌≡◌, ◌-◌, ◌<◌, ◌≤◌, ◌^◌, ℕ, List, cond, length, refl, sym, ap, subst, ◌∙◌, arith}
+use Rattle.std.proofs.Common.{◌≡◌, ◌<◌, ◌^◌, ℕ, List, cond, length, refl, ap, subst, ◌∙◌, arith}
 use Rattle.std.specs.Prelude.{slice_index}
-use Rattle.kmc_base.specs.Packed.{unpack}
 use Rattle.kmc_count.specs.Occurrences.{same_word}
 use Rattle.kmc_sum.specs.Heads.{rank}
 use Rattle.kmc_join.specs.KeyCounts.{AreBelow, key_at}

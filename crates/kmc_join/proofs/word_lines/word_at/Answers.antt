@@ -1,4 +1,4 @@
-use Rattle.std.proofs.Common.{◌≡◌, ◌+◌, ◌<◌, ◌≤◌, ℕ, length, take, drop, get_or, arith}
+use Rattle.std.proofs.Common.{◌≡◌, ◌+◌, ◌<◌, length, take, drop, get_or, arith}
 use Rattle.kmc_join.proofs.WordLines.{all_letters, codes_are, line_begins, line_feed, not_all, word_found}
 use Rattle.kmc_join.proofs.word_lines.word_at.Goals as goal
 use Rattle.kmc_join.proofs.word_lines.word_at.Goals.{then-k-bytes-via-then-k-bytes, then-k-bytes-via-else-k-bytes+then-bytes-k-ne10}
