@@ -47,6 +47,16 @@ def test_a_cluster_gives_the_dump_of_one_run(room):
     assert (note["k"], note["min"], note["cap"], note["inputs"], note["steps"]) == (25, 2, 255, [READS], ["kmc_cut", "kmc_list", "kmc_merge"]), note
 
 
+def test_a_cluster_counts_into_a_database(room):
+    need_dask(room)
+    for it in ("kmc", "kmc_db"):
+        program(it)
+    room.counts(b"", "count", "-q", "-k25", "-o", "one.kmc", READS)
+    room.counts(b"", "cluster", "--workers", "2", "--slices", "3", "-k25", "--quiet", "-o", "many.kmc", READS)
+    for it in (".kmc_pre", ".kmc_suf"):
+        assert content(room.path("many" + it)) == content(room.path("one" + it)), it
+
+
 def test_a_cluster_judges_the_sums_of_many_parts(room):
     need_dask(room)
     room.write("packed.gz", gzip.compress(content(READS)))

@@ -163,7 +163,7 @@ def merge(dumps, asked, setting, directory, output, children):
     """Merges the slices' dumps here, by as many programs as the workers of this machine had threads."""
     here = types.SimpleNamespace(**{**vars(setting), "threads": min(shared.processors(), setting.threads * (asked.workers or 1))})
     if not ranges.merged(dumps, merging.WHOLE, children, here, output):
-        merging.merge(dumps, merging.WHOLE, children, setting, lambda: os.path.join(directory, "work"), output)
+        merging.merge(dumps, merging.WHOLE, children, here, lambda: os.path.join(directory, "work"), output)
 
 
 def count(client, asked, setting, found, directory, output, children):
