@@ -116,8 +116,10 @@ class Lines(threading.Thread):
             self.file.seek(place)
 
     def run(self):
+        if self.file is None:
+            return
         count = 0
-        with contextlib.suppress(OSError, AttributeError), self.file as file:
+        with contextlib.suppress(OSError), self.file as file:
             while True:
                 is_over = self.over.is_set()  # looked at before the file is read: then all is there
                 kind = os.fstat(file.fileno())

@@ -1,12 +1,14 @@
 """What is done while other work goes on: lines of an answer are counted as they are written, and files of the meantime are removed."""
+import contextlib
 import json
 import os
 import random
+import threading
 import time
 
-from futoncrane.output import Lines, LinesOfParts, begun
+from futoncrane.output import Flush, Lines, LinesOfParts, begun
 from futoncrane.removing import Remover
-from room import content, program
+from room import content, program, wait_until
 
 
 def test_lines_are_counted_while_a_file_grows(room):
@@ -23,14 +25,49 @@ def test_lines_are_counted_while_a_file_grows(room):
         assert counter.count == b"".join(pieces).count(b"\n"), pieces
 
 
+@contextlib.contextmanager
+def silent_threads():
+    """That no thread ends by an exception, of which Python would tell the user."""
+    said, before = [], threading.excepthook
+    threading.excepthook = said.append
+    try:
+        yield
+    finally:
+        threading.excepthook = before
+    assert not said, said
+
+
+def test_a_file_that_is_made_later_is_flushed(room):
+    flushed, real = [], os.fdatasync
+    os.fdatasync = lambda file: flushed.append(os.fstat(file).st_size) or real(file)
+    try:
+        with silent_threads():
+            flush = Flush(room.path("later"))
+            flush.SECONDS = 0.01
+            begun(flush)
+            time.sleep(0.05)
+            assert not flushed
+            room.write("later", b"ACGT\t2\n")
+            wait_until(lambda: flushed, "a flush")
+            flush.end()
+            assert set(flushed) <= {0, 7}, flushed
+            files = os.listdir("/proc/self/fd")
+            for path in (room.path("none/file"), room.path("later")):
+                begun(Flush(path)).end()
+            assert os.listdir("/proc/self/fd") == files
+    finally:
+        os.fdatasync = real
+
+
 def test_lines_of_several_files_are_added(room):
     names = [room.path(room.write("part.%d" % number, b"A\t2\n" * number)) for number in range(4)]
     whole = LinesOfParts([begun(Lines(it, 0)) for it in names])
     whole.join()
     assert whole.count == 6, whole.count
     for other in (room.path("gone"), "/dev/null"):
-        whole = LinesOfParts([begun(Lines(it, 0)) for it in [*names, other]])
-        whole.join()
+        with silent_threads():
+            whole = LinesOfParts([begun(Lines(it, 0)) for it in [*names, other]])
+            whole.join()
         assert whole.count is None, other
 
 

@@ -8,7 +8,7 @@ import types
 from futoncrane import joining, merging, ranged_dumps, ranges, report
 from futoncrane.children import Children
 from futoncrane.options import MOST
-from room import BIN, content, program
+from room import content, program
 
 
 def text_of(words, seed=1):

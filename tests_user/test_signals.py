@@ -9,7 +9,7 @@ import sys
 import threading
 import time
 
-from room import COMMAND, LONG, READS, SUMMARY, TOP, alive, content, descendants, program, wait_for, wait_until
+from room import LONG, READS, SUMMARY, TOP, alive, content, descendants, program, wait_for, wait_until
 
 MOMENTS = 20
 
