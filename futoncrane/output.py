@@ -4,6 +4,7 @@ import fcntl
 import os
 import select
 import stat
+import subprocess
 import sys
 import threading
 
@@ -101,6 +102,18 @@ class Flush(threading.Thread):
         self.join()
 
 
+def counted(file):
+    """How many lines an open file has from its place on, which goes to its end. Of many `wc` tells, in a quarter of the time that it takes here."""
+    place = file.tell()
+    if os.fstat(file.fileno()).st_size - place > BLOCK:
+        with contextlib.suppress(OSError, ValueError):
+            ran = subprocess.run(["wc", "-l"], stdin=file, stdout=subprocess.PIPE, stderr=subprocess.DEVNULL)
+            if not ran.returncode:
+                return int(ran.stdout)
+        file.seek(place)
+    return sum(block.count(b"\n") for block in iter(lambda: file.read(BLOCK), b""))
+
+
 class Lines(threading.Thread):
     """Counts the lines of a plain file that the memory still holds, from a place on; none of another file. What is written to one that `grows`
     is counted as it comes, until that is over."""
@@ -125,7 +138,7 @@ class Lines(threading.Thread):
                 kind = os.fstat(file.fileno())
                 if not stat.S_ISREG(kind.st_mode) or kind.st_size - file.tell() > of_machine() // 2:
                     return
-                count += sum(block.count(b"\n") for block in iter(lambda: file.read(BLOCK), b""))
+                count += counted(file)
                 if is_over:
                     self.count = count
                     return

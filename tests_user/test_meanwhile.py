@@ -59,6 +59,23 @@ def test_a_file_that_is_made_later_is_flushed(room):
         os.fdatasync = real
 
 
+def test_many_lines_are_counted_with_and_without_wc(room):
+    name, lines = room.path(room.write("many", b"ACGT\t2\n" * 400_000)), 400_000
+    paths, before = [os.environ["PATH"], room.path("bin")], os.environ["PATH"]
+    os.mkdir(paths[1])
+    for said in ("exit 1", "echo ACGT", "cat > /dev/null; exit 3", None):
+        room.stand_in("#!/bin/sh\n%s\n" % said, "wc") if said else os.remove(room.path("bin/wc"))
+        for path in paths:
+            os.environ["PATH"] = path
+            try:
+                for place in (0, 7, 7 * 399_000, 7 * lines):
+                    counter = begun(Lines(name, place))
+                    counter.join()
+                    assert counter.count == lines - place // 7, (said, path, place, counter.count)
+            finally:
+                os.environ["PATH"] = before
+
+
 def test_lines_of_several_files_are_added(room):
     names = [room.path(room.write("part.%d" % number, b"A\t2\n" * number)) for number in range(4)]
     whole = LinesOfParts([begun(Lines(it, 0)) for it in names])
