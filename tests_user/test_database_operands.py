@@ -122,8 +122,22 @@ def test_a_fault_of_the_program_that_dumps_is_the_fault(room):
                       ("kill -KILL $$", "db.kmc: kmc_db was ended by SIGKILL"), ("exit 3", "db.kmc: kmc_db ended with status 3")):
         for lines in ("printf 'ACGT\\t3\\n'", "printf 'ACGT\\t3\\nCC'"):
             room.stand_in('#!/bin/sh\nif [ "$1" != dump ]; then exec \'%s\' "$@"; fi\n%s\n%s\n' % (real, lines, end), "kmc_db")
-            for words in (["merge", "-o", "out", "db.kmc"], ["histogram", "db.kmc"]):
+            room.write("a", b"ACGT\t1\n")
+            for words in (["merge", "-o", "out", "db.kmc"], ["histogram", "db.kmc"], ["compare", "--common", "-o", "out", "a", "db.kmc"]):
                 room.refuses(1, told, words=words)
+
+
+def test_a_fault_of_the_program_that_joins_is_the_fault(room):
+    real = program("kmc_db")
+    packed(room, "db", wanted_dump())
+    room.write("a", b"ACGT\t1\n")
+    os.mkdir(room.path("bin"))
+    for end, told in (("echo 'kmc_db: db.kmc_suf: row 7 has a count of 0' >&2; exit 1", "futoncrane: db.kmc_suf: row 7 has a count of 0"),
+                      ("echo 'kmc_db: db.kmc_pre: line 1: it has another length' >&2; exit 1", "futoncrane: db.kmc: line 1: it has another length"),
+                      ("kill -KILL $$", "kmc_db was ended by SIGKILL"), ("exit 3", "kmc_db ended with status 3")):
+        room.stand_in('#!/bin/sh\ncase $1 in table | union) ;; *) exec \'%s\' "$@" ;; esac\nprintf \'ACGT\\t3\\n\'\n%s\n' % (real, end), "kmc_db")
+        for words in (["table"], ["union"], ["union", "--count", "max"]):
+            room.refuses(1, told, words=[*words, "-o", "out", "a", "db.kmc"])
 
 
 def test_joins_read_a_database_themselves(room):
